@@ -131,7 +131,8 @@ pub record IsFileOf (image : Loaded) (bytes : List ℕ) : Type 0 where
   pub whole : file_length_of image.facts ≤ length bytes
   pub is : image ≡ loaded image.facts bytes
 
-loaded_if-is : (j : Judged) (bytes : List ℕ) (image : Loaded) → IfImage j (λ i. IsSound i × (file_length_of i ≤ length bytes)) → loaded_if j bytes ≡ Ok image → IsFileOf image bytes
+loaded_if-is : (j : Judged) (bytes : List ℕ) (image : Loaded) → IfImage j (λ i. IsSound i × (file_length_of i ≤ length bytes))
+    → loaded_if j bytes ≡ Ok image → IsFileOf image bytes
 unfolding loaded
 loaded_if-is (Is i) bytes image h e =
     let same : loaded i bytes ≡ image = cc in
@@ -153,7 +154,8 @@ pub judgement-short : (head : List ℕ) (len : ℕ) → len < 32 → NotImage 1 
 unfolding judgement
 judgement-short head len h = ap (λ (b : Bool). if b then NotImage 1 else judged_kind (kind_of (word_at head 0)) head len) (sym (lt-ltb _ _ h))
 
-pub judgement-kind : (head : List ℕ) (len : ℕ) (kind : Option Kind) → 32 ≤ len → kind ≡ kind_of (word_at head 0) → judged_kind kind head len ≡ judgement head len
+pub judgement-kind : (head : List ℕ) (len : ℕ) (kind : Option Kind) → 32 ≤ len → kind ≡ kind_of (word_at head 0)
+    → judged_kind kind head len ≡ judgement head len
 unfolding judgement
 judgement-kind head len kind h e =
     ap (λ (k : Option Kind). judged_kind k head len) e
@@ -321,14 +323,16 @@ judgement-header_of image len sound whole =
     ap (λ (b : Bool). if b then NotImage 1 else judged_kind (kind_of (word_at (header_of image) 0)) (header_of image) len) enough ∙ same
 
 -- a longer file with the same front is the same image, if it has the image's bytes
-judged_kind-longer : (kind : Option Kind) (head : List ℕ) (len m : ℕ) (image : Image) → judged_kind kind head len ≡ Is image → file_length_of image ≤ m → judged_kind kind head m ≡ Is image
+judged_kind-longer : (kind : Option Kind) (head : List ℕ) (len m : ℕ) (image : Image) → judged_kind kind head len ≡ Is image
+    → file_length_of image ≤ m → judged_kind kind head m ≡ Is image
 judged_kind-longer None head len m image e enough = cc
 judged_kind-longer (Some kind) head len m image e enough =
     let facts = facts_of head kind in
     let shown = subst (λ (j : Judged). IfImage j (λ i. (i ≡ facts) × IsSound i × (file_length_of i ≤ len))) e (judged_facts-is facts len) in
     ap (λ (i : Image). judged_facts i m) (sym shown.0) ∙ judged_facts-sound image m shown.1 enough
 
-judgement-longer : (head : List ℕ) (len m : ℕ) (image : Image) → judgement head len ≡ Is image → 32 ≤ len → file_length_of image ≤ m → judgement head m ≡ Is image
+judgement-longer : (head : List ℕ) (len m : ℕ) (image : Image) → judgement head len ≡ Is image → 32 ≤ len → file_length_of image ≤ m
+    → judgement head m ≡ Is image
 judgement-longer head len m image e long enough =
     let behind = text_offset_at_least (is_paged image.kind) in
     let known : judged_kind (kind_of (word_at head 0)) head len ≡ Is image = judgement-kind head len (kind_of (word_at head 0)) long refl ∙ e in

@@ -14,7 +14,8 @@ use Rattle.asm_grammar.specs.Numbers.{is_digit, AreDigits}
 is_true : (t : Bool) → t ≡ true → IsTrue t
 is_true t e = grind (arith, nat_tests)
 
-are_by : (base : ℕ) (t : Bool) (x : ℕ) (xs : List ℕ) → is_digit base x ≡ t → AreDigits base (front_of (is_digit base) xs) → AreDigits base (if t then x ∷ front_of (is_digit base) xs else [])
+are_by : (base : ℕ) (t : Bool) (x : ℕ) (xs : List ℕ) → is_digit base x ≡ t → AreDigits base (front_of (is_digit base) xs)
+    → AreDigits base (if t then x ∷ front_of (is_digit base) xs else [])
 are_by base true x xs e h = (is_true (is_digit base x) e, h)
 are_by base false x xs e h = tt
 

@@ -26,7 +26,9 @@ front_has_no_feed : (text : List ℕ) → HasNoFeed (front_of (λ byte. not (byt
 front_has_no_feed [] = tt
 front_has_no_feed (byte ∷ text) = no_feed_by byte (front_of (λ byte. not (byte == 10)) text) (not (byte == 10)) refl (front_has_no_feed text)
 
-feed_by : (byte : ℕ) (text : List ℕ) (t : Bool) (b : ℕ) (more : List ℕ) → not (byte == 10) ≡ t → (behind (λ byte. not (byte == 10)) text ≡ b ∷ more → b ≡ 10) → (if t then behind (λ byte. not (byte == 10)) text else byte ∷ text) ≡ b ∷ more → b ≡ 10
+feed_by : (byte : ℕ) (text : List ℕ) (t : Bool) (b : ℕ) (more : List ℕ) → not (byte == 10) ≡ t
+    → (behind (λ byte. not (byte == 10)) text ≡ b ∷ more → b ≡ 10) → (if t then behind (λ byte. not (byte == 10)) text else byte ∷ text) ≡ b ∷ more
+    → b ≡ 10
 feed_by byte text true b more e h f = h f
 feed_by byte text false b more e h f = (let same : byte ≡ b = cc in sym same ∙ ends byte e)
 
@@ -45,7 +47,8 @@ lines_open byte [] h = rw h.0 refl
 lines_open byte (next ∷ text) h = rw h.0 (ap (put_before byte) (lines_open next text h.1))
 
 -- a last line without its line feed
-open_lines : (text : List ℕ) (n : ℕ) → n ≡ length (front_of (λ byte. not (byte == 10)) text) → drop n text ≡ [] → 0 < length text → lines_in text ≡ None ∷ lines_in (drop n text)
+open_lines : (text : List ℕ) (n : ℕ) → n ≡ length (front_of (λ byte. not (byte == 10)) text) → drop n text ≡ [] → 0 < length text
+    → lines_in text ≡ None ∷ lines_in (drop n text)
 unfolding lines_in
 open_lines [] n is e some = absurd (omega (arith, some))
 open_lines (byte ∷ text) n is e some =
@@ -55,7 +58,8 @@ open_lines (byte ∷ text) n is e some =
     lines_open byte text free ∙ ap (λ (l : List ℕ). None ∷ lines_in l) (sym e)
 
 -- a line and its line feed
-ended_lines : (text : List ℕ) (n b : ℕ) (more : List ℕ) → n ≡ length (front_of (λ byte. not (byte == 10)) text) → drop n text ≡ b ∷ more → lines_in text ≡ Some (take n text) ∷ lines_in more
+ended_lines : (text : List ℕ) (n b : ℕ) (more : List ℕ) → n ≡ length (front_of (λ byte. not (byte == 10)) text) → drop n text ≡ b ∷ more
+    → lines_in text ≡ Some (take n text) ∷ lines_in more
 ended_lines text n b more is e =
     let front : take n text ≡ front_of (λ byte. not (byte == 10)) text = ap (λ (k : ℕ). take k text) is ∙ take_front (λ byte. not (byte == 10)) text in
     let left : drop n text ≡ behind (λ byte. not (byte == 10)) text = ap (λ (k : ℕ). drop k text) is ∙ drop_front (λ byte. not (byte == 10)) text in
@@ -64,7 +68,8 @@ ended_lines text n b more is e =
     let split : text ≡ take n text ++ 10 ∷ more = sym (take-append-drop n text) ∙ ap (λ (l : List ℕ). take n text ++ l) (e ∙ ap (λ (k : ℕ). k ∷ more) feed) in
     ap lines_in split ∙ lines_ended (take n text) more free
 
-pub open_line : (text back : List ℕ) (n : ℕ) → n ≡ length (front_of (λ byte. not (byte == 10)) text) → back ≡ drop n text → length back < 1 → 0 < length text → lines_in text ≡ None ∷ lines_in back
+pub open_line : (text back : List ℕ) (n : ℕ) → n ≡ length (front_of (λ byte. not (byte == 10)) text) → back ≡ drop n text → length back < 1
+    → 0 < length text → lines_in text ≡ None ∷ lines_in back
 open_line text [] n is cut none some = open_lines text n is (sym cut) some ∙ ap (λ (l : List ℕ). None ∷ lines_in l) (sym cut)
 open_line text (b ∷ back) n is cut none some = absurd (omega (arith, none))
 
@@ -72,7 +77,8 @@ whole : (xs : List ℕ) → take (length xs) xs ≡ xs
 whole [] = refl
 whole (x ∷ xs) = ap (λ (l : List ℕ). x ∷ l) (whole xs)
 
-pub ended_line : (text front back : List ℕ) (n : ℕ) → n ≡ length (front_of (λ byte. not (byte == 10)) text) → front ≡ take n text → back ≡ drop n text → 1 ≤ length back → lines_in text ≡ Some front ∷ lines_in (take (length back - 1) (drop 1 back))
+pub ended_line : (text front back : List ℕ) (n : ℕ) → n ≡ length (front_of (λ byte. not (byte == 10)) text) → front ≡ take n text → back ≡ drop n text
+    → 1 ≤ length back → lines_in text ≡ Some front ∷ lines_in (take (length back - 1) (drop 1 back))
 ended_line text front [] n is cut left some = absurd (omega (arith, some))
 ended_line text front (b ∷ back) n is cut left some =
     let all : take (length (b ∷ back) - 1) back ≡ back = ap (λ (k : ℕ). take k back) (omega arith) ∙ whole back in

@@ -14,7 +14,8 @@ both false b e = absurd (cc)
 less : (a b : ℕ) → IsTrue (nat_lt a b) → a < b
 less a b h = grind (arith, nat_tests)
 
-above_by : (rows : List Row) (p : Row → Bool) (r next row : Row) (t : Bool) → r.op < next.op → (find p rows ≡ Some row → next.op < row.op) → cond t (Some next) (find p rows) ≡ Some row → r.op < row.op
+above_by : (rows : List Row) (p : Row → Bool) (r next row : Row) (t : Bool) → r.op < next.op → (find p rows ≡ Some row → next.op < row.op)
+    → cond t (Some next) (find p rows) ≡ Some row → r.op < row.op
 above_by rows p r next row true first more e = (let same : next ≡ row = cc in subst (λ (x : Row). r.op < x.op) same first)
 above_by rows p r next row false first more e = (let after : next.op < row.op = more e in omega arith)
 
@@ -31,10 +32,13 @@ tail r (next ∷ rows) rise = (both (nat_lt r.op next.op) (is_rising (next ∷ r
 same_op : (r : Row) (rows : List Row) (row : Row) → r ≡ row → find (λ x. x.op == row.op) (r ∷ rows) ≡ Some row
 same_op r rows row e = (let here : (r.op == row.op) ≡ true = (let ops : r.op ≡ row.op = ap (λ (x : Row). x.op) e in grind (arith, nat_tests)) in rw here (ap (λ (x : Row). Some x) e))
 
-other_op : (r : Row) (rows : List Row) (row : Row) → r.op < row.op → find (λ x. x.op == row.op) rows ≡ Some row → find (λ x. x.op == row.op) (r ∷ rows) ≡ Some row
+other_op : (r : Row) (rows : List Row) (row : Row) → r.op < row.op → find (λ x. x.op == row.op) rows ≡ Some row
+    → find (λ x. x.op == row.op) (r ∷ rows) ≡ Some row
 other_op r rows row less e = (let here : (r.op == row.op) ≡ false = grind (arith, nat_tests) in rw here e)
 
-by_step : (rows : List Row) (p : Row → Bool) (r row : Row) (t : Bool) → (find p rows ≡ Some row → r.op < row.op) → (find p rows ≡ Some row → find (λ x. x.op == row.op) rows ≡ Some row) → cond t (Some r) (find p rows) ≡ Some row → find (λ x. x.op == row.op) (r ∷ rows) ≡ Some row
+by_step : (rows : List Row) (p : Row → Bool) (r row : Row) (t : Bool) → (find p rows ≡ Some row → r.op < row.op)
+    → (find p rows ≡ Some row → find (λ x. x.op == row.op) rows ≡ Some row) → cond t (Some r) (find p rows) ≡ Some row
+    → find (λ x. x.op == row.op) (r ∷ rows) ≡ Some row
 by_step rows p r row true over more e = same_op r rows row (cc)
 by_step rows p r row false over more e = other_op r rows row (over e) (more e)
 

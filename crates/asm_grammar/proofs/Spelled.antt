@@ -119,7 +119,10 @@ minus_4 : (m : ℕ) → m ≤ 2147483648 → cast_signed w32 ((4294967296 - m) %
 minus_4 m h = grind (arith, nat_tests)
 
 -- the bits of a displacement are its number in two's complement
-signed_by : (half whole bits : ℕ) (w : (ℕ → ℤ)) (number : Number) → half ≤ whole → ((n : ℕ) → n < half → w n ≡ pos n) → ((m : ℕ) → m ≤ half → w ((whole - m) % whole) ≡ neg_ℤ (pos m)) → (negative : Bool) → number.negative ≡ negative → (if negative || nat_lt number.magnitude half then (if negative then (if nat_le number.magnitude half then Some ((whole - number.magnitude) % whole) else None) else (if nat_lt number.magnitude whole then Some number.magnitude else None)) else None) ≡ Some bits → (if negative then neg_ℤ (pos number.magnitude) else pos number.magnitude) ≡ w bits
+signed_by : (half whole bits : ℕ) (w : (ℕ → ℤ)) (number : Number) → half ≤ whole → ((n : ℕ) → n < half → w n ≡ pos n)
+    → ((m : ℕ) → m ≤ half → w ((whole - m) % whole) ≡ neg_ℤ (pos m)) → (negative : Bool) → number.negative ≡ negative
+    → (if negative || nat_lt number.magnitude half then (if negative then (if nat_le number.magnitude half then Some ((whole - number.magnitude) % whole) else None) else (if nat_lt number.magnitude whole then Some number.magnitude else None)) else None) ≡ Some bits
+    → (if negative then neg_ℤ (pos number.magnitude) else pos number.magnitude) ≡ w bits
 signed_by half whole bits w number below plus minus true e h =
     let p : (nat_le number.magnitude half ≡ true) × (Some ((whole - number.magnitude) % whole) ≡ Some bits) = some_if (nat_le number.magnitude half) (Some ((whole - number.magnitude) % whole)) bits h in
     let q : (whole - number.magnitude) % whole ≡ bits = some_same _ _ p.1 in
@@ -144,33 +147,39 @@ unfolding displacement_bits value_bits
 signed_4 bits by e = signed_by 2147483648 4294967296 bits (λ n. cast_signed w32 n) by (omega arith) plus_4 minus_4 by.negative refl e
 
 -- a displacement in 1, 2 or 4 bytes
-spells_signed : (size bits : ℕ) (by : ℤ) → SpellsNumber size bits (to_le_bytes (width_of size) bits) → by ≡ cast_signed (width_of size) bits → SpellsSigned size by (to_le_bytes (width_of size) bits)
+spells_signed : (size bits : ℕ) (by : ℤ) → SpellsNumber size bits (to_le_bytes (width_of size) bits) → by ≡ cast_signed (width_of size) bits
+    → SpellsSigned size by (to_le_bytes (width_of size) bits)
 spells_signed size bits by h e = record { sized = h.sized; valued = e ∙ ap (λ (n : ℕ). cast_signed (width_of size) n) h.valued }
 
-spells_displaced : (mode size reg bits : ℕ) (by : ℤ) → reg < 16 → SpellsSigned size by (to_le_bytes (width_of size) bits) → SpellsDisplaced mode size reg by (with_number (specifier mode reg) size bits)
+spells_displaced : (mode size reg bits : ℕ) (by : ℤ) → reg < 16 → SpellsSigned size by (to_le_bytes (width_of size) bits)
+    → SpellsDisplaced mode size reg by (with_number (specifier mode reg) size bits)
 spells_displaced mode size reg bits by r h = record { register = r; digits = to_le_bytes (width_of size) bits; split = refl; spells = h }
 
-displaced_as : (size reg : ℕ) (by : Number) (deferred : Bool) (bytes : List ℕ) → displaced_bytes size reg by deferred ≡ Some bytes → (bits : ℕ) × (displacement_bits size by ≡ Some bits) × (with_number (specifier (displacement_mode size deferred) reg) size bits ≡ bytes)
+displaced_as : (size reg : ℕ) (by : Number) (deferred : Bool) (bytes : List ℕ) → displaced_bytes size reg by deferred ≡ Some bytes
+    → (bits : ℕ) × (displacement_bits size by ≡ Some bits) × (with_number (specifier (displacement_mode size deferred) reg) size bits ≡ bytes)
 unfolding displaced_bytes
 displaced_as size reg by deferred bytes e =
     let b = bind_some (displacement_bits size by) (λ bits. Some (with_number (specifier (displacement_mode size deferred) reg) size bits)) bytes e in
     (b.0, b.1, some_same _ _ b.2)
 
-displaced_1 : (reg : ℕ) (by : Number) (deferred : Bool) (bytes : List ℕ) → reg < 16 → displaced_bytes 1 reg by deferred ≡ Some bytes → SpellsDisplaced (displacement_mode 1 deferred) 1 reg (as_signed by) bytes
+displaced_1 : (reg : ℕ) (by : Number) (deferred : Bool) (bytes : List ℕ) → reg < 16 → displaced_bytes 1 reg by deferred ≡ Some bytes
+    → SpellsDisplaced (displacement_mode 1 deferred) 1 reg (as_signed by) bytes
 displaced_1 reg by deferred bytes r e =
     let b = displaced_as 1 reg by deferred bytes e in
     subst (λ (l : List ℕ). SpellsDisplaced (displacement_mode 1 deferred) 1 reg (as_signed by) l) b.2
     (spells_displaced (displacement_mode 1 deferred) 1 reg b.0 (as_signed by) r
     (spells_signed 1 b.0 (as_signed by) (spells_1 b.0 (bits_fit 1 b.0 by (displacement_value 1 b.0 by b.1))) (signed_1 b.0 by b.1)))
 
-displaced_2 : (reg : ℕ) (by : Number) (deferred : Bool) (bytes : List ℕ) → reg < 16 → displaced_bytes 2 reg by deferred ≡ Some bytes → SpellsDisplaced (displacement_mode 2 deferred) 2 reg (as_signed by) bytes
+displaced_2 : (reg : ℕ) (by : Number) (deferred : Bool) (bytes : List ℕ) → reg < 16 → displaced_bytes 2 reg by deferred ≡ Some bytes
+    → SpellsDisplaced (displacement_mode 2 deferred) 2 reg (as_signed by) bytes
 displaced_2 reg by deferred bytes r e =
     let b = displaced_as 2 reg by deferred bytes e in
     subst (λ (l : List ℕ). SpellsDisplaced (displacement_mode 2 deferred) 2 reg (as_signed by) l) b.2
     (spells_displaced (displacement_mode 2 deferred) 2 reg b.0 (as_signed by) r
     (spells_signed 2 b.0 (as_signed by) (spells_2 b.0 (bits_fit 2 b.0 by (displacement_value 2 b.0 by b.1))) (signed_2 b.0 by b.1)))
 
-displaced_4 : (reg : ℕ) (by : Number) (deferred : Bool) (bytes : List ℕ) → reg < 16 → displaced_bytes 4 reg by deferred ≡ Some bytes → SpellsDisplaced (displacement_mode 4 deferred) 4 reg (as_signed by) bytes
+displaced_4 : (reg : ℕ) (by : Number) (deferred : Bool) (bytes : List ℕ) → reg < 16 → displaced_bytes 4 reg by deferred ≡ Some bytes
+    → SpellsDisplaced (displacement_mode 4 deferred) 4 reg (as_signed by) bytes
 displaced_4 reg by deferred bytes r e =
     let b = displaced_as 4 reg by deferred bytes e in
     subst (λ (l : List ℕ). SpellsDisplaced (displacement_mode 4 deferred) 4 reg (as_signed by) l) b.2
@@ -178,18 +187,22 @@ displaced_4 reg by deferred bytes r e =
     (spells_signed 4 b.0 (as_signed by) (spells_4 b.0 (bits_fit 4 b.0 by (displacement_value 4 b.0 by b.1))) (signed_4 b.0 by b.1)))
 
 -- a size other than 1 and 2 is written as 4
-displacement_other : (size : ℕ) (by : Number) (one two : Bool) → (size == 1) ≡ one → (size == 2) ≡ two → one ≡ false → two ≡ false → displacement_bits size by ≡ displacement_bits 4 by
+displacement_other : (size : ℕ) (by : Number) (one two : Bool) → (size == 1) ≡ one → (size == 2) ≡ two → one ≡ false → two ≡ false
+    → displacement_bits size by ≡ displacement_bits 4 by
 unfolding displacement_bits value_bits
 displacement_other size by one two a b c d = rw (a ∙ c) (rw (b ∙ d) refl)
 
-displaced_other : (size reg : ℕ) (by : Number) (deferred : Bool) → (size == 1) ≡ false → (size == 2) ≡ false → displaced_bytes size reg by deferred ≡ displaced_bytes 4 reg by deferred
+displaced_other : (size reg : ℕ) (by : Number) (deferred : Bool) → (size == 1) ≡ false → (size == 2) ≡ false
+    → displaced_bytes size reg by deferred ≡ displaced_bytes 4 reg by deferred
 unfolding displaced_bytes
 displaced_other size reg by deferred a b = rw (displacement_other size by (size == 1) (size == 2) refl refl a b) (rw a (rw b refl))
 
 pub size_is : (size n : ℕ) → (size == n) ≡ true → size ≡ n
 size_is size n e = grind (arith, nat_tests)
 
-displaced_spelled : (size reg : ℕ) (by : Number) (deferred one two : Bool) (bytes : List ℕ) → (size == 1) ≡ one → (size == 2) ≡ two → reg < 16 → displaced_bytes size reg by deferred ≡ Some bytes → SpellsDisplaced (displacement_mode 1 deferred) 1 reg (as_signed by) bytes ⊎ SpellsDisplaced (displacement_mode 2 deferred) 2 reg (as_signed by) bytes ⊎ SpellsDisplaced (displacement_mode 4 deferred) 4 reg (as_signed by) bytes
+displaced_spelled : (size reg : ℕ) (by : Number) (deferred one two : Bool) (bytes : List ℕ) → (size == 1) ≡ one → (size == 2) ≡ two → reg < 16
+    → displaced_bytes size reg by deferred ≡ Some bytes
+    → SpellsDisplaced (displacement_mode 1 deferred) 1 reg (as_signed by) bytes ⊎ SpellsDisplaced (displacement_mode 2 deferred) 2 reg (as_signed by) bytes ⊎ SpellsDisplaced (displacement_mode 4 deferred) 4 reg (as_signed by) bytes
 displaced_spelled size reg by deferred true two bytes a b r e =
     inl (displaced_1 reg by deferred bytes r (subst (λ (s : ℕ). displaced_bytes s reg by deferred ≡ Some bytes) (size_is size 1 a) e))
 displaced_spelled size reg by deferred false true bytes a b r e =
@@ -197,7 +210,9 @@ displaced_spelled size reg by deferred false true bytes a b r e =
 displaced_spelled size reg by deferred false false bytes a b r e =
     inr (inr (displaced_4 reg by deferred bytes r (sym (displaced_other size reg by deferred a b) ∙ e)))
 
-spells_base_displaced : (reg : ℕ) (by : ℤ) (deferred : Bool) (bytes : List ℕ) → SpellsDisplaced (displacement_mode 1 deferred) 1 reg by bytes ⊎ SpellsDisplaced (displacement_mode 2 deferred) 2 reg by bytes ⊎ SpellsDisplaced (displacement_mode 4 deferred) 4 reg by bytes → SpellsBase (bases.Disp reg by deferred) bytes
+spells_base_displaced : (reg : ℕ) (by : ℤ) (deferred : Bool) (bytes : List ℕ)
+    → SpellsDisplaced (displacement_mode 1 deferred) 1 reg by bytes ⊎ SpellsDisplaced (displacement_mode 2 deferred) 2 reg by bytes ⊎ SpellsDisplaced (displacement_mode 4 deferred) 4 reg by bytes
+    → SpellsBase (bases.Disp reg by deferred) bytes
 spells_base_displaced reg by false bytes h = h
 spells_base_displaced reg by true bytes h = h
 
@@ -215,7 +230,9 @@ value_fits labels size bits value e =
     bits_fit size bits b.0 b.2
 
 -- a number behind a specifier on PC
-spells_on_pc : (labels : List Definition) (mode size : ℕ) (value : Value) (bytes : List ℕ) → (size ≡ 1) ⊎ (size ≡ 2) ⊎ (size ≡ 4) → (bits_of_value labels size value >>= λ bits. Some (with_number (specifier mode 15) size bits)) ≡ Some bytes → SpellsOnPc mode size (or_zero (bits_of_value labels size value)) bytes
+spells_on_pc : (labels : List Definition) (mode size : ℕ) (value : Value) (bytes : List ℕ) → (size ≡ 1) ⊎ (size ≡ 2) ⊎ (size ≡ 4)
+    → (bits_of_value labels size value >>= λ bits. Some (with_number (specifier mode 15) size bits)) ≡ Some bytes
+    → SpellsOnPc mode size (or_zero (bits_of_value labels size value)) bytes
 spells_on_pc labels mode size value bytes sized e =
     let b = bind_some (bits_of_value labels size value) (λ bits. Some (with_number (specifier mode 15) size bits)) bytes e in
     let is : b.0 ≡ or_zero (bits_of_value labels size value) = ap or_zero (sym b.1) in
@@ -252,7 +269,8 @@ pub both : (a b : Bool) → (a && b) ≡ true → (a ≡ true) × (b ≡ true)
 both true b e = (refl, e)
 both false b e = absurd (cc)
 
-spells_indexed : (labels : List Definition) (index : ℕ) (place : Place) (bytes : List ℕ) → indexed_bytes labels index place ≡ Some bytes → SpellsIndexed index (named_base labels place) bytes
+spells_indexed : (labels : List Definition) (index : ℕ) (place : Place) (bytes : List ℕ) → indexed_bytes labels index place ≡ Some bytes
+    → SpellsIndexed index (named_base labels place) bytes
 unfolding indexed_bytes
 spells_indexed labels index place bytes e =
     let p = some_if (nat_lt index 15 && leaves_index index place) (place_bytes labels place >>= λ bytes. Some (specifier 4 index ∷ bytes)) bytes e in
@@ -276,7 +294,8 @@ spells_of_base slot (bases.AutoIncDef reg) bytes h = h
 spells_of_base slot (bases.Absolute address) bytes h = h
 spells_of_base slot (bases.Disp reg by deferred) bytes h = h
 
-spells_literal : (slot : Slot) (number : Number) (bytes : List ℕ) → (if is_read slot.access then literal_bytes number else None) ≡ Some bytes → IsTrue (is_read slot.access) × (number.magnitude < 64) × (bytes ≡ number.magnitude ∷ [])
+spells_literal : (slot : Slot) (number : Number) (bytes : List ℕ) → (if is_read slot.access then literal_bytes number else None) ≡ Some bytes
+    → IsTrue (is_read slot.access) × (number.magnitude < 64) × (bytes ≡ number.magnitude ∷ [])
 spells_literal slot number bytes e =
     let p = some_if (is_read slot.access) (literal_bytes number) bytes e in
     let q = some_if (not number.negative && nat_lt number.magnitude 64) (Some (number.magnitude ∷ [])) bytes p.1 in
@@ -286,18 +305,23 @@ spells_literal slot number bytes e =
 not_of : (t : Bool) → t ≡ false → IsTrue (not t)
 not_of t e = is_true (not t) (ap not e)
 
-spells_register : (slot : Slot) (reg : ℕ) (bytes : List ℕ) → (if is_address slot.access then None else plain_specifier 5 reg) ≡ Some bytes → IsTrue (not (is_address slot.access)) × SpellsPlain 5 reg bytes
+spells_register : (slot : Slot) (reg : ℕ) (bytes : List ℕ) → (if is_address slot.access then None else plain_specifier 5 reg) ≡ Some bytes
+    → IsTrue (not (is_address slot.access)) × SpellsPlain 5 reg bytes
 spells_register slot reg bytes e =
     let p = some_unless (is_address slot.access) (plain_specifier 5 reg) bytes e in
     (not_of (is_address slot.access) p.0, spells_plain 5 reg bytes p.1)
 
-spells_immediate : (labels : List Definition) (slot : Slot) (value : Value) (bytes : List ℕ) → (slot.size ≡ 1) ⊎ (slot.size ≡ 2) ⊎ (slot.size ≡ 4) → (if is_read slot.access then immediate_bytes labels slot value else None) ≡ Some bytes → IsTrue (is_read slot.access) × SpellsOnPc 8 slot.size (or_zero (bits_of_value labels slot.size value)) bytes
+spells_immediate : (labels : List Definition) (slot : Slot) (value : Value) (bytes : List ℕ) → (slot.size ≡ 1) ⊎ (slot.size ≡ 2) ⊎ (slot.size ≡ 4)
+    → (if is_read slot.access then immediate_bytes labels slot value else None) ≡ Some bytes
+    → IsTrue (is_read slot.access) × SpellsOnPc 8 slot.size (or_zero (bits_of_value labels slot.size value)) bytes
 unfolding immediate_bytes
 spells_immediate labels slot value bytes sized e =
     let p = some_if (is_read slot.access) (bits_of_value labels slot.size value >>= λ bits. Some (with_number 143 slot.size bits)) bytes e in
     (is_true (is_read slot.access) p.0, spells_on_pc labels 8 slot.size value bytes sized p.1)
 
-spells_specifier : (labels : List Definition) (from : ℕ) (slot : Slot) (written : Written) (bytes : List ℕ) → (slot.size ≡ 1) ⊎ (slot.size ≡ 2) ⊎ (slot.size ≡ 4) → specifier_bytes labels slot written ≡ Some bytes → SpellsSpecifier slot (named_operand labels from slot written) bytes
+spells_specifier : (labels : List Definition) (from : ℕ) (slot : Slot) (written : Written) (bytes : List ℕ)
+    → (slot.size ≡ 1) ⊎ (slot.size ≡ 2) ⊎ (slot.size ≡ 4) → specifier_bytes labels slot written ≡ Some bytes
+    → SpellsSpecifier slot (named_operand labels from slot written) bytes
 unfolding specifier_bytes
 spells_specifier labels from slot writtens.Absent bytes sized e = absurd (cc)
 spells_specifier labels from slot (writtens.Literal number) bytes sized e = spells_literal slot number bytes e
@@ -322,7 +346,8 @@ branch_2 by bits small e = (grind (arith, nat_tests, e), grind (arith, nat_tests
 branch_4 : (by bits : ℕ) → by < 4294967296 → branch_bits 4 by ≡ Some bits → (bits < 4294967296) × (cast_signed w32 by ≡ cast_signed w32 bits)
 branch_4 by bits small e = (grind (arith, nat_tests, e), grind (arith, nat_tests, e))
 
-branch_value : (size by bits : ℕ) → (size ≡ 1) ⊎ (size ≡ 2) ⊎ (size ≡ 4) → by < 4294967296 → branch_bits size by ≡ Some bits → (bits < whole_of size) × (cast_signed w32 by ≡ cast_signed (width_of size) bits)
+branch_value : (size by bits : ℕ) → (size ≡ 1) ⊎ (size ≡ 2) ⊎ (size ≡ 4) → by < 4294967296 → branch_bits size by ≡ Some bits
+    → (bits < whole_of size) × (cast_signed w32 by ≡ cast_signed (width_of size) bits)
 branch_value size by bits (inl e) small h =
     subst (λ (s : ℕ). (bits < whole_of s) × (cast_signed w32 by ≡ cast_signed (width_of s) bits)) (sym e) (branch_1 by bits small (subst (λ (s : ℕ). branch_bits s by ≡ Some bits) e h))
 branch_value size by bits (inr (inl e)) small h =
@@ -330,7 +355,9 @@ branch_value size by bits (inr (inl e)) small h =
 branch_value size by bits (inr (inr e)) small h =
     subst (λ (s : ℕ). (bits < whole_of s) × (cast_signed w32 by ≡ cast_signed (width_of s) bits)) (sym e) (branch_4 by bits small (subst (λ (s : ℕ). branch_bits s by ≡ Some bits) e h))
 
-spells_target : (labels : List Definition) (from : ℕ) (slot : Slot) (target : Value) (bytes : List ℕ) → (slot.size ≡ 1) ⊎ (slot.size ≡ 2) ⊎ (slot.size ≡ 4) → target_bytes labels from slot target ≡ Some bytes → SpellsSigned slot.size (cast_signed w32 (distance (or_zero (bits_of_value labels 4 target)) (from + slot.size))) bytes
+spells_target : (labels : List Definition) (from : ℕ) (slot : Slot) (target : Value) (bytes : List ℕ)
+    → (slot.size ≡ 1) ⊎ (slot.size ≡ 2) ⊎ (slot.size ≡ 4) → target_bytes labels from slot target ≡ Some bytes
+    → SpellsSigned slot.size (cast_signed w32 (distance (or_zero (bits_of_value labels 4 target)) (from + slot.size))) bytes
 unfolding target_bytes
 spells_target labels from slot target bytes sized e =
     let after_address = λ (address : ℕ). branch_bits slot.size (distance address (from + slot.size)) >>= λ bits. Some (to_le_bytes (width_of slot.size) bits) in
@@ -343,7 +370,9 @@ spells_target labels from slot target bytes sized e =
     (subst (λ (n : ℕ). SpellsSigned slot.size (cast_signed w32 (distance n (from + slot.size))) (to_le_bytes (width_of slot.size) b.0)) is
     (spells_signed slot.size b.0 (cast_signed w32 (distance a.0 (from + slot.size))) (spells_number slot.size b.0 sized value.0) value.1))
 
-spells_branch : (labels : List Definition) (from : ℕ) (slot : Slot) (written : Written) (bytes : List ℕ) → (slot.size ≡ 1) ⊎ (slot.size ≡ 2) ⊎ (slot.size ≡ 4) → branch_bytes labels from slot written ≡ Some bytes → SpellsBranch slot (named_operand labels from slot written) bytes
+spells_branch : (labels : List Definition) (from : ℕ) (slot : Slot) (written : Written) (bytes : List ℕ)
+    → (slot.size ≡ 1) ⊎ (slot.size ≡ 2) ⊎ (slot.size ≡ 4) → branch_bytes labels from slot written ≡ Some bytes
+    → SpellsBranch slot (named_operand labels from slot written) bytes
 unfolding branch_bytes
 spells_branch labels from slot writtens.Absent bytes sized e = absurd (cc)
 spells_branch labels from slot (writtens.Literal number) bytes sized e = absurd (cc)
@@ -356,7 +385,8 @@ spells_branch labels from slot (writtens.Target target) bytes sized e = spells_t
 
 -- ---- places of the row
 
-spells_absent : (labels : List Definition) (from : ℕ) (slot : Slot) (written : Written) (bytes : List ℕ) → absent_bytes written ≡ Some bytes → (named_operand labels from slot written ≡ operands.Literal 0) × (bytes ≡ [])
+spells_absent : (labels : List Definition) (from : ℕ) (slot : Slot) (written : Written) (bytes : List ℕ) → absent_bytes written ≡ Some bytes
+    → (named_operand labels from slot written ≡ operands.Literal 0) × (bytes ≡ [])
 spells_absent labels from slot writtens.Absent bytes e = (refl, sym (some_same _ _ e))
 spells_absent labels from slot (writtens.Literal number) bytes e = absurd (cc)
 spells_absent labels from slot (writtens.Register reg) bytes e = absurd (cc)
@@ -366,25 +396,36 @@ spells_absent labels from slot (writtens.Indexed index base) bytes e = absurd (c
 spells_absent labels from slot (writtens.Misindexed immediate) bytes e = absurd (cc)
 spells_absent labels from slot (writtens.Target target) bytes e = absurd (cc)
 
-spells_operand : (labels : List Definition) (from : ℕ) (slot : Slot) (branch : Bool) (written : Written) (bytes : List ℕ) → (slot.size ≡ 1) ⊎ (slot.size ≡ 2) ⊎ (slot.size ≡ 4) → (if branch then branch_bytes labels from slot written else specifier_bytes labels slot written) ≡ Some bytes → SpellsOperand branch slot (named_operand labels from slot written) bytes
+spells_operand : (labels : List Definition) (from : ℕ) (slot : Slot) (branch : Bool) (written : Written) (bytes : List ℕ)
+    → (slot.size ≡ 1) ⊎ (slot.size ≡ 2) ⊎ (slot.size ≡ 4)
+    → (if branch then branch_bytes labels from slot written else specifier_bytes labels slot written) ≡ Some bytes
+    → SpellsOperand branch slot (named_operand labels from slot written) bytes
 spells_operand labels from slot true written bytes sized e = spells_branch labels from slot written bytes sized e
 spells_operand labels from slot false written bytes sized e = spells_specifier labels from slot written bytes sized e
 
-spells_by : (labels : List Definition) (from : ℕ) (slot : Slot) (here : Bool) (written : Written) (bytes : List ℕ) → (slot.size ≡ 1) ⊎ (slot.size ≡ 2) ⊎ (slot.size ≡ 4) → (if here then (if is_branch slot.access then branch_bytes labels from slot written else specifier_bytes labels slot written) else absent_bytes written) ≡ Some bytes → SpellsPlace here slot (named_operand labels from slot written) bytes
+spells_by : (labels : List Definition) (from : ℕ) (slot : Slot) (here : Bool) (written : Written) (bytes : List ℕ)
+    → (slot.size ≡ 1) ⊎ (slot.size ≡ 2) ⊎ (slot.size ≡ 4)
+    → (if here then (if is_branch slot.access then branch_bytes labels from slot written else specifier_bytes labels slot written) else absent_bytes written) ≡ Some bytes
+    → SpellsPlace here slot (named_operand labels from slot written) bytes
 spells_by labels from slot true written bytes sized e = spells_operand labels from slot (is_branch slot.access) written bytes sized e
 spells_by labels from slot false written bytes sized e = spells_absent labels from slot written bytes e
 
-pub spells_row_place : (labels : List Definition) (from : ℕ) (row : Row) (place : ℕ) (written : Written) (bytes : List ℕ) → operand_bytes labels from row place written ≡ Some bytes → SpellsPlace (nat_lt place row.count) (slot_in row place) (named_operand labels from (slot_in row place) written) bytes
+pub spells_row_place : (labels : List Definition) (from : ℕ) (row : Row) (place : ℕ) (written : Written) (bytes : List ℕ)
+    → operand_bytes labels from row place written ≡ Some bytes
+    → SpellsPlace (nat_lt place row.count) (slot_in row place) (named_operand labels from (slot_in row place) written) bytes
 unfolding operand_bytes
 spells_row_place labels from row place written bytes e =
     spells_by labels from (slot_in row place) (nat_lt place row.count) written bytes (kind_sized (if place == 0 then row.a else (if place == 1 then row.b else row.c))) e
 
 -- ---- instructions
 
-pub three_binds : {A B C D : Type 0} (o : Option A) (p : A → Option B) (q : A → B → Option C) (f : A → B → C → D) (a : A) (b : B) (c : C) → o ≡ Some a → p a ≡ Some b → q a b ≡ Some c → (o >>= λ a. p a >>= λ b. q a b >>= λ c. Some (f a b c)) ≡ Some (f a b c)
+pub three_binds : {A B C D : Type 0} (o : Option A) (p : A → Option B) (q : A → B → Option C) (f : A → B → C → D) (a : A) (b : B) (c : C) → o ≡ Some a
+    → p a ≡ Some b → q a b ≡ Some c → (o >>= λ a. p a >>= λ b. q a b >>= λ c. Some (f a b c)) ≡ Some (f a b c)
 three_binds o p q f a b c d e g = rw d (rw e (rw g refl))
 
-pub sentence_encodes : (labels : List Definition) (at : ℕ) (sentence : Sentence) (bytes : List ℕ) → row_for sentence.row.op ≡ Some sentence.row → sentence_bytes labels at sentence ≡ Some bytes → (instr : Instr) × (sentence_instruction labels at sentence ≡ Some instr) × IsInstruction bytes instr
+pub sentence_encodes : (labels : List Definition) (at : ℕ) (sentence : Sentence) (bytes : List ℕ) → row_for sentence.row.op ≡ Some sentence.row
+    → sentence_bytes labels at sentence ≡ Some bytes
+    → (instr : Instr) × (sentence_instruction labels at sentence ≡ Some instr) × IsInstruction bytes instr
 unfolding sentence_bytes sentence_instruction
 sentence_encodes labels at s bytes listed e =
     let a = bind_some (operand_bytes labels (at + 1) s.row 0 s.a) (λ a. operand_bytes labels (at + 1 + length a) s.row 1 s.b >>= λ b. operand_bytes labels (at + 1 + length a + length b) s.row 2 s.c >>= λ c. Some (s.row.op ∷ (a ++ (b ++ c)))) bytes e in
@@ -421,7 +462,8 @@ none_through : {A B C : Type 0} (o : Option A) (f : A → Option B) (g : A → O
 none_through (Some x) f g h e = h x e
 none_through None f g h e = refl
 
-pub sentence_none : (labels : List Definition) (at : ℕ) (sentence : Sentence) → sentence_bytes labels at sentence ≡ None → sentence_instruction labels at sentence ≡ None
+pub sentence_none : (labels : List Definition) (at : ℕ) (sentence : Sentence) → sentence_bytes labels at sentence ≡ None
+    → sentence_instruction labels at sentence ≡ None
 unfolding sentence_bytes sentence_instruction
 sentence_none labels at s e =
     none_through (operand_bytes labels (at + 1) s.row 0 s.a) _ _ (λ a f.

@@ -17,7 +17,8 @@ Tells P told holds = (files : List NamedFile) → holds ≡ Some files → P (to
 some_is : (a b : List NamedFile) → Some a ≡ Some b → a ≡ b
 some_is a b same = cc
 
-reading : {R : Type 0} (P : R → Type 0) (any : R) (told : List NamedFile → R) (holds : Option (List NamedFile)) → P any → Tells P told holds → Reading P told holds
+reading : {R : Type 0} (P : R → Type 0) (any : R) (told : List NamedFile → R) (holds : Option (List NamedFile)) → P any → Tells P told holds
+    → Reading P told holds
 reading P any told None fits tells = record { read = any; fits = fits; is_told = λ files none. absurd cc }
 reading P any told (Some list) fits tells = record { read = told list; fits = tells list refl; is_told = λ files same. ap told (some_is list files same) }
 

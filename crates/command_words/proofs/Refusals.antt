@@ -250,7 +250,8 @@ asked_plain name words =
     else (if bytes_eq name (codes "owners") then asked_owners words
     else None))))))
 
-other_by : (p : Bool) (name : List ℕ) (words : List (List ℕ)) → list_all is_plain words ≡ p → is_none (why_other name words) ≡ p && is_some (asked_plain name words)
+other_by : (p : Bool) (name : List ℕ) (words : List (List ℕ)) → list_all is_plain words ≡ p
+    → is_none (why_other name words) ≡ p && is_some (asked_plain name words)
 unfolding why_other asked_plain
 other_by true name words are =
     chosen (bytes_eq name (codes "load")) _ _ _ _ (with_plain _ _ words _ are (load words))

@@ -46,7 +46,8 @@ imageless_run most command words images = sym (run_by_places most command words 
     go false = refl
 
 -- the words of the images among those of a run
-pub images_there : (words images : List (Bor (List ℕ))) (good : Bool) → good ≡ are_image_words (map (λ (word : Bor (List ℕ)). word.now) images) → images ≡ drop 4 words
+pub images_there : (words images : List (Bor (List ℕ))) (good : Bool) → good ≡ are_image_words (map (λ (word : Bor (List ℕ)). word.now) images)
+    → images ≡ drop 4 words
     → are_image_words (drop 4 (map (λ (word : Bor (List ℕ)). word.now) words)) ≡ good
 images_there words images good exact is = rw (drop-map, ← is) (sym exact)
 

@@ -53,7 +53,8 @@ drop_both xs ys n = elim (leb_tells n (length xs)) [
 ]
 
 -- the place of a word among their bytes
-place_word : (test : List ℕ → Bool) (words : List (Bor (List ℕ))) → position_or_len test (bytes_of words) ≡ position_or_len (λ (word : Bor (List ℕ)). test word.now) words
+place_word : (test : List ℕ → Bool) (words : List (Bor (List ℕ)))
+    → position_or_len test (bytes_of words) ≡ position_or_len (λ (word : Bor (List ℕ)). test word.now) words
 place_word test [] = refl
 place_word test (word ∷ words) = ap (λ (n : ℕ). if not (test word.now) then 1 + n else 0) (place_word test words)
 
@@ -98,7 +99,8 @@ short_name name good =
     let few : length name ≤ 63 = leb-true _ _ parts.1 in
     (omega (arith, some), omega (arith, few))
 
-short_names : (words : List (Bor (List ℕ))) → list_all is_image_word (bytes_of words) ≡ true → All (λ (word : Bor (List ℕ)). IsShortName (name_in word.now)) words
+short_names : (words : List (Bor (List ℕ))) → list_all is_image_word (bytes_of words) ≡ true
+    → All (λ (word : Bor (List ℕ)). IsShortName (name_in word.now)) words
 unfolding is_image_word
 short_names [] all = All-nil (λ (word : Bor (List ℕ)). IsShortName (name_in word.now))
 short_names (word ∷ words) all =
@@ -110,5 +112,6 @@ some_start [] none = absurd cc
 some_start (word ∷ words) some = omega arith
 
 -- words that pass the tests are those of images
-pub image_words : (words : List (Bor (List ℕ))) → length words ≤ 16 → list_all is_image_word (bytes_of words) ≡ true → list_any starts (bytes_of words) ≡ true → AreImageWords words
+pub image_words : (words : List (Bor (List ℕ))) → length words ≤ 16 → list_all is_image_word (bytes_of words) ≡ true
+    → list_any starts (bytes_of words) ≡ true → AreImageWords words
 image_words words few all some = record { some = some_start words some; few = few; names = short_names words all; starting = some }

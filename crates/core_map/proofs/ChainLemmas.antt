@@ -46,7 +46,8 @@ pub times_tail : (k x : ℕ) (xs : List ℕ) → times k xs ≤ times k (x ∷ x
 times_tail k x xs = omega arith
 
 -- two ways by links that agree
-pub way_agree : (links new : List ℕ) (a c : ℕ) (xs : List ℕ) → slice_index new c ≡ slice_index links a → ((k : ℕ) → 0 < times k xs → slice_index new k ≡ slice_index links k) → Way links a xs → Way new c xs
+pub way_agree : (links new : List ℕ) (a c : ℕ) (xs : List ℕ) → slice_index new c ≡ slice_index links a
+    → ((k : ℕ) → 0 < times k xs → slice_index new k ≡ slice_index links k) → Way links a xs → Way new c xs
 way_agree links new a c [] e agree w = e ∙ w
 way_agree links new a c (x ∷ xs) e agree w = (
   e ∙ w.0,
@@ -64,7 +65,8 @@ pub record Rest (links : List ℕ) (keys : Keys) (key : TextKey) (at turn : ℕ)
   pub below : (f : ℕ) → length keys ≤ f → times f rest ≡ 0
   pub has : (f : ℕ) → key_at keys f ≡ Some key → 0 < times f rest
 
-pub rest_start : (n : ℕ) (links : List ℕ) (keys : Keys) (key : TextKey) (at : ℕ) → IsIndexed n links keys → bucket_of n key < n → at ≡ slice_index links (length keys + bucket_of n key) → Rest links keys key at 0
+pub rest_start : (n : ℕ) (links : List ℕ) (keys : Keys) (key : TextKey) (at : ℕ) → IsIndexed n links keys → bucket_of n key < n
+    → at ≡ slice_index links (length keys + bucket_of n key) → Rest links keys key at 0
 rest_start n links keys key at i low e =
     let c = i.chains (bucket_of n key) low in
     record {
@@ -78,7 +80,8 @@ rest_start n links keys key at i low e =
       has = λ f h. omega (arith, c.listed f, ap (listings_in n (bucket_of n key)) h, listings_own n key);
     }
 
-rest_cases : (links : List ℕ) (a at : ℕ) (rest : List ℕ) → at ≡ slice_index links a → Way links a rest → ((rest ≡ []) × (at ≡ 0)) ⊎ ((xs : List ℕ) × (rest ≡ at ∷ xs) × Way links at xs)
+rest_cases : (links : List ℕ) (a at : ℕ) (rest : List ℕ) → at ≡ slice_index links a → Way links a rest
+    → ((rest ≡ []) × (at ≡ 0)) ⊎ ((xs : List ℕ) × (rest ≡ at ∷ xs) × Way links at xs)
 rest_cases links a at [] e w = inl (refl, e ∙ w)
 rest_cases links a at (x ∷ xs) e w =
     let same : at ≡ x = e ∙ w.0 in
@@ -99,7 +102,8 @@ rest_low links keys key at turn r ne = elim (rest_cases links r.from at r.rest r
   ]
 ]
 
-pub rest_step : (links : List ℕ) (keys : Keys) (key : TextKey) (at turn next : ℕ) → Rest links keys key at turn → at ≢ 0 → key_at keys at ≢ Some key → next ≡ slice_index links at → Rest links keys key next (turn + 1)
+pub rest_step : (links : List ℕ) (keys : Keys) (key : TextKey) (at turn next : ℕ) → Rest links keys key at turn → at ≢ 0 → key_at keys at ≢ Some key
+    → next ≡ slice_index links at → Rest links keys key next (turn + 1)
 rest_step links keys key at turn next r ne other e = elim (rest_cases links r.from at r.rest r.here r.way) [
   | inl (nil, z) ↦ absurd (ne z)
   | inr (xs, same, w) ↦ record {
@@ -149,7 +153,8 @@ leads_more : (links : List ℕ) (a : ℕ) (passed : List ℕ) (b x : ℕ) → Le
 leads_more links a [] b x l e = (ap (slice_index links) l ∙ e, refl)
 leads_more links a (y ∷ ys) b x l e = (l.0, leads_more links y ys b x l.1 e)
 
-pub seek_step : (links : List ℕ) (frames a f at turn next : ℕ) → Seek links frames a f at turn → next ≡ slice_index links at → next ≢ f → Seek links frames a f next (turn + 1)
+pub seek_step : (links : List ℕ) (frames a f at turn next : ℕ) → Seek links frames a f at turn → next ≡ slice_index links at → next ≢ f
+    → Seek links frames a f next (turn + 1)
 seek_step links frames a f at turn next s e ne = elim (rest_cases links at next s.rest e s.way) [
   | inl (nil, z) ↦ absurd (omega (arith, s.on_way, ap (times f) nil))
   | inr (xs, same, w) ↦
@@ -174,7 +179,8 @@ seek_step links frames a f at turn next s e ne = elim (rest_cases links at next 
 ]
 
 -- the first numbers of a way
-pub leads_prefix : (links : List ℕ) (a : ℕ) (chain passed : List ℕ) (p : ℕ) → Way links a chain → Leads links a passed p → times 0 passed ≡ 0 → (post : List ℕ) × (chain ≡ passed ++ post) × Way links p post
+pub leads_prefix : (links : List ℕ) (a : ℕ) (chain passed : List ℕ) (p : ℕ) → Way links a chain → Leads links a passed p → times 0 passed ≡ 0
+    → (post : List ℕ) × (chain ≡ passed ++ post) × Way links p post
 leads_prefix links a chain [] p w l z = (chain, refl, subst (λ (k : ℕ). Way links k chain) l w)
 leads_prefix links a [] (x ∷ xs) p w l z = absurd (omega (arith, z, subst (λ (k : ℕ). 0 < times k (x ∷ xs)) (sym l.0 ∙ w) (omega (arith, times_head x xs))))
 leads_prefix links a (y ∷ ys) (x ∷ xs) p w l z =
@@ -188,7 +194,8 @@ leads_end links a [] p l = subst (λ (k : ℕ). 0 < times k (a ∷ [])) l (omega
 leads_end links a (x ∷ xs) p l = omega (arith, leads_end links x xs p l.1, times_tail p a (x ∷ xs))
 
 -- a chain without one of its frames
-pub unlink : (links : List ℕ) (a : ℕ) (passed : List ℕ) (p f : ℕ) (zs : List ℕ) → Leads links a passed p → Way links f zs → ((k : ℕ) → times k (a ∷ passed) + times k zs ≤ 1) → p < length links
+pub unlink : (links : List ℕ) (a : ℕ) (passed : List ℕ) (p f : ℕ) (zs : List ℕ) → Leads links a passed p → Way links f zs
+    → ((k : ℕ) → times k (a ∷ passed) + times k zs ≤ 1) → p < length links
     → Way (set links p (slice_index links f)) a (passed ++ zs)
 unlink links a [] p f zs l w apart low =
     let here : slice_index (set links p (slice_index links f)) a ≡ slice_index links f = subst (λ (k : ℕ). slice_index (set links p (slice_index links f)) k ≡ slice_index links f) (sym l) (get_or-set_same links p (slice_index links f) 0 low) in
@@ -206,7 +213,8 @@ key_other : (keys : Keys) (f g : ℕ) (o : Option TextKey) → g ≢ f → key_a
 key_other keys f g o ne = get_or-set_other keys f g o None ne
 
 -- chain b after frame f came to the front of the chain of its key
-add_chain : (n : ℕ) (links : List ℕ) (keys : Keys) (f first start : ℕ) (key : TextKey) → IsIndexed n links keys → 0 < f → f < length keys → key_at keys f ≡ None → bucket_of n key < n
+add_chain : (n : ℕ) (links : List ℕ) (keys : Keys) (f first start : ℕ) (key : TextKey) → IsIndexed n links keys → 0 < f → f < length keys
+    → key_at keys f ≡ None → bucket_of n key < n
     → start ≡ length keys + bucket_of n key → first ≡ slice_index links start → (b : ℕ) → b < n → IsChain n (set (set links f first) start f) (set keys f (Some key)) b
 add_chain n links keys f first start key i positive low free bucket_low es ef b b_low =
     let old = i.chains b b_low in
@@ -249,7 +257,8 @@ add_chain n links keys f first start key i positive low free bucket_low es ef b 
       }
     ]
 
-pub add_indexed : (n : ℕ) (links : List ℕ) (keys : Keys) (f first start : ℕ) (key : TextKey) → IsIndexed n links keys → 0 < f → f < length keys → key_at keys f ≡ None → bucket_of n key < n
+pub add_indexed : (n : ℕ) (links : List ℕ) (keys : Keys) (f first start : ℕ) (key : TextKey) → IsIndexed n links keys → 0 < f → f < length keys
+    → key_at keys f ≡ None → bucket_of n key < n
     → start ≡ length keys + bucket_of n key → first ≡ slice_index links start → IsIndexed n (set (set links f first) start f) (set keys f (Some key))
 add_indexed n links keys f first start key i positive low free bucket_low es ef = record {
   has_none = omega (arith, i.has_none, length-set keys f (Some key));
@@ -261,7 +270,8 @@ add_indexed n links keys f first start key i positive low free bucket_low es ef 
 }
 
 -- the way to a frame with a key, from the head of its chain
-pub on_way : (n : ℕ) (links : List ℕ) (keys : Keys) (f start : ℕ) (key : TextKey) → IsIndexed n links keys → key_at keys f ≡ Some key → bucket_of n key < n → start ≡ length keys + bucket_of n key → IsOnWay links (length keys) start f
+pub on_way : (n : ℕ) (links : List ℕ) (keys : Keys) (f start : ℕ) (key : TextKey) → IsIndexed n links keys → key_at keys f ≡ Some key
+    → bucket_of n key < n → start ≡ length keys + bucket_of n key → IsOnWay links (length keys) start f
 on_way n links keys f start key i e bucket_low es =
     let c = i.chains (bucket_of n key) bucket_low in
     record {
@@ -276,7 +286,8 @@ on_way n links keys f start key i e bucket_low es =
     }
 
 -- the chain of f is what stands before it, f, and what stands after it
-chain_at : (n : ℕ) (links : List ℕ) (keys : Keys) (f p start : ℕ) (key : TextKey) → (i : IsIndexed n links keys) → f ≢ 0 → (low : bucket_of n key < n) → start ≡ length keys + bucket_of n key
+chain_at : (n : ℕ) (links : List ℕ) (keys : Keys) (f p start : ℕ) (key : TextKey) → (i : IsIndexed n links keys) → f ≢ 0 → (low : bucket_of n key < n)
+    → start ≡ length keys + bucket_of n key
     → (w : IsBefore links start f p) → (zs : List ℕ) × ((i.chains (bucket_of n key) low).chain ≡ w.passed ++ f ∷ zs) × Way links f zs
 chain_at n links keys f p start key i positive low es w =
     let c = i.chains (bucket_of n key) low in
@@ -288,7 +299,8 @@ chain_at n links keys f p start key i positive low es w =
     ]
 
 -- chain b after frame f left the chain of its key
-remove_chain : (n : ℕ) (links : List ℕ) (keys : Keys) (f p after start : ℕ) (key : TextKey) → IsIndexed n links keys → key_at keys f ≡ Some key → (low : bucket_of n key < n)
+remove_chain : (n : ℕ) (links : List ℕ) (keys : Keys) (f p after start : ℕ) (key : TextKey) → IsIndexed n links keys → key_at keys f ≡ Some key
+    → (low : bucket_of n key < n)
     → start ≡ length keys + bucket_of n key → IsBefore links start f p → p < length links → after ≡ slice_index links f → f < length keys → f ≢ 0 → (b : ℕ) → b < n → IsChain n (set links p after) (set keys f None) b
 remove_chain n links keys f p after start key i e low es w p_low ea f_low f_ne b b_low =
     let own = i.chains (bucket_of n key) low in
@@ -350,7 +362,8 @@ keyed_below keys f key e = elim (cases_lt f (length keys)) [
   | inr past ↦ absurd (none-some key (sym (key_past keys f past) ∙ e))
 ]
 
-pub remove_indexed : (n : ℕ) (links : List ℕ) (keys : Keys) (f p after start : ℕ) (key : TextKey) → IsIndexed n links keys → key_at keys f ≡ Some key → bucket_of n key < n
+pub remove_indexed : (n : ℕ) (links : List ℕ) (keys : Keys) (f p after start : ℕ) (key : TextKey) → IsIndexed n links keys → key_at keys f ≡ Some key
+    → bucket_of n key < n
     → start ≡ length keys + bucket_of n key → IsBefore links start f p → p < length links → after ≡ slice_index links f → IsIndexed n (set links p after) (set keys f None)
 remove_indexed n links keys f p after start key i e low es w p_low ea =
     let f_low = keyed_below keys f key e in

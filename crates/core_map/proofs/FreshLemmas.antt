@@ -18,7 +18,8 @@ length-fresh zero = refl
 length-fresh (suc n) = length_push (fresh_slots n) (Free (zero_frame (suc n)) None) ∙ omega (arith, length-fresh n)
 
 -- what holds of the slots so far holds of one more
-pub slots_more : (P : Slot → ℕ → Type 0) (slots : List Slot) (n : ℕ) (s : Slot) → length slots ≡ n → ((g : ℕ) → P (slot_at slots g) g) → P s n → (g : ℕ) → P (slot_at (slots ++ s ∷ []) g) g
+pub slots_more : (P : Slot → ℕ → Type 0) (slots : List Slot) (n : ℕ) (s : Slot) → length slots ≡ n → ((g : ℕ) → P (slot_at slots g) g) → P s n
+    → (g : ℕ) → P (slot_at (slots ++ s ∷ []) g) g
 slots_more P slots n s long all here g = elim (cases_order g n) [
   | inl e ↦ subst (λ (k : ℕ). P (slot_at (slots ++ s ∷ []) k) k) (sym e) (subst (λ (t : Slot). P t n) (sym (get_or_push slots s Away n long)) here)
   | inr other ↦ elim other [

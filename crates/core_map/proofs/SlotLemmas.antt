@@ -103,11 +103,13 @@ pub no_page : (slots : List Slot) (f : ℕ) (s : Slot) → page_of s ≡ None �
 no_page slots f s e p h g ne k = none-some p (sym e ∙ h)
 
 -- a page that no frame holds may come to one
-pub held_by_none : (slots : List Slot) (f : ℕ) (s : Slot) (q : Page) → page_of s ≡ Some q → ((g : ℕ) → page_of (slot_at slots g) ≢ Some q) → (p : Page) → page_of s ≡ Some p → (g : ℕ) → g ≢ f → page_of (slot_at slots g) ≢ Some p
+pub held_by_none : (slots : List Slot) (f : ℕ) (s : Slot) (q : Page) → page_of s ≡ Some q → ((g : ℕ) → page_of (slot_at slots g) ≢ Some q)
+    → (p : Page) → page_of s ≡ Some p → (g : ℕ) → g ≢ f → page_of (slot_at slots g) ≢ Some p
 held_by_none slots f s q e none p h g ne k = none g (k ∙ sym h ∙ e)
 
 -- the page that the slot held may stay
-pub same_page : (free : List ℕ) (slots : List Slot) (f : ℕ) (s : Slot) → IsSound free slots → page_of s ≡ page_of (slot_at slots f) → (p : Page) → page_of s ≡ Some p → (g : ℕ) → g ≢ f → page_of (slot_at slots g) ≢ Some p
+pub same_page : (free : List ℕ) (slots : List Slot) (f : ℕ) (s : Slot) → IsSound free slots → page_of s ≡ page_of (slot_at slots f) → (p : Page)
+    → page_of s ≡ Some p → (g : ℕ) → g ≢ f → page_of (slot_at slots g) ≢ Some p
 same_page free slots f s sound e p h g ne k = ne (sound.unique g f p k (sym e ∙ h))
 
 -- a frame that the slots do not show as free does not stand in the list
@@ -115,7 +117,8 @@ pub unlisted : (free : List ℕ) (slots : List Slot) (f : ℕ) → IsSound free 
 unlisted free slots f sound e = sound.listed f ∙ ap listings e
 
 -- a frame that was away comes to the tail of the list
-pub sound_tail : (free : List ℕ) (slots : List Slot) (f : ℕ) (s : Slot) → IsSound free slots → 0 < f → f < length slots → slot_at slots f ≡ Away → number_of s f ≡ f → IsWhole s → is_free s ≡ true
+pub sound_tail : (free : List ℕ) (slots : List Slot) (f : ℕ) (s : Slot) → IsSound free slots → 0 < f → f < length slots → slot_at slots f ≡ Away
+    → number_of s f ≡ f → IsWhole s → is_free s ≡ true
     → ((p : Page) → page_of s ≡ Some p → (g : ℕ) → g ≢ f → page_of (slot_at slots g) ≢ Some p) → IsSound (free ++ f ∷ []) (set slots f s)
 sound_tail free slots f s sound positive low away number whole frees fresh =
     let off : times f free ≡ 0 = unlisted free slots f sound away in
@@ -126,7 +129,8 @@ sound_tail free slots f s sound positive low away number whole frees fresh =
     fresh
 
 -- a frame that was away comes to the head of the list
-pub sound_head : (free : List ℕ) (slots : List Slot) (f : ℕ) (s : Slot) → IsSound free slots → 0 < f → f < length slots → slot_at slots f ≡ Away → number_of s f ≡ f → IsWhole s → is_free s ≡ true
+pub sound_head : (free : List ℕ) (slots : List Slot) (f : ℕ) (s : Slot) → IsSound free slots → 0 < f → f < length slots → slot_at slots f ≡ Away
+    → number_of s f ≡ f → IsWhole s → is_free s ≡ true
     → page_of s ≡ None → IsSound (f ∷ free) (set slots f s)
 sound_head free slots f s sound positive low away number whole frees none =
     let off : times f free ≡ 0 = unlisted free slots f sound away in
@@ -137,7 +141,8 @@ sound_head free slots f s sound positive low away number whole frees none =
     (no_page slots f s none)
 
 -- a frame of the list leaves it
-pub sound_without : (free : List ℕ) (slots : List Slot) (f : ℕ) → IsSound free slots → is_free (slot_at slots f) ≡ true → IsSound (without f free) (set slots f Away)
+pub sound_without : (free : List ℕ) (slots : List Slot) (f : ℕ) → IsSound free slots → is_free (slot_at slots f) ≡ true
+    → IsSound (without f free) (set slots f Away)
 sound_without free slots f sound frees =
     let positive : 0 < f = free_above_zero free slots f sound frees in
     sound_change free (without f free) slots f Away sound positive (free_below slots f frees) refl tt
@@ -146,7 +151,8 @@ sound_without free slots f sound frees =
     (no_page slots f Away refl)
 
 -- a free frame moves to the head of the list
-pub sound_forget : (free : List ℕ) (slots : List Slot) (f : ℕ) (s : Slot) → IsSound free slots → is_free (slot_at slots f) ≡ true → number_of s f ≡ f → IsWhole s → is_free s ≡ true → page_of s ≡ None
+pub sound_forget : (free : List ℕ) (slots : List Slot) (f : ℕ) (s : Slot) → IsSound free slots → is_free (slot_at slots f) ≡ true → number_of s f ≡ f
+    → IsWhole s → is_free s ≡ true → page_of s ≡ None
     → IsSound (f ∷ without f free) (set slots f s)
 sound_forget free slots f s sound frees number whole frees_new none =
     let positive : 0 < f = free_above_zero free slots f sound frees in
@@ -167,7 +173,8 @@ sound_taken free rest slots f sound e =
     (no_page slots f Away refl)
 
 -- a slot changes, and its frame stays on or off the list
-pub sound_same : (free : List ℕ) (slots : List Slot) (f : ℕ) (s : Slot) → IsSound free slots → 0 < f → f < length slots → number_of s f ≡ f → IsWhole s → listings s ≡ listings (slot_at slots f)
+pub sound_same : (free : List ℕ) (slots : List Slot) (f : ℕ) (s : Slot) → IsSound free slots → 0 < f → f < length slots → number_of s f ≡ f
+    → IsWhole s → listings s ≡ listings (slot_at slots f)
     → ((p : Page) → page_of s ≡ Some p → (g : ℕ) → g ≢ f → page_of (slot_at slots g) ≢ Some p) → IsSound free (set slots f s)
 sound_same free slots f s sound positive low number whole listing fresh =
     sound_change free free slots f s sound positive low number whole (λ g ne. refl) (sound.listed f ∙ sym listing) fresh
@@ -177,7 +184,8 @@ resident_above_zero free slots zero sound res = absurd (false≢true (sym (ap is
 resident_above_zero free slots (suc f) sound res = omega arith
 
 -- a resident slot keeps its token's number and its page
-pub sound_resident : (free : List ℕ) (slots : List Slot) (f : ℕ) (s : Slot) → IsSound free slots → is_resident (slot_at slots f) ≡ true → is_resident s ≡ true → IsWhole s
+pub sound_resident : (free : List ℕ) (slots : List Slot) (f : ℕ) (s : Slot) → IsSound free slots → is_resident (slot_at slots f) ≡ true
+    → is_resident s ≡ true → IsWhole s
     → number_of s f ≡ number_of (slot_at slots f) f → page_of s ≡ page_of (slot_at slots f) → IsSound free (set slots f s)
 sound_resident free slots f s sound res new whole number page =
     let was = resident_parts (slot_at slots f) res in
@@ -198,10 +206,12 @@ key_at_map [] f = refl
 key_at_map (s ∷ slots) zero = refl
 key_at_map (s ∷ slots) (suc f) = key_at_map slots f
 
-pub text_change : (text : List (Option TextKey)) (slots : List Slot) (f : ℕ) (s : Slot) → text ≡ map text_of slots → set text f (text_of s) ≡ map text_of (set slots f s)
+pub text_change : (text : List (Option TextKey)) (slots : List Slot) (f : ℕ) (s : Slot) → text ≡ map text_of slots
+    → set text f (text_of s) ≡ map text_of (set slots f s)
 text_change text slots f s e = ap (λ (k : List (Option TextKey)). set k f (text_of s)) e ∙ sym (map-set text_of slots f s)
 
-pub text_same : (text : List (Option TextKey)) (slots : List Slot) (f : ℕ) (s : Slot) → text ≡ map text_of slots → text_of s ≡ text_of (slot_at slots f) → text ≡ map text_of (set slots f s)
+pub text_same : (text : List (Option TextKey)) (slots : List Slot) (f : ℕ) (s : Slot) → text ≡ map text_of slots
+    → text_of s ≡ text_of (slot_at slots f) → text ≡ map text_of (set slots f s)
 text_same text slots f s e same =
     e ∙ sym (set-get_or (map text_of slots) f None) ∙ ap (set (map text_of slots) f) (key_at_map slots f ∙ sym same) ∙ sym (map-set text_of slots f s)
 
@@ -250,18 +260,21 @@ IsWhole-with_dirty (Free t p) m h = h
 IsWhole-with_dirty (Resident t p d) m h = h
 IsWhole-with_dirty Away m h = tt
 
-pub sound_byte : (free : List ℕ) (slots : List Slot) (f at b : ℕ) → IsSound free slots → is_resident (slot_at slots f) ≡ true → IsSound free (set slots f (with_byte (slot_at slots f) at b))
+pub sound_byte : (free : List ℕ) (slots : List Slot) (f at b : ℕ) → IsSound free slots → is_resident (slot_at slots f) ≡ true
+    → IsSound free (set slots f (with_byte (slot_at slots f) at b))
 sound_byte free slots f at b sound res =
     let s = slot_at slots f in
     sound_resident free slots f (with_byte s at b) sound res (is_resident-with_byte s at b ∙ res) (IsWhole-with_byte s at b (sound.whole f)) (number_of-with_byte s at b f) (page_of-with_byte s at b)
 
-pub sound_dirty : (free : List ℕ) (slots : List Slot) (f : ℕ) (m : Bool) → IsSound free slots → is_resident (slot_at slots f) ≡ true → IsSound free (set slots f (with_dirty (slot_at slots f) m))
+pub sound_dirty : (free : List ℕ) (slots : List Slot) (f : ℕ) (m : Bool) → IsSound free slots → is_resident (slot_at slots f) ≡ true
+    → IsSound free (set slots f (with_dirty (slot_at slots f) m))
 sound_dirty free slots f m sound res =
     let s = slot_at slots f in
     sound_resident free slots f (with_dirty s m) sound res (is_resident-with_dirty s m ∙ res) (IsWhole-with_dirty s m (sound.whole f)) (number_of-with_dirty s m f) (page_of-with_dirty s m)
 
 -- a page whose frame went is held by no other
-pub page_gone : (free : List ℕ) (slots : List Slot) (f : ℕ) → IsSound free slots → f < length slots → (o : Option Page) → page_of (slot_at slots f) ≡ o → IfSome o (λ p. (g : ℕ) → page_of (slot_at (set slots f Away) g) ≢ Some p)
+pub page_gone : (free : List ℕ) (slots : List Slot) (f : ℕ) → IsSound free slots → f < length slots → (o : Option Page)
+    → page_of (slot_at slots f) ≡ o → IfSome o (λ p. (g : ℕ) → page_of (slot_at (set slots f Away) g) ≢ Some p)
 page_gone free slots f sound low None e = tt
 page_gone free slots f sound low (Some p) e = λ g h. elim (cases_eq g f) [
   | inl same ↦ none-some p (sym (ap page_of (ap (slot_at (set slots f Away)) same ∙ get_or-set_same slots f Away Away low)) ∙ h)

@@ -10,17 +10,20 @@ use Rattle.machine_state.specs.New.{AreSound}
 use Rattle.machine_state.specs.Sourced.{AreNames}
 use Rattle.core_vectors.specs.Ready.{AreFit}
 
-has_file : (image : Named) (holds : Option (List NamedFile)) → HasRange holds image.file 0 (file_length_of image.facts) → AreFiles (image_shown image ∷ []) holds
+has_file : (image : Named) (holds : Option (List NamedFile)) → HasRange holds image.file 0 (file_length_of image.facts)
+    → AreFiles (image_shown image ∷ []) holds
 has_file image None range = tt
 has_file image (Some files) range = (record { there = range.0; whole = omega (arith, range.1) }, tt)
 
-pub opened_fit : (image : Named) (holds : Option (List NamedFile)) → IsSound image.facts → 0 < length (string_bytes image.name) → length (string_bytes image.name) < 64
+pub opened_fit : (image : Named) (holds : Option (List NamedFile)) → IsSound image.facts → 0 < length (string_bytes image.name)
+    → length (string_bytes image.name) < 64
     → HasRange holds image.file 0 (file_length_of image.facts) → AreFit (image ∷ []) holds
 opened_fit image holds sound some few range = record { sound = (sound, tt); names = (some, few, tt); files = has_file image holds range }
 
 -- One more.
 
-more_sound : (xs : List Named) (y : Named) → AreSound (map (λ (x : Named). x.facts) xs) → IsSound y.facts → AreSound (map (λ (x : Named). x.facts) (xs ++ y ∷ []))
+more_sound : (xs : List Named) (y : Named) → AreSound (map (λ (x : Named). x.facts) xs) → IsSound y.facts
+    → AreSound (map (λ (x : Named). x.facts) (xs ++ y ∷ []))
 more_sound [] y all one = (one, tt)
 more_sound (x ∷ xs) y all one = (all.0, more_sound xs y all.1 one)
 

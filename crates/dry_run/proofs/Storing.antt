@@ -9,7 +9,8 @@ use Rattle.dry_run.specs.Slots.{has_slot, byte_in, stored_by, stored, read_over,
 
 -- A loop that changes each item in turn.
 
-pub changed_at : {A : Type 0} (f : A → A) (xs : List A) (i : ℕ) (d : A) → i < length xs → set (map f (take i xs) ++ drop i xs) i (f (get_or xs i d)) ≡ map f (take (suc i) xs) ++ drop (suc i) xs
+pub changed_at : {A : Type 0} (f : A → A) (xs : List A) (i : ℕ) (d : A) → i < length xs
+    → set (map f (take i xs) ++ drop i xs) i (f (get_or xs i d)) ≡ map f (take (suc i) xs) ++ drop (suc i) xs
 changed_at f [] i d l = absurd (omega arith)
 changed_at f (x ∷ xs) zero d l = refl
 changed_at f (x ∷ xs) (suc i) d l = ap (λ zs. f x ∷ zs) (changed_at f xs i d (omega arith))
@@ -58,7 +59,8 @@ may_slot false tests.Below e = absurd cc
 may_slot false tests.Text e = absurd cc
 may_slot false tests.Outside e = absurd cc
 
-over_put : (memory : Answers) (slots : List Slot) (w : ByteWrite) → has_slot slots w.address ≡ true → over memory (map (stored w) slots) ≡ put (over memory slots) w
+over_put : (memory : Answers) (slots : List Slot) (w : ByteWrite) → has_slot slots w.address ≡ true
+    → over memory (map (stored w) slots) ≡ put (over memory slots) w
 over_put memory slots w there = λ i. record {
   read = λ x. read_put x (x == w.address) refl i;
   may_write = λ x. may_where (kept_slot slots w x i) (memory.may_write x);
@@ -70,7 +72,8 @@ over_put memory slots w there = λ i. record {
         ap (λ (y : ℕ). read_over (byte_in (map (stored w) slots) y) (memory.read x)) same ∙ ap (λ (o : Option ℕ). read_over o (memory.read x)) (same_byte slots w there)
     read_put x false e = ap (λ (o : Option ℕ). read_over o (memory.read x)) (other_byte slots w x e)
 
-pub wrote_slot : (memory : Answers) (slots after : List Slot) (w : ByteWrite) → after ≡ map (stored w) slots → (over memory slots).may_write w.address ≡ tests.May
+pub wrote_slot : (memory : Answers) (slots after : List Slot) (w : ByteWrite) → after ≡ map (stored w) slots
+    → (over memory slots).may_write w.address ≡ tests.May
     → WroteSlots memory slots (w ∷ []) memory after
 wrote_slot memory slots after w e may = record {
   same = refl;

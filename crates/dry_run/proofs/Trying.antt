@@ -70,7 +70,8 @@ covers memory slots h = record { reads = λ x. inr (empty_read memory slots x h)
 
 -- The byte that missed.
 
-missed_at : (memory : Answers) (slots : List Slot) (p : Program Effect) (address : ℕ) (write : Bool) → AllEmpty slots → run (over memory slots) p ≡ Err (Miss address write)
+missed_at : (memory : Answers) (slots : List Slot) (p : Program Effect) (address : ℕ) (write : Bool) → AllEmpty slots
+    → run (over memory slots) p ≡ Err (Miss address write)
     → (front : List Access) × (last : Access) × (rest : List Access) × (accesses memory p ≡ front ++ last ∷ rest) × (refusal (over memory slots) last ≡ Some (Miss address write))
 missed_at memory slots p address write h e =
     let ends = (keeps_order (over memory slots) p).misses address write e in
@@ -85,7 +86,8 @@ read_miss bytes.Miss x address write e = cc
 read_miss bytes.Below x address write e = absurd cc
 read_miss bytes.Outside x address write e = absurd cc
 
-test_miss : (answer : MayWrite) (x address : ℕ) (write : Bool) → test_refusal answer x ≡ Some (Miss address write) → (write ≡ true) × (x ≡ address) × (answer ≡ tests.Miss)
+test_miss : (answer : MayWrite) (x address : ℕ) (write : Bool) → test_refusal answer x ≡ Some (Miss address write)
+    → (write ≡ true) × (x ≡ address) × (answer ≡ tests.Miss)
 test_miss tests.May x address write e = absurd cc
 test_miss tests.Miss x address write e = (cc, cc, refl)
 test_miss tests.Below x address write e = absurd cc
@@ -103,7 +105,8 @@ some_none : (o : Option Refused) (refused : Refused) → o ≡ Some refused → 
 some_none o refused e f = absurd cc
 
 -- it is one that is read, and misses in the memory too; or one that is tested
-what_missed : (memory : Answers) (slots : List Slot) (last : Access) (address : ℕ) (write : Bool) → AllEmpty slots → refusal (over memory slots) last ≡ Some (Miss address write)
+what_missed : (memory : Answers) (slots : List Slot) (last : Access) (address : ℕ) (write : Bool) → AllEmpty slots
+    → refusal (over memory slots) last ≡ Some (Miss address write)
     → ((write ≡ false) × (refusal memory last ≢ None)) ⊎ ((write ≡ true) × (last ≡ TestOf address) × (may_where (has_slot slots address) (memory.may_write address) ≡ tests.Miss))
 what_missed memory slots (ReadOf x) address write h e = inl (
   read_miss ((over memory slots).read x) x address write e,
@@ -113,12 +116,14 @@ what_missed memory slots (TestOf x) address write h e =
     let t = test_miss ((over memory slots).may_write x) x address write e in
     inr (t.0, ap TestOf t.1, subst (λ (y : ℕ). may_where (has_slot slots y) (memory.may_write y) ≡ tests.Miss) t.1 t.2)
 
-granted_last : (memory : Answers) (front : List Access) (last : Access) (rest : List Access) → AllGranted memory (front ++ last ∷ rest) → refusal memory last ≡ None
+granted_last : (memory : Answers) (front : List Access) (last : Access) (rest : List Access) → AllGranted memory (front ++ last ∷ rest)
+    → refusal memory last ≡ None
 granted_last memory [] last rest h = h.0
 granted_last memory (access ∷ front) last rest h = granted_last memory front last rest h.1
 
 -- an access that is refused is of no instruction that is carried out
-undone : (memory : Answers) (p : Program Effect) (front : List Access) (last : Access) (rest : List Access) → accesses memory p ≡ front ++ last ∷ rest → refusal memory last ≢ None
+undone : (memory : Answers) (p : Program Effect) (front : List Access) (last : Access) (rest : List Access) → accesses memory p ≡ front ++ last ∷ rest
+    → refusal memory last ≢ None
     → answer_of (run memory p) ≢ steps.Done
 undone memory p front last rest e f d =
     let ok = done_ok (run memory p) d in
@@ -133,7 +138,8 @@ may_wanted tests.Below x y e = absurd cc
 may_wanted tests.Text x y e = absurd cc
 may_wanted tests.Outside x y e = absurd cc
 
-wanted_some : (memory : Answers) (s : Stepped) (address : ℕ) → wanted memory s ≡ Some address → (s ≡ steps.Miss address true) × (memory.may_write address ≡ tests.May)
+wanted_some : (memory : Answers) (s : Stepped) (address : ℕ) → wanted memory s ≡ Some address
+    → (s ≡ steps.Miss address true) × (memory.may_write address ≡ tests.May)
 wanted_some memory steps.Done address e = absurd cc
 wanted_some memory (steps.Call number) address e = absurd cc
 wanted_some memory (steps.Miss x false) address e = absurd cc
@@ -143,7 +149,8 @@ wanted_some memory (steps.Miss x true) address e =
 wanted_some memory (steps.Below x) address e = absurd cc
 wanted_some memory (steps.Signal number) address e = absurd cc
 
-none_wanted : (memory : Answers) (s : Stepped) (address : ℕ) (write : Bool) → wanted memory s ≡ None → s ≡ steps.Miss address write → write ≡ true → memory.may_write address ≢ tests.May
+none_wanted : (memory : Answers) (s : Stepped) (address : ℕ) (write : Bool) → wanted memory s ≡ None → s ≡ steps.Miss address write → write ≡ true
+    → memory.may_write address ≢ tests.May
 none_wanted memory s address write none e writes may =
     let some : wanted memory s ≡ Some address =
     ap (wanted memory) (e ∙ ap (steps.Miss address) writes) ∙ ap (λ (a : MayWrite). where_may a address) may in
@@ -151,7 +158,8 @@ none_wanted memory s address write none e writes may =
 
 -- An instruction that doesn't miss at a byte that may be written comes to what it comes to in the memory.
 
-pub decided : (memory : Answers) (slots : List Slot) (p : Program Effect) (s : Stepped) → AllEmpty slots → s ≡ answer_of (run (over memory slots) p) → wanted memory s ≡ None
+pub decided : (memory : Answers) (slots : List Slot) (p : Program Effect) (s : Stepped) → AllEmpty slots → s ≡ answer_of (run (over memory slots) p)
+    → wanted memory s ≡ None
     → (s ≡ steps.Done) ↔ (answer_of (run memory p) ≡ steps.Done)
 decided memory slots p s h e none = elim (same_or_misses (over memory slots) memory p (covers memory slots h)) [
   | inl same ↦ (
@@ -231,7 +239,8 @@ may_miss : (b : Bool) → may_where b tests.May ≡ tests.Miss → b ≡ false
 may_miss true e = absurd cc
 may_miss false e = refl
 
-pub fewer : (memory : Answers) (slots : List Slot) (p : Program Effect) (s : Stepped) (address : ℕ) → AllEmpty slots → s ≡ answer_of (run (over memory slots) p) → wanted memory s ≡ Some address
+pub fewer : (memory : Answers) (slots : List Slot) (p : Program Effect) (s : Stepped) (address : ℕ) → AllEmpty slots
+    → s ≡ answer_of (run (over memory slots) p) → wanted memory s ≡ Some address
     → left (slots ++ record { address = address; byte = None } ∷ []) (accesses memory p) < left slots (accesses memory p)
 fewer memory slots p s address h e some =
     let want = wanted_some memory s address some in
@@ -247,13 +256,15 @@ fewer memory slots p s address h e some =
 
 -- One that is refused leaves the slots as they are.
 
-pub wanted_kept : (memory below : Answers) (slots after : List Slot) (p : Program Effect) (s : Stepped) (address : ℕ) → s ≡ answer_of (run (over memory slots) p) → wanted memory s ≡ Some address
+pub wanted_kept : (memory below : Answers) (slots after : List Slot) (p : Program Effect) (s : Stepped) (address : ℕ)
+    → s ≡ answer_of (run (over memory slots) p) → wanted memory s ≡ Some address
     → WroteSlots memory slots (writes_of (run (over memory slots) p)) below after → after ≡ slots
 wanted_kept memory below slots after p s address e some w =
     w.kept ∙ ap (λ (r : Result Effect Refused). all_stored slots (writes_of r)) (missed (run (over memory slots) p) address true (sym e ∙ (wanted_some memory s address some).0))
 
 -- So it is granted, and the loop goes on.
-pub granted : (memory below above : Answers) (slots after more : List Slot) (p : Program Effect) (s : Stepped) (o : Option ℕ) (address : ℕ) → below ≡ memory → AllEmpty slots → s ≡ answer_of (run (over below slots) p)
+pub granted : (memory below above : Answers) (slots after more : List Slot) (p : Program Effect) (s : Stepped) (o : Option ℕ) (address : ℕ)
+    → below ≡ memory → AllEmpty slots → s ≡ answer_of (run (over below slots) p)
     → o ≡ wanted memory s → o ≡ Some address → WroteSlots below slots (writes_of (run (over below slots) p)) above after → more ≡ after ++ record { address = address; byte = None } ∷ []
     → (left more (accesses memory p) < left slots (accesses memory p)) × (above ≡ memory) × AllEmpty more
 granted memory below above slots after more p s o address same h e is found w pushed =
@@ -268,6 +279,7 @@ granted memory below above slots after more p s o address same h e is found w pu
     )
 
 -- or it is decided
-pub decided_below : (memory below : Answers) (slots : List Slot) (p : Program Effect) (s : Stepped) (o : Option ℕ) → below ≡ memory → AllEmpty slots → s ≡ answer_of (run (over below slots) p) → o ≡ wanted memory s → o ≡ None
+pub decided_below : (memory below : Answers) (slots : List Slot) (p : Program Effect) (s : Stepped) (o : Option ℕ) → below ≡ memory → AllEmpty slots
+    → s ≡ answer_of (run (over below slots) p) → o ≡ wanted memory s → o ≡ None
     → (s ≡ steps.Done) ↔ (answer_of (run memory p) ≡ steps.Done)
 decided_below memory below slots p s o same h e is none = decided memory slots p s h (e ∙ ap (λ (m : Answers). answer_of (run (over m slots) p)) same) (sym is ∙ none)

@@ -40,7 +40,8 @@ Calm p w = CalmSlot w (slot_of p w)
 
 -- One page is put.
 
-pub put_slot : (p : Placement) (v : Page) (s : PageState) (m : Bool) → (slot_of (put p v s m) v ≡ record { state = s; mark = m; filling = filling_behind s (slot_of p v).filling }) ⊎ (slot_of (put p v s m) v ≡ slot_of p v)
+pub put_slot : (p : Placement) (v : Page) (s : PageState) (m : Bool)
+    → (slot_of (put p v s m) v ≡ record { state = s; mark = m; filling = filling_behind s (slot_of p v).filling }) ⊎ (slot_of (put p v s m) v ≡ slot_of p v)
 put_slot p v s m = elim (le_or (number_of v) (length (slots_of p v))) [
   | inl l ↦ inl (put_same p v s m l)
   | inr l ↦ inr (let k = put_length p v s m v in get_or_past (slots_of (put p v s m) v) (number_of v) no_slot (omega arith) ∙ sym (get_or_past (slots_of p v) (number_of v) no_slot l))
@@ -49,7 +50,8 @@ put_slot p v s m = elim (le_or (number_of v) (length (slots_of p v))) [
     le_or : (a b : ℕ) → (a < b) ⊎ (b ≤ a)
     le_or a b = grind arith
 
-pub put_calm : (p : Placement) (v : Page) (s : PageState) (m : Bool) (w : Page) → (w ≡ v → (is_dirty_by v m ≡ false) × (is_going s ≡ false)) → Calm p w → Calm (put p v s m) w
+pub put_calm : (p : Placement) (v : Page) (s : PageState) (m : Bool) (w : Page) → (w ≡ v → (is_dirty_by v m ≡ false) × (is_going s ≡ false))
+    → Calm p w → Calm (put p v s m) w
 put_calm p v s m w h c = elim (page_cases w v) [
   | inl e ↦ subst (λ (x : Page). Calm (put p v s m) x) (sym e) (elim (put_slot p v s m) [
     | inl k ↦ subst (CalmSlot v) (sym k) (h e)
@@ -200,7 +202,8 @@ is_text _ = false
 abbrev pub Stands : Bool → Page → Type 0
 Stands arrives w = (is_text w ≡ true) ⊎ (arrives ≡ false)
 
-arrived_clean : (source : Source) (demanded v : Page) (m : Bool) → same_page v demanded ≡ true → Stands (arrives_by (Reads source demanded) v) v → is_dirty_by v m ≡ false → is_dirty_by v (arrived_mark source v m) ≡ false
+arrived_clean : (source : Source) (demanded v : Page) (m : Bool) → same_page v demanded ≡ true → Stands (arrives_by (Reads source demanded) v) v
+    → is_dirty_by v m ≡ false → is_dirty_by v (arrived_mark source v m) ≡ false
 arrived_clean FromSwap demanded v m e h c = c
 arrived_clean FromFile demanded (Text image n) m e h c = c
 arrived_clean FromFile demanded (Data sid n) m e (inl h) c = absurd cc
@@ -217,7 +220,8 @@ land_calm p (Reads source demanded) x rest w h c = go (same_page x.page demanded
         (λ i. (arrived_clean source demanded x.page (mark_of p x.page) e (subst (λ (y : Page). Stands (arrives_by (Reads source demanded) y) y) i h) (subst (λ (y : Page). Calm p y) i c).0, refl)) c
     go false e = kept_calm p x.page (Invalid x.frame) w refl c
 
-land_all_calm : (xs : List Part) (p : Placement) (e : Errand) (ts : List Transfer) (w : Page) → Stands (arrives_by e w) w → Calm p w → Calm (land_all p e xs ts) w
+land_all_calm : (xs : List Part) (p : Placement) (e : Errand) (ts : List Transfer) (w : Page) → Stands (arrives_by e w) w → Calm p w
+    → Calm (land_all p e xs ts) w
 land_all_calm [] p e ts w h c = c
 land_all_calm (x ∷ xs) p e ts w h c = land_all_calm xs (land p e x (record { errand = e; parts = xs } ∷ ts)) e ts w h (land_calm p e x (record { errand = e; parts = xs } ∷ ts) w h c)
 
@@ -261,14 +265,16 @@ entry_calm locked at p (entries.Owners a b m d) w h c = c
 
 -- Writes that end.
 
-parts_going : (p : Placement) (q : Page) (xs : List Part) (rest : List Moving) → Each (IsMoving p) (map (moving Writes) xs ++ rest) → is_among q (stored_by Writes xs) ≡ true → is_going (state_of p q) ≡ true
+parts_going : (p : Placement) (q : Page) (xs : List Part) (rest : List Moving) → Each (IsMoving p) (map (moving Writes) xs ++ rest)
+    → is_among q (stored_by Writes xs) ≡ true → is_going (state_of p q) ≡ true
 parts_going p q [] rest m h = absurd cc
 parts_going p q (x ∷ xs) rest m h = elim (or_cases (same_page q x.page) (is_among q (stored_by Writes xs)) h) [
   | inl e ↦ ap (λ (y : Page). is_going (state_of p y)) (same_page_is q x.page e) ∙ ap is_going m.0
   | inr k ↦ parts_going p q xs rest m.1 k
 ]
 
-first_going : (p : Placement) (q : Page) (ts : List Transfer) → Each (IsMoving p) (parts_of ts) → is_among q (stored_first ts) ≡ true → is_going (state_of p q) ≡ true
+first_going : (p : Placement) (q : Page) (ts : List Transfer) → Each (IsMoving p) (parts_of ts) → is_among q (stored_first ts) ≡ true
+    → is_going (state_of p q) ≡ true
 first_going p q [] m h = absurd cc
 first_going p q (t ∷ ts) m h = by t.errand m h
   where
@@ -284,7 +290,8 @@ stored_going p _ q o h = absurd cc
 landed_calm : (p : Placement) (x : Part) (rest : List Transfer) (q : Page) → IsThere p q → q ≡ x.page → Calm (land p Writes x rest) q
 landed_calm p x rest q there e = subst (λ (y : Page). Calm (land p Writes x rest) y) (sym e) (subst (CalmSlot x.page) (sym (put_same p x.page (Invalid x.frame) (written_mark x.page) (subst (IsThere p) e there))) (written_clean x.page, refl))
 
-all_landed_calm : (xs : List Part) (p : Placement) (ts : List Transfer) (q : Page) → IsThere p q → is_among q (stored_by Writes xs) ≡ true → Calm (land_all p Writes xs ts) q
+all_landed_calm : (xs : List Part) (p : Placement) (ts : List Transfer) (q : Page) → IsThere p q → is_among q (stored_by Writes xs) ≡ true
+    → Calm (land_all p Writes xs ts) q
 all_landed_calm [] p ts q there h = absurd cc
 all_landed_calm (x ∷ xs) p ts q there h = elim (or_cases (same_page q x.page) (is_among q (stored_by Writes xs)) h) [
   | inl e ↦ land_all_calm xs (land p Writes x (record { errand = Writes; parts = xs } ∷ ts)) Writes ts q (inr refl) (landed_calm p x (record { errand = Writes; parts = xs } ∷ ts) q there (same_page_is q x.page e))
@@ -308,6 +315,7 @@ going_frame (Coming f) e = absurd cc
 going_frame OnSwap e = absurd cc
 
 -- and calm behind it
-pub stored_calm : (locked : List Page) (at : ℕ) (p : Placement) (u : Entry) (q : Page) → OwnsFrames p → is_among q (stored_pages p u) ≡ true → Calm (place_entry locked at p u) q
+pub stored_calm : (locked : List Page) (at : ℕ) (p : Placement) (u : Entry) (q : Page) → OwnsFrames p → is_among q (stored_pages p u) ≡ true
+    → Calm (place_entry locked at p u) q
 stored_calm locked at p entries.Done q o h = let k = going_frame (state_of p q) (stored_going p entries.Done q o h) in first_calm p q p.transfers (page_in p q k.0 k.1) h
 stored_calm locked at p _ q o h = absurd cc

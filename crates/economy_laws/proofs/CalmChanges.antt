@@ -101,11 +101,13 @@ sized_calm v n w xs d c = elim (le_or w n) [
     le_or : (a b : ℕ) → (a < b) ⊎ (b ≤ a)
     le_or a b = grind arith
 
-cut_data : (v : Page) (d s w : ℕ) (o : Option SpacePages) → is_dirty_by v false ≡ false → CalmSlot v (get_or (data_in o) w no_slot) → CalmSlot v (get_or (data_in (mapped (cut d s) o)) w no_slot)
+cut_data : (v : Page) (d s w : ℕ) (o : Option SpacePages) → is_dirty_by v false ≡ false → CalmSlot v (get_or (data_in o) w no_slot)
+    → CalmSlot v (get_or (data_in (mapped (cut d s) o)) w no_slot)
 cut_data v d s w None k c = c
 cut_data v d s w (Some x) k c = sized_calm v d w x.data_pages k c
 
-cut_stack : (v : Page) (d s w : ℕ) (o : Option SpacePages) → is_dirty_by v false ≡ false → CalmSlot v (get_or (stack_in o) w no_slot) → CalmSlot v (get_or (stack_in (mapped (cut d s) o)) w no_slot)
+cut_stack : (v : Page) (d s w : ℕ) (o : Option SpacePages) → is_dirty_by v false ≡ false → CalmSlot v (get_or (stack_in o) w no_slot)
+    → CalmSlot v (get_or (stack_in (mapped (cut d s) o)) w no_slot)
 cut_stack v d s w None k c = c
 cut_stack v d s w (Some x) k c = sized_calm v s w x.stack_pages k c
 
@@ -128,7 +130,8 @@ resize_calm p sid d s w c = cut_calm (drop_all p (dropped_pages p sid d s)) sid 
 
 -- A new space.
 
-added_either : (t : ℕ) (ss : List SpacePages) (x : SpacePages) → (numbered space_number t (ss ++ x ∷ []) ≡ numbered space_number t ss) ⊎ (numbered space_number t (ss ++ x ∷ []) ≡ Some x)
+added_either : (t : ℕ) (ss : List SpacePages) (x : SpacePages)
+    → (numbered space_number t (ss ++ x ∷ []) ≡ numbered space_number t ss) ⊎ (numbered space_number t (ss ++ x ∷ []) ≡ Some x)
 added_either t [] x = elim (cases_eq (space_number x) t) [
   | inl e ↦ inr (numbered_hit t x [] e)
   | inr n ↦ inl (numbered_miss t x [] n)
@@ -141,7 +144,8 @@ added_either t (s ∷ ss) x = elim (cases_eq (space_number s) t) [
   ]
 ]
 
-add_calm : (p : Placement) (x : SpacePages) (due : List Due) (w : Page) → AllBlank x.data_pages → AllBlank x.stack_pages → Calm p w → Calm (record p { spaces = p.spaces ++ x ∷ []; due = due }) w
+add_calm : (p : Placement) (x : SpacePages) (due : List Due) (w : Page) → AllBlank x.data_pages → AllBlank x.stack_pages → Calm p w
+    → Calm (record p { spaces = p.spaces ++ x ∷ []; due = due }) w
 add_calm p x due (Data t w) bd bs c = elim (added_either t p.spaces x) [
   | inl e ↦ subst (λ (y : Option SpacePages). CalmSlot (Data t w) (get_or (data_in y) w no_slot)) (sym e) c
   | inr e ↦ subst (λ (y : Option SpacePages). CalmSlot (Data t w) (get_or (data_in y) w no_slot)) (sym e) (blank_calm (Data t w) (get_or x.data_pages w no_slot) refl (blank_slot_at x.data_pages w bd))
@@ -198,7 +202,8 @@ give_up_calm p sid w h c = leave_text_calm r (image_of p sid) w (λ image v e z.
     r : Placement
     r = remove_space (drop_all p (pages_of_space p sid)) sid
 
-unless_calm : (borrowed : Bool) (p : Placement) (sid : ℕ) (w : Page) → TextShared (give_up_unless borrowed p sid) w → Calm p w → Calm (give_up_unless borrowed p sid) w
+unless_calm : (borrowed : Bool) (p : Placement) (sid : ℕ) (w : Page) → TextShared (give_up_unless borrowed p sid) w → Calm p w
+    → Calm (give_up_unless borrowed p sid) w
 unless_calm true p sid w h c = c
 unless_calm false p sid w h c = give_up_calm p sid w h c
 
@@ -216,7 +221,8 @@ change_calm images p pid sid borrowed next_sid at (Reap child) w h c = c
 change_calm images p pid sid borrowed next_sid at Sleep w h c = c
 change_calm images p pid sid borrowed next_sid at (End status) w h c = unless_calm borrowed p sid w h c
 
-pub place_step_calm : (images : List Image) (flat : FlatState) (pid at : ℕ) (written : List Page) (change : Change) (p : Placement) (w : Page) → Untouched written w
+pub place_step_calm : (images : List Image) (flat : FlatState) (pid at : ℕ) (written : List Page) (change : Change) (p : Placement) (w : Page)
+    → Untouched written w
     → TextShared (place_step images flat pid at written change p) w → Calm p w → Calm (place_step images flat pid at written change p) w
 place_step_calm images flat pid at written change p w u h c =
     change_calm images (touch_all p written) pid (space_of_process (process_of flat pid)) (is_borrower flat.processes pid) flat.next_sid at change w h (touch_all_calm written p w u c)

@@ -82,7 +82,8 @@ closes A s u pid c h n = go (kind_of A s u h)
     go (Begins e k i) = absurd (let z : true ≡ false = sym (mark_begins A s u c.lines i) ∙ n in cc)
 
 -- between them the mark and the lines stay
-pub stays_closing : (A : Inputs) (s : State) (u : Entry) (pid : ℕ) → IsClosing A s pid → begins_stretch u ≡ false → ((line : ℕ) → u ≡ entries.Event line → ⊥) → IsClosing A (after A s u) pid
+pub stays_closing : (A : Inputs) (s : State) (u : Entry) (pid : ℕ) → IsClosing A s pid → begins_stretch u ≡ false
+    → ((line : ℕ) → u ≡ entries.Event line → ⊥) → IsClosing A (after A s u) pid
 unfolding after
 stays_closing A s (entries.Event line) pid c n e = absurd (e line refl)
 stays_closing A s (entries.Turn p) pid c n e = absurd cc

@@ -38,7 +38,8 @@ many_left : (b : Bool) (F : FlatState) (pid parent : ℕ) → length (left b F p
 many_left true F pid parent = left_count (λ q. not (q.pid == pid)) F.processes
 many_left false F pid parent = let k = length-map F.processes (awake parent) in omega arith
 
-many_changed : (images : List NamedImage) (F : FlatState) (p : Process) (s : Space) (change : Change) → RoomFor F change → length F.processes ≤ 64 → length (changed images F p s change).processes ≤ 64
+many_changed : (images : List NamedImage) (F : FlatState) (p : Process) (s : Space) (change : Change) → RoomFor F change → length F.processes ≤ 64
+    → length (changed images F p s change).processes ≤ 64
 many_changed images F p s Keep r l = let k = length-replaced F.processes p in omega arith
 many_changed images F p s (Resize d t) r l = let k = length-replaced F.processes (record p { holding = Holds (Rattle.flat_state.specs.Change.resized s d t) }) in omega arith
 many_changed images F p s (Fork child) r l = let k = length-replaced F.processes p in let a = length-append (replaced F.processes p) (Rattle.flat_state.specs.Change.child_of p child (record s { sid = F.next_sid }) ∷ []) in omega arith
@@ -61,7 +62,8 @@ many_changed images F p s (End status) r l =
     let d = many_left (p.parent == 0) (orphaned (given_back (with_process F (record p { holding = Zombie status })) p.pid s) p.pid) p.pid p.parent in
     omega arith
 
-pub many_applied : (images : List NamedImage) (F : FlatState) (pid : ℕ) (regs : Regs) (change : Change) → RoomFor F change → length F.processes ≤ 64 → length (apply_change images F pid regs change).processes ≤ 64
+pub many_applied : (images : List NamedImage) (F : FlatState) (pid : ℕ) (regs : Regs) (change : Change) → RoomFor F change → length F.processes ≤ 64
+    → length (apply_change images F pid regs change).processes ≤ 64
 unfolding apply_change
 many_applied images F pid regs change r l = go (process_of F pid)
   where
@@ -124,7 +126,8 @@ run_room F memory (Tests a next) h = go (run_room F memory next h) (memory.may_w
     go later tests.Text = tt
     go later tests.Outside = tt
 
-child_room : (F : FlatState) (b : Bool) (regs : Regs) (child : ℕ) → nat_lt (length F.processes) process_limit ≡ b → ReplyRoom F (child_by b regs child (Fork F.next_pid)) × ReplyRoom F (child_by b regs child (Lend F.next_pid))
+child_room : (F : FlatState) (b : Bool) (regs : Regs) (child : ℕ) → nat_lt (length F.processes) process_limit ≡ b
+    → ReplyRoom F (child_by b regs child (Fork F.next_pid)) × ReplyRoom F (child_by b regs child (Lend F.next_pid))
 child_room F true regs child e = let l : length F.processes < 64 = less (length F.processes) e in (l, l)
   where
     less : (n : ℕ) → nat_lt n 64 ≡ true → n < 64
@@ -186,7 +189,8 @@ refused_room F true (Exits status) h = tt
 
 -- Steps.
 
-replied_room : (images : List NamedImage) (F : FlatState) (p : Process) (call : SystemCall) (effect : Effect) (reply : Reply) → ReplyRoom (apply_writes F p.pid effect.writes) reply
+replied_room : (images : List NamedImage) (F : FlatState) (p : Process) (call : SystemCall) (effect : Effect) (reply : Reply)
+    → ReplyRoom (apply_writes F p.pid effect.writes) reply
     → RoomFor (apply_writes F p.pid (replied_step images F p call effect reply).writes) (replied_step images F p call effect reply).change
 replied_room images F p call effect (Fails error) h = tt
 replied_room images F p call effect (Does regs change) h = h
@@ -207,7 +211,8 @@ behind_room images F p s refused effect (Some number) = go (call_of number)
         (run_room (apply_writes F p.pid effect.writes) (answers_of (puts s effect.writes)) (reply_of images (apply_writes F p.pid effect.writes) (written_process p s effect.writes) (puts s effect.writes) call effect.regs)
         (all_room images (apply_writes F p.pid effect.writes) (written_process p s effect.writes) (puts s effect.writes) call effect.regs)))
 
-pub of_room : (images : List NamedImage) (F : FlatState) (p : Process) (s : Space) (refused : Bool) (r : Result Effect Refused) → RoomFor (apply_writes F p.pid (step_of images F p s refused r).writes) (step_of images F p s refused r).change
+pub of_room : (images : List NamedImage) (F : FlatState) (p : Process) (s : Space) (refused : Bool) (r : Result Effect Refused)
+    → RoomFor (apply_writes F p.pid (step_of images F p s refused r).writes) (step_of images F p s refused r).change
 of_room images F p s refused (Ok effect) = behind_room images F p s refused effect effect.call
 of_room images F p s refused (Err (Miss a w)) = tt
 of_room images F p s true (Err (Below a)) = tt

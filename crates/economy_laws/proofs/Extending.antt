@@ -119,7 +119,8 @@ spot_grown s d t a b e =
     go false false false w k = ap (λ (y : Bool). spot_by false false y w (length s.text_bytes) a) now
 
 -- no page of a byte that was there is the new one
-not_grown : (s : Space) (d t a : ℕ) (spot : Spot) (q : Page) → Bigger s d t a → IsWithin s spot → page_read s spot ≡ Some q → same_page q (grown_page s a) ≡ false
+not_grown : (s : Space) (d t a : ℕ) (spot : Spot) (q : Page) → Bigger s d t a → IsWithin s spot → page_read s spot ≡ Some q
+    → same_page q (grown_page s a) ≡ false
 unfolding grown_page
 not_grown s d t a (spots.Text i) q b w e = ap (λ (x : Page). same_page x (grown_page s a)) (let k : q ≡ Text s.image (i / 1024) = cc in k)
 not_grown s d t a (spots.Data i) q b w e = ap (λ (x : Page). same_page x (grown_page s a)) (let k : q ≡ Data s.sid (i / 1024) = cc in k)
@@ -176,7 +177,8 @@ test_kept s d t a b spot g e f = (
   (λ q h. not_grown s d t a spot q g (spot_within s b spot g.paged e) (tested_read s spot q (sym (ap (page_tested s) e) ∙ h))),
 )
 
-read_on : (X : Type 0) (s : Space) (d t a b : ℕ) (next : ℕ → Program X) (spot : Spot) (v : ℕ) → Bigger s d t a → address_in s b ≡ spot → Found spot → byte_at s spot ≡ bytes.Is v
+read_on : (X : Type 0) (s : Space) (d t a b : ℕ) (next : ℕ → Program X) (spot : Spot) (v : ℕ) → Bigger s d t a → address_in s b ≡ spot → Found spot
+    → byte_at s spot ≡ bytes.Is v
     → Reached X s d t a (next v) → Reached X s d t a (Reads b next)
 read_on X s d t a b next spot v g e f w k = record {
   before = ReadOf b ∷ k.before;
@@ -190,7 +192,8 @@ read_on X s d t a b next spot v g e f w k = record {
   some = k.some;
 }
 
-test_on : (X : Type 0) (s : Space) (d t a b : ℕ) (next : Program X) (spot : Spot) → Bigger s d t a → address_in s b ≡ spot → Found spot → may_write_at spot ≡ tests.May → Reached X s d t a next → Reached X s d t a (Tests b next)
+test_on : (X : Type 0) (s : Space) (d t a b : ℕ) (next : Program X) (spot : Spot) → Bigger s d t a → address_in s b ≡ spot → Found spot
+    → may_write_at spot ≡ tests.May → Reached X s d t a next → Reached X s d t a (Tests b next)
 test_on X s d t a b next spot g e f w k = record {
   before = TestOf b ∷ k.before;
   last = k.last;

@@ -54,15 +54,18 @@ sized_valid n v xs l h = elim (le_or v (length xs)) [
     le_or : (a b : ℕ) → (a < b) ⊎ (b ≤ a)
     le_or a b = grind arith
 
-cut_data_valid : (d s v : ℕ) (o : Option SpacePages) → length (data_in o) ≤ d → is_valid (get_or (data_in o) v no_slot).state ≡ true → is_valid (get_or (data_in (mapped (cut d s) o)) v no_slot).state ≡ true
+cut_data_valid : (d s v : ℕ) (o : Option SpacePages) → length (data_in o) ≤ d → is_valid (get_or (data_in o) v no_slot).state ≡ true
+    → is_valid (get_or (data_in (mapped (cut d s) o)) v no_slot).state ≡ true
 cut_data_valid d s v None l h = h
 cut_data_valid d s v (Some x) l h = sized_valid d v x.data_pages l h
 
-cut_stack_valid : (d s v : ℕ) (o : Option SpacePages) → length (stack_in o) ≤ s → is_valid (get_or (stack_in o) v no_slot).state ≡ true → is_valid (get_or (stack_in (mapped (cut d s) o)) v no_slot).state ≡ true
+cut_stack_valid : (d s v : ℕ) (o : Option SpacePages) → length (stack_in o) ≤ s → is_valid (get_or (stack_in o) v no_slot).state ≡ true
+    → is_valid (get_or (stack_in (mapped (cut d s) o)) v no_slot).state ≡ true
 cut_stack_valid d s v None l h = h
 cut_stack_valid d s v (Some x) l h = sized_valid s v x.stack_pages l h
 
-cut_valid : (p : Placement) (sid d s : ℕ) (w : Page) → data_count p sid ≤ d → stack_count p sid ≤ s → is_valid (state_of p w) ≡ true → is_valid (state_of (cut_space p sid d s) w) ≡ true
+cut_valid : (p : Placement) (sid d s : ℕ) (w : Page) → data_count p sid ≤ d → stack_count p sid ≤ s → is_valid (state_of p w) ≡ true
+    → is_valid (state_of (cut_space p sid d s) w) ≡ true
 cut_valid p sid d s (Data t v) ld ls h = elim (cases_eq t sid) [
   | inl e ↦ subst (λ (x : ℕ). is_valid (get_or (data_in (numbered space_number x p.spaces)) v no_slot).state ≡ true → is_valid (get_or (data_in (numbered space_number x (changed space_number sid (cut d s) p.spaces))) v no_slot).state ≡ true) (sym e)
       (λ k. subst (λ (y : Option SpacePages). is_valid (get_or (data_in y) v no_slot).state ≡ true) (sym (changed_same space_number sid (cut d s) (λ x. refl) p.spaces)) (cut_data_valid d s v (numbered space_number sid p.spaces) ld k)) h
@@ -143,11 +146,13 @@ none_written (Some q) = go q.holding
     go (Zombie status) = refl
 
 -- the space has as many pages in the placement
-room_for : (s : Space) (o : Option SpacePages) (a : ℕ) → Fits (Some s) o → a + length s.stack_bytes + 1 ≤ stack_top → (length (data_in o) ≤ data_pages_of s) × (length (stack_in o) ≤ pages_down_to a)
+room_for : (s : Space) (o : Option SpacePages) (a : ℕ) → Fits (Some s) o → a + length s.stack_bytes + 1 ≤ stack_top
+    → (length (data_in o) ≤ data_pages_of s) × (length (stack_in o) ≤ pages_down_to a)
 room_for s None a f l = absurd f
 room_for s (Some x) a f l = let d = f.data_size in let k = f.stack_size in (omega arith, omega arith)
 
-grew_place : (A : Inputs) (s : State) (pid pages sid d t : ℕ) → pages_written s.point.flat pid (step_at A s.point pid) ≡ [] → space_of_process (process_of s.point.flat pid) ≡ sid → (step_at A s.point pid).change ≡ Resize d t
+grew_place : (A : Inputs) (s : State) (pid pages sid d t : ℕ) → pages_written s.point.flat pid (step_at A s.point pid) ≡ []
+    → space_of_process (process_of s.point.flat pid) ≡ sid → (step_at A s.point pid).change ≡ Resize d t
     → (after A s (entries.Grew pid pages)).place ≡ resize s.place sid d t
 unfolding after
 grew_place A s pid pages sid d t w h e =

@@ -67,7 +67,8 @@ count_most (p ∷ ps) = go (is_ready p) (count_most ps)
     go false l = omega arith
 
 -- one process gives way to another
-count_replaced : (F : FlatState) (pid : ℕ) (q p : Process) → process_of F pid ≡ Some q → p.pid ≡ pid → ready_count (with_process F p).processes + ready_one q ≡ ready_count F.processes + ready_one p
+count_replaced : (F : FlatState) (pid : ℕ) (q p : Process) → process_of F pid ≡ Some q → p.pid ≡ pid
+    → ready_count (with_process F p).processes + ready_one q ≡ ready_count F.processes + ready_one p
 count_replaced F pid q p e n =
     let k : Parts F.processes q p = parts_at F.processes q p (sym (found_is F.processes p.pid) ∙ subst (λ (x : ℕ). process_of F x ≡ Some q) (sym n) e) in
     let a = ap ready_count k.old in let b = ap ready_count k.new in
@@ -124,7 +125,8 @@ resize_ready images F pid regs d t = go (process_of F pid) refl
     go None e = same_ready F F pid refl
     go (Some p) e = holding p e p.holding refl
 
-sleep_counts : (images : List NamedImage) (F : FlatState) (pid : ℕ) (regs : Regs) → can_step F pid ≡ true → ready_count (apply_change images F pid regs Sleep).processes + 1 ≡ ready_count F.processes
+sleep_counts : (images : List NamedImage) (F : FlatState) (pid : ℕ) (regs : Regs) → can_step F pid ≡ true
+    → ready_count (apply_change images F pid regs Sleep).processes + 1 ≡ ready_count F.processes
 unfolding apply_change
 sleep_counts images F pid regs c = go (process_of F pid) refl c
   where
@@ -157,7 +159,8 @@ stepped_by A s u h r =
     let m : p.pid ≡ h.pid = number_of_found s.point.flat.processes h.pid w.process w.here in
     stepped_flat A s u h ∙ form.after ∙ ap (λ (y : ℕ). apply_change A.images (apply_writes s.point.flat y (step_at A s.point h.pid).writes) y (step_at A s.point h.pid).regs (step_at A s.point h.pid).change) m
 
-sleeps_leave : (A : Inputs) (s : State) (pid : ℕ) (h : Stepped A s (entries.Sleeps pid)) → h.pid ≡ pid → IsRun A s → Leaves s.point.flat (after A s (entries.Sleeps pid)).point.flat h.pid
+sleeps_leave : (A : Inputs) (s : State) (pid : ℕ) (h : Stepped A s (entries.Sleeps pid)) → h.pid ≡ pid → IsRun A s
+    → Leaves s.point.flat (after A s (entries.Sleeps pid)).point.flat h.pid
 sleeps_leave A s pid h same r =
     let run : Runs A s h.pid h.now = h.runs in
     let steps = on_steps A s s.mark h.pid h.now run.on in
@@ -176,7 +179,8 @@ pub open_due : (o : Option Entry) (pid : ℕ) (es : List Entry) → is_closed o 
 open_due (Some (entries.Out p bytes)) pid es h = absurd cc
 open_due _ pid es h = refl
 
-grew_leaves : (A : Inputs) (s : State) (p n : ℕ) (h : Stepped A s (entries.Grew p n)) → is_closed s.point.last ≡ false → IsRun A s → Leaves s.point.flat (after A s (entries.Grew p n)).point.flat h.pid
+grew_leaves : (A : Inputs) (s : State) (p n : ℕ) (h : Stepped A s (entries.Grew p n)) → is_closed s.point.last ≡ false → IsRun A s
+    → Leaves s.point.flat (after A s (entries.Grew p n)).point.flat h.pid
 grew_leaves A s p n h o r =
     let run : Runs A s h.pid h.now = h.runs in
     let steps = on_steps A s s.mark h.pid h.now run.on in
@@ -194,7 +198,8 @@ grew_leaves A s p n h o r =
     let all = both_ready s.point.flat (apply_writes s.point.flat h.pid (step_at A s.point h.pid).writes) (apply_change A.images (apply_writes s.point.flat h.pid (step_at A s.point h.pid).writes) h.pid (step_at A s.point h.pid).regs (Resize (data_pages_of w.space) (pages_down_to g.address))) h.pid wrote sized in
     Same (record { count = ap (λ (F : FlatState). ready_count F.processes) is ∙ all.count; steps = ap (λ (F : FlatState). can_step F h.pid) is ∙ all.steps })
 
-flat_leaves : (A : Inputs) (s : State) (u : Entry) (pid : ℕ) → IsRun A s → next_unit A s ≡ Some u → process_of_entry u ≡ Some pid → counts u ≡ false → Leaves s.point.flat (after A s u).point.flat pid
+flat_leaves : (A : Inputs) (s : State) (u : Entry) (pid : ℕ) → IsRun A s → next_unit A s ≡ Some u → process_of_entry u ≡ Some pid → counts u ≡ false
+    → Leaves s.point.flat (after A s u).point.flat pid
 flat_leaves A s u pid r h e n = by (acted A s pid u d.act)
   where
     d : Does A s u pid
@@ -246,7 +251,8 @@ turn_begins A s p (PutsOut pid e k i) = absurd (unit_case (λ (x : Entry). entri
 turn_begins A s p (Notes e k i) = absurd cc
 turn_begins A s p (Begins e k i) = record { clear = e; over = k; next = i }
 
-turn_next : (A : Inputs) (s : State) (p : ℕ) → length A.lines ≤ s.lines → next_mark A s ≡ Some (entries.Turn p) → (s.count < A.limit) × (next_turned s.point.flat (last_turned s.mark) ≡ Some p)
+turn_next : (A : Inputs) (s : State) (p : ℕ) → length A.lines ≤ s.lines → next_mark A s ≡ Some (entries.Turn p)
+    → (s.count < A.limit) × (next_turned s.point.flat (last_turned s.mark) ≡ Some p)
 turn_next A s p l h = go (nat_lt s.count A.limit) (nat_lt s.lines (length A.lines)) refl refl h
   where
     less : (a b : ℕ) → nat_lt a b ≡ true → a < b
@@ -261,7 +267,8 @@ turn_next A s p l h = go (nat_lt s.count A.limit) (nat_lt s.lines (length A.line
     go true true x y e = absurd (let z = less s.lines (length A.lines) y in omega arith)
     go true false x y e = (less s.count A.limit x, turn (next_turned s.point.flat (last_turned s.mark)) e)
 
-ready_found : (F : FlatState) (above p : ℕ) → Rattle.flat_state.specs.Numbers.AllDistinct (Rattle.flat_state.specs.Numbers.pids_of F) → next_ready F above ≡ Some p → can_step F p ≡ true
+ready_found : (F : FlatState) (above p : ℕ) → Rattle.flat_state.specs.Numbers.AllDistinct (Rattle.flat_state.specs.Numbers.pids_of F)
+    → next_ready F above ≡ Some p → can_step F p ≡ true
 ready_found F above p distinct h = go (find (λ (q : Process). is_ready q && nat_lt above q.pid) F.processes) refl h
   where
     number : (z : Process) → Some z.pid ≡ Some p → z.pid ≡ p
@@ -272,7 +279,8 @@ ready_found F above p distinct h = go (find (λ (q : Process). is_ready q && nat
     go (Some z) e k = subst (λ (n : ℕ). can_step F n ≡ true) (number z k)
         (ap ready_if (found_by_number (λ (q : Process). is_ready q && nat_lt above q.pid) F.processes z distinct e) ∙ (and_parts (is_ready z) (nat_lt above z.pid) (found_passes (λ (q : Process). is_ready q && nat_lt above q.pid) F.processes z e)).0)
 
-turned_ready : (F : FlatState) (last p : ℕ) → Rattle.flat_state.specs.Numbers.AllDistinct (Rattle.flat_state.specs.Numbers.pids_of F) → next_turned F last ≡ Some p → can_step F p ≡ true
+turned_ready : (F : FlatState) (last p : ℕ) → Rattle.flat_state.specs.Numbers.AllDistinct (Rattle.flat_state.specs.Numbers.pids_of F)
+    → next_turned F last ≡ Some p → can_step F p ≡ true
 turned_ready F last p distinct h = go (next_ready F last) refl h
   where
     go : (o : Option ℕ) → next_ready F last ≡ o → or_else o (next_ready F 0) ≡ Some p → can_step F p ≡ true
@@ -280,7 +288,8 @@ turned_ready F last p distinct h = go (next_ready F last) refl h
     go (Some q) e k = ready_found F last p distinct (e ∙ k)
 
 -- a process whose turn it is, that can step, goes on
-turn_goes : (A : Inputs) (s : State) (pid since : ℕ) → IsRun A s → s.mark ≡ marks.Turn pid since → since ≡ s.count → can_step s.point.flat pid ≡ true → s.count < A.limit → s.place.due ≡ [] → under A s s.mark ≡ None → ⊥
+turn_goes : (A : Inputs) (s : State) (pid since : ℕ) → IsRun A s → s.mark ≡ marks.Turn pid since → since ≡ s.count → can_step s.point.flat pid ≡ true
+    → s.count < A.limit → s.place.due ≡ [] → under A s s.mark ≡ None → ⊥
 turn_goes A s pid since r m c steps l d h = by (is_out s.place pid) refl (sym (ap (λ (b : Bool). when b (turn_unit A s pid)) goes) ∙ sym (ap (under A s) m) ∙ h)
   where
     below : (a b : ℕ) → a < b → nat_lt a b ≡ true
@@ -332,7 +341,8 @@ unfolding after
 lines_more A s (entries.Event line) = omega arith
 lines_more A s _ = omega arith
 
-mark_stays : (A : Inputs) (s : State) (u : Entry) (pid since : ℕ) → s.mark ≡ marks.Turn pid since → begins_stretch u ≡ false → ((line : ℕ) → u ≡ entries.Event line → ⊥) → (after A s u).mark ≡ marks.Turn pid since
+mark_stays : (A : Inputs) (s : State) (u : Entry) (pid since : ℕ) → s.mark ≡ marks.Turn pid since → begins_stretch u ≡ false
+    → ((line : ℕ) → u ≡ entries.Event line → ⊥) → (after A s u).mark ≡ marks.Turn pid since
 unfolding after
 mark_stays A s (entries.Event line) pid since m n e = absurd (e line refl)
 mark_stays A s (entries.Turn p) pid since m n e = absurd cc
@@ -366,7 +376,8 @@ idle_some : (A : Inputs) (s : State) (k : ℕ) → Idle A s k → k ≤ ready_co
 idle_some A s k (Free e) = omega (arith, e)
 idle_some A s k (Held pid since e m c z) = let x = count_some s.point.flat pid z in omega (arith, e)
 
-pub idle_turns : (A : Inputs) (us : List Entry) (s t : State) (k : ℕ) → ImagesFit A.images → IsRun A s → length A.lines ≤ s.lines → Follows A s us t → NoneCounts us → Idle A s k → turns_of us + k ≤ ready_count s.point.flat.processes
+pub idle_turns : (A : Inputs) (us : List Entry) (s t : State) (k : ℕ) → ImagesFit A.images → IsRun A s → length A.lines ≤ s.lines → Follows A s us t
+    → NoneCounts us → Idle A s k → turns_of us + k ≤ ready_count s.point.flat.processes
 idle_turns A [] s t k images r l f n i = omega (arith, idle_some A s k i)
 idle_turns A (u ∷ us) s t k images r l f n i = elim (unit_kind u n.0) [
   | inl x ↦ turned (λ j y. idle_turns A us (after A s u) t j images (unit_run A s u images r f.0) (omega (arith, lines_more A s u)) f.1 n.1 y) x.0 x.1 i
@@ -431,12 +442,14 @@ idle_turns A (u ∷ us) s t k images r l f n i = elim (unit_kind u n.0) [
             let w = x.count in omega (arith, j)
         leaves (Fewer x) = let y = on 0 (Free refl) in omega (arith, j)
 
-pub few_turns : (A : Inputs) (s t : State) (us : List Entry) → ImagesFit A.images → IsRun A s → length A.lines ≤ s.lines → Follows A s us t → NoneCounts us → turns_of us ≤ ready_count s.point.flat.processes
+pub few_turns : (A : Inputs) (s t : State) (us : List Entry) → ImagesFit A.images → IsRun A s → length A.lines ≤ s.lines → Follows A s us t
+    → NoneCounts us → turns_of us ≤ ready_count s.point.flat.processes
 few_turns A s t us images r l f n = let k = idle_turns A us s t 0 images r l f n (Free refl) in omega arith
 
 -- Never more than 64 processes.
 
-pub many_behind : (A : Inputs) (s : State) (u : Entry) → IsRun A s → length s.point.flat.processes ≤ 64 → next_unit A s ≡ Some u → length (after A s u).point.flat.processes ≤ 64
+pub many_behind : (A : Inputs) (s : State) (u : Entry) → IsRun A s → length s.point.flat.processes ≤ 64 → next_unit A s ≡ Some u
+    → length (after A s u).point.flat.processes ≤ 64
 many_behind A s u r l h = go (process_of_entry u) refl
   where
     same : (G : FlatState) → G ≡ s.point.flat → length G.processes ≤ 64
@@ -470,6 +483,7 @@ many_behind A s u r l h = go (process_of_entry u) refl
     go None e = same (after A s u).point.flat (ap (λ (x : Point). x.flat) (plain_point A s u e))
     go (Some pid) e = let d : Does A s u pid = does A s u pid h e in by pid d.now d.runs (acted A s pid u d.act)
 
-pub many_on : (A : Inputs) (us : List Entry) (s t : State) → ImagesFit A.images → IsRun A s → length s.point.flat.processes ≤ 64 → Follows A s us t → length t.point.flat.processes ≤ 64
+pub many_on : (A : Inputs) (us : List Entry) (s t : State) → ImagesFit A.images → IsRun A s → length s.point.flat.processes ≤ 64 → Follows A s us t
+    → length t.point.flat.processes ≤ 64
 many_on A [] s t images r l f = subst (λ (x : State). length x.point.flat.processes ≤ 64) f l
 many_on A (u ∷ us) s t images r l f = many_on A us (after A s u) t images (unit_run A s u images r f.0) (many_behind A s u r l f.0) f.1

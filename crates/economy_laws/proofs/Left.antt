@@ -65,7 +65,8 @@ pub record ServeNext (b : Bool) (p : Placement) (locked : List Page) (q : Page) 
   pub entries_left : adds b e + x ≤ n
   pub takings_left : takes e + y ≤ m
 
-pub serve_next : (b : Bool) (p : Placement) (locked : List Page) (q : Page) (e : Entry) (n m : ℕ) → ServeLeft b p locked q n m → serve_unit p q true ≡ Some e → ServeNext b p locked q e n m
+pub serve_next : (b : Bool) (p : Placement) (locked : List Page) (q : Page) (e : Entry) (n m : ℕ) → ServeLeft b p locked q n m
+    → serve_unit p q true ≡ Some e → ServeNext b p locked q e n m
 serve_next b p locked q e n m l h =
     let one = l (e ∷ []) (serve_step p locked q) (h, refl) in
     record {
@@ -81,7 +82,8 @@ pub record ForceNext (b : Bool) (p : Placement) (locked : List Page) (e : Entry)
   pub left : ForceLeft (is_hands e) (force p locked) locked x
   pub entries_left : adds b e + x ≤ n
 
-pub force_next : (b : Bool) (p : Placement) (locked : List Page) (e : Entry) (n : ℕ) → ForceLeft b p locked n → p.free ≡ [] → e ≡ force_entry p.transfers → ForceNext b p locked e n
+pub force_next : (b : Bool) (p : Placement) (locked : List Page) (e : Entry) (n : ℕ) → ForceLeft b p locked n → p.free ≡ []
+    → e ≡ force_entry p.transfers → ForceNext b p locked e n
 force_next b p locked e n l f i =
     let one = l (e ∷ []) (force p locked) (f, i, refl) in
     record {
@@ -138,11 +140,13 @@ force_plain : (ts : List Transfer) → process_of_entry (force_entry ts) ≡ Non
 force_plain [] = refl
 force_plain (t ∷ ts) = refl
 
-pub after_forced : (A : Inputs) (s : State) (u : Entry) (lk : List Page) → locked A s ≡ lk → u ≡ force_entry s.place.transfers → (after A s u).place ≡ force s.place lk
+pub after_forced : (A : Inputs) (s : State) (u : Entry) (lk : List Page) → locked A s ≡ lk → u ≡ force_entry s.place.transfers
+    → (after A s u).place ≡ force s.place lk
 after_forced A s u lk e i = plain_place A s u (ap process_of_entry i ∙ force_plain s.place.transfers)
     ∙ ap (place_entry (locked A s) (place_at s u) s.place) i ∙ forced_entry (locked A s) (place_at s u) s.place ∙ ap (force s.place) e
 
-pub after_served : (A : Inputs) (s : State) (u : Entry) (lk : List Page) (q : Page) → locked A s ≡ lk → NotDue s.place.due q → serve_unit s.place q true ≡ Some u → (after A s u).place ≡ serve_step s.place lk q
+pub after_served : (A : Inputs) (s : State) (u : Entry) (lk : List Page) (q : Page) → locked A s ≡ lk → NotDue s.place.due q
+    → serve_unit s.place q true ≡ Some u → (after A s u).place ≡ serve_step s.place lk q
 after_served A s u lk q e d h =
     let k = unit_is s.place q true u h in
     plain_place A s u (ap process_of_entry k.1 ∙ serve_flat s.place q)
@@ -151,7 +155,8 @@ after_served A s u lk q e d h =
     ∙ ap (λ (x : List Page). serve_step s.place x q) e
 
 -- who is in stays in, but by a `SwapOut`
-pub stays_in : (A : Inputs) (s : State) (u : Entry) (pid : ℕ) → process_of_entry u ≡ None → (Leaver u pid → ⊥) → is_out s.place pid ≡ false → is_out (after A s u).place pid ≡ true → ⊥
+pub stays_in : (A : Inputs) (s : State) (u : Entry) (pid : ℕ) → process_of_entry u ≡ None → (Leaver u pid → ⊥) → is_out s.place pid ≡ false
+    → is_out (after A s u).place pid ≡ true → ⊥
 stays_in A s u pid n l o h = elim (entry_out (locked A s) (place_at s u) s.place u pid (subst (λ (p : Placement). is_out p pid ≡ true) (plain_place A s u n) h)) [
   | inl k ↦ absurd (let z : true ≡ false = sym k ∙ o in cc)
   | inr k ↦ absurd (l k)
@@ -162,10 +167,12 @@ stays_in A s u pid n l o h = elim (entry_out (locked A s) (place_at s u) s.place
 pub next_on : (A : Inputs) (s : State) (pid : ℕ) → running s.mark ≡ Some pid → touched_next A s ≡ touched A s.point.flat pid
 next_on A s pid m = ap (touched_by A s.point.flat) m
 
-pub wanted_on : (A : Inputs) (s : State) (pid : ℕ) → running s.mark ≡ Some pid → s.place.due ≡ [] → wanted A s ≡ first_absent s.place (touched A s.point.flat pid)
+pub wanted_on : (A : Inputs) (s : State) (pid : ℕ) → running s.mark ≡ Some pid → s.place.due ≡ []
+    → wanted A s ≡ first_absent s.place (touched A s.point.flat pid)
 wanted_on A s pid m d = ap (wanted_by A s) d ∙ ap (first_absent s.place) (next_on A s pid m)
 
-pub locked_on : (A : Inputs) (s : State) (pid : ℕ) → running s.mark ≡ Some pid → s.place.due ≡ [] → locked A s ≡ before_absent s.place (touched A s.point.flat pid)
+pub locked_on : (A : Inputs) (s : State) (pid : ℕ) → running s.mark ≡ Some pid → s.place.due ≡ []
+    → locked A s ≡ before_absent s.place (touched A s.point.flat pid)
 locked_on A s pid m d = ap (locked_by A s) d ∙ ap (before_absent s.place) (next_on A s pid m)
 
 -- and in a turn
@@ -176,7 +183,8 @@ wanted_is A s pid c d = wanted_on A s pid (ap running c.mark) d
 pub locked_is : (A : Inputs) (s : State) (pid : ℕ) → IsClosing A s pid → s.place.due ≡ [] → locked A s ≡ before_absent s.place (touched A s.point.flat pid)
 locked_is A s pid c d = locked_on A s pid (ap running c.mark) d
 
-pub split_there : (A : Inputs) (s : State) (pid : ℕ) (before : List Page) (q : Page) → IsRun A s → Splits s.place (touched A s.point.flat pid) before q → IsThere s.place q
+pub split_there : (A : Inputs) (s : State) (pid : ℕ) (before : List Page) (q : Page) → IsRun A s
+    → Splits s.place (touched A s.point.flat pid) before q → IsThere s.place q
 split_there A s pid before q r k =
     let here : Present s.place q = each_split (Present s.place) before q k.behind (subst (EachPage (Present s.place)) k.whole (touched_present A s.point.flat s.place s.holdings pid r.numbers r.texts r.placed)) in
     here.there
@@ -185,7 +193,8 @@ pub split_short : (p : Placement) (pages before : List Page) (q : Page) → Spli
 split_short p pages before q k = let a = ap length k.whole in let b = length-append before (q ∷ k.behind) in omega arith
 
 -- pages before it and it itself are valid
-pub split_longer : (p : Placement) (pages before behind : List Page) (q : Page) → pages ≡ before ++ q ∷ behind → AllValid p before → is_valid (state_of p q) ≡ true → length before + 1 ≤ length (before_absent p pages)
+pub split_longer : (p : Placement) (pages before behind : List Page) (q : Page) → pages ≡ before ++ q ∷ behind → AllValid p before
+    → is_valid (state_of p q) ≡ true → length before + 1 ≤ length (before_absent p pages)
 split_longer p pages before behind q w v i =
     let a = ap (λ (x : List Page). length (before_absent p x)) w in
     let b = ap length (before_past p before (q ∷ behind) v) in
@@ -244,7 +253,8 @@ pub record ActLeft (A : Inputs) (s : State) (pid : ℕ) (n m : ℕ) : Type 0 whe
 
 pub record Left (A : Inputs) (s : State) (pid : ℕ) (b : Bool) (n m : ℕ) : Type 0 where
   pub start : (q : Page) (ds : List Due) → s.place.due ≡ Start q ∷ ds → (ds ≡ []) × StartLeft b s.place n m
-  pub copied : (q parent : Page) (ds : List Due) → s.place.due ≡ CopyOf q parent ∷ ds → AllCopies ds × (is_valid (state_of s.place parent) ≡ false → BringLeft b s.place parent n m) × (is_valid (state_of s.place parent) ≡ true → CopyLeft b s.place parent n m)
+  pub copied : (q parent : Page) (ds : List Due) → s.place.due ≡ CopyOf q parent ∷ ds
+      → AllCopies ds × (is_valid (state_of s.place parent) ≡ false → BringLeft b s.place parent n m) × (is_valid (state_of s.place parent) ≡ true → CopyLeft b s.place parent n m)
   pub comes : s.place.due ≡ [] → is_out s.place pid ≡ true → (length s.place.transfers + 194 ≤ n) × (32 ≤ m)
   pub page : (q : Page) → s.place.due ≡ [] → is_out s.place pid ≡ false → can_step s.point.flat pid ≡ true → wanted A s ≡ Some q → PageLeft A s pid b q n m
   pub acts : s.place.due ≡ [] → is_out s.place pid ≡ false → can_step s.point.flat pid ≡ true → wanted A s ≡ None → ActLeft A s pid n m

@@ -69,11 +69,13 @@ from_copies : (child parent : ℕ → Page) (v : ℕ) (xs : List Slot) → AllCo
 from_copies child parent v [] = tt
 from_copies child parent v (x ∷ xs) = all_both (copy_due (child v) (parent v) x.state) (copies_from child parent (v + 1) xs) (one_copy (child v) (parent v) x.state) (from_copies child parent (v + 1) xs)
 
-exec_opens : (borrowed : Bool) (p : Placement) (next image sid : ℕ) (facts : Option Image) → p.due ≡ [] → Opens (give_up_unless borrowed (enter_image p next image facts) sid).due
+exec_opens : (borrowed : Bool) (p : Placement) (next image sid : ℕ) (facts : Option Image) → p.due ≡ []
+    → Opens (give_up_unless borrowed (enter_image p next image facts) sid).due
 exec_opens borrowed p next image sid None e = Nothing (unless_due borrowed p sid ∙ e)
 exec_opens borrowed p next image sid (Some facts) e = NewStack (Stack next 0) (unless_due borrowed (enter_image p next image (Some facts)) sid)
 
-change_opens : (images : List Image) (p : Placement) (pid sid : ℕ) (borrowed : Bool) (next at : ℕ) (change : Change) → p.due ≡ [] → Opens (place_change images p pid sid borrowed next at change).due
+change_opens : (images : List Image) (p : Placement) (pid sid : ℕ) (borrowed : Bool) (next at : ℕ) (change : Change) → p.due ≡ []
+    → Opens (place_change images p pid sid borrowed next at change).due
 change_opens images p pid sid borrowed next at Keep e = Nothing e
 change_opens images p pid sid borrowed next at (Resize d s) e = Nothing ((drop_all_rest (dropped_pages p sid d s) p).1 ∙ e)
 change_opens images p pid sid borrowed next at (Fork child) e = copies_open (copies_from (Data next) (Data sid) 0 (slots_of p (Data sid 0)) ++ copies_from (Stack next) (Stack sid) 0 (slots_of p (Stack sid 0)))
@@ -125,14 +127,16 @@ first_left A t pid b few r c (Children q parent es e a) =
 pub few_touched : (A : Inputs) → FewTouched A
 few_touched A = λ s pid r. let f = run_few A s pid r in omega arith
 
-pub whole_stretch : (A : Inputs) (s t : State) (u : Entry) (us : List Entry) (pid : ℕ) → ImagesFit A.images → FewTouched A → AllGrown A → SleepStops A → IsRun A s → Follows A s (u ∷ us) t
+pub whole_stretch : (A : Inputs) (s t : State) (u : Entry) (us : List Entry) (pid : ℕ) → ImagesFit A.images → FewTouched A → AllGrown A → SleepStops A
+    → IsRun A s → Follows A s (u ∷ us) t
     → begins_stretch u ≡ true → IsClosing A (after A s u) pid → NoneBegins us
     → (added (is_hands u) us ≤ 218 + 8 * copies_of us) × (takings us ≤ 33 + copies_of us)
 whole_stretch A s t u us pid images few grows stops r f b c n =
     let r2 = unit_run A s u images r f.0 in
     stretch A us (after A s u) t pid (is_hands u) 218 33 images few grows stops r2 c f.1 n (first_left A (after A s u) pid (is_hands u) few r2 c (opens A s u f.0 b))
 
-pub stretch_entries : (A : Inputs) (s t : State) (u : Entry) (us journal : List Entry) (pid : ℕ) → ImagesFit A.images → FewTouched A → AllGrown A → SleepStops A → IsRun A s → Follows A s (u ∷ us) t
+pub stretch_entries : (A : Inputs) (s t : State) (u : Entry) (us journal : List Entry) (pid : ℕ) → ImagesFit A.images → FewTouched A → AllGrown A
+    → SleepStops A → IsRun A s → Follows A s (u ∷ us) t
     → begins_stretch u ≡ true → IsClosing A (after A s u) pid → NoneBegins us
     → length (appended journal (u ∷ us)) ≤ length journal + 219 + 8 * copies_of us
 stretch_entries A s t u us journal pid images few grows stops r f b c n =

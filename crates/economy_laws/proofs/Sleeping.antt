@@ -85,7 +85,8 @@ does A s u pid h e = go (kind_of A s u h)
     go (Notes e j i) = none (ap process_of_entry i)
     go (Begins e j i) = none (mark_flat A s u i)
 
-slept_place : (A : Inputs) (s : State) (pid : ℕ) → (step_at A s.point pid).change ≡ Sleep → (after A s (entries.Sleeps pid)).place ≡ touch_all s.place (pages_written s.point.flat pid (step_at A s.point pid))
+slept_place : (A : Inputs) (s : State) (pid : ℕ) → (step_at A s.point pid).change ≡ Sleep
+    → (after A s (entries.Sleeps pid)).place ≡ touch_all s.place (pages_written s.point.flat pid (step_at A s.point pid))
 unfolding after
 slept_place A s pid e = ap (place_change (facts_of A.images) (touch_all s.place (pages_written s.point.flat pid (step_at A s.point pid))) pid (space_of_process (process_of s.point.flat pid)) (is_borrower s.point.flat.processes pid) s.point.flat.next_sid (place_at s (entries.Sleeps pid))) e
 

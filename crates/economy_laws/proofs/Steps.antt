@@ -28,7 +28,8 @@ use Rattle.run_laws.proofs.Flows.{on_steps}
 
 -- Entries.
 
-replied_some : (images : List NamedImage) (F : FlatState) (p : Process) (call : SystemCall) (effect : Effect) (reply : Reply) → (replied_step images F p call effect reply).entries ≡ [] → ⊥
+replied_some : (images : List NamedImage) (F : FlatState) (p : Process) (call : SystemCall) (effect : Effect) (reply : Reply)
+    → (replied_step images F p call effect reply).entries ≡ [] → ⊥
 replied_some images F p call effect (Fails error) h = absurd cc
 replied_some images F p call effect (Does regs change) h = absurd cc
 replied_some images F p call effect (Writes []) h = absurd cc
@@ -36,7 +37,8 @@ replied_some images F p call effect (Writes (byte ∷ bytes)) h = absurd cc
 replied_some images F p call effect Waits h = absurd cc
 replied_some images F p call effect (Exits status) h = absurd cc
 
-behind_some : (images : List NamedImage) (F : FlatState) (p : Process) (s : Space) (refused : Bool) (effect : Effect) (o : Option ℤ) → (step_behind images F p s refused effect o).entries ≡ [] → ⊥
+behind_some : (images : List NamedImage) (F : FlatState) (p : Process) (s : Space) (refused : Bool) (effect : Effect) (o : Option ℤ)
+    → (step_behind images F p s refused effect o).entries ≡ [] → ⊥
 behind_some images F p s refused effect None h = absurd cc
 behind_some images F p s refused effect (Some number) h = go (call_of number) h
   where
@@ -44,14 +46,16 @@ behind_some images F p s refused effect (Some number) h = go (call_of number) h
     go None h = absurd cc
     go (Some call) h = replied_some images F p call effect (reply_behind images F p s refused call effect) h
 
-of_some : (images : List NamedImage) (F : FlatState) (p : Process) (s : Space) (refused : Bool) (r : Result Effect Refused) → ((a : ℕ) (w : Bool) → r ≡ Err (Miss a w) → ⊥) → (step_of images F p s refused r).entries ≡ [] → ⊥
+of_some : (images : List NamedImage) (F : FlatState) (p : Process) (s : Space) (refused : Bool) (r : Result Effect Refused)
+    → ((a : ℕ) (w : Bool) → r ≡ Err (Miss a w) → ⊥) → (step_of images F p s refused r).entries ≡ [] → ⊥
 of_some images F p s refused (Ok effect) n h = behind_some images F p s refused effect effect.call h
 of_some images F p s refused (Err (Miss a w)) n h = n a w refl
 of_some images F p s true (Err (Below a)) n h = absurd cc
 of_some images F p s false (Err (Below a)) n h = absurd cc
 of_some images F p s refused (Err (Signal k)) n h = absurd cc
 
-pub step_is : (A : Inputs) (F : FlatState) (pid : ℕ) (refused : Bool) (q : Process) (s : Space) → process_of F pid ≡ Some q → q.holding ≡ Holds s → flat_step A F pid refused ≡ step_of A.images F q s refused (instruction_in s q.regs)
+pub step_is : (A : Inputs) (F : FlatState) (pid : ℕ) (refused : Bool) (q : Process) (s : Space) → process_of F pid ≡ Some q → q.holding ≡ Holds s
+    → flat_step A F pid refused ≡ step_of A.images F q s refused (instruction_in s q.regs)
 unfolding flat_step
 step_is A F pid refused q s f h = ap (step_if A.images F refused) f ∙ ap (step_holding A.images F q refused) h
 
@@ -117,7 +121,8 @@ pub record Grows (images : List NamedImage) (F : FlatState) (p : Process) (s : S
   pub below : r ≡ Err (Below address)
   pub step : step_of images F p s refused r ≡ grown_step images F p s address
 
-replied_grows : (images : List NamedImage) (F : FlatState) (p : Process) (call : SystemCall) (effect : Effect) (reply : Reply) (a n : ℕ) → (replied_step images F p call effect reply).entries ≡ entries.Grew a n ∷ [] → ⊥
+replied_grows : (images : List NamedImage) (F : FlatState) (p : Process) (call : SystemCall) (effect : Effect) (reply : Reply) (a n : ℕ)
+    → (replied_step images F p call effect reply).entries ≡ entries.Grew a n ∷ [] → ⊥
 replied_grows images F p call effect (Fails error) a n h = absurd cc
 replied_grows images F p call effect (Does regs change) a n h = absurd cc
 replied_grows images F p call effect (Writes []) a n h = absurd cc
@@ -125,7 +130,8 @@ replied_grows images F p call effect (Writes (byte ∷ bytes)) a n h = absurd cc
 replied_grows images F p call effect Waits a n h = absurd cc
 replied_grows images F p call effect (Exits status) a n h = absurd cc
 
-behind_grows : (images : List NamedImage) (F : FlatState) (p : Process) (s : Space) (refused : Bool) (effect : Effect) (o : Option ℤ) (a n : ℕ) → (step_behind images F p s refused effect o).entries ≡ entries.Grew a n ∷ [] → ⊥
+behind_grows : (images : List NamedImage) (F : FlatState) (p : Process) (s : Space) (refused : Bool) (effect : Effect) (o : Option ℤ) (a n : ℕ)
+    → (step_behind images F p s refused effect o).entries ≡ entries.Grew a n ∷ [] → ⊥
 behind_grows images F p s refused effect None a n h = absurd cc
 behind_grows images F p s refused effect (Some number) a n h = go (call_of number) h
   where
@@ -133,7 +139,8 @@ behind_grows images F p s refused effect (Some number) a n h = go (call_of numbe
     go None h = absurd cc
     go (Some call) h = replied_grows images F p call effect (reply_behind images F p s refused call effect) a n h
 
-pub grows_of : (images : List NamedImage) (F : FlatState) (p : Process) (s : Space) (refused : Bool) (r : Result Effect Refused) (a n : ℕ) → (step_of images F p s refused r).entries ≡ entries.Grew a n ∷ [] → Grows images F p s refused r
+pub grows_of : (images : List NamedImage) (F : FlatState) (p : Process) (s : Space) (refused : Bool) (r : Result Effect Refused) (a n : ℕ)
+    → (step_of images F p s refused r).entries ≡ entries.Grew a n ∷ [] → Grows images F p s refused r
 grows_of images F p s refused (Ok effect) a n h = absurd (behind_grows images F p s refused effect effect.call a n h)
 grows_of images F p s refused (Err (Miss b w)) a n h = absurd cc
 grows_of images F p s true (Err (Below b)) a n h = absurd cc

@@ -75,7 +75,8 @@ copying_left A s pid b n m q parent ds d k br cp = record {
 }
 
 -- one at which a new stack page is due
-pub starting_left : (A : Inputs) (s : State) (pid : ℕ) (b : Bool) (n m : ℕ) (q : Page) → s.place.due ≡ Start q ∷ [] → StartLeft b s.place n m → Left A s pid b n m
+pub starting_left : (A : Inputs) (s : State) (pid : ℕ) (b : Bool) (n m : ℕ) (q : Page) → s.place.due ≡ Start q ∷ [] → StartLeft b s.place n m
+    → Left A s pid b n m
 unfolding rest_of
 starting_left A s pid b n m q d l = record {
   start = λ q2 ds2 e. (ap rest_of (sym e ∙ d), l);
@@ -86,7 +87,8 @@ starting_left A s pid b n m q d l = record {
 }
 
 -- one at which a process acts
-acting_left : (A : Inputs) (s : State) (pid : ℕ) (b : Bool) (n m : ℕ) → s.place.due ≡ [] → (is_out s.place pid ≡ true → ⊥) → wanted A s ≡ None → ActLeft A s pid n m → Left A s pid b n m
+acting_left : (A : Inputs) (s : State) (pid : ℕ) (b : Bool) (n m : ℕ) → s.place.due ≡ [] → (is_out s.place pid ≡ true → ⊥) → wanted A s ≡ None
+    → ActLeft A s pid n m → Left A s pid b n m
 acting_left A s pid b n m d o w l = record {
   start = λ q ds e. absurd (let z : Start q ∷ ds ≡ [] = sym e ∙ d in cc);
   copied = λ q parent ds e. absurd (let z : CopyOf q parent ∷ ds ≡ [] = sym e ∙ d in cc);
@@ -97,7 +99,8 @@ acting_left A s pid b n m d o w l = record {
 
 -- A new stack page.
 
-start_next : (A : Inputs) (s : State) (u : Entry) (pid : ℕ) (b : Bool) (n m : ℕ) (q : Page) (ds : List Due) → FewTouched A → IsRun A s → IsRun A (after A s u) → IsClosing A (after A s u) pid → Left A s pid b n m
+start_next : (A : Inputs) (s : State) (u : Entry) (pid : ℕ) (b : Bool) (n m : ℕ) (q : Page) (ds : List Due) → FewTouched A → IsRun A s
+    → IsRun A (after A s u) → IsClosing A (after A s u) pid → Left A s pid b n m
     → s.place.due ≡ Start q ∷ ds → u ≡ fill_unit s.place (entries.Zero q) → Next A s pid b u n m
 start_next A s u pid b n m q ds few r r2 c2 l d i = go s.place.free refl i (l.start q ds d)
   where
@@ -142,7 +145,8 @@ start_next A s u pid b n m q ds few r r2 c2 l d i = go s.place.free refl i (l.st
 pub source_of : (A : Inputs) (s : State) (q parent : Page) (ds : List Due) → IsRun A s → s.place.due ≡ CopyOf q parent ∷ ds → IsDue s.place q (CopyOf q parent)
 source_of A s q parent ds r d = let st = r.placed in st.dues q (CopyOf q parent) (ap (λ (l : List Due). due_at l q) d ∙ first_due (CopyOf q parent) ds)
 
-bring_next : (A : Inputs) (s : State) (u : Entry) (pid : ℕ) (b : Bool) (n m : ℕ) (q parent : Page) (ds : List Due) → IsRun A s → IsRun A (after A s u) → Left A s pid b n m
+bring_next : (A : Inputs) (s : State) (u : Entry) (pid : ℕ) (b : Bool) (n m : ℕ) (q parent : Page) (ds : List Due) → IsRun A s → IsRun A (after A s u)
+    → Left A s pid b n m
     → s.place.due ≡ CopyOf q parent ∷ ds → serve_unit s.place parent true ≡ Some u → Next A s pid b u n m
 bring_next A s u pid b n m q parent ds r r2 l d i =
     let cp = l.copied q parent ds d in
@@ -163,7 +167,8 @@ bring_next A s u pid b n m q parent ds r r2 l d i =
       takers = omega (arith, nx.takings_left, k.takers);
     }
 
-copy_next : (A : Inputs) (s : State) (u : Entry) (pid : ℕ) (b : Bool) (n m : ℕ) (q parent : Page) (ds : List Due) → FewTouched A → IsRun A s → IsRun A (after A s u) → IsClosing A (after A s u) pid → Left A s pid b n m
+copy_next : (A : Inputs) (s : State) (u : Entry) (pid : ℕ) (b : Bool) (n m : ℕ) (q parent : Page) (ds : List Due) → FewTouched A → IsRun A s
+    → IsRun A (after A s u) → IsClosing A (after A s u) pid → Left A s pid b n m
     → s.place.due ≡ CopyOf q parent ∷ ds → serve_unit s.place parent true ≡ None → u ≡ fill_unit s.place (entries.Copy q) → Next A s pid b u n m
 copy_next A s u pid b n m q parent ds few r r2 c2 l d v i = go s.place.free refl i
   where
@@ -227,7 +232,8 @@ resident_out (r ∷ rs) pid e = go (r.pid == pid) refl (resident_out rs pid)
     go true h ih = λ z. absurd (let k : Some r ≡ None = sym (ap (λ (b : Bool). cond b (Some r) (numbered (λ (r : Residence). r.pid) pid rs)) h) ∙ z in cc)
     go false h ih = λ z. ih (sym (ap (λ (b : Bool). (cond b r (residence_of rs pid)).out) h) ∙ e) (sym (ap (λ (b : Bool). cond b (Some r) (numbered (λ (r : Residence). r.pid) pid rs)) h) ∙ z)
 
-in_next : (A : Inputs) (s : State) (u : Entry) (pid : ℕ) (b : Bool) (n m : ℕ) → FewTouched A → IsRun A (after A s u) → IsClosing A (after A s u) pid → Left A s pid b n m
+in_next : (A : Inputs) (s : State) (u : Entry) (pid : ℕ) (b : Bool) (n m : ℕ) → FewTouched A → IsRun A (after A s u) → IsClosing A (after A s u) pid
+    → Left A s pid b n m
     → s.place.due ≡ [] → is_out s.place pid ≡ true → u ≡ entries.SwapIn pid → Next A s pid b u n m
 in_next A s u pid b n m few r2 c2 l d o i =
     let k = l.comes d o in
@@ -249,7 +255,8 @@ in_next A s u pid b n m few r2 c2 l d o i =
 some_same : (a b : Page) → Some a ≡ Some b → a ≡ b
 some_same a b e = cc
 
-page_next : (A : Inputs) (s : State) (u : Entry) (pid : ℕ) (b : Bool) (n m : ℕ) (q : Page) → FewTouched A → IsRun A s → IsClosing A s pid → IsRun A (after A s u) → IsClosing A (after A s u) pid → Left A s pid b n m
+page_next : (A : Inputs) (s : State) (u : Entry) (pid : ℕ) (b : Bool) (n m : ℕ) (q : Page) → FewTouched A → IsRun A s → IsClosing A s pid
+    → IsRun A (after A s u) → IsClosing A (after A s u) pid → Left A s pid b n m
     → Runs A s pid true → wanted A s ≡ Some q → serve_unit s.place q true ≡ Some u → Next A s pid b u n m
 page_next A s u pid b n m q few r c r2 c2 l run w i = go (is_valid (state_of sp q)) refl
   where
@@ -363,7 +370,8 @@ follow_begins (Some (entries.Refused p)) u c h = outcome_begins p u h
 follow_begins (Some (entries.Out p bytes)) u c h = call_begins p u h
 follow_begins _ u c h = absurd cc
 
-pub open_last : (A : Inputs) (s : State) (u : Entry) (pid : ℕ) → IsRun A s → next_unit A s ≡ Some u → process_of_entry u ≡ Some pid → begins_stretch u ≡ false → is_closed s.point.last ≡ false
+pub open_last : (A : Inputs) (s : State) (u : Entry) (pid : ℕ) → IsRun A s → next_unit A s ≡ Some u → process_of_entry u ≡ Some pid
+    → begins_stretch u ≡ false → is_closed s.point.last ≡ false
 unfolding flat_entry
 open_last A s u pid r h e n = go (is_closed s.point.last) refl
   where
@@ -381,7 +389,8 @@ open_last A s u pid r h e n = go (is_closed s.point.last) refl
     go false c = refl
 
 -- a state with the same pages, at which a process's next entry is counted
-waiting_left : (A : Inputs) (s : State) (u : Entry) (pid : ℕ) (b : Bool) (n m : ℕ) → s.place.due ≡ [] → is_out s.place pid ≡ false → IsClosing A s pid → wanted A s ≡ None → is_closed (Some u) ≡ true
+waiting_left : (A : Inputs) (s : State) (u : Entry) (pid : ℕ) (b : Bool) (n m : ℕ) → s.place.due ≡ [] → is_out s.place pid ≡ false → IsClosing A s pid
+    → wanted A s ≡ None → is_closed (Some u) ≡ true
     → length s.place.transfers ≤ n → Left A (noted s u) pid b n m
 waiting_left A s u pid b n m d o c w k l = acting_left A (noted s u) pid b n m d (λ x. absurd (let z : true ≡ false = sym x ∙ o in cc))
     (wanted_is A (noted s u) pid (record { since = c.since; mark = c.mark; lines = c.lines }) d ∙ sym (wanted_is A s pid c d) ∙ w)
@@ -396,7 +405,8 @@ pub record Slept (A : Inputs) (s t : State) (pid : ℕ) : Type 0 where
 abbrev pub SleepStops : Inputs → Type 0
 SleepStops A = (s : State) (pid : ℕ) → IsRun A s → next_unit A s ≡ Some (entries.Sleeps pid) → Slept A s (after A s (entries.Sleeps pid)) pid
 
-act_next : (A : Inputs) (s : State) (u : Entry) (pid : ℕ) (b : Bool) (n m : ℕ) → FewTouched A → AllGrown A → SleepStops A → IsRun A s → IsClosing A s pid → IsRun A (after A s u)
+act_next : (A : Inputs) (s : State) (u : Entry) (pid : ℕ) (b : Bool) (n m : ℕ) → FewTouched A → AllGrown A → SleepStops A → IsRun A s
+    → IsClosing A s pid → IsRun A (after A s u)
     → IsClosing A (after A s u) pid → next_unit A s ≡ Some u → begins_stretch u ≡ false → Left A s pid b n m
     → Runs A s pid true → wanted A s ≡ None → act A s pid ≡ Some u → Next A s pid b u n m
 act_next A s u pid b n m few grows stops r c r2 c2 h nb l run w a = by (acted A s pid u a)
@@ -504,7 +514,8 @@ act_next A s u pid b n m few grows stops r c r2 c2 h nb l run w a = by (acted A 
 
 -- Each unit.
 
-closes_next : (A : Inputs) (s : State) (u : Entry) (pid : ℕ) (b : Bool) (n m : ℕ) → FewTouched A → AllGrown A → SleepStops A → IsRun A s → IsClosing A s pid → IsRun A (after A s u)
+closes_next : (A : Inputs) (s : State) (u : Entry) (pid : ℕ) (b : Bool) (n m : ℕ) → FewTouched A → AllGrown A → SleepStops A → IsRun A s
+    → IsClosing A s pid → IsRun A (after A s u)
     → IsClosing A (after A s u) pid → next_unit A s ≡ Some u → begins_stretch u ≡ false → Left A s pid b n m → Closes A s u pid → Next A s pid b u n m
 closes_next A s u pid b n m few grows stops r c r2 c2 h nb l (Fill q ds d i) = start_next A s u pid b n m q ds few r r2 c2 l d i
 closes_next A s u pid b n m few grows stops r c r2 c2 h nb l (Bring q parent ds d i) = bring_next A s u pid b n m q parent ds r r2 l d i
@@ -513,7 +524,8 @@ closes_next A s u pid b n m few grows stops r c r2 c2 h nb l (Serve q run w i) =
 closes_next A s u pid b n m few grows stops r c r2 c2 h nb l (Act run w a) = act_next A s u pid b n m few grows stops r c r2 c2 h nb l run w a
 closes_next A s u pid b n m few grows stops r c r2 c2 h nb l (In d o i) = in_next A s u pid b n m few r2 c2 l d o i
 
-pub stretch : (A : Inputs) (us : List Entry) (s t : State) (pid : ℕ) (b : Bool) (n m : ℕ) → ImagesFit A.images → FewTouched A → AllGrown A → SleepStops A → IsRun A s → IsClosing A s pid
+pub stretch : (A : Inputs) (us : List Entry) (s t : State) (pid : ℕ) (b : Bool) (n m : ℕ) → ImagesFit A.images → FewTouched A → AllGrown A
+    → SleepStops A → IsRun A s → IsClosing A s pid
     → Follows A s us t → NoneBegins us → Left A s pid b n m
     → (added b us ≤ n + 8 * copies_of us) × (takings us ≤ m + copies_of us)
 stretch A [] s t pid b n m images few grows stops r c f z l = (omega arith, omega arith)

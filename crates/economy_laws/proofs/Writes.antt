@@ -173,11 +173,13 @@ spares A s entries.Done q m d = m
 spares A s _ q m d = tt
 
 -- a plain unit
-plain_calm : (A : Inputs) (s : State) (u : Entry) (q : Page) → process_of_entry u ≡ None → Unmarked A s u q → PutsDirty s.place u → Calm s.place q → Calm (after A s u).place q
+plain_calm : (A : Inputs) (s : State) (u : Entry) (q : Page) → process_of_entry u ≡ None → Unmarked A s u q → PutsDirty s.place u → Calm s.place q
+    → Calm (after A s u).place q
 plain_calm A s u q n m d c = subst (λ (p : Placement). Calm p q) (sym (plain_place A s u n)) (entry_calm (locked A s) (place_at s u) s.place u q (spares A s u q m d) c)
 
 -- a flat unit
-flat_calm : (A : Inputs) (s : State) (u : Entry) (q : Page) (pid : ℕ) → process_of_entry u ≡ Some pid → Unmarked A s u q → TextShared (after A s u).place q → Calm s.place q → Calm (after A s u).place q
+flat_calm : (A : Inputs) (s : State) (u : Entry) (q : Page) (pid : ℕ) → process_of_entry u ≡ Some pid → Unmarked A s u q
+    → TextShared (after A s u).place q → Calm s.place q → Calm (after A s u).place q
 unfolding after
 flat_calm A s (entries.Ran p n) q pid e m t c = place_step_calm (facts_of A.images) s.point.flat p (place_at s (entries.Ran p n)) (step_writes A s p) (step_at A s.point p).change s.place q m t c
 flat_calm A s (entries.Grew p n) q pid e m t c = place_step_calm (facts_of A.images) s.point.flat p (place_at s (entries.Grew p n)) (step_writes A s p) (step_at A s.point p).change s.place q m t c
@@ -188,7 +190,8 @@ flat_calm A s (entries.Out p bytes) q pid e m t c = c
 flat_calm A s (entries.Refused p) q pid e m t c = c
 flat_calm A s _ q pid e m t c = absurd cc
 
-pub unit_calm : (A : Inputs) (s : State) (u : Entry) (q : Page) → IsRun A (after A s u) → next_unit A s ≡ Some u → renews A s u q ≡ false → Calm s.place q → Calm (after A s u).place q
+pub unit_calm : (A : Inputs) (s : State) (u : Entry) (q : Page) → IsRun A (after A s u) → next_unit A s ≡ Some u → renews A s u q ≡ false
+    → Calm s.place q → Calm (after A s u).place q
 unit_calm A s u q r h n c = go (process_of_entry u) refl
   where
     go : (o : Option ℕ) → process_of_entry u ≡ o → Calm (after A s u).place q
@@ -196,7 +199,8 @@ unit_calm A s u q r h n c = go (process_of_entry u) refl
     go (Some pid) e = flat_calm A s u q pid e (unmarked A s u q n) (shared A s u q r n) c
 
 -- From a state at which a page is calm, up to one at which a unit writes it, a unit makes that worth it.
-calm_worth : (A : Inputs) (us : List Entry) (s t : State) (w : Entry) (q : Page) → ImagesFit A.images → IsRun A s → Follows A s us t → next_unit A t ≡ Some w → Calm s.place q
+calm_worth : (A : Inputs) (us : List Entry) (s t : State) (w : Entry) (q : Page) → ImagesFit A.images → IsRun A s → Follows A s us t
+    → next_unit A t ≡ Some w → Calm s.place q
     → is_among q (stored_pages t.place w) ≡ true → Happens (λ B x e. renews B x e q) A s us
 calm_worth A [] s t w q images r f h c g = absurd (
     let d : Calm t.place q = subst (λ (x : State). Calm x.place q) f c in
@@ -213,7 +217,8 @@ stored_plain : (p : Placement) (u : Entry) (q : Page) → is_among q (stored_pag
 stored_plain p entries.Done q h = refl
 stored_plain p _ q h = absurd cc
 
-pub writes_worth : (A : Inputs) (s t : State) (u w : Entry) (us : List Entry) (q : Page) → ImagesFit A.images → IsRun A s → Follows A s (u ∷ us) t → next_unit A t ≡ Some w
+pub writes_worth : (A : Inputs) (s t : State) (u w : Entry) (us : List Entry) (q : Page) → ImagesFit A.images → IsRun A s → Follows A s (u ∷ us) t
+    → next_unit A t ≡ Some w
     → is_among q (stored_pages s.place u) ≡ true → is_among q (stored_pages t.place w) ≡ true → Happens (λ B x e. renews B x e q) A (after A s u) us
 writes_worth A s t u w us q images r f h a g = calm_worth A us (after A s u) t w q images (unit_run A s u images r f.0) f.1 h
     (subst (λ (p : Placement). Calm p q) (sym (plain_place A s u (stored_plain s.place u q a))) (stored_calm (locked A s) (place_at s u) s.place u q (owns A s r.placed) a)) g

@@ -43,7 +43,8 @@ match_err P Q (Ok x) f m = tt
 match_err P Q (Err e) f m = f e m
 
 -- how far serving came, however far it came
-pub serves_short : (now : Bool) (locked : List Page) (q : Page) (old new : Standing) (holds : Option (List NamedFile)) (i j : Option (List ℕ)) → OwnsFrames old.kernel.place → IsThere old.kernel.place q
+pub serves_short : (now : Bool) (locked : List Page) (q : Page) (old new : Standing) (holds : Option (List NamedFile)) (i j : Option (List ℕ))
+    → OwnsFrames old.kernel.place → IsThere old.kernel.place q
     → ServesTo now locked q old new holds i j → IsShort q old new
 serves_short now locked q old new holds i j o there s =
     let k : short.Served false s.units new.kernel.place q (length old.kernel.place.transfers + 5) 0 (length old.kernel.place.transfers) 1 (length s.units) =
@@ -55,14 +56,16 @@ serves_short now locked q old new holds i j o there s =
       flights = λ v. (let r = k.rest v in omega arith);
     }
 
-pub serves_takings : (now : Bool) (locked : List Page) (q : Page) (old new : Standing) (holds : Option (List NamedFile)) (i j : Option (List ℕ)) → OwnsFrames old.kernel.place → IsThere old.kernel.place q
+pub serves_takings : (now : Bool) (locked : List Page) (q : Page) (old new : Standing) (holds : Option (List NamedFile)) (i j : Option (List ℕ))
+    → OwnsFrames old.kernel.place → IsThere old.kernel.place q
     → (s : ServesTo now locked q old new holds i j) → takings s.units ≤ 1
 serves_takings now locked q old new holds i j o there s =
     let k : short.Served false s.units new.kernel.place q (length old.kernel.place.transfers + 5) 0 (length old.kernel.place.transfers) 1 (length s.units) =
     served_short false s.units old.kernel.place new.kernel.place locked q now o there s.leads in
     k.taken
 
-pub stops_short : (now : Bool) (locked : List Page) (q : Page) (old new : Standing) (holds : Option (List NamedFile)) (i j : Option (List ℕ)) (stop : Stop) → OwnsFrames old.kernel.place
+pub stops_short : (now : Bool) (locked : List Page) (q : Page) (old new : Standing) (holds : Option (List NamedFile)) (i j : Option (List ℕ)) (stop : Stop)
+    → OwnsFrames old.kernel.place
     → IsThere old.kernel.place q → StopsServing now locked q old new holds i j stop → length new.kernel.journal ≤ length old.kernel.journal + length old.kernel.place.transfers + 5
 stops_short now locked q old new holds i j stop o there s =
     let k : short.Served false s.units s.kernel.place q (length old.kernel.place.transfers + 5) 0 (length old.kernel.place.transfers) 1 (length s.units) =
@@ -74,7 +77,8 @@ stops_short now locked q old new holds i j stop o there s =
     omega arith
 
 -- locked pages that are valid stay so
-pub spared : (us : List Entry) (p r : Placement) (locked : List Page) (q : Page) (now : Bool) → OwnsFrames p → CanServe p q → Serves us p locked q now r → Spares p r locked
+pub spared : (us : List Entry) (p r : Placement) (locked : List Page) (q : Page) (now : Bool) → OwnsFrames p → CanServe p q
+    → Serves us p locked q now r → Spares p r locked
 spared [] p r locked q now o c h = subst (λ (x : Placement). Spares p x locked) h (λ w a v. v)
 spared (e ∷ us) p r locked q now o c h =
     spares_both p (serve_step p locked q) r locked (serve_spares p locked q o c.there)
@@ -110,7 +114,8 @@ all_stay us p r q o c h = λ w v.
 
 -- The moves of the hands that the last entry counts.
 
-last_calm : (us : List Entry) (p r : Placement) (q : Page) (journal : List Entry) → Serves us p [] q false r → last_moves (appended journal us) ≤ last_moves journal
+last_calm : (us : List Entry) (p r : Placement) (q : Page) (journal : List Entry) → Serves us p [] q false r
+    → last_moves (appended journal us) ≤ last_moves journal
 last_calm [] p r q journal h = omega arith
 last_calm (e ∷ us) p r q journal h =
     let a = last_calm us (serve_step p [] q) r q (append journal e) h.1 in
@@ -163,7 +168,8 @@ last_valid p locked q e journal o h v = go (state_of p q) refl h v
     go OnSwap n k w = feed OnSwap (filling_of p q) p.free (is_full p) (ap frame_of n) k w
 
 -- so the units that make a page valid leave none counted
-last_none : (us : List Entry) (p r : Placement) (locked : List Page) (q : Page) (journal : List Entry) → OwnsFrames p → CanServe p q → Serves us p locked q true r
+last_none : (us : List Entry) (p r : Placement) (locked : List Page) (q : Page) (journal : List Entry) → OwnsFrames p → CanServe p q
+    → Serves us p locked q true r
     → is_valid (state_of p q) ≡ false → is_valid (state_of r q) ≡ true → last_moves (appended journal us) ≡ 0
 last_none [] p r locked q journal o c h n v = absurd (let k : true ≡ false = sym v ∙ ap (λ (x : Placement). is_valid (state_of x q)) (sym h) ∙ n in cc)
 last_none (e ∷ us) p r locked q journal o c h n v = go (is_valid (state_of (serve_step p locked q) q)) refl
@@ -178,7 +184,8 @@ last_none (e ∷ us) p r locked q journal o c h n v = go (is_valid (state_of (se
     go false m more = more m
     go true m more = over us h.1 m
 
-last_low : (us : List Entry) (p r : Placement) (locked : List Page) (q : Page) (journal : List Entry) → OwnsFrames p → CanServe p q → Serves us p locked q true r
+last_low : (us : List Entry) (p r : Placement) (locked : List Page) (q : Page) (journal : List Entry) → OwnsFrames p → CanServe p q
+    → Serves us p locked q true r
     → is_valid (state_of r q) ≡ true → last_moves (appended journal us) ≤ last_moves journal
 last_low [] p r locked q journal o c h v = omega arith
 last_low (e ∷ us) p r locked q journal o c h v =
@@ -191,7 +198,8 @@ calls_calm q old new holds i j s =
     let b = ap last_moves (made_journal (ground old holds []) s.units old.kernel new.kernel i j s.makes.made) in
     omega arith
 
-pub calls_low : (locked : List Page) (q : Page) (old new : Standing) (holds : Option (List NamedFile)) (i j : Option (List ℕ)) → OwnsFrames old.kernel.place → CanServe old.kernel.place q
+pub calls_low : (locked : List Page) (q : Page) (old new : Standing) (holds : Option (List NamedFile)) (i j : Option (List ℕ))
+    → OwnsFrames old.kernel.place → CanServe old.kernel.place q
     → ServesTo true locked q old new holds i j → is_valid (state_of new.kernel.place q) ≡ true → last_moves new.kernel.journal ≤ last_moves old.kernel.journal
 calls_low locked q old new holds i j o c s v =
     let a = last_low s.units old.kernel.place new.kernel.place locked q old.kernel.journal o c s.leads v in

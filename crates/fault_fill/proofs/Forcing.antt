@@ -18,13 +18,15 @@ use Rattle.fault_fill.specs.Units.{NoneMade, NeedsFrame, Further}
 use Rattle.fault_fill.proofs.Serving.{unit_forces, forces_serve, forces_some}
 
 -- a page that has no frame still has none behind units that force one
-still_frameless : (us : List Entry) (p r : Placement) (locked : List Page) (q : Page) → OwnsFrames p → frame_of (state_of p q) ≡ None → Forces us p locked r → frame_of (state_of r q) ≡ None
+still_frameless : (us : List Entry) (p r : Placement) (locked : List Page) (q : Page) → OwnsFrames p → frame_of (state_of p q) ≡ None
+    → Forces us p locked r → frame_of (state_of r q) ≡ None
 still_frameless [] p r locked q o n h = subst (λ (x : Placement). frame_of (state_of x q) ≡ None) h n
 still_frameless (e ∷ us) p r locked q o n h =
     let s : Stays p (force p locked) = force_stays p locked o in
     still_frameless us (force p locked) r locked q (force_owner p locked o) (s.frames q ∙ n) h.2
 
-pub room_further : (locked : List Page) (q : Page) (old next new : Standing) (holds later : Option (List NamedFile)) (i h j : Option (List ℕ)) → NoneMade old next i h → later ≡ holds
+pub room_further : (locked : List Page) (q : Page) (old next new : Standing) (holds later : Option (List NamedFile)) (i h j : Option (List ℕ))
+    → NoneMade old next i h → later ≡ holds
     → OwnsFrames old.kernel.place → NeedsFrame old.kernel.place q → Forced locked next new later h j → KeepsThrough next new later h j → Further locked q old new holds i j
 room_further locked q old next new holds later i h j n e o needs f keeps = record {
   serves = record {
@@ -47,7 +49,8 @@ room_further locked q old next new holds later i h j n e o needs f keeps = recor
         subst (λ (s : Standing). KeepsThrough s new holds i j) n.machine
         (subst (λ (x : Option (List ℕ)). KeepsThrough next new holds x j) n.image (subst (λ (x : Option (List NamedFile)). KeepsThrough next new x h j) e keeps))
 
-pub room_stops : (locked : List Page) (q : Page) (old next new : Standing) (holds later : Option (List NamedFile)) (i h j : Option (List ℕ)) (stop : Stop) → NoneMade old next i h → later ≡ holds
+pub room_stops : (locked : List Page) (q : Page) (old next new : Standing) (holds later : Option (List NamedFile)) (i h j : Option (List ℕ)) (stop : Stop)
+    → NoneMade old next i h → later ≡ holds
     → OwnsFrames old.kernel.place → NeedsFrame old.kernel.place q → StopsForcing locked next stop new later h j → StopsServing true locked q old new holds i j stop
 room_stops locked q old next new holds later i h j stop n e o needs f = record {
   units = d.units;

@@ -38,7 +38,8 @@ use Rattle.fault_fill.proofs.Touching.{held_there}
 abbrev pub stack_want : ℕ → ℕ → List Want
 stack_want sid pages = record { owner = owners.Stack sid; blocks = 2 * pages } ∷ []
 
-own_wants : (m : Standing) (pid pages : ℕ) → lengths (owners.Stack (space_held m.kernel pid)) m.kernel.holdings ≡ pieces (2 * stack_count m.kernel.place (space_held m.kernel pid))
+own_wants : (m : Standing) (pid pages : ℕ)
+    → lengths (owners.Stack (space_held m.kernel pid)) m.kernel.holdings ≡ pieces (2 * stack_count m.kernel.place (space_held m.kernel pid))
     → asked (facts_named m.images) m.kernel pid (growth m.kernel pid pages)
     ≡ wanted_of m.kernel.holdings (stack_want (space_held m.kernel pid) pages)
 own_wants m pid pages held = growth_asked (facts_named m.images) m.kernel.place m.kernel.holdings (space_held m.kernel pid) m.kernel.next_sid pages held

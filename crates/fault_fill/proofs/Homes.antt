@@ -92,7 +92,8 @@ some_place None e = absurd cc
 some_place (Some x) e = (x, refl)
 
 -- so the page's number is small
-pub number_small : (s : Places) (q : Page) → IsNamedBy s q → IsSome (place_in s q) → length s.«data» ≤ 4096 → length s.stack ≤ 512 → length s.text ≤ 2048 → number_of q ≤ 4096
+pub number_small : (s : Places) (q : Page) → IsNamedBy s q → IsSome (place_in s q) → length s.«data» ≤ 4096 → length s.stack ≤ 512
+    → length s.text ≤ 2048 → number_of q ≤ 4096
 number_small s (Data n v) named h a b c =
     let x = some_place (place_in s (Data n v)) h in
     let at : slice_get s.«data» v ≡ Some x.0 = (let k = x.1 in grind (arith, nat_tests)) in

@@ -35,7 +35,8 @@ use Rattle.fault_fill.specs.Answers.{ServesAs, ServesNow}
 use Rattle.fault_fill.specs.declared.pages.Served.{Served}
 use Rattle.fault_fill.proofs.Serving.{due_same, serves_append, Behind, served_behind, near, near_falls, calm_unit, unit_waits}
 
-pub match_map : {A E : Type 0} (P Q : A → Type 0) (R S : E → Type 0) (r : Result A E) → ((x : A) → P x → Q x) → ((e : E) → R e → S e) → MatchResult r P R → MatchResult r Q S
+pub match_map : {A E : Type 0} (P Q : A → Type 0) (R S : E → Type 0) (r : Result A E) → ((x : A) → P x → Q x) → ((e : E) → R e → S e)
+    → MatchResult r P R → MatchResult r Q S
 match_map P Q R S (Ok x) f g m = f x m
 match_map P Q R S (Err e) f g m = g e m
 
@@ -73,7 +74,8 @@ full_same {A} stop new old k e l h =
     )
 
 -- by the causes of a step that calls no device
-cause_same : {A : Type 0} (stop : Stop) → ((let r : Result A Stop = Err stop in r) ≡ Err stops.JournalFull) ⊎ ((let r : Result A Stop = Err stop in r) ≡ Err stops.NoMemory)
+cause_same : {A : Type 0} (stop : Stop)
+    → ((let r : Result A Stop = Err stop in r) ≡ Err stops.JournalFull) ⊎ ((let r : Result A Stop = Err stop in r) ≡ Err stops.NoMemory)
     → (stop ≡ stops.JournalFull) ⊎ (stop ≡ stops.NoMemory)
 cause_same {A} stop h = elim h [
   | Rattle.std.proofs.Common.inl e ↦ Rattle.std.proofs.Common.inl cc
@@ -116,7 +118,8 @@ get_calls q lo n = record { told = λ k i. refl; causes = λ s ts h. h; spoils =
 pub reclaim_calls : (q : Page) → CallsNone (entries.Reclaim q)
 reclaim_calls q = record { told = λ k i. refl; causes = λ s ts h. h; spoils = λ s k i. refl; longer = λ j. refl }
 
-pub plain_either : {A S : Type 0} (r : Result A Stop) (q : Page) (e : Entry) (old new : Standing) → CallsNone e → ((now : Bool) → serve_unit old.kernel.place q now ≡ Some e)
+pub plain_either : {A S : Type 0} (r : Result A Stop) (q : Page) (e : Entry) (old new : Standing) → CallsNone e
+    → ((now : Bool) → serve_unit old.kernel.place q now ≡ Some e)
     → (S → (g : Ground) (i : Option (List ℕ)) → MadeBy g e old.kernel i new.kernel)
     → OnOk r S → OnOk r (new ≡ record old { kernel = new.kernel; room = None }) → OnOk r (KeepsFlat old.kernel new.kernel)
     → OnErr r (HasStopped old new) → old.before ≡ old.kernel.holdings → OnErr r ((r ≡ Err stops.JournalFull) ⊎ (r ≡ Err stops.NoMemory))
@@ -184,7 +187,8 @@ none_serves now locked q old new holds before after n = record {
   keeps = subst (λ (i : Option (List ℕ)). KeepsThrough old new holds before i) (sym n.image) (keeps_same old new holds before (ap (λ (s : Standing). s.kernel) (sym n.machine)));
 }
 
-pub both_serve : (now : Bool) (locked : List Page) (q : Page) (old next new : Standing) (holds later : Option (List NamedFile)) (a b c : Option (List ℕ)) → later ≡ holds
+pub both_serve : (now : Bool) (locked : List Page) (q : Page) (old next new : Standing) (holds later : Option (List NamedFile)) (a b c : Option (List ℕ))
+    → later ≡ holds
     → ServesTo now locked q old next holds a b → ServesTo now locked q next new later b c → ServesTo now locked q old new holds a c
 both_serve now locked q old next new holds later a b c e s t = record {
   units = s.units ++ t.units;
@@ -208,7 +212,8 @@ stops_here now locked q old new holds before after stop u = record {
   images = u.images;
 }
 
-pub stops_later : (now : Bool) (locked : List Page) (q : Page) (old next new : Standing) (holds later : Option (List NamedFile)) (a b c : Option (List ℕ)) (stop : Stop) → later ≡ holds
+pub stops_later : (now : Bool) (locked : List Page) (q : Page) (old next new : Standing) (holds later : Option (List NamedFile)) (a b c : Option (List ℕ)) (stop : Stop)
+    → later ≡ holds
     → ServesTo now locked q old next holds a b → StopsServing now locked q next new later b c stop → StopsServing now locked q old new holds a c stop
 stops_later now locked q old next new holds later a b c stop e s t = record {
   units = s.units ++ t.units;
@@ -242,7 +247,8 @@ pub served_later : (answer : Served) (q : Page) (old next new : Standing) (holds
     → ServesTo false [] q old next holds a b → ServesAs answer q next new later b c → ServesAs answer q old new holds a c
 served_later answer q old next new holds later a b c e s t = (both_serve false [] q old next new holds later a b c e s t.0, t.1)
 
-pub served_now_later : (locked : List Page) (q : Page) (old next new : Standing) (holds later : Option (List NamedFile)) (a b c : Option (List ℕ)) → later ≡ holds
+pub served_now_later : (locked : List Page) (q : Page) (old next new : Standing) (holds later : Option (List NamedFile)) (a b c : Option (List ℕ))
+    → later ≡ holds
     → ServesTo true locked q old next holds a b → ServesNow locked q next new later b c → ServesNow locked q old new holds a c
 served_now_later locked q old next new holds later a b c e s t = (both_serve true locked q old next new holds later a b c e s t.0, t.1)
 
@@ -278,11 +284,13 @@ end_same old next new holds later i h j n e m =
     subst (λ (s : Standing). EndMade s new holds i j) n.machine
     (subst (λ (x : Option (List ℕ)). EndMade next new holds x j) n.image (subst (λ (x : Option (List NamedFile)). EndMade next new x h j) e m))
 
-pub stop_same : (old next new : Standing) (i h j : Option (List ℕ)) (stop : Stop) → NoneMade old next i h → EndStops next new h j stop → EndStops old new i j stop
+pub stop_same : (old next new : Standing) (i h j : Option (List ℕ)) (stop : Stop) → NoneMade old next i h → EndStops next new h j stop
+    → EndStops old new i j stop
 stop_same old next new i h j stop n m =
     subst (λ (s : Standing). EndStops s new i j stop) n.machine (subst (λ (x : Option (List ℕ)). EndStops next new x j stop) n.image m)
 
-pub end_further : (locked : List Page) (q : Page) (old next new : Standing) (holds later : Option (List NamedFile)) (i h j : Option (List ℕ)) → NoneMade old next i h → later ≡ holds
+pub end_further : (locked : List Page) (q : Page) (old next new : Standing) (holds later : Option (List NamedFile)) (i h j : Option (List ℕ))
+    → NoneMade old next i h → later ≡ holds
     → CanServe old.kernel.place q → is_flying (state_of old.kernel.place q) ≡ true → EndMade next new later h j → Further locked q old new holds i j
 end_further locked q old next new holds later i h j n e c f m =
     unit_further locked q old new holds i j c
@@ -292,7 +300,8 @@ end_further locked q old next new holds later i h j n e c f m =
     d : EndMade old new holds i j
     d = end_same old next new holds later i h j n e m
 
-pub end_stops_now : (locked : List Page) (q : Page) (old next new : Standing) (holds : Option (List NamedFile)) (i h j : Option (List ℕ)) (stop : Stop) → NoneMade old next i h
+pub end_stops_now : (locked : List Page) (q : Page) (old next new : Standing) (holds : Option (List NamedFile)) (i h j : Option (List ℕ)) (stop : Stop)
+    → NoneMade old next i h
     → is_flying (state_of old.kernel.place q) ≡ true → EndStops next new h j stop → StopsServing true locked q old new holds i j stop
 end_stops_now locked q old next new holds i h j stop n f m =
     stops_here true locked q old new holds i j stop (end_stops true q old new i j stop (unit_waits old.kernel.place q f) (stop_same old next new i h j stop n m))

@@ -48,7 +48,8 @@ due_same (d ∷ ds) q n = go (same_page (due_page d) q) refl n
     go false e k = refl
 
 -- What the put of a page keeps, and forcing, serving keeps too.
-serve_kept : {R : Placement → Placement → Type 0} → KeptByPuts R → (p : Placement) (locked : List Page) (q : Page) → R p p → R p (force p locked) → R p (serve_step p locked q)
+serve_kept : {R : Placement → Placement → Type 0} → KeptByPuts R → (p : Placement) (locked : List Page) (q : Page) → R p p → R p (force p locked)
+    → R p (serve_step p locked q)
 serve_kept {R} k p locked q self forced = go (state_of p q)
   where
     read : (full : Bool) → R p (read_if p q full)
@@ -219,7 +220,8 @@ pub record Behind (p r : Placement) (locked : List Page) (q : Page) : Type 0 whe
   pub hands : HandsStand p → HandsStand r
   pub room : HasRoom p locked → HasRoom r locked
 
-pub served_behind : (us : List Entry) (p r : Placement) (locked : List Page) (q : Page) (now : Bool) → OwnsFrames p → CanServe p q → Serves us p locked q now r → Behind p r locked q
+pub served_behind : (us : List Entry) (p r : Placement) (locked : List Page) (q : Page) (now : Bool) → OwnsFrames p → CanServe p q
+    → Serves us p locked q now r → Behind p r locked q
 served_behind [] p r locked q now o c h = subst (λ (x : Placement). Behind p x locked q) h (record { can = c; owner = o; hands = λ k. k; room = λ k. k })
 served_behind (e ∷ us) p r locked q now o c h =
     let b : Behind (serve_step p locked q) r locked q =
@@ -232,7 +234,8 @@ served_behind (e ∷ us) p r locked q now o c h =
     }
 
 -- the rank falls with each unit
-pub rank_falls : (us : List Entry) (p r : Placement) (locked : List Page) (q : Page) (now : Bool) → OwnsFrames p → CanServe p q → HandsStand p → HasRoom p locked
+pub rank_falls : (us : List Entry) (p r : Placement) (locked : List Page) (q : Page) (now : Bool) → OwnsFrames p → CanServe p q → HandsStand p
+    → HasRoom p locked
     → Serves us p locked q now r → length us + rank r locked q ≤ rank p locked q
 rank_falls [] p r locked q now o c s m h = let a = ap (λ (x : Placement). rank x locked q) h in omega arith
 rank_falls (e ∷ us) p r locked q now o c s m h =
@@ -322,7 +325,8 @@ serves_append (e ∷ us) vs p m r locked q now a b = (a.0, serves_append us vs (
 pub unit_reclaims : (p : Placement) (q : Page) (now : Bool) (f : ℕ) → state_of p q ≡ Invalid f → serve_unit p q now ≡ Some (entries.Reclaim q)
 unit_reclaims p q now f e = ap (λ (s : PageState). serve_unit_by p q s now) e
 
-pub unit_blank : (p : Placement) (q : Page) (now : Bool) → is_blank (state_of p q) (filling_of p q) ≡ true → 0 < length p.free → serve_unit p q now ≡ Some (entries.Zero q)
+pub unit_blank : (p : Placement) (q : Page) (now : Bool) → is_blank (state_of p q) (filling_of p q) ≡ true → 0 < length p.free
+    → serve_unit p q now ≡ Some (entries.Zero q)
 unit_blank p q now b l = go (state_of p q) b
   where
     feed : (x : Filling) (fr : List ℕ) → is_blank Unfilled x ≡ true → 0 < length fr → feed_unit_by p q Unfilled x fr (is_full p) now ≡ Some (entries.Zero q)
@@ -339,7 +343,8 @@ unit_blank p q now b l = go (state_of p q) b
     go OnSwap z = absurd cc
 
 -- a page with no frame, where one is free, that needs no zeros
-pub unit_reads : (p : Placement) (q : Page) (now full : Bool) → is_full p ≡ full → frame_of (state_of p q) ≡ None → is_blank (state_of p q) (filling_of p q) ≡ false → 0 < length p.free
+pub unit_reads : (p : Placement) (q : Page) (now full : Bool) → is_full p ≡ full → frame_of (state_of p q) ≡ None
+    → is_blank (state_of p q) (filling_of p q) ≡ false → 0 < length p.free
     → serve_unit p q now ≡ Some (read_entry_if p q full)
 unit_reads p q now full w n b l = go (state_of p q) n b
   where
@@ -398,7 +403,8 @@ step_forces p locked q n e = go (state_of p q) n
     go (Going f) m = absurd cc
 
 -- units that force a frame serve a page that needs one
-pub forces_serve : (us : List Entry) (p r : Placement) (locked : List Page) (q : Page) → OwnsFrames p → frame_of (state_of p q) ≡ None → Forces us p locked r → Serves us p locked q true r
+pub forces_serve : (us : List Entry) (p r : Placement) (locked : List Page) (q : Page) → OwnsFrames p → frame_of (state_of p q) ≡ None
+    → Forces us p locked r → Serves us p locked q true r
 forces_serve [] p r locked q o n h = h
 forces_serve (e ∷ us) p r locked q o n h =
     let s : Stays p (force p locked) = force_stays p locked o in

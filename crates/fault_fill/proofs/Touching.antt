@@ -35,7 +35,8 @@ use Rattle.fault_fill.proofs.Accesses.{IsOf, of_space, access_there}
 
 -- The record.
 
-pub record_shown : (k : Kernel) (ps : List Record) (pid : ℕ) → k.processes ≡ processes_of ps k.next_pid → AreRecords ps k.next_pid → proc_in k pid ≡ proc_of (find pid ps)
+pub record_shown : (k : Kernel) (ps : List Record) (pid : ℕ) → k.processes ≡ processes_of ps k.next_pid → AreRecords ps k.next_pid
+    → proc_in k pid ≡ proc_of (find pid ps)
 record_shown k ps pid e h = ap (λ (qs : List Proc). numbered (λ (p : Proc). p.pid) pid qs) e ∙ process_is ps k.next_pid pid h
 
 none_holds : (o : Option Proc) (sid : ℕ) → life_of_proc o ≡ HoldsSpace sid → o ≡ None → ⊥

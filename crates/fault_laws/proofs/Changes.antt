@@ -37,7 +37,8 @@ stack_fewer d s v None h = h
 stack_fewer d s v (Some x) h = sized_fewer s v x.stack_pages h
 
 -- a space of other sizes, or another one
-cut_cases : (sid d s t : ℕ) (spaces : List SpacePages) → (Q : Option SpacePages → Option SpacePages → Type 0) → ((o : Option SpacePages) → Q (mapped (cut d s) o) o) → ((o : Option SpacePages) → Q o o)
+cut_cases : (sid d s t : ℕ) (spaces : List SpacePages) → (Q : Option SpacePages → Option SpacePages → Type 0)
+    → ((o : Option SpacePages) → Q (mapped (cut d s) o) o) → ((o : Option SpacePages) → Q o o)
     → Q (numbered space_number t (changed space_number sid (cut d s) spaces)) (numbered space_number t spaces)
 cut_cases sid d s t spaces Q own other = elim (cases_eq t sid) [
   | inl e ↦ subst (λ (x : ℕ). Q (numbered space_number x (changed space_number sid (cut d s) spaces)) (numbered space_number x spaces)) (sym e)

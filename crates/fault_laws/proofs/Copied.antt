@@ -177,7 +177,8 @@ among_has number q (r ∷ rs) h = elim (or_cases (same_page q r) (is_among q rs)
   | inr e ↦ or_right (number r == number q) (has (number q) (map number rs)) (among_has number q rs e)
 ]
 
-all_among : (number : Page → ℕ) (qs refs : List Page) → EachPage (λ q. is_among q refs ≡ true) qs → (x : ℕ) → has x (map number qs) ≡ true → has x (map number refs) ≡ true
+all_among : (number : Page → ℕ) (qs refs : List Page) → EachPage (λ q. is_among q refs ≡ true) qs → (x : ℕ) → has x (map number qs) ≡ true
+    → has x (map number refs) ≡ true
 unfolding has
 all_among number [] refs a x h = absurd (false≢true h)
 all_among number (q ∷ qs) refs a x h = elim (or_cases (number q == x) (has x (map number qs)) h) [
@@ -186,7 +187,8 @@ all_among number (q ∷ qs) refs a x h = elim (or_cases (number q == x) (has x (
 ]
 
 -- so there are at least as many faults as pages
-pages_are_least : (number : Page → ℕ) (qs refs : List Page) (n : ℕ) → IsNumbering number → AllApart qs → EachPage (λ q. is_among q refs ≡ true) qs → NoneFewer (map number refs) n (length (map number qs))
+pages_are_least : (number : Page → ℕ) (qs refs : List Page) (n : ℕ) → IsNumbering number → AllApart qs → EachPage (λ q. is_among q refs ≡ true) qs
+    → NoneFewer (map number refs) n (length (map number qs))
 pages_are_least number qs refs n is apart among = pages_fault (map number refs) (map number qs) n (apart_once number qs is apart) (all_among number qs refs among)
 
 abbrev copied_pages : List Page

@@ -297,13 +297,15 @@ moves_keep (suc n) p locked = keeps_both p (hand_move p locked) (hand_moves (han
 
 -- The end of a transfer.
 
-land_write_valid : (xs : List Part) (p : Placement) (ts : List Transfer) (w : Page) → is_valid (state_of (land_all p Writes xs ts) w) ≡ true → is_valid (state_of p w) ≡ true
+land_write_valid : (xs : List Part) (p : Placement) (ts : List Transfer) (w : Page) → is_valid (state_of (land_all p Writes xs ts) w) ≡ true
+    → is_valid (state_of p w) ≡ true
 land_write_valid [] p ts w h = h
 land_write_valid (x ∷ xs) p ts w h =
     let rest : List Transfer = record { errand = Writes; parts = xs } ∷ ts in
     put_valid p x.page (Invalid x.frame) (written_mark x.page) (λ e. absurd cc) w (land_write_valid xs (land p Writes x rest) ts w h)
 
-land_read_gains : (p : Placement) (source : Source) (demanded : Page) (x : Part) (rest : List Transfer) → Gains demanded p (land p (Reads source demanded) x rest)
+land_read_gains : (p : Placement) (source : Source) (demanded : Page) (x : Part) (rest : List Transfer)
+    → Gains demanded p (land p (Reads source demanded) x rest)
 land_read_gains p source demanded x rest w = go (same_page x.page demanded) refl
   where
     go : (b : Bool) → same_page x.page demanded ≡ b → is_valid (state_of (land_read p source x rest b) w) ≡ true → (is_valid (state_of p w) ≡ true) ⊎ (w ≡ demanded)
@@ -313,7 +315,8 @@ land_read_gains p source demanded x rest w = go (same_page x.page demanded) refl
     ]
     go false e h = inl (put_valid p x.page (Invalid x.frame) (mark_of p x.page) (λ k. absurd cc) w h)
 
-land_all_gains : (xs : List Part) (p : Placement) (source : Source) (demanded : Page) (ts : List Transfer) → Gains demanded p (land_all p (Reads source demanded) xs ts)
+land_all_gains : (xs : List Part) (p : Placement) (source : Source) (demanded : Page) (ts : List Transfer)
+    → Gains demanded p (land_all p (Reads source demanded) xs ts)
 land_all_gains [] p source demanded ts w h = inl h
 land_all_gains (x ∷ xs) p source demanded ts w h =
     let rest : List Transfer = record { errand = Reads source demanded; parts = xs } ∷ ts in

@@ -41,7 +41,8 @@ moments_of A number s [] = []
 moments_of A number s (u ∷ us) = moment_of A number s u ∷ moments_of A number (after A s u) us
 
 -- What is used are the references.
-used_are : (A : Inputs) (number : Page → ℕ) (us : List Entry) (s : State) → AllFlat A s us → used_in (moments_of A number s us) ≡ map number (references_from A (Some s.point) us)
+used_are : (A : Inputs) (number : Page → ℕ) (us : List Entry) (s : State) → AllFlat A s us
+    → used_in (moments_of A number s us) ≡ map number (references_from A (Some s.point) us)
 unfolding references_from
 used_are A number [] s f = refl
 used_are A number (u ∷ us) s f =
@@ -91,7 +92,8 @@ brought_few A number (u ∷ us) s t before images r f =
 
 -- Units and journals have the same faults and copies.
 
-repeated_none : (u : Entry) (n : ℕ) (us : List Entry) → own_fault u + copies u ≡ 0 → own_faults (repeated u n us) + copies_of (repeated u n us) ≡ own_faults us + copies_of us
+repeated_none : (u : Entry) (n : ℕ) (us : List Entry) → own_fault u + copies u ≡ 0
+    → own_faults (repeated u n us) + copies_of (repeated u n us) ≡ own_faults us + copies_of us
 repeated_none u zero us h = refl
 repeated_none u (suc n) us h = let k = repeated_none u n us h in omega arith
 

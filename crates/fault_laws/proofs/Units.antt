@@ -31,7 +31,8 @@ stepped_gain A s e pid r =
     (change_keeps (facts_of A.images) p pid (space_of_process (process_of s.point.flat pid)) (is_borrower s.point.flat.processes pid) s.point.flat.next_sid (place_at s e) (step_at A s.point pid).change
     (touched_new A s qs r)))
 
-flat_gain : (A : Inputs) (s : State) (u : Entry) (pid : ℕ) → IsRun A s → process_of_entry u ≡ Some pid → Gain s.place (after A s u).place (own_fault u + copies u)
+flat_gain : (A : Inputs) (s : State) (u : Entry) (pid : ℕ) → IsRun A s → process_of_entry u ≡ Some pid
+    → Gain s.place (after A s u).place (own_fault u + copies u)
 unfolding after
 flat_gain A s (entries.Ran p n) pid r e = stepped_gain A s (entries.Ran p n) p r
 flat_gain A s (entries.Grew p n) pid r e = stepped_gain A s (entries.Grew p n) p r

@@ -111,7 +111,8 @@ valid_usable number p q o v = let k = valid_framed (state_of p q) v in go k.0 (o
     go zero e = none_some q e
     go (suc n) e = held_usable number p p.holds n q e v
 
-pub pages_usable : (number : Page → ℕ) (p : Placement) (qs : List Page) (x : ℕ) → OwnsFrames p → AllValid p qs → has x (map number qs) ≡ true → has x (usable number p) ≡ true
+pub pages_usable : (number : Page → ℕ) (p : Placement) (qs : List Page) (x : ℕ) → OwnsFrames p → AllValid p qs → has x (map number qs) ≡ true
+    → has x (usable number p) ≡ true
 unfolding has
 pages_usable number p [] x o v h = absurd (false≢true h)
 pages_usable number p (q ∷ qs) x o v h = elim (or_cases (number q == x) (has x (map number qs)) h) [
@@ -125,7 +126,8 @@ usable_none number p zero = refl
 usable_none number p (suc n) = usable_none number p n
 
 -- the pages that come to be usable, and the reads in flight
-pub gain_lacks : (number : Page → ℕ) (p q : Placement) (n : ℕ) → OwnsFrames p → Gain p q n → lacking (usable number p) (usable number q) + reads_of q.transfers ≤ n + reads_of p.transfers
+pub gain_lacks : (number : Page → ℕ) (p q : Placement) (n : ℕ) → OwnsFrames p → Gain p q n
+    → lacking (usable number p) (usable number q) + reads_of q.transfers ≤ n + reads_of p.transfers
 gain_lacks number p q n o (GainsNone keeps l) =
     let none = lacking_none (usable number p) (usable number q) (λ x h.
     let k = usable_valid number q q.holds x h in

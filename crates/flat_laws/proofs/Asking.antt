@@ -41,7 +41,8 @@ use Rattle.kernel_laws.proofs.Machine.Images.{facts_in, facts_same}
 -- Sizes.
 
 -- the space is found by its number
-pub own_space : (flat : FlatState) (pid : ℕ) (p : Process) (s : Space) → IsNumbered flat → process_of flat pid ≡ Some p → p.holding ≡ Holds s → numbered sid_of s.sid (spaces_of flat) ≡ Some s
+pub own_space : (flat : FlatState) (pid : ℕ) (p : Process) (s : Space) → IsNumbered flat → process_of flat pid ≡ Some p → p.holding ≡ Holds s
+    → numbered sid_of s.sid (spaces_of flat) ≡ Some s
 own_space flat pid p s n here holds = held_own flat.processes p s (held_at flat.processes p p s (found_self flat pid p here) holds n.sids)
 
 whole_pages : (bytes pages : ℕ) → bytes ≡ 1024 * pages → pages ≡ bytes / 1024
@@ -69,7 +70,8 @@ abbrev pub image_of_pages : SpacePages → ℕ
 image_of_pages x = x.image
 
 -- where no two items have one number, each is found by its own
-found_some : {A : Type 0} (number image : A → ℕ) (n : ℕ) (xs : List A) → AllDistinct (map number xs) → is_some_of image n xs ≡ true → (x : A) × (numbered number (number x) xs ≡ Some x) × (image x ≡ n)
+found_some : {A : Type 0} (number image : A → ℕ) (n : ℕ) (xs : List A) → AllDistinct (map number xs) → is_some_of image n xs ≡ true
+    → (x : A) × (numbered number (number x) xs ≡ Some x) × (image x ≡ n)
 found_some number image n [] d e = absurd cc
 found_some {A} number image n (x ∷ xs) d e = go (image x == n) refl e (found_some number image n xs d.1)
   where
@@ -109,7 +111,8 @@ shared_by_held image (p ∷ ps) = by p.holding (shared_by_held image ps)
     by (Zombie status) later = later
 
 -- the two have the same images
-same_images : (ss : List Space) (xs : List SpacePages) (image : ℕ) → AllDistinct (map sid_of ss) → AllDistinct (map space_number xs) → ((sid : ℕ) → Fits (numbered sid_of sid ss) (numbered space_number sid xs))
+same_images : (ss : List Space) (xs : List SpacePages) (image : ℕ) → AllDistinct (map sid_of ss) → AllDistinct (map space_number xs)
+    → ((sid : ℕ) → Fits (numbered sid_of sid ss) (numbered space_number sid xs))
     → is_some_of image_of_space image ss ≡ is_some_of image_of_pages image xs
 same_images ss xs image d c f = go (is_some_of image_of_space image ss) (is_some_of image_of_pages image xs) refl refl
   where
@@ -151,7 +154,8 @@ some_sharers image n (x ∷ xs) e = go (x.image == image) e (some_sharers image 
     go false k later = later (omega (arith, k))
 
 -- the flat state shares an image where a space of the placement has it
-pub shared_same : (k : Kernel) (flat : FlatState) (image : ℕ) → Numbered k → IsNumbered flat → SameTables k flat → is_shared flat image ≡ is_some_of image_of_pages image k.place.spaces
+pub shared_same : (k : Kernel) (flat : FlatState) (image : ℕ) → Numbered k → IsNumbered flat → SameTables k flat
+    → is_shared flat image ≡ is_some_of image_of_pages image k.place.spaces
 shared_same k flat image c n t = shared_by_held image flat.processes ∙ same_images (held flat.processes) k.place.spaces image n.sids c.spaces_differ (all_fit k flat t)
 
 -- Pieces.
@@ -159,14 +163,16 @@ shared_same k flat image c n t = shared_by_held image flat.processes ∙ same_im
 further_same : (owner : Owner) (old new : List ℕ) → wanted owner (drop (length old) new) ≡ drop (length (wanted owner old)) (wanted owner new)
 further_same owner old new = sym (ap (λ (n : ℕ). drop n (wanted owner new)) (length-map old (one owner)) ∙ drop-map (one owner) (length old) new)
 
-pub text_same : (image n blocks : ℕ) (shared : Bool) (named : NamedImage) → (n ≡ 0 → shared ≡ false) → ((m : ℕ) → n ≡ suc m → shared ≡ true) → blocks ≡ 2 * text_pages_of named.image.facts
+pub text_same : (image n blocks : ℕ) (shared : Bool) (named : NamedImage) → (n ≡ 0 → shared ≡ false) → ((m : ℕ) → n ≡ suc m → shared ≡ true)
+    → blocks ≡ 2 * text_pages_of named.image.facts
     → text_asked n image blocks ≡ text_wanted shared image named.image
 text_same image zero blocks true named none many e = absurd (let h = none refl in cc)
 text_same image zero blocks false named none many e = ap (λ (b : ℕ). wanted (owners.Text image) (text_pieces b)) e
 text_same image (suc n) blocks true named none many e = refl
 text_same image (suc n) blocks false named none many e = absurd (let h = many n refl in cc)
 
-image_same : (images : List NamedImage) (k : Kernel) (flat : FlatState) (image : ℕ) (o : Option NamedImage) → ImagesFit images → TextFits images k.place → Numbered k → IsNumbered flat → SameTables k flat → image_numbered images image ≡ o
+image_same : (images : List NamedImage) (k : Kernel) (flat : FlatState) (image : ℕ) (o : Option NamedImage) → ImagesFit images
+    → TextFits images k.place → Numbered k → IsNumbered flat → SameTables k flat → image_numbered images image ≡ o
     → image_asked k.place k.next_sid image (facts_in o) ≡ image_wanted (is_shared flat image) flat.next_sid image o
 image_same images k flat image None i x c n t e = refl
 image_same images k flat image (Some named) i x c n t e =
@@ -190,7 +196,8 @@ image_same images k flat image (Some named) i x c n t e =
 -- Changes.
 
 -- what a change wants, where the space has these sizes
-sizes_same : (images : List NamedImage) (k : Kernel) (flat : FlatState) (s : Space) (change : Change) → ImagesFit images → TextFits images k.place → Numbered k → IsNumbered flat → SameTables k flat
+sizes_same : (images : List NamedImage) (k : Kernel) (flat : FlatState) (s : Space) (change : Change) → ImagesFit images → TextFits images k.place
+    → Numbered k → IsNumbered flat → SameTables k flat
     → data_count k.place s.sid ≡ data_pages_in s → stack_count k.place s.sid ≡ stack_pages_of s → change_asks (facts_of images) k.place s.sid k.next_sid change ≡ change_wanted images flat s change
 sizes_same images k flat s Keep i x c n t d u = refl
 sizes_same images k flat s (Resize data_pages stack_pages) i x c n t d u =
@@ -207,7 +214,8 @@ sizes_same images k flat s (Reap child) i x c n t d u = refl
 sizes_same images k flat s Sleep i x c n t d u = refl
 sizes_same images k flat s (End status) i x c n t d u = refl
 
-pub change_same : (images : List NamedImage) (k : Kernel) (flat : FlatState) (pid : ℕ) (p : Process) (s : Space) (change : Change) → ImagesFit images → TextFits images k.place → Numbered k → IsNumbered flat → SameTables k flat
+pub change_same : (images : List NamedImage) (k : Kernel) (flat : FlatState) (pid : ℕ) (p : Process) (s : Space) (change : Change) → ImagesFit images
+    → TextFits images k.place → Numbered k → IsNumbered flat → SameTables k flat
     → process_of flat pid ≡ Some p → p.holding ≡ Holds s → asked (facts_of images) k pid change ≡ change_wanted images flat s change
 change_same images k flat pid p s change i x c n t here holds =
     ap (λ (l : Life). change_asks (facts_of images) k.place (space_of_life l) k.next_sid change) life
@@ -224,7 +232,8 @@ change_same images k flat pid p s change i x c n t here holds =
 
 -- The step.
 
-pub step_same : (A : Inputs) (k : Kernel) (flat : FlatState) (pid : ℕ) → ImagesFit A.images → TextFits A.images k.place → Numbered k → IsNumbered flat → SameTables k flat → can_step flat pid ≡ true
+pub step_same : (A : Inputs) (k : Kernel) (flat : FlatState) (pid : ℕ) → ImagesFit A.images → TextFits A.images k.place → Numbered k → IsNumbered flat
+    → SameTables k flat → can_step flat pid ≡ true
     → asked (facts_of A.images) k pid (flat_step A flat pid false).change ≡ asks A flat pid
 unfolding asks
 step_same A k flat pid i x c n t can = go (process_of flat pid) refl can ∙ ap (λ (b : Bool). asks_by b A flat pid) (sym can)

@@ -43,7 +43,8 @@ due_same (Some (entries.SwapOut a)) pid es = refl
 due_same (Some (entries.SwapIn a)) pid es = refl
 due_same (Some (entries.Owners a b c d)) pid es = refl
 
-pub next_same : (A : Inputs) (point other : Point) (pid : ℕ) → other.flat ≡ point.flat → is_refused other.last pid ≡ is_refused point.last pid → is_writing other.last pid ≡ is_writing point.last pid → act A other pid ≡ act A point pid
+pub next_same : (A : Inputs) (point other : Point) (pid : ℕ) → other.flat ≡ point.flat → is_refused other.last pid ≡ is_refused point.last pid
+    → is_writing other.last pid ≡ is_writing point.last pid → act A other pid ≡ act A point pid
 next_same A point other pid flat refused writing =
     let step : step_at A other pid ≡ step_at A point pid =
     ap (λ (F : FlatState). flat_step A F pid (is_refused other.last pid)) flat ∙ ap (λ (b : Bool). flat_step A point.flat pid b) refused in
@@ -92,7 +93,8 @@ record Comes (A : Inputs) (point p : Point) (pid : ℕ) (e : Entry) : Type 0 whe
   same : same_as (act A point pid) e ≡ true
   behind : point_after A point pid ≡ p
 
-of_where : (A : Inputs) (point p : Point) (pid : ℕ) (e : Entry) → where_so (same_as (act A point pid) e) (point_after A point pid) ≡ Some p → Comes A point p pid e
+of_where : (A : Inputs) (point p : Point) (pid : ℕ) (e : Entry) → where_so (same_as (act A point pid) e) (point_after A point pid) ≡ Some p
+    → Comes A point p pid e
 of_where A point p pid e h = go (same_as (act A point pid) e) refl h
   where
     go : (b : Bool) → same_as (act A point pid) e ≡ b → where_so b (point_after A point pid) ≡ Some p → Comes A point p pid e
@@ -107,7 +109,8 @@ of_entry : (A : Inputs) (point p : Point) (pid : ℕ) (e : Entry) → is_refusal
 of_entry A point p pid (entries.Refused q) plain h = absurd cc
 of_entry A point p pid e plain h = of_where A point p pid e h
 
-comes : (A : Inputs) (point p : Point) (pid : ℕ) (e : Entry) → process_of_entry e ≡ Some pid → is_refusal e ≡ false → flat_entry A point e ≡ Some p → Comes A point p pid e
+comes : (A : Inputs) (point p : Point) (pid : ℕ) (e : Entry) → process_of_entry e ≡ Some pid → is_refusal e ≡ false → flat_entry A point e ≡ Some p
+    → Comes A point p pid e
 unfolding flat_entry
 comes A point p pid e of plain h =
     let k : flat_entry_by A point (Some pid) e ≡ Some p = subst (λ (o : Option ℕ). flat_entry_by A point o e ≡ Some p) of h in
@@ -117,7 +120,8 @@ same_both : (wanted : Option Entry) (e f : Entry) → same_as wanted e ≡ true 
 same_both None e f h k = absurd cc
 same_both (Some wanted) e f h k = sym (entry_is wanted e h) ∙ entry_is wanted f k
 
-pub one_entry : (A : Inputs) (point p q : Point) (pid : ℕ) (e f : Entry) → process_of_entry e ≡ Some pid → process_of_entry f ≡ Some pid → is_refusal e ≡ false → is_refusal f ≡ false
+pub one_entry : (A : Inputs) (point p q : Point) (pid : ℕ) (e f : Entry) → process_of_entry e ≡ Some pid → process_of_entry f ≡ Some pid
+    → is_refusal e ≡ false → is_refusal f ≡ false
     → flat_entry A point e ≡ Some p → flat_entry A point f ≡ Some q → e ≡ f
 one_entry A point p q pid e f of_e of_f plain_e plain_f h k =
     same_both (act A point pid) e f (comes A point p pid e of_e plain_e h).same (comes A point q pid f of_f plain_f k).same

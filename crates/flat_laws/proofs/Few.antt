@@ -18,5 +18,6 @@ images_whole images fits = λ number named here.
 pub run_whole : (A : Inputs) (journal : List Entry) (point : Point) → ImagesFit A.images → flat_run A journal ≡ Some point → EachWhole point.flat
 run_whole A journal point fits h = sized_whole point.flat (run_sized A journal point (images_whole A.images fits) h)
 
-pub run_few : (A : Inputs) (journal : List Entry) (point : Point) (pid : ℕ) → ImagesFit A.images → flat_run A journal ≡ Some point → length (touched A point.flat pid) ≤ 28
+pub run_few : (A : Inputs) (journal : List Entry) (point : Point) (pid : ℕ) → ImagesFit A.images → flat_run A journal ≡ Some point
+    → length (touched A point.flat pid) ≤ 28
 run_few A journal point pid fits h = touched_few A point.flat pid (run_whole A journal point fits h pid)

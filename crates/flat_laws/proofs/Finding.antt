@@ -56,7 +56,8 @@ found_returned of given (q ∷ qs) pid s h = go (λ k. found_returned of given q
     go later false e (Behind k found) = found_behind q (returned of given qs) pid s k (later found)
 
 -- processes that a test leaves out, of which this one is none
-pub found_filtered : (test : Process → Bool) (qs : List Process) (pid : ℕ) (s : Space) → ((q : Process) → q.holding ≡ Holds s → (q.pid == pid) ≡ true → test q ≡ true) → FoundHolding qs pid s → FoundHolding (filter test qs) pid s
+pub found_filtered : (test : Process → Bool) (qs : List Process) (pid : ℕ) (s : Space)
+    → ((q : Process) → q.holding ≡ Holds s → (q.pid == pid) ≡ true → test q ≡ true) → FoundHolding qs pid s → FoundHolding (filter test qs) pid s
 found_filtered test [] pid s stays h = absurd (let k = h.here in cc)
 found_filtered test (q ∷ qs) pid s stays h = go (λ k. found_filtered test qs pid s stays k) (test q) refl (first_of q qs pid s h)
   where
@@ -67,7 +68,8 @@ found_filtered test (q ∷ qs) pid s stays h = go (λ k. found_filtered test qs 
     go later false e (Behind k found) = later found
 
 -- what each process has, but its number and what it holds
-pub found_mapped : (f : Process → Process) (qs : List Process) (pid : ℕ) (s : Space) → ((q : Process) → (f q).pid ≡ q.pid) → ((q : Process) → (f q).holding ≡ q.holding) → FoundHolding qs pid s → FoundHolding (map f qs) pid s
+pub found_mapped : (f : Process → Process) (qs : List Process) (pid : ℕ) (s : Space) → ((q : Process) → (f q).pid ≡ q.pid)
+    → ((q : Process) → (f q).holding ≡ q.holding) → FoundHolding qs pid s → FoundHolding (map f qs) pid s
 found_mapped f [] pid s number holding h = absurd (let k = h.here in cc)
 found_mapped f (q ∷ qs) pid s number holding h = go (λ k. found_mapped f qs pid s number holding k) (first_of q qs pid s h)
   where
@@ -106,7 +108,8 @@ found_present test (q ∷ qs) z n absent h = go (λ k. found_present test qs z n
     go later false k = later k
 
 -- where no two processes have one number, who is found by a test is found by his number
-pub found_by_number : (test : Process → Bool) (qs : List Process) (z : Process) → AllDistinct (pids qs) → find test qs ≡ Some z → find (λ r. r.pid == z.pid) qs ≡ Some z
+pub found_by_number : (test : Process → Bool) (qs : List Process) (z : Process) → AllDistinct (pids qs) → find test qs ≡ Some z
+    → find (λ r. r.pid == z.pid) qs ≡ Some z
 found_by_number test [] z own h = absurd cc
 found_by_number test (q ∷ qs) z own h = go (λ k. found_by_number test qs z own.1 k) (test q) h
   where

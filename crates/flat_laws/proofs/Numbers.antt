@@ -27,11 +27,13 @@ use Rattle.flat_laws.proofs.Finding.{pids}
 use Rattle.flat_laws.proofs.Replies.{ReplyFits, reply_fits}
 use Rattle.flat_laws.proofs.Others.{pids_written}
 
-applied : (images : List NamedImage) (F : FlatState) (of : ℕ) (regs : Regs) (change : Change) → apply_change images F of regs change ≡ changed_if images F regs change (process_of F of)
+applied : (images : List NamedImage) (F : FlatState) (of : ℕ) (regs : Regs) (change : Change)
+    → apply_change images F of regs change ≡ changed_if images F regs change (process_of F of)
 unfolding apply_change
 applied images F of regs change = refl
 
-change_kept : (images : List NamedImage) (F : FlatState) (of : ℕ) (regs : Regs) (change : Change) → NamesChild F change → IsNumbered F → IsNumbered (apply_change images F of regs change)
+change_kept : (images : List NamedImage) (F : FlatState) (of : ℕ) (regs : Regs) (change : Change) → NamesChild F change → IsNumbered F
+    → IsNumbered (apply_change images F of regs change)
 change_kept images F of regs change fits h = go (process_of F of) refl
   where
     is : (o : Option Process) → process_of F of ≡ o → apply_change images F of regs change ≡ changed_if images F regs change o
@@ -67,11 +69,13 @@ writes_kept F of ws h = go (process_of F of) refl
 
 -- Steps.
 
-after_kept : (images : List NamedImage) (F : FlatState) (p : Process) (ws : List ByteWrite) (regs : Regs) (change : Change) → NamesChild (apply_writes F p.pid ws) change → IsNumbered F
+after_kept : (images : List NamedImage) (F : FlatState) (p : Process) (ws : List ByteWrite) (regs : Regs) (change : Change)
+    → NamesChild (apply_writes F p.pid ws) change → IsNumbered F
     → IsNumbered (apply_change images (apply_writes F p.pid ws) p.pid regs change)
 after_kept images F p ws regs change fits h = change_kept images (apply_writes F p.pid ws) p.pid regs change fits (writes_kept F p.pid ws h)
 
-replied_kept : (images : List NamedImage) (F : FlatState) (p : Process) (call : SystemCall) (effect : Effect) (reply : Reply) → ReplyFits (apply_writes F p.pid effect.writes) reply → IsNumbered F
+replied_kept : (images : List NamedImage) (F : FlatState) (p : Process) (call : SystemCall) (effect : Effect) (reply : Reply)
+    → ReplyFits (apply_writes F p.pid effect.writes) reply → IsNumbered F
     → IsNumbered (replied_step images F p call effect reply).after
 replied_kept images F p call effect (replies.Fails error) fits h = after_kept images F p effect.writes _ Keep tt h
 replied_kept images F p call effect (replies.Does regs change) fits h = after_kept images F p effect.writes regs change fits h
@@ -79,18 +83,21 @@ replied_kept images F p call effect (replies.Writes bytes) fits h = after_kept i
 replied_kept images F p call effect replies.Waits fits h = after_kept images F p effect.writes p.regs Sleep tt h
 replied_kept images F p call effect (replies.Exits status) fits h = after_kept images F p effect.writes p.regs (End status) tt h
 
-called_kept : (images : List NamedImage) (F : FlatState) (p : Process) (t : Space) (refused : Bool) (effect : Effect) (call : Option SystemCall) → IsNumbered F → IsNumbered (called_step images F p t refused effect call).after
+called_kept : (images : List NamedImage) (F : FlatState) (p : Process) (t : Space) (refused : Bool) (effect : Effect) (call : Option SystemCall)
+    → IsNumbered F → IsNumbered (called_step images F p t refused effect call).after
 called_kept images F p t refused effect None h = after_kept images F p effect.writes p.regs (End 12) tt h
 called_kept images F p t refused effect (Some call) h =
     replied_kept images F p call effect (reply_behind images F p t refused call effect)
     (reply_fits images (apply_writes F p.pid effect.writes) (answers_of (puts t effect.writes)) (written_process p t effect.writes) (puts t effect.writes) call effect.regs refused (subst (λ (ns : List ℕ). AllDistinct ns) (sym (pids_written F p.pid effect.writes)) h.pids))
     h
 
-behind_kept : (images : List NamedImage) (F : FlatState) (p : Process) (t : Space) (refused : Bool) (effect : Effect) (number : Option ℤ) → IsNumbered F → IsNumbered (step_behind images F p t refused effect number).after
+behind_kept : (images : List NamedImage) (F : FlatState) (p : Process) (t : Space) (refused : Bool) (effect : Effect) (number : Option ℤ)
+    → IsNumbered F → IsNumbered (step_behind images F p t refused effect number).after
 behind_kept images F p t refused effect None h = after_kept images F p effect.writes effect.regs Keep tt h
 behind_kept images F p t refused effect (Some number) h = called_kept images F p t refused effect (call_of number) h
 
-of_kept : (images : List NamedImage) (F : FlatState) (p : Process) (t : Space) (refused : Bool) (result : Result Effect Refusal) → IsNumbered F → IsNumbered (step_of images F p t refused result).after
+of_kept : (images : List NamedImage) (F : FlatState) (p : Process) (t : Space) (refused : Bool) (result : Result Effect Refusal) → IsNumbered F
+    → IsNumbered (step_of images F p t refused result).after
 of_kept images F p t refused (Ok effect) h = behind_kept images F p t refused effect effect.call h
 of_kept images F p t refused (Err (Miss a w)) h = h
 of_kept images F p t true (Err (Below a)) h = after_kept images F p [] p.regs (End 11) tt h
@@ -137,7 +144,8 @@ below_started images (number ∷ more) n end room = go (image_numbered images nu
     go (Some named) k = (omega (arith, room), k)
 
 -- a first process has a space of its own number
-same_sids : (images : List NamedImage) (first : List ℕ) (n : ℕ) → map (λ (s : Space). s.sid) (flat_map (λ (q : Process). space_held q.holding) (start_processes images n first)) ≡ pids (start_processes images n first)
+same_sids : (images : List NamedImage) (first : List ℕ) (n : ℕ)
+    → map (λ (s : Space). s.sid) (flat_map (λ (q : Process). space_held q.holding) (start_processes images n first)) ≡ pids (start_processes images n first)
 same_sids images [] n = refl
 same_sids images (number ∷ more) n = go (image_numbered images number) (same_sids images more (n + 1))
   where
@@ -163,7 +171,8 @@ of_numbered A point q pid e h k =
     where_numbered (same_as (act A point pid) e) (point_after A point pid) q h
     (behind_numbered point (step_at A point pid).after (due_at A point pid) k (step_numbered A point.flat pid (Rattle.flat_model.specs.Run.is_refused point.last pid) k))
 
-if_numbered : (b : Bool) (A : Inputs) (point q : Point) (pid : ℕ) (e : Entry) → flat_entry_if b A point pid e ≡ Some q → IsNumbered point.flat → IsNumbered q.flat
+if_numbered : (b : Bool) (A : Inputs) (point q : Point) (pid : ℕ) (e : Entry) → flat_entry_if b A point pid e ≡ Some q → IsNumbered point.flat
+    → IsNumbered q.flat
 if_numbered true A point q pid e h k = of_numbered A point q pid e h k
 if_numbered false A point q pid e h k = absurd cc
 

@@ -28,7 +28,8 @@ pub number_of_found : (qs : List Process) (pid : ℕ) (p : Process) → find (λ
 number_of_found qs pid p h = eqb-true p.pid pid (found_passes (λ q. q.pid == pid) qs p h)
 
 -- all but the processes of another number
-pub without_stays : (qs : List Process) (of pid : ℕ) (s : Space) → of ≢ pid → FoundHolding qs pid s → FoundHolding (Rattle.std.specs.Prelude.filter (λ q. not (q.pid == of)) qs) pid s
+pub without_stays : (qs : List Process) (of pid : ℕ) (s : Space) → of ≢ pid → FoundHolding qs pid s
+    → FoundHolding (Rattle.std.specs.Prelude.filter (λ q. not (q.pid == of)) qs) pid s
 without_stays qs of pid s other h =
     found_filtered (λ q. not (q.pid == of)) qs pid s (λ q holds k. let apart : (q.pid == of) ≡ false = (let is : q.pid ≡ pid = eqb-true q.pid pid k in grind (arith, nat_tests)) in ap not apart) h
 
@@ -42,7 +43,8 @@ zombie_apart F child pid s may found = λ same.
     let held : Zombie may.1 ≡ Holds s = sym may.3 ∙ ap (λ (r : Process). r.holding) it ∙ found.holds in
     absurd cc
 
-left_stays : (b : Bool) (F : FlatState) (of parent pid : ℕ) (s : Space) → of ≢ pid → FoundHolding F.processes pid s → FoundHolding (left b F of parent).processes pid s
+left_stays : (b : Bool) (F : FlatState) (of parent pid : ℕ) (s : Space) → of ≢ pid → FoundHolding F.processes pid s
+    → FoundHolding (left b F of parent).processes pid s
 left_stays true F of parent pid s other h = without_stays F.processes of pid s other h
 left_stays false F of parent pid s other h = found_mapped (awake parent) F.processes pid s (λ q. refl) (λ q. refl) h
 
@@ -51,14 +53,16 @@ orphaned_stays F of pid s h =
     found_mapped (without_parent of) (Rattle.std.specs.Prelude.filter (λ q. not (is_zombie_child of q)) F.processes) pid s (λ q. refl) (λ q. refl)
     (found_filtered (λ q. not (is_zombie_child of q)) F.processes pid s (λ q holds k. ap not (holder_is_none of q s holds)) h)
 
-entered_stays : (F : FlatState) (p : Process) (t : Space) (image : ℕ) (named : Option NamedImage) (top : List ℕ) (pid : ℕ) (s : Space) → p.pid ≢ pid → FoundHolding F.processes pid s
+entered_stays : (F : FlatState) (p : Process) (t : Space) (image : ℕ) (named : Option NamedImage) (top : List ℕ) (pid : ℕ) (s : Space) → p.pid ≢ pid
+    → FoundHolding F.processes pid s
     → FoundHolding (entered F p t image named top).processes pid s
 entered_stays F p t image None top pid s other h = h
 entered_stays F p t image (Some named) top pid s other h =
     found_returned p.pid t (with_process F record p { holding = Holds (space_with F.next_sid image named.image top) }).processes pid s
     (found_replaced F.processes (record p { holding = Holds (space_with F.next_sid image named.image top) }) pid s other h)
 
-changed_stays : (images : List NamedImage) (F : FlatState) (p : Process) (t : Space) (change : Change) (pid : ℕ) (s : Space) → NamesChild F change → p.pid ≢ pid → FoundHolding F.processes pid s
+changed_stays : (images : List NamedImage) (F : FlatState) (p : Process) (t : Space) (change : Change) (pid : ℕ) (s : Space) → NamesChild F change
+    → p.pid ≢ pid → FoundHolding F.processes pid s
     → FoundHolding (changed images F p t change).processes pid s
 changed_stays images F p t Keep pid s fits other h = found_replaced F.processes p pid s other h
 changed_stays images F p t (Resize a b) pid s fits other h = found_replaced F.processes (record p { holding = Holds (resized t a b) }) pid s other h
@@ -77,7 +81,8 @@ changed_stays images F p t (End status) pid s fits other h =
     (orphaned_stays (given_back (with_process F dead) p.pid t) p.pid pid s
     (found_returned p.pid t (with_process F dead).processes pid s (found_replaced F.processes dead pid s other h)))
 
-change_stays : (images : List NamedImage) (F : FlatState) (of : ℕ) (regs : Regs) (change : Change) (pid : ℕ) (s : Space) → NamesChild F change → of ≢ pid → FoundHolding F.processes pid s
+change_stays : (images : List NamedImage) (F : FlatState) (of : ℕ) (regs : Regs) (change : Change) (pid : ℕ) (s : Space) → NamesChild F change
+    → of ≢ pid → FoundHolding F.processes pid s
     → FoundHolding (apply_change images F of regs change).processes pid s
 unfolding apply_change
 change_stays images F of regs change pid s fits other h = go (process_of F of) refl
@@ -93,7 +98,8 @@ change_stays images F of regs change pid s fits other h = go (process_of F of) r
 
 -- Writes.
 
-writes_stay : (F : FlatState) (of : ℕ) (ws : List ByteWrite) (pid : ℕ) (s : Space) → of ≢ pid → FoundHolding F.processes pid s → FoundHolding (apply_writes F of ws).processes pid s
+writes_stay : (F : FlatState) (of : ℕ) (ws : List ByteWrite) (pid : ℕ) (s : Space) → of ≢ pid → FoundHolding F.processes pid s
+    → FoundHolding (apply_writes F of ws).processes pid s
 unfolding apply_writes
 writes_stay F of ws pid s other h = go (process_of F of) refl
   where
@@ -155,7 +161,8 @@ of_stays images F p t true (Err (Below a)) pid s own other h = with_stays images
 of_stays images F p t false (Err (Below a)) pid s own other h = with_stays images F p [] p.regs _ pid s tt other h
 of_stays images F p t refused (Err (Signal n)) pid s own other h = with_stays images F p [] p.regs (End n) pid s tt other h
 
-step_stays : (A : Inputs) (F : FlatState) (of : ℕ) (refused : Bool) (pid : ℕ) (s : Space) → AllDistinct (pids_of F) → of ≢ pid → FoundHolding F.processes pid s → FoundHolding (flat_step A F of refused).after.processes pid s
+step_stays : (A : Inputs) (F : FlatState) (of : ℕ) (refused : Bool) (pid : ℕ) (s : Space) → AllDistinct (pids_of F) → of ≢ pid
+    → FoundHolding F.processes pid s → FoundHolding (flat_step A F of refused).after.processes pid s
 unfolding flat_step
 step_stays A F of refused pid s own other h = go (process_of F of) refl
   where
@@ -168,7 +175,8 @@ step_stays A F of refused pid s own other h = go (process_of F of) refl
     go None e = h
     go (Some p) e = by p p.holding (λ k. other (sym (number_of_found F.processes of p e) ∙ k))
 
-pub others_hold : (A : Inputs) (F : FlatState) (pid other : ℕ) (refused : Bool) (s : Space) → AllDistinct (pids_of F) → other ≢ pid → HoldsStill F other s → HoldsStill (flat_step A F pid refused).after other s
+pub others_hold : (A : Inputs) (F : FlatState) (pid other : ℕ) (refused : Bool) (s : Space) → AllDistinct (pids_of F) → other ≢ pid
+    → HoldsStill F other s → HoldsStill (flat_step A F pid refused).after other s
 others_hold A F pid other refused s own apart h =
     let found : FoundHolding (flat_step A F pid refused).after.processes other s =
     step_stays A F pid refused other s own (λ k. apart (sym k)) record { process = h.process; here = h.here; holds = h.holds } in

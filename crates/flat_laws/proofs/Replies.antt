@@ -61,7 +61,8 @@ run_fits F memory (Tests a next) h = go (run_fits F memory next h) (memory.may_w
 
 -- The calls.
 
-child_fits : (F : FlatState) (b : Bool) (regs : Regs) (child : ℕ) → ReplyFits F (child_by b regs child (Fork F.next_pid)) × ReplyFits F (child_by b regs child (Lend F.next_pid))
+child_fits : (F : FlatState) (b : Bool) (regs : Regs) (child : ℕ)
+    → ReplyFits F (child_by b regs child (Fork F.next_pid)) × ReplyFits F (child_by b regs child (Lend F.next_pid))
 child_fits F true regs child = (refl, refl)
 child_fits F false regs child = (tt, tt)
 
@@ -92,7 +93,8 @@ second true b h = h
 second false b h = absurd cc
 
 -- wait takes a zombie
-zombie_fits : (F : FlatState) (pid : ℕ) (z : Process) → AllDistinct (pids F.processes) → find (is_zombie_child pid) F.processes ≡ Some z → NamesChild F (Reap z.pid)
+zombie_fits : (F : FlatState) (pid : ℕ) (z : Process) → AllDistinct (pids F.processes) → find (is_zombie_child pid) F.processes ≡ Some z
+    → NamesChild F (Reap z.pid)
 zombie_fits F pid z own h =
     let ended = zombie_is z.holding (second (z.parent == pid) (is_zombie z.holding) (zombie_passes pid F.processes z h)) in
     (z, ended.0, found_by_number (is_zombie_child pid) F.processes z own h, ended.1)
@@ -105,7 +107,8 @@ wait_fits F pid regs own = go (find (λ q. q.parent == pid) F.processes) (find (
     go (Some child) None e = tt
     go (Some child) (Some z) e = zombie_fits F pid z own e
 
-all_fit : (images : List NamedImage) (F : FlatState) (p : Process) (s : Space) (call : SystemCall) (regs : Regs) → AllDistinct (pids F.processes) → AllGive F (reply_of images F p s call regs)
+all_fit : (images : List NamedImage) (F : FlatState) (p : Process) (s : Space) (call : SystemCall) (regs : Regs) → AllDistinct (pids F.processes)
+    → AllGive F (reply_of images F p s call regs)
 unfolding reply_of exit_reply write_reply break_reply execve_reply
 all_fit images F p s calls.Exit regs own = all_bind F (argument regs 1) (λ code. Gives (Exits (code % 256 * 256))) (λ code. tt)
 all_fit images F p s calls.Fork regs own = (child_fits F (nat_lt (length F.processes) process_limit) regs F.next_pid).0
@@ -134,7 +137,8 @@ refused_fits F true Waits h = tt
 refused_fits F true (Exits status) h = tt
 
 -- the reply of a call takes nobody who holds a space, and its child has the next number
-pub reply_fits : (images : List NamedImage) (F : FlatState) (memory : Answers) (p : Process) (s : Space) (call : SystemCall) (regs : Regs) (refused : Bool) → AllDistinct (pids F.processes)
+pub reply_fits : (images : List NamedImage) (F : FlatState) (memory : Answers) (p : Process) (s : Space) (call : SystemCall) (regs : Regs) (refused : Bool)
+    → AllDistinct (pids F.processes)
     → ReplyFits F (refused_reply refused (or_fault (run memory (reply_of images F p s call regs))))
 reply_fits images F memory p s call regs refused own =
     refused_fits F refused (or_fault (run memory (reply_of images F p s call regs)))

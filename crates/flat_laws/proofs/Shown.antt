@@ -147,17 +147,20 @@ shown_after s ws pages (a ∷ list) h = (ap (is_shown pages) (access_after s ws 
 abbrev touched_of : List NamedImage → FlatState → Process → Space → List Page
 touched_of images F p s = distinct (filter_map (page_of_access s) (step_accesses images F p s))
 
-pub is_touched : (A : Inputs) (F : FlatState) (pid : ℕ) (p : Process) (s : Space) → process_of F pid ≡ Some p → is_ready p ≡ true → p.holding ≡ Holds s → touched A F pid ≡ touched_of A.images F p s
+pub is_touched : (A : Inputs) (F : FlatState) (pid : ℕ) (p : Process) (s : Space) → process_of F pid ≡ Some p → is_ready p ≡ true
+    → p.holding ≡ Holds s → touched A F pid ≡ touched_of A.images F p s
 unfolding touched
 is_touched A F pid p s here ready holds =
     ap (touched_if A.images F) here ∙ ap (λ (b : Bool). touched_by b A.images F p) ready ∙ ap (touched_in A.images F p) holds
 
-steps_shown : (A : Inputs) (F : FlatState) (pid : ℕ) (p : Process) (s : Space) → process_of F pid ≡ Some p → is_ready p ≡ true → p.holding ≡ Holds s → AreShown s (touched A F pid) (step_accesses A.images F p s)
+steps_shown : (A : Inputs) (F : FlatState) (pid : ℕ) (p : Process) (s : Space) → process_of F pid ≡ Some p → is_ready p ≡ true → p.holding ≡ Holds s
+    → AreShown s (touched A F pid) (step_accesses A.images F p s)
 steps_shown A F pid p s here ready holds =
     subst (λ (pages : List Page). AreShown s pages (step_accesses A.images F p s)) (sym (is_touched A F pid p s here ready holds))
     (all_shown s (touched_of A.images F p s) (step_accesses A.images F p s) (λ q i. among_distinct q (filter_map (page_of_access s) (step_accesses A.images F p s)) i))
 
-pub instruction_shown : (A : Inputs) (F : FlatState) (pid : ℕ) (p : Process) (s : Space) → process_of F pid ≡ Some p → is_ready p ≡ true → p.holding ≡ Holds s → run (shown s (touched A F pid)) (instruction p.regs) ≡ instruction_in s p.regs
+pub instruction_shown : (A : Inputs) (F : FlatState) (pid : ℕ) (p : Process) (s : Space) → process_of F pid ≡ Some p → is_ready p ≡ true
+    → p.holding ≡ Holds s → run (shown s (touched A F pid)) (instruction p.regs) ≡ instruction_in s p.regs
 unfolding step_accesses
 instruction_shown A F pid p s here ready holds =
     same_run (shown s (touched A F pid)) (answers_of s) (instruction p.regs)
@@ -168,12 +171,14 @@ abbrev reply_program : List NamedImage → FlatState → Process → Space → E
 reply_program images F p s effect call =
     reply_of images (apply_writes F p.pid effect.writes) (written_process p s effect.writes) (puts s effect.writes) call effect.regs
 
-after_is : (A : Inputs) (F : FlatState) (p : Process) (s : Space) (effect : Effect) (call : SystemCall) → instruction_in s p.regs ≡ Ok effect → IsCallOf effect call
+after_is : (A : Inputs) (F : FlatState) (p : Process) (s : Space) (effect : Effect) (call : SystemCall) → instruction_in s p.regs ≡ Ok effect
+    → IsCallOf effect call
     → accesses_after A.images F p s (instruction_in s p.regs) ≡ accesses (answers_of (puts s effect.writes)) (reply_program A.images F p s effect call)
 after_is A F p s effect call ok is =
     ap (accesses_after A.images F p s) ok ∙ ap (accesses_behind A.images F p s effect) is.is_number ∙ ap (call_accesses A.images F p s effect) is.names
 
-pub reply_shown : (A : Inputs) (F : FlatState) (pid : ℕ) (p : Process) (s : Space) (effect : Effect) (call : SystemCall) → process_of F pid ≡ Some p → is_ready p ≡ true → p.holding ≡ Holds s
+pub reply_shown : (A : Inputs) (F : FlatState) (pid : ℕ) (p : Process) (s : Space) (effect : Effect) (call : SystemCall) → process_of F pid ≡ Some p
+    → is_ready p ≡ true → p.holding ≡ Holds s
     → instruction_in s p.regs ≡ Ok effect → IsCallOf effect call
     → run (shown (puts s effect.writes) (touched A F pid)) (reply_program A.images F p s effect call) ≡ run (answers_of (puts s effect.writes)) (reply_program A.images F p s effect call)
 unfolding step_accesses
@@ -191,7 +196,8 @@ where_may : (b : Bool) → test_where b tests.May ≡ tests.May → b ≡ true
 where_may true h = refl
 where_may false h = absurd cc
 
-one_of : (s : Space) (pages : List Page) (p : Spot) → test_where (is_shown pages (page_tested s p)) (may_write_at p) ≡ tests.May → IsOneOf pages (page_tested s p)
+one_of : (s : Space) (pages : List Page) (p : Spot) → test_where (is_shown pages (page_tested s p)) (may_write_at p) ≡ tests.May
+    → IsOneOf pages (page_tested s p)
 one_of s pages (spots.Text i) h = absurd cc
 one_of s pages spots.Below h = absurd cc
 one_of s pages spots.Outside h = absurd cc
@@ -202,18 +208,21 @@ written_shown : (s : Space) (pages : List Page) (ws : List ByteWrite) → MayAll
 written_shown s pages [] h = tt
 written_shown s pages (w ∷ ws) h = (one_of s pages (address_in s w.address) h.0, written_shown s pages ws h.1)
 
-replied_writes : (images : List NamedImage) (F : FlatState) (p : Process) (call : SystemCall) (effect : Effect) (reply : Reply) → (replied_step images F p call effect reply).writes ≡ effect.writes
+replied_writes : (images : List NamedImage) (F : FlatState) (p : Process) (call : SystemCall) (effect : Effect) (reply : Reply)
+    → (replied_step images F p call effect reply).writes ≡ effect.writes
 replied_writes images F p call effect (replies.Fails error) = refl
 replied_writes images F p call effect (replies.Does regs change) = refl
 replied_writes images F p call effect (replies.Writes bytes) = refl
 replied_writes images F p call effect replies.Waits = refl
 replied_writes images F p call effect (replies.Exits status) = refl
 
-called_writes : (images : List NamedImage) (F : FlatState) (p : Process) (s : Space) (refused : Bool) (effect : Effect) (call : Option SystemCall) → (called_step images F p s refused effect call).writes ≡ effect.writes
+called_writes : (images : List NamedImage) (F : FlatState) (p : Process) (s : Space) (refused : Bool) (effect : Effect) (call : Option SystemCall)
+    → (called_step images F p s refused effect call).writes ≡ effect.writes
 called_writes images F p s refused effect None = refl
 called_writes images F p s refused effect (Some call) = replied_writes images F p call effect (reply_behind images F p s refused call effect)
 
-behind_writes : (images : List NamedImage) (F : FlatState) (p : Process) (s : Space) (refused : Bool) (effect : Effect) (number : Option ℤ) → (step_behind images F p s refused effect number).writes ≡ effect.writes
+behind_writes : (images : List NamedImage) (F : FlatState) (p : Process) (s : Space) (refused : Bool) (effect : Effect) (number : Option ℤ)
+    → (step_behind images F p s refused effect number).writes ≡ effect.writes
 behind_writes images F p s refused effect None = refl
 behind_writes images F p s refused effect (Some number) = called_writes images F p s refused effect (call_of number)
 
@@ -226,11 +235,13 @@ step_writes images F p s true pages (Err (Below a)) h = tt
 step_writes images F p s false pages (Err (Below a)) h = tt
 step_writes images F p s refused pages (Err (Signal n)) h = tt
 
-is_step : (A : Inputs) (F : FlatState) (pid : ℕ) (p : Process) (s : Space) (refused : Bool) → process_of F pid ≡ Some p → p.holding ≡ Holds s → flat_step A F pid refused ≡ step_of A.images F p s refused (instruction_in s p.regs)
+is_step : (A : Inputs) (F : FlatState) (pid : ℕ) (p : Process) (s : Space) (refused : Bool) → process_of F pid ≡ Some p → p.holding ≡ Holds s
+    → flat_step A F pid refused ≡ step_of A.images F p s refused (instruction_in s p.regs)
 unfolding flat_step
 is_step A F pid p s refused here holds = ap (step_if A.images F refused) here ∙ ap (step_holding A.images F p refused) holds
 
-pub writes_shown : (A : Inputs) (F : FlatState) (pid : ℕ) (p : Process) (s : Space) (refused : Bool) → process_of F pid ≡ Some p → is_ready p ≡ true → p.holding ≡ Holds s → AreOf s (touched A F pid) (flat_step A F pid refused).writes
+pub writes_shown : (A : Inputs) (F : FlatState) (pid : ℕ) (p : Process) (s : Space) (refused : Bool) → process_of F pid ≡ Some p → is_ready p ≡ true
+    → p.holding ≡ Holds s → AreOf s (touched A F pid) (flat_step A F pid refused).writes
 writes_shown A F pid p s refused here ready holds =
     subst (λ (step : Step). AreOf s (touched A F pid) step.writes) (sym (is_step A F pid p s refused here holds))
     (step_writes A.images F p s refused (touched A F pid) (instruction_in s p.regs)

@@ -21,7 +21,8 @@ pub with_twice : (F : FlatState) (p q : Process) → p.pid ≡ q.pid → with_pr
 with_twice F p q same = ap (λ (xs : List Process). record F { processes = xs }) (replaced_twice F.processes p q same)
 
 -- who isn't there takes no place
-replaced_absent : (xs : List Process) (p : Process) (pid : ℕ) → p.pid ≡ pid → replaced (filter (λ (q : Process). not (q.pid == pid)) xs) p ≡ filter (λ (q : Process). not (q.pid == pid)) xs
+replaced_absent : (xs : List Process) (p : Process) (pid : ℕ) → p.pid ≡ pid
+    → replaced (filter (λ (q : Process). not (q.pid == pid)) xs) p ≡ filter (λ (q : Process). not (q.pid == pid)) xs
 unfolding replaced
 replaced_absent [] p pid same = refl
 replaced_absent (x ∷ xs) p pid same = go (x.pid == pid) refl (replaced_absent xs p pid same)
@@ -32,7 +33,8 @@ replaced_absent (x ∷ xs) p pid same = go (x.pid == pid) refl (replaced_absent 
         let other : (x.pid == p.pid) ≡ false = grind (arith, nat_tests) in
         rw (e, other) (ap (λ (ys : List Process). x ∷ ys) more)
 
-replaced_filter : (xs : List Process) (p : Process) (pid : ℕ) → replaced (filter (λ (q : Process). not (q.pid == pid)) xs) p ≡ filter (λ (q : Process). not (q.pid == pid)) (replaced xs p)
+replaced_filter : (xs : List Process) (p : Process) (pid : ℕ)
+    → replaced (filter (λ (q : Process). not (q.pid == pid)) xs) p ≡ filter (λ (q : Process). not (q.pid == pid)) (replaced xs p)
 unfolding replaced
 replaced_filter [] p pid = refl
 replaced_filter (x ∷ xs) p pid = go (x.pid == p.pid) (x.pid == pid) refl refl (replaced_filter xs p pid)
@@ -52,7 +54,8 @@ without_with : (F : FlatState) (p : Process) (pid : ℕ) → with_process (witho
 without_with F p pid = ap (λ (xs : List Process). record F { processes = xs }) (replaced_filter F.processes p pid)
 
 -- what a process does that has its registers already is what it does when it gets them
-changed_twice : (images : List NamedImage) (F : FlatState) (p : Process) (s : Space) (change : Change) → CanChange images change → changed images (with_process F p) p s change ≡ changed images F p s change
+changed_twice : (images : List NamedImage) (F : FlatState) (p : Process) (s : Space) (change : Change) → CanChange images change
+    → changed images (with_process F p) p s change ≡ changed images F p s change
 changed_twice images F p s Keep can = with_twice F p p refl
 changed_twice images F p s (Resize data_pages stack_pages) can = with_twice F p (record p { holding = Holds (resized s data_pages stack_pages) }) refl
 changed_twice images F p s (Fork child) can =
@@ -79,7 +82,8 @@ pub at_kept : (F : FlatState) (place : ℕ) (p : Process) → IsPlace F place �
 at_kept F place p at same =
     ap (λ (G : FlatState). process_at G place) (with_at F place p at same) ∙ get_or-set_same F.processes place p no_process at.within
 
-position_kept : (test : Process → Bool) (xs : List Process) (i : ℕ) (p : Process) → test p ≡ test (get_or xs i no_process) → position test (set xs i p) ≡ position test xs
+position_kept : (test : Process → Bool) (xs : List Process) (i : ℕ) (p : Process) → test p ≡ test (get_or xs i no_process)
+    → position test (set xs i p) ≡ position test xs
 position_kept test xs i p same =
     ap (λ (n : ℕ). cond (nat_lt n (length (set xs i p))) (Some n) None) (position_or_len-set test xs i p no_process same)
     ∙ ap (λ (n : ℕ). cond (nat_lt (position_or_len test xs) n) (Some (position_or_len test xs)) None) (length-set xs i p)

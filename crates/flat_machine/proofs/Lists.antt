@@ -19,7 +19,8 @@ got_next f [] (suc i) d = refl
 got_next f (x ∷ xs) zero d = refl
 got_next f (x ∷ xs) (suc i) d = got_next f xs i d
 
-set_next : {X : Type 0} (f : X → X) (xs : List X) (i : ℕ) (y : X) → i < length xs → y ≡ f (get_or xs i y) → set (map f (take i xs) ++ drop i xs) i y ≡ map f (take (suc i) xs) ++ drop (suc i) xs
+set_next : {X : Type 0} (f : X → X) (xs : List X) (i : ℕ) (y : X) → i < length xs → y ≡ f (get_or xs i y)
+    → set (map f (take i xs) ++ drop i xs) i y ≡ map f (take (suc i) xs) ++ drop (suc i) xs
 set_next f [] i y below e = absurd (omega arith)
 set_next f (x ∷ xs) zero y below e = ap (λ z. z ∷ xs) e
 set_next f (x ∷ xs) (suc i) y below e = ap (λ zs. f x ∷ zs) (set_next f xs i y (omega arith) e)
@@ -65,7 +66,8 @@ replaced_at (x ∷ xs) (suc i) p h =
     ap (λ (b : Bool). replaced_by b p x xs (replaced xs p)) (h.earlier zero (omega arith))
     ∙ ap (λ (ys : List Process). x ∷ ys) (replaced_at xs i p (rest_first (λ (q : Process). q.pid == p.pid) x xs i h))
 
-pub returned_at : (xs : List Process) (i pid : ℕ) (s : Space) → IsFirst (λ (q : Process). lends_to pid q.holding) xs i → returned pid s xs ≡ set xs i (record (get_or xs i no_process) { holding = Holds s })
+pub returned_at : (xs : List Process) (i pid : ℕ) (s : Space) → IsFirst (λ (q : Process). lends_to pid q.holding) xs i
+    → returned pid s xs ≡ set xs i (record (get_or xs i no_process) { holding = Holds s })
 unfolding returned
 returned_at [] i pid s h = absurd (let w = h.within in omega arith)
 returned_at (x ∷ xs) zero pid s h = ap (λ (b : Bool). returned_by b s x xs (returned pid s xs)) h.this
@@ -80,7 +82,8 @@ none_passes test xs none k below = elim (cases_lt (position_or_len test xs) (len
 ]
 
 -- where nobody lends, nothing is given back
-returned_none : (xs : List Process) (pid : ℕ) (s : Space) → ((k : ℕ) → k < length xs → lends_to pid (get_or xs k no_process).holding ≡ false) → returned pid s xs ≡ xs
+returned_none : (xs : List Process) (pid : ℕ) (s : Space) → ((k : ℕ) → k < length xs → lends_to pid (get_or xs k no_process).holding ≡ false)
+    → returned pid s xs ≡ xs
 unfolding returned
 returned_none [] pid s none = refl
 returned_none (x ∷ xs) pid s none =
@@ -90,12 +93,14 @@ returned_none (x ∷ xs) pid s none =
 pub given_back_none : (F : FlatState) (pid : ℕ) (s : Space) → position (λ (q : Process). lends_to pid q.holding) F.processes ≡ None → given_back F pid s ≡ F
 given_back_none F pid s h = ap (λ (xs : List Process). record F { processes = xs }) (returned_none F.processes pid s (none_passes (λ (q : Process). lends_to pid q.holding) F.processes h))
 
-pub given_back_at : (F : FlatState) (pid place : ℕ) (s : Space) → position (λ (q : Process). lends_to pid q.holding) F.processes ≡ Some place → given_back F pid s ≡ record F { processes = set F.processes place (record (process_at F place) { holding = Holds s }) }
+pub given_back_at : (F : FlatState) (pid place : ℕ) (s : Space) → position (λ (q : Process). lends_to pid q.holding) F.processes ≡ Some place
+    → given_back F pid s ≡ record F { processes = set F.processes place (record (process_at F place) { holding = Holds s }) }
 given_back_at F pid place s h =
     ap (λ (xs : List Process). record F { processes = xs })
     (returned_at F.processes place pid s (is_first (λ (q : Process). lends_to pid q.holding) F.processes place h))
 
-pub found_at : (xs : List Process) (i pid : ℕ) → IsFirst (λ (q : Process). q.pid == pid) xs i → find (λ (q : Process). q.pid == pid) xs ≡ Some (get_or xs i no_process)
+pub found_at : (xs : List Process) (i pid : ℕ) → IsFirst (λ (q : Process). q.pid == pid) xs i
+    → find (λ (q : Process). q.pid == pid) xs ≡ Some (get_or xs i no_process)
 found_at [] i pid h = absurd (let w = h.within in omega arith)
 found_at (x ∷ xs) zero pid h = ap (λ (b : Bool). cond b (Some x) (find (λ (q : Process). q.pid == pid) xs)) h.this
 found_at (x ∷ xs) (suc i) pid h =
@@ -103,7 +108,8 @@ found_at (x ∷ xs) (suc i) pid h =
     ∙ found_at xs i pid (rest_first (λ (q : Process). q.pid == pid) x xs i h)
 
 -- a process with the number of the one at a place takes its place
-pub with_at : (F : FlatState) (place : ℕ) (p : Process) → IsPlace F place → p.pid ≡ (process_at F place).pid → with_process F p ≡ record F { processes = set F.processes place p }
+pub with_at : (F : FlatState) (place : ℕ) (p : Process) → IsPlace F place → p.pid ≡ (process_at F place).pid
+    → with_process F p ≡ record F { processes = set F.processes place p }
 with_at F place p at same =
     ap (λ (xs : List Process). record F { processes = xs })
     (replaced_at F.processes place p (subst (λ (n : ℕ). IsFirst (λ (q : Process). q.pid == n) F.processes place) (sym same) (is_first (λ (q : Process). q.pid == (process_at F place).pid) F.processes place at.first)))
@@ -129,7 +135,8 @@ ready_holds p h = go p.asleep h
     go false k = k
 
 -- the first process of a number, where it can step, is at a place
-pub ready_place : (F : FlatState) (pid place : ℕ) → position (λ (q : Process). q.pid == pid) F.processes ≡ Some place → is_ready (process_at F place) ≡ true → IsPlace F place
+pub ready_place : (F : FlatState) (pid place : ℕ) → position (λ (q : Process). q.pid == pid) F.processes ≡ Some place
+    → is_ready (process_at F place) ≡ true → IsPlace F place
 ready_place F pid place h ready =
     let found = is_first (λ (q : Process). q.pid == pid) F.processes place h in
     let same : (process_at F place).pid ≡ pid = (let t : ((process_at F place).pid == pid) ≡ true = found.this in grind (arith, nat_tests)) in
@@ -152,7 +159,8 @@ pub none_can : (F : FlatState) (pid : ℕ) → position (λ (q : Process). q.pid
 none_can F pid h = ap ready_if (none_found F pid h)
 
 -- a process that is there can step where it is ready
-pub can_at : (F : FlatState) (pid place : ℕ) (b : Bool) → position (λ (q : Process). q.pid == pid) F.processes ≡ Some place → is_ready (process_at F place) ≡ b → can_step F pid ≡ b
+pub can_at : (F : FlatState) (pid place : ℕ) (b : Bool) → position (λ (q : Process). q.pid == pid) F.processes ≡ Some place
+    → is_ready (process_at F place) ≡ b → can_step F pid ≡ b
 can_at F pid place b h ready =
     ap ready_if (found_at F.processes place pid (is_first (λ (q : Process). q.pid == pid) F.processes place h)) ∙ ready
 

@@ -26,7 +26,8 @@ use Rattle.flat_process.proofs.Hits.{space_hits}
 use Rattle.flat_machine.proofs.Lists.{process_found}
 use Rattle.flat_machine.proofs.Changing.{held, at_kept}
 
-pub reply_same : (images : List NamedImage) (call : SystemCall) (G H : FlatState) (p q : Process) (s t : Space) (regs more : Regs) → G ≡ H → p ≡ q → s ≡ t → regs ≡ more
+pub reply_same : (images : List NamedImage) (call : SystemCall) (G H : FlatState) (p q : Process) (s t : Space) (regs more : Regs) → G ≡ H → p ≡ q
+    → s ≡ t → regs ≡ more
     → or_fault (run (answers_of s) (reply_of images G p s call regs)) ≡ or_fault (run (answers_of t) (reply_of images H q t call more))
 reply_same images call G H p q s t regs more states processes spaces registers =
     ap (λ (x : FlatState). or_fault (run (answers_of s) (reply_of images x p s call regs))) states
@@ -64,7 +65,8 @@ by_wrote images F p call effect reply bytes after is e =
 
 -- An instruction of the process at a place.
 
-wrote_at : (F : FlatState) (place : ℕ) (writes : List ByteWrite) → IsPlace F place → apply_writes F (process_at F place).pid writes ≡ with_process F (written_process (process_at F place) (space_at F place) writes)
+wrote_at : (F : FlatState) (place : ℕ) (writes : List ByteWrite) → IsPlace F place
+    → apply_writes F (process_at F place).pid writes ≡ with_process F (written_process (process_at F place) (space_at F place) writes)
 unfolding apply_writes
 wrote_at F place writes at =
     ap (wrote_if F writes) (process_found F place at) ∙ ap (wrote_by F (process_at F place) writes) (held (process_at F place).holding at.holds)

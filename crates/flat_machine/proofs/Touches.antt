@@ -5,7 +5,8 @@ use Rattle.flat_model.specs.Touched.{touched_in, touched_by, touched_if, touched
 use Rattle.flat_machine.specs.Machine.{process_at, IsPlace}
 use Rattle.flat_machine.proofs.Lists.{process_found}
 
-pub touched_at : (A : Inputs) (images : List NamedImage) (F : FlatState) (pid place : ℕ) → IsPlace F place → (process_at F place).pid ≡ pid → can_step F pid ≡ true → A.images ≡ images
+pub touched_at : (A : Inputs) (images : List NamedImage) (F : FlatState) (pid place : ℕ) → IsPlace F place → (process_at F place).pid ≡ pid
+    → can_step F pid ≡ true → A.images ≡ images
     → touched_in images F (process_at F place) (process_at F place).holding ≡ touched A F pid
 unfolding touched
 touched_at A images F pid place at of can same =

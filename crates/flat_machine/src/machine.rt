@@ -440,7 +440,8 @@ impl Machine {
         requires at { IsPlace self.old place }
         requires few { length programs.now < 2 ^ 31 }
         ensures after { (A : Inputs) → A.images ≡ programs.now → OnOk result (self.new ≡ (flat_step A self.old (process_at self.old place).pid refused).after) }
-        ensures entries { (A : Inputs) → A.images ≡ programs.now → IfOk result (λ did. entries_of (process_at self.old place).pid did ≡ (flat_step A self.old (process_at self.old place).pid refused).entries) }
+        ensures entries { (A : Inputs) → A.images ≡ programs.now
+            → IfOk result (λ did. entries_of (process_at self.old place).pid did ≡ (flat_step A self.old (process_at self.old place).pid refused).entries) }
     {
         let (stepped, regs) = self.run(place);
         let deed = self.deed(alloc, programs, place, stepped, regs, refused)?;
@@ -457,8 +458,10 @@ impl Machine {
         refused: bool,
     ) -> Result<Did, NoMemory>
         requires { length programs.now < 2 ^ 31 }
-        ensures after { (A : Inputs) → A.images ≡ programs.now → OnOk result (self.new ≡ state_if (can_step self.old pid) self.old (flat_step A self.old pid refused)) }
-        ensures entries { (A : Inputs) → A.images ≡ programs.now → IfOk result (λ did. entries_of pid did ≡ entries_if (can_step self.old pid) (flat_step A self.old pid refused)) }
+        ensures after { (A : Inputs) → A.images ≡ programs.now
+            → OnOk result (self.new ≡ state_if (can_step self.old pid) self.old (flat_step A self.old pid refused)) }
+        ensures entries { (A : Inputs) → A.images ≡ programs.now
+            → IfOk result (λ did. entries_of pid did ≡ entries_if (can_step self.old pid) (flat_step A self.old pid refused)) }
     {
         match self.ready_place(pid) {
             None => Ok(Did::Nothing),
@@ -525,7 +528,8 @@ impl Machine {
         refused: bool,
     ) -> Result<Vec<Page>, NoMemory>
         requires { length programs.now < 2 ^ 31 }
-        ensures after { (A : Inputs) → A.images ≡ programs.now → OnOk result (self.new ≡ state_if (can_step self.old pid) self.old (flat_step A self.old pid refused)) }
+        ensures after { (A : Inputs) → A.images ≡ programs.now
+            → OnOk result (self.new ≡ state_if (can_step self.old pid) self.old (flat_step A self.old pid refused)) }
         ensures pages { (A : Inputs) → A.images ≡ programs.now → IfOk result (λ pages. pages.items ≡ touched A self.old pid) }
     {
         match self.ready_place(pid) {

@@ -18,13 +18,15 @@ after_bytes bytes (Err refused) = Err refused
 abbrev pub byte_at : ℕ → Program ℕ
 byte_at address = Reads address (λ byte. Gives byte)
 
-one : (memory : Answers) (count address : ℕ) → run memory (bytes_from (suc count) address) ≡ then (run memory (byte_at address)) (λ byte. then (run memory (bytes_from count (past address 1))) (λ more. Ok (byte ∷ more)))
+one : (memory : Answers) (count address : ℕ)
+    → run memory (bytes_from (suc count) address) ≡ then (run memory (byte_at address)) (λ byte. then (run memory (bytes_from count (past address 1))) (λ more. Ok (byte ∷ more)))
 unfolding bytes_from
 one memory count address =
     run_bind memory (byte_at address) (λ (byte : ℕ). bytes_from count (past address 1) >>= λ more. Gives (byte ∷ more))
     ∙ ap (then (run memory (byte_at address))) (λ i byte. run_bind memory (bytes_from count (past address 1)) (λ (more : List ℕ). Gives (byte ∷ more)) i)
 
-moved : (bytes : List ℕ) (byte : ℕ) (rest : Result (List ℕ) Refused) → after_bytes bytes (then rest (λ more. Ok (byte ∷ more))) ≡ after_bytes (bytes ++ byte ∷ []) rest
+moved : (bytes : List ℕ) (byte : ℕ) (rest : Result (List ℕ) Refused)
+    → after_bytes bytes (then rest (λ more. Ok (byte ∷ more))) ≡ after_bytes (bytes ++ byte ∷ []) rest
 moved bytes byte (Ok more) = ap (λ (x : List ℕ). Ok x) (sym (append_assoc bytes (byte ∷ []) more))
 moved bytes byte (Err refused) = refl
 
@@ -70,7 +72,8 @@ gathers_more memory count address index bytes byte h below e =
     ∙ gathered_more memory bytes byte (count - (index + 1)) (past address index) e
     ∙ ap (λ (a : ℕ). after_bytes (bytes ++ byte ∷ []) (run memory (bytes_from (count - (index + 1)) a))) (past_one address index)
 
-pub gathers_refused : (memory : Answers) (count address index : ℕ) (bytes : List ℕ) (refused : Refused) → Gathers memory count address index bytes → index < count
+pub gathers_refused : (memory : Answers) (count address index : ℕ) (bytes : List ℕ) (refused : Refused) → Gathers memory count address index bytes
+    → index < count
     → run memory (byte_at (past address index)) ≡ Err refused → run memory (bytes_from count address) ≡ Err refused
 gathers_refused memory count address index bytes refused h below e =
     h
@@ -99,7 +102,8 @@ string_by rest byte = then rest (λ string. Ok (before byte string))
 abbrev pub string_next : Answers → Program (Option (List ℕ)) → ℕ → Result (Option (List ℕ)) Refused
 string_next memory more byte = run memory (string_after byte more)
 
-string_one : (memory : Answers) (left address : ℕ) → run memory (string_from (suc left) address) ≡ then (run memory (byte_at address)) (string_next memory (string_from left (past address 1)))
+string_one : (memory : Answers) (left address : ℕ)
+    → run memory (string_from (suc left) address) ≡ then (run memory (byte_at address)) (string_next memory (string_from left (past address 1)))
 unfolding string_from
 string_one memory left address = go (memory.read address)
   where
@@ -109,13 +113,15 @@ string_one memory left address = go (memory.read address)
     go reads.Below = refl
     go reads.Outside = refl
 
-string_moved : (bytes : List ℕ) (byte : ℕ) (rest : Result (Option (List ℕ)) Refused) → after_string bytes (string_by rest byte) ≡ after_string (bytes ++ byte ∷ []) rest
+string_moved : (bytes : List ℕ) (byte : ℕ) (rest : Result (Option (List ℕ)) Refused)
+    → after_string bytes (string_by rest byte) ≡ after_string (bytes ++ byte ∷ []) rest
 string_moved bytes byte (Ok (Some more)) = ap (λ (x : List ℕ). Ok (Some x)) (sym (append_assoc bytes (byte ∷ []) more))
 string_moved bytes byte (Ok None) = refl
 string_moved bytes byte (Err refused) = refl
 
 -- a byte that isn't 0 goes before what is left
-string_byte : (memory : Answers) (byte : ℕ) (more : Program (Option (List ℕ))) → (byte ≡ 0 → ⊥) → string_next memory more byte ≡ string_by (run memory more) byte
+string_byte : (memory : Answers) (byte : ℕ) (more : Program (Option (List ℕ))) → (byte ≡ 0 → ⊥)
+    → string_next memory more byte ≡ string_by (run memory more) byte
 string_byte memory zero more h = absurd (h refl)
 string_byte memory (suc n) more h = run_bind memory more (λ (string : Option (List ℕ)). Gives (before (suc n) string))
 

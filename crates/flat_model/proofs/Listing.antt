@@ -21,11 +21,13 @@ pointer_next memory more pointer = run memory (pointer_after pointer more)
 abbrev pub string_next : Answers → Program (Option (List (List ℕ))) → Option (List ℕ) → Result (Option (List (List ℕ))) Refused
 string_next memory more string = run memory (string_before more string)
 
-one : (memory : Answers) (left address : ℕ) → run memory (arguments_from (suc left) address) ≡ then (run memory (number_at 4 address)) (pointer_next memory (arguments_from left (past address 4)))
+one : (memory : Answers) (left address : ℕ)
+    → run memory (arguments_from (suc left) address) ≡ then (run memory (number_at 4 address)) (pointer_next memory (arguments_from left (past address 4)))
 unfolding arguments_from
 one memory left address = run_bind memory (number_at 4 address) (λ (pointer : ℕ). pointer_after pointer (arguments_from left (past address 4)))
 
-last : (memory : Answers) (address : ℕ) → run memory (arguments_from zero address) ≡ then (run memory (number_at 4 address)) (λ pointer. run memory (last_pointer pointer))
+last : (memory : Answers) (address : ℕ)
+    → run memory (arguments_from zero address) ≡ then (run memory (number_at 4 address)) (λ pointer. run memory (last_pointer pointer))
 unfolding arguments_from
 last memory address = run_bind memory (number_at 4 address) last_pointer
 
@@ -60,7 +62,8 @@ lists_one memory limit address index front h below =
     ∙ ap (after_arguments front) (one memory (limit - (index + 1)) (past address (4 * index)))
     ∙ ap (λ (a : ℕ). after_arguments front (then (run memory (number_at 4 (past address (4 * index)))) (pointer_next memory (arguments_from (limit - (index + 1)) a)))) (past_four address index)
 
-pub lists_refused : (memory : Answers) (limit address index : ℕ) (front : List (List ℕ)) (refused : Refused) → Lists memory limit address index front → index < limit
+pub lists_refused : (memory : Answers) (limit address index : ℕ) (front : List (List ℕ)) (refused : Refused) → Lists memory limit address index front
+    → index < limit
     → run memory (number_at 4 (past address (4 * index))) ≡ Err refused → run memory (arguments_from limit address) ≡ Err refused
 lists_refused memory limit address index front refused h below e =
     lists_one memory limit address index front h below
@@ -81,7 +84,8 @@ lists_string memory limit address index front pointer h below e other =
     ∙ ap (λ (r : Result ℕ Refused). after_arguments front (then r (pointer_next memory (rest_of memory limit address index)))) e
     ∙ ap (after_arguments front) (pointed memory pointer (rest_of memory limit address index) other)
 
-pub lists_string_refused : (memory : Answers) (limit address index : ℕ) (front : List (List ℕ)) (pointer : ℕ) (refused : Refused) → Lists memory limit address index front → index < limit
+pub lists_string_refused : (memory : Answers) (limit address index : ℕ) (front : List (List ℕ)) (pointer : ℕ) (refused : Refused)
+    → Lists memory limit address index front → index < limit
     → run memory (number_at 4 (past address (4 * index))) ≡ Ok pointer → (pointer ≡ 0 → ⊥) → run memory (string_from string_limit pointer) ≡ Err refused
     → run memory (arguments_from limit address) ≡ Err refused
 lists_string_refused memory limit address index front pointer refused h below e other k =
@@ -95,7 +99,8 @@ lists_long memory limit address index front pointer h below e other k =
     lists_string memory limit address index front pointer h below e other
     ∙ ap (λ (r : Result (Option (List ℕ)) Refused). after_arguments front (then r (string_next memory (rest_of memory limit address index)))) k
 
-pub lists_more : (memory : Answers) (limit address index : ℕ) (front : List (List ℕ)) (pointer : ℕ) (string : List ℕ) → Lists memory limit address index front → index < limit
+pub lists_more : (memory : Answers) (limit address index : ℕ) (front : List (List ℕ)) (pointer : ℕ) (string : List ℕ)
+    → Lists memory limit address index front → index < limit
     → run memory (number_at 4 (past address (4 * index))) ≡ Ok pointer → (pointer ≡ 0 → ⊥) → run memory (string_from string_limit pointer) ≡ Ok (Some string)
     → Lists memory limit address (index + 1) (front ++ string ∷ [])
 lists_more memory limit address index front pointer string h below e other k =
@@ -113,7 +118,8 @@ lists_last memory limit address index front h end =
     ∙ ap (after_arguments front) (last memory (past address (4 * index)))
     ∙ ap (λ (n : ℕ). after_arguments front (then (run memory (number_at 4 (past address (4 * n)))) (λ pointer. run memory (last_pointer pointer)))) end
 
-pub last_refused : (memory : Answers) (limit address index : ℕ) (front : List (List ℕ)) (refused : Refused) → Lists memory limit address index front → index ≡ limit
+pub last_refused : (memory : Answers) (limit address index : ℕ) (front : List (List ℕ)) (refused : Refused) → Lists memory limit address index front
+    → index ≡ limit
     → run memory (number_at 4 (past address (4 * limit))) ≡ Err refused → run memory (arguments_from limit address) ≡ Err refused
 last_refused memory limit address index front refused h end e =
     lists_last memory limit address index front h end

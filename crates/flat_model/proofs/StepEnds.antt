@@ -34,7 +34,8 @@ pub data Shape (pid : ℕ) (es : List Entry) : Type 0 where
   One : (e : Entry) → IsStepEnd pid e → es ≡ e ∷ [] → Shape pid es
   Two : (bytes : List ℕ) (n : ℕ) (c : Bool) (r0 r1 : ℕ) → es ≡ Out pid bytes ∷ Call pid n c r0 r1 ∷ [] → Shape pid es
 
-replied_shape : (images : List NamedImage) (F : FlatState) (p : Process) (call : SystemCall) (effect : Effect) (reply : Reply) → Shape p.pid (replied_step images F p call effect reply).entries
+replied_shape : (images : List NamedImage) (F : FlatState) (p : Process) (call : SystemCall) (effect : Effect) (reply : Reply)
+    → Shape p.pid (replied_step images F p call effect reply).entries
 replied_shape images F p call effect (Fails error) = One _ refl refl
 replied_shape images F p call effect (Does regs change) = One _ refl refl
 replied_shape images F p call effect (Writes []) = One _ refl refl
@@ -42,22 +43,26 @@ replied_shape images F p call effect (Writes (byte ∷ bytes)) = Two _ _ _ _ _ r
 replied_shape images F p call effect Waits = One _ refl refl
 replied_shape images F p call effect (Exits status) = One _ refl refl
 
-called_shape : (images : List NamedImage) (F : FlatState) (p : Process) (s : Space) (refused : Bool) (effect : Effect) (o : Option SystemCall) → Shape p.pid (called_step images F p s refused effect o).entries
+called_shape : (images : List NamedImage) (F : FlatState) (p : Process) (s : Space) (refused : Bool) (effect : Effect) (o : Option SystemCall)
+    → Shape p.pid (called_step images F p s refused effect o).entries
 called_shape images F p s refused effect None = One _ refl refl
 called_shape images F p s refused effect (Some call) = replied_shape images F p call effect (reply_behind images F p s refused call effect)
 
-behind_shape : (images : List NamedImage) (F : FlatState) (p : Process) (s : Space) (refused : Bool) (effect : Effect) (o : Option ℤ) → Shape p.pid (step_behind images F p s refused effect o).entries
+behind_shape : (images : List NamedImage) (F : FlatState) (p : Process) (s : Space) (refused : Bool) (effect : Effect) (o : Option ℤ)
+    → Shape p.pid (step_behind images F p s refused effect o).entries
 behind_shape images F p s refused effect None = One _ refl refl
 behind_shape images F p s refused effect (Some number) = called_shape images F p s refused effect (call_of number)
 
-of_shape : (images : List NamedImage) (F : FlatState) (p : Process) (s : Space) (refused : Bool) (r : Result Effect Refused) → Shape p.pid (step_of images F p s refused r).entries
+of_shape : (images : List NamedImage) (F : FlatState) (p : Process) (s : Space) (refused : Bool) (r : Result Effect Refused)
+    → Shape p.pid (step_of images F p s refused r).entries
 of_shape images F p s refused (Ok effect) = behind_shape images F p s refused effect effect.call
 of_shape images F p s refused (Err (Miss address write)) = Empty refl
 of_shape images F p s true (Err (Below address)) = One _ refl refl
 of_shape images F p s false (Err (Below address)) = One _ refl refl
 of_shape images F p s refused (Err (Signal number)) = One _ refl refl
 
-holding_shape : (images : List NamedImage) (F : FlatState) (p : Process) (refused : Bool) (h : Holding) → Shape p.pid (step_holding images F p refused h).entries
+holding_shape : (images : List NamedImage) (F : FlatState) (p : Process) (refused : Bool) (h : Holding)
+    → Shape p.pid (step_holding images F p refused h).entries
 holding_shape images F p refused (Holds s) = of_shape images F p s refused (instruction_in s p.regs)
 holding_shape images F p refused (Lends sid child) = Empty refl
 holding_shape images F p refused (Zombie status) = Empty refl
@@ -75,7 +80,8 @@ found (q ∷ qs) pid = go (found qs pid) (q.pid == pid) refl
     go more true h = let e : q.pid ≡ pid = grind (arith, nat_tests) in e
     go more false h = more
 
-if_shape : (images : List NamedImage) (F : FlatState) (refused : Bool) (pid : ℕ) (o : Option Process) → IsNumbered pid o → Shape pid (step_if images F refused o).entries
+if_shape : (images : List NamedImage) (F : FlatState) (refused : Bool) (pid : ℕ) (o : Option Process) → IsNumbered pid o
+    → Shape pid (step_if images F refused o).entries
 if_shape images F refused pid None h = Empty refl
 if_shape images F refused pid (Some p) h =
     subst (λ (n : ℕ). Shape n (step_holding images F p refused p.holding).entries) h (holding_shape images F p refused p.holding)
@@ -179,7 +185,8 @@ if_writes : (images : List NamedImage) (F : FlatState) (o : Option Process) (pid
 if_writes images F None pid bytes behind h = refl
 if_writes images F (Some p) pid bytes behind h = holding_writes images F p p.holding pid bytes behind h
 
-pub writes_asks : (A : Inputs) (F : FlatState) (pid : ℕ) (bytes : List ℕ) (behind : List Entry) → (flat_step A F pid false).entries ≡ Out pid bytes ∷ behind → asks A F pid ≡ []
+pub writes_asks : (A : Inputs) (F : FlatState) (pid : ℕ) (bytes : List ℕ) (behind : List Entry)
+    → (flat_step A F pid false).entries ≡ Out pid bytes ∷ behind → asks A F pid ≡ []
 unfolding asks flat_step
 writes_asks A F pid bytes behind h = go (can_step F pid)
   where

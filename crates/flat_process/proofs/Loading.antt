@@ -54,7 +54,8 @@ pub search_end : (images : List NamedImage) (name : List ℕ) (place : ℕ) → 
 unfolding image_named
 search_end images name place above h = h ∙ ap (λ (x : List NamedImage). image_named (place + 1) x name) (drop_all place images above)
 
-pub numbered_at : (images : List NamedImage) (place : ℕ) (d : NamedImage) → place < length images → image_numbered images (place + 1) ≡ Some (get_or images place d)
+pub numbered_at : (images : List NamedImage) (place : ℕ) (d : NamedImage) → place < length images
+    → image_numbered images (place + 1) ≡ Some (get_or images place d)
 numbered_at images place d below = subst (λ (n : ℕ). image_numbered images n ≡ Some (get_or images place d)) (let e : suc place ≡ place + 1 = omega arith in e) (slice_get-get_or images place d below)
 
 named_count : (f : FlatFile) (r : Result Loaded ℕ) (rest : List NamedImage) → IsTrue (is_ok r) → length (named_as f.name r ++ rest) ≡ suc (length rest)
@@ -77,7 +78,8 @@ some_below images (suc i) low high = below images i (omega arith)
     below (x ∷ xs) (suc k) h = below xs k (omega arith)
 
 -- each number of a first process is one of an image
-pub first_numbered : (files : List FlatFile) (first : List ℕ) → AreImageFiles files → AreNumbers (length files) first → All (λ (n : ℕ). IsSome (image_numbered (images_of files) n)) first
+pub first_numbered : (files : List FlatFile) (first : List ℕ) → AreImageFiles files → AreNumbers (length files) first
+    → All (λ (n : ℕ). IsSome (image_numbered (images_of files) n)) first
 first_numbered files first a b = λ i d below.
     let count = images_count files a.images in
     let numbers = b i d below in

@@ -195,7 +195,8 @@ one_test s present address page next whole touched is (Missing a w p front back 
     Missing a w p (page ∷ front) back e k new (h, all) (ap (λ (ps : List Page). page ∷ ps) l)
 one_test s present address page next whole touched is rest false h = Missing address true page [] touched refl is h tt refl
 
-pub paging : {A : Type 0} (s : Space) (present : List Page) (p : Program A) → Paging s present (run (shown s present) p) (run (answers_of s) p) (pages_of s (accesses (answers_of s) p))
+pub paging : {A : Type 0} (s : Space) (present : List Page) (p : Program A)
+    → Paging s present (run (shown s present) p) (run (answers_of s) p) (pages_of s (accesses (answers_of s) p))
 paging s present (Gives x) = Whole refl tt
 paging s present (Refuses signal) = Whole refl tt
 paging s present (Reads address next) =
@@ -259,7 +260,8 @@ pub record Brought (first present more touched : List Page) : Type 0 where
   pub same : gathered more touched ≡ gathered first touched
   pub fewer : length (gathered first touched) - length more < length (gathered first touched) - length present
 
-pub brought : (s t : Space) (first present kept more touched : List Page) (address : ℕ) (write : Bool) → t ≡ s → kept ≡ present → Brings s present address write touched
+pub brought : (s t : Space) (first present kept more touched : List Page) (address : ℕ) (write : Bool) → t ≡ s → kept ≡ present
+    → Brings s present address write touched
     → gathered present touched ≡ gathered first touched → ((page : Page) → page_of_access t (access_of address write) ≡ Some page → more ≡ kept ++ page ∷ [])
     → Brought first present more touched
 brought s t first present kept more touched address write space stay brings same pushed =
@@ -274,7 +276,8 @@ brought s t first present kept more touched address write space stay brings same
     }
 
 -- where no access misses, all pages that are touched are there
-pub hit : {A : Type 0} (s : Space) (present : List Page) (p : Program A) → ((address : ℕ) (write : Bool) → run (shown s present) p ≡ Err (Miss address write) → ⊥)
+pub hit : {A : Type 0} (s : Space) (present : List Page) (p : Program A)
+    → ((address : ℕ) (write : Bool) → run (shown s present) p ≡ Err (Miss address write) → ⊥)
     → (run (shown s present) p ≡ run (answers_of s) p) × (gathered present (pages_of s (accesses (answers_of s) p)) ≡ present)
 hit {A = A} s present p none = go (run (shown s present) p) none (paging s present p)
   where
@@ -342,7 +345,8 @@ hit_answer s t present left regs after stepped answer registers wrote none =
 abbrev pub instruction_pages : Space → Regs → List Page
 instruction_pages s regs = pages_of s (accesses (answers_of s) (instruction regs))
 
-pub missed_from : (s t s₀ : Space) (first present kept more : List Page) (regs after regs₀ : Regs) (address : ℕ) (write : Bool) → Misses s t present kept regs after address write
+pub missed_from : (s t s₀ : Space) (first present kept more : List Page) (regs after regs₀ : Regs) (address : ℕ) (write : Bool)
+    → Misses s t present kept regs after address write
     → s ≡ s₀ → regs ≡ regs₀ → gathered present (instruction_pages s₀ regs₀) ≡ gathered first (instruction_pages s₀ regs₀)
     → ((page : Page) → page_of_access t (access_of address write) ≡ Some page → more ≡ kept ++ page ∷ [])
     → Brought first present more (instruction_pages s₀ regs₀)
@@ -411,11 +415,13 @@ may_of : (b : Bool) (m : MayWrite) → test_where b m ≡ tests.May → m ≡ te
 may_of true m h = h
 may_of false m h = absurd cc
 
-pub present_may : (present : List Page) (s : Space) (address : ℕ) → (shown s present).may_write address ≡ tests.May → may_write_at (address_in s address) ≡ tests.May
+pub present_may : (present : List Page) (s : Space) (address : ℕ) → (shown s present).may_write address ≡ tests.May
+    → may_write_at (address_in s address) ≡ tests.May
 present_may present s address h = may_of (is_shown present (page_tested s (address_in s address))) (may_write_at (address_in s address)) h
 
 -- a byte that may be written is of a present page
-may_there : (present : List Page) (s : Space) (spot : Spot) → test_where (is_shown present (page_tested s spot)) (may_write_at spot) ≡ tests.May → is_shown present (page_read s spot) ≡ true
+may_there : (present : List Page) (s : Space) (spot : Spot) → test_where (is_shown present (page_tested s spot)) (may_write_at spot) ≡ tests.May
+    → is_shown present (page_read s spot) ≡ true
 may_there present s (Text i) h = absurd cc
 may_there present s (Data i) h = go (is_among (pages.Data s.sid (i / 1024)) present) h
   where
@@ -490,7 +496,8 @@ shown_put present s w may test = λ i. record {
       ) i;
 }
 
-pub present_put : (present : List Page) (s t : Space) (w : ByteWrite) → (shown s present).may_write w.address ≡ tests.May → Wrote s (w ∷ []) t → WrotePresent present s (w ∷ []) present t
+pub present_put : (present : List Page) (s t : Space) (w : ByteWrite) → (shown s present).may_write w.address ≡ tests.May → Wrote s (w ∷ []) t
+    → WrotePresent present s (w ∷ []) present t
 present_put present s t w test h =
     subst (λ (x : Space). WrotePresent present s (w ∷ []) present x) h.1 (record { kept = refl; wrote = (h.0, refl); answers = shown_put present s w h.0 test })
 
@@ -537,7 +544,8 @@ stepped_pages images F p s t regs first present after same instr space rest =
     ∙ ap (λ (x : Regs). gathered first (pages_of s (accesses (answers_of s) (instruction x) ++ accesses_after images F p s (instruction_in s x)))) (sym same)
 
 -- the pages that a step touches from none on
-pub touched_held : (images : List NamedImage) (F : FlatState) (p : Process) (h : Holding) (s t : Space) (first list : List Page) → h ≡ Holds s → t ≡ s → first ≡ []
+pub touched_held : (images : List NamedImage) (F : FlatState) (p : Process) (h : Holding) (s t : Space) (first list : List Page) → h ≡ Holds s → t ≡ s
+    → first ≡ []
     → list ≡ gathered first (pages_of t (step_accesses images F p t)) → list ≡ touched_in images F p h
 touched_held images F p h s t first list held space none is =
     is

@@ -22,7 +22,8 @@ bytes_count memory (suc count) address bytes e =
     let is : first.0 ∷ rest.0 ≡ bytes = cc in
     sym (ap length is) ∙ ap suc (bytes_count memory count (past address 1) rest.0 rest.1)
 
-written_can : (images : List NamedImage) (memory : Answers) (output : Bool) (buffer count : ℕ) (reply : Reply) → run memory (written_to output buffer count) ≡ Ok reply → CanReply images reply
+written_can : (images : List NamedImage) (memory : Answers) (output : Bool) (buffer count : ℕ) (reply : Reply)
+    → run memory (written_to output buffer count) ≡ Ok reply → CanReply images reply
 unfolding written_to
 written_can images memory false buffer count reply e = let all : Ok (Fails 9) ≡ Ok reply = e in let is : Fails 9 ≡ reply = cc in subst (CanReply images) is tt
 written_can images memory true buffer count reply e =
@@ -33,14 +34,16 @@ written_can images memory true buffer count reply e =
     subst (CanReply images) is (let few : length wrote.0 ≤ 1024 = omega arith in few)
 
 -- a write is of no more bytes than may be
-pub write_can : (images : List NamedImage) (memory : Answers) (regs : Regs) (asked : Result Reply Refused) → asked ≡ run memory (write_reply regs) → CanAnswer images asked
+pub write_can : (images : List NamedImage) (memory : Answers) (regs : Regs) (asked : Result Reply Refused) → asked ≡ run memory (write_reply regs)
+    → CanAnswer images asked
 unfolding write_reply
 write_can images memory regs (Err refused) e = tt
 write_can images memory regs (Ok reply) e =
     let asked = ok_of_bind memory (three_arguments regs) (λ asked. written_to (asked.0 == 1 || asked.0 == 2) asked.1 asked.2) reply (sym e) in
     written_can images memory (asked.0.0 == 1 || asked.0.0 == 2) asked.0.1 asked.0.2 reply asked.2
 
-pub exit_can : (images : List NamedImage) (memory : Answers) (regs : Regs) (asked : Result Reply Refused) → asked ≡ run memory (exit_reply regs) → CanAnswer images asked
+pub exit_can : (images : List NamedImage) (memory : Answers) (regs : Regs) (asked : Result Reply Refused) → asked ≡ run memory (exit_reply regs)
+    → CanAnswer images asked
 unfolding exit_reply
 exit_can images memory regs (Err refused) e = tt
 exit_can images memory regs (Ok reply) e =

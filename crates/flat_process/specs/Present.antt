@@ -24,7 +24,8 @@ pub record WrotePresent (pages : List Page) (s : Space) (writes : List ByteWrite
 pub present_none : (pages : List Page) (s : Space) → WrotePresent pages s [] pages s
 present_none pages s = record { kept = refl; wrote = refl; answers = refl }
 
-pub present_more : (some more most : List Page) (s t u : Space) (xs ys : List ByteWrite) → WrotePresent some s xs more t → WrotePresent more t ys most u → WrotePresent some s (xs ++ ys) most u
+pub present_more : (some more most : List Page) (s t u : Space) (xs ys : List ByteWrite) → WrotePresent some s xs more t
+    → WrotePresent more t ys most u → WrotePresent some s (xs ++ ys) most u
 present_more some more most s t u xs ys h k = record {
   kept = k.kept ∙ h.kept;
   wrote = wrote_more s t u xs ys h.wrote k.wrote;

@@ -237,7 +237,8 @@ pub fn read_by_call<M: Memory>(
     regs: Regs,
 ) -> Result<Asked<()>, NoMemory>
     requires { length programs.now < 2 ^ 31 }
-    ensures { (F : FlatState) (p : Record) (s : Space) → IfOk result (λ asked. asked ≡ refusal_of (run (M.answers memory.now) (reply_of programs.now F p s call regs))) }
+    ensures { (F : FlatState) (p : Record) (s : Space)
+        → IfOk result (λ asked. asked ≡ refusal_of (run (M.answers memory.now) (reply_of programs.now F p s call regs))) }
 {
     match call {
         SystemCall::Exit | SystemCall::Break => Ok(refusal_of(argument(memory, regs, 1))),

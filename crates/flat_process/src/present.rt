@@ -126,7 +126,8 @@ impl Paged {
     // The page of a byte that missed is present from now on.
     fn bring(&mut self, address: u32, write: bool) -> Result<(), NoMemory>
         ensures space { self.new.space ≡ self.old.space }
-        ensures pages { (page : PageName) → page_of_access self.old.space (access_of address write) ≡ Some page → OnOk result (self.new.pages.items ≡ self.old.pages.items ++ page ∷ []) }
+        ensures pages { (page : PageName) → page_of_access self.old.space (access_of address write) ≡ Some page
+            → OnOk result (self.new.pages.items ≡ self.old.pages.items ++ page ∷ []) }
     {
         match self.page_of(address, write) {
             None => Ok(()),
@@ -209,7 +210,8 @@ impl Paged {
         ensures answer { IfOk result (λ stepped. stepped ≡ answer_of (instruction_in self.old.space regs.old)) }
         ensures registers { OnOk result (regs.new ≡ registers_after regs.old (instruction_in self.old.space regs.old)) }
         ensures space { OnOk result (self.new.space ≡ puts self.old.space (writes_of (instruction_in self.old.space regs.old))) }
-        ensures pages { (F : FlatState) (p : Record) → p.regs ≡ regs.old → OnOk result (self.new.pages.items ≡ gathered self.old.pages.items (pages_of self.old.space (step_accesses programs.now F p self.old.space))) }
+        ensures pages { (F : FlatState) (p : Record) → p.regs ≡ regs.old
+            → OnOk result (self.new.pages.items ≡ gathered self.old.pages.items (pages_of self.old.space (step_accesses programs.now F p self.old.space))) }
     {
         let stepped = self.run(regs)?;
         self.ask_behind(alloc, programs, stepped, *regs)?;

@@ -144,11 +144,13 @@ join_hands_counted (SwapOut a) n = omega arith
 join_hands_counted (SwapIn a) n = omega arith
 join_hands_counted (Owners a b c d) n = omega arith
 
-after_counted : (u : Entry) → ((e : Entry) → instructions_of (join e u) ≡ counted e + counted u) → (e : Entry) (j : List Entry) → instructions_of (append_after e j u) ≡ counted e + instructions_of j + counted u
+after_counted : (u : Entry) → ((e : Entry) → instructions_of (join e u) ≡ counted e + counted u) → (e : Entry) (j : List Entry)
+    → instructions_of (append_after e j u) ≡ counted e + instructions_of j + counted u
 after_counted u h e [] = let k = h e in omega arith
 after_counted u h e (f ∷ j) = let k = after_counted u h f j in omega arith
 
-joined_counted : (u : Entry) → ((e : Entry) → instructions_of (join e u) ≡ counted e + counted u) → (j : List Entry) → instructions_of (append_joined j u) ≡ instructions_of j + counted u
+joined_counted : (u : Entry) → ((e : Entry) → instructions_of (join e u) ≡ counted e + counted u) → (j : List Entry)
+    → instructions_of (append_joined j u) ≡ instructions_of j + counted u
 joined_counted u h [] = omega arith
 joined_counted u h (e ∷ j) = after_counted u h e j
 
@@ -174,21 +176,25 @@ append_counted j (SwapIn a) = let h = count-append j (SwapIn a ∷ []) in omega 
 append_counted j (Owners a b c d) = let h = count-append j (Owners a b c d ∷ []) in omega arith
 
 -- A last entry that the unit joins is raised in place.
-pub raise_joined : (e : Entry) (j : List Entry) (last raised u : Entry) → join last u ≡ raised ∷ [] → get_or (e ∷ j) (length j) Done ≡ last → set (e ∷ j) (length j) raised ≡ append_after e j u
+pub raise_joined : (e : Entry) (j : List Entry) (last raised u : Entry) → join last u ≡ raised ∷ [] → get_or (e ∷ j) (length j) Done ≡ last
+    → set (e ∷ j) (length j) raised ≡ append_after e j u
 raise_joined e [] last raised u h k = sym (ap (λ (x : Entry). join x u) k ∙ h)
 raise_joined e (f ∷ j) last raised u h k = ap (λ (x : List Entry). e ∷ x) (raise_joined f j last raised u h k)
 
 -- another last entry has it after it
-pub push_joined : (e : Entry) (j : List Entry) (u : Entry) → ((last : Entry) → get_or (e ∷ j) (length j) Done ≡ last → join last u ≡ last ∷ u ∷ []) → e ∷ j ++ u ∷ [] ≡ append_after e j u
+pub push_joined : (e : Entry) (j : List Entry) (u : Entry) → ((last : Entry) → get_or (e ∷ j) (length j) Done ≡ last → join last u ≡ last ∷ u ∷ [])
+    → e ∷ j ++ u ∷ [] ≡ append_after e j u
 push_joined e [] u h = sym (h e refl)
 push_joined e (f ∷ j) u h = ap (λ (x : List Entry). e ∷ x) (push_joined f j u h)
 
 -- a last `Ran` of the process is raised in place
-pub raise_last : (e : Entry) (j : List Entry) (p m n : ℕ) → get_or (e ∷ j) (length j) Done ≡ Ran p m → set (e ∷ j) (length j) (Ran p (m + n)) ≡ append_after e j (Ran p n)
+pub raise_last : (e : Entry) (j : List Entry) (p m n : ℕ) → get_or (e ∷ j) (length j) Done ≡ Ran p m
+    → set (e ∷ j) (length j) (Ran p (m + n)) ≡ append_after e j (Ran p n)
 raise_last e j p m n h = raise_joined e j (Ran p m) (Ran p (m + n)) (Ran p n) (ap (λ (b : Bool). join_by b p m p n) (eq-eqb p p refl)) h
 
 -- another last entry has the `Ran` after it
-pub push_last : (e : Entry) (j : List Entry) (p n : ℕ) → ((m : ℕ) → get_or (e ∷ j) (length j) Done ≡ Ran p m → ⊥) → e ∷ j ++ Ran p n ∷ [] ≡ append_after e j (Ran p n)
+pub push_last : (e : Entry) (j : List Entry) (p n : ℕ) → ((m : ℕ) → get_or (e ∷ j) (length j) Done ≡ Ran p m → ⊥)
+    → e ∷ j ++ Ran p n ∷ [] ≡ append_after e j (Ran p n)
 push_last e j p n h = push_joined e j (Ran p n) (λ last k. go last (λ m r. h m (k ∙ r)))
   where
     by : (b : Bool) (q m : ℕ) → (q == p) ≡ b → ((k : ℕ) → Ran q m ≡ Ran p k → ⊥) → join_by b q m p n ≡ Ran q m ∷ Ran p n ∷ []

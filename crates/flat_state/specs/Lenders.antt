@@ -16,7 +16,8 @@ IsWith sid (Some q) = HasOrLent sid q.holding
 -- each lender's space is with its child, and no child has two lenders
 pub record LendsStand (flat : FlatState) : Type 0 where
   pub right : (x : Process) (sid child : ℕ) → process_of flat x.pid ≡ Some x → x.holding ≡ Lends sid child → IsWith sid (process_of flat child)
-  pub one : (x y : Process) (a b child : ℕ) → process_of flat x.pid ≡ Some x → process_of flat y.pid ≡ Some y → x.holding ≡ Lends a child → y.holding ≡ Lends b child → x.pid ≡ y.pid
+  pub one : (x y : Process) (a b child : ℕ) → process_of flat x.pid ≡ Some x → process_of flat y.pid ≡ Some y → x.holding ≡ Lends a child
+      → y.holding ≡ Lends b child → x.pid ≡ y.pid
 
 -- this process lent the space to that one, and no other lent it one
 pub record IsLender (flat : FlatState) (pid sid : ℕ) (m : Process) : Type 0 where

@@ -5,7 +5,8 @@ use Rattle.io_edge.specs.FileHolding.{NamedFile, AnswersName, HasRange, no_file}
 use Rattle.io_edge.specs.declared.Found.TheVariants.{Is}
 
 -- a range within the length that was told when the file was found
-pub range_of_found : (holds : Option (List NamedFile)) (name : List ℕ) (id len offset count : ℕ) → AnswersName holds name (Is id len) → offset + count ≤ len → HasRange holds id offset count
+pub range_of_found : (holds : Option (List NamedFile)) (name : List ℕ) (id len offset count : ℕ) → AnswersName holds name (Is id len)
+    → offset + count ≤ len → HasRange holds id offset count
 range_of_found None name id len offset count found within = tt
 range_of_found (Some files) name id len offset count found within =
     ((position-Some (λ file. bytes_eq file.name name) files id no_file found.0).0, omega (arith, found.1))

@@ -12,5 +12,6 @@ pub position-map : {X Y : Type 0} (p : Y → Bool) (f : X → Y) (xs : List X) �
 position-map p f xs = simp (position_or_len-map, length-map)
 
 -- the bytes at a place
-pub bytes_at-map : {A B : Type 0} (files : List (String A × Vec ℕ B)) (place : ℕ) (d : String A × Vec ℕ B) → place < length files → bytes_at (map named_file files) place ≡ (named_file (slice_index_or files place d)).bytes
+pub bytes_at-map : {A B : Type 0} (files : List (String A × Vec ℕ B)) (place : ℕ) (d : String A × Vec ℕ B) → place < length files
+    → bytes_at (map named_file files) place ≡ (named_file (slice_index_or files place d)).bytes
 bytes_at-map files place d within = ap (λ (file : NamedFile). file.bytes) (get_or-map named_file files place d no_file within)

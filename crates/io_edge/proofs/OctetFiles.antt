@@ -14,7 +14,8 @@ octets_behind [] file all one = (one, tt)
 octets_behind (f ∷ files) file all one = (all.0, octets_behind files file all.1 one)
 
 -- the files so far, and one more
-pub octets_more : {X : Type 0} (view : X → NamedFile) (files : List X) (i : ℕ) (d : X) → i < length files → IsOctetFile (view (get_or files i d)) → AreOctetFiles (map view (take i files)) → AreOctetFiles (map view (take (i + 1) files))
+pub octets_more : {X : Type 0} (view : X → NamedFile) (files : List X) (i : ℕ) (d : X) → i < length files → IsOctetFile (view (get_or files i d))
+    → AreOctetFiles (map view (take i files)) → AreOctetFiles (map view (take (i + 1) files))
 octets_more view files i d below one all =
     subst (λ (told : List NamedFile). AreOctetFiles told) (sym (ap (map view) (take_more files i d below) ∙ map-append view (take i files) (get_or files i d ∷ [])))
     (octets_behind (map view (take i files)) (view (get_or files i d)) all one)

@@ -29,7 +29,8 @@ part-append start count xs ys within =
     ap (λ (rest : List ℕ). take count rest) (drop-append-le start xs ys begins) ∙ take-append-le count (drop start xs) ys ends
 
 -- a write into the front
-pub put_blocks-append : (block : ℕ) (bytes xs ys : List ℕ) → 512 * block + 1024 ≤ length xs → put_blocks (xs ++ ys) block bytes ≡ put_blocks xs block bytes ++ ys
+pub put_blocks-append : (block : ℕ) (bytes xs ys : List ℕ) → 512 * block + 1024 ≤ length xs
+    → put_blocks (xs ++ ys) block bytes ≡ put_blocks xs block bytes ++ ys
 unfolding put_blocks
 put_blocks-append block bytes xs ys within =
     let begins : 512 * block ≤ length xs = omega arith in
@@ -38,7 +39,8 @@ put_blocks-append block bytes xs ys within =
     ∙ sym (append_assoc (take (512 * block) xs ++ bytes) (drop (512 * block + 1024) xs) ys)
 
 -- a write at the end
-pub put_blocks_last : (block : ℕ) (bytes front page : List ℕ) → length front ≡ 512 * block → length page ≡ 1024 → put_blocks (front ++ page) block bytes ≡ front ++ bytes
+pub put_blocks_last : (block : ℕ) (bytes front page : List ℕ) → length front ≡ 512 * block → length page ≡ 1024
+    → put_blocks (front ++ page) block bytes ≡ front ++ bytes
 unfolding put_blocks
 put_blocks_last block bytes front page begins whole =
     let ends : drop (512 * block + 1024) (front ++ page) ≡ [] = nil_from_length (drop (512 * block + 1024) (front ++ page)) (omega (arith, length-drop (512 * block + 1024) (front ++ page), length-append front page)) in
@@ -61,7 +63,8 @@ page_blocks image block =
     ∙ ap (λ (rest : List ℕ). take 512 (drop (512 * block) image) ++ take 512 rest) (drop-drop 512 (512 * block) image ∙ ap (λ (n : ℕ). drop n image) (omega arith))
 
 -- a part before the one that was written
-pub part-put_part_before : (at count start size : ℕ) (bytes xs : List ℕ) → start + size ≤ at → at ≤ length xs → part start size (put_part at count bytes xs) ≡ part start size xs
+pub part-put_part_before : (at count start size : ℕ) (bytes xs : List ℕ) → start + size ≤ at → at ≤ length xs
+    → part start size (put_part at count bytes xs) ≡ part start size xs
 part-put_part_before at count start size bytes xs before within =
     let front : length (take at xs) ≡ at = length-take-le at xs within in
     ap (λ (ys : List ℕ). part start size ys) (append_assoc (take at xs) bytes (drop (at + count) xs))
@@ -70,12 +73,14 @@ part-put_part_before at count start size bytes xs before within =
     ∙ ap (λ (ys : List ℕ). part start size ys) (take-append-drop at xs)
 
 -- a part behind it
-pub part-put_part_behind : (at count start size : ℕ) (bytes xs : List ℕ) → at + count ≤ start → at ≤ length xs → length bytes ≡ count → part start size (put_part at count bytes xs) ≡ part start size xs
+pub part-put_part_behind : (at count start size : ℕ) (bytes xs : List ℕ) → at + count ≤ start → at ≤ length xs → length bytes ≡ count
+    → part start size (put_part at count bytes xs) ≡ part start size xs
 part-put_part_behind at count start size bytes xs behind within whole =
     ap (λ (ys : List ℕ). take size ys) (drop-append-drop (at + count) xs (take at xs ++ bytes) start behind (length-append (take at xs) bytes ∙ omega (arith, length-take-le at xs)))
 
 -- another block
-pub block_at-put_blocks_other : (block other : ℕ) (bytes image : List ℕ) → (other < block) ⊎ (suc block < other) → 512 * block + 1024 ≤ length image → length bytes ≡ 1024 → block_at (put_blocks image block bytes) other ≡ block_at image other
+pub block_at-put_blocks_other : (block other : ℕ) (bytes image : List ℕ) → (other < block) ⊎ (suc block < other) → 512 * block + 1024 ≤ length image
+    → length bytes ≡ 1024 → block_at (put_blocks image block bytes) other ≡ block_at image other
 unfolding block_at put_blocks
 block_at-put_blocks_other block other bytes image (inl before) within whole = part-put_part_before (512 * block) 1024 (512 * other) 512 bytes image (omega arith) (omega arith)
 block_at-put_blocks_other block other bytes image (inr behind) within whole = part-put_part_behind (512 * block) 1024 (512 * other) 512 bytes image (omega arith) (omega arith) whole

@@ -14,14 +14,17 @@ abbrev OthersSame : ℕ → ℕ → List ℕ → List ℕ → List ℕ → List 
 OthersSame blocks block evens odds evens' odds' = (device other : ℕ) → device_of other ≡ device → other < blocks → (other < block) ⊎ (suc block < other) → block_at (of_device device evens' odds') (place_of other) ≡ block_at (of_device device evens odds) (place_of other)
 
 -- the blocks before a page
-front_same : (blocks count block : ℕ) (evens odds evens' odds' : List ℕ) → count ≤ block → count ≤ blocks → OthersSame blocks block evens odds evens' odds' → first_blocks count evens' odds' ≡ first_blocks count evens odds
+front_same : (blocks count block : ℕ) (evens odds evens' odds' : List ℕ) → count ≤ block → count ≤ blocks
+    → OthersSame blocks block evens odds evens' odds' → first_blocks count evens' odds' ≡ first_blocks count evens odds
 unfolding first_blocks
 front_same blocks zero block evens odds evens' odds' before within others = refl
 front_same blocks (suc last) block evens odds evens' odds' before within others =
     ap (λ (front : List ℕ). front ++ block_at (of_device (device_of last) evens' odds') (place_of last)) (front_same blocks last block evens odds evens' odds' (omega arith) (omega arith) others)
     ∙ ap (λ (back : List ℕ). first_blocks last evens odds ++ back) (others (device_of last) last refl (omega arith) (inl (omega arith)))
 
-put_last : (block : ℕ) (bytes evens odds evens' odds' : List ℕ) → block % 2 ≡ 0 → HasBlocks (suc (suc block)) evens odds → OthersSame (suc (suc block)) block evens odds evens' odds' → blocks_at (of_device (device_of block) evens' odds') (place_of block) ≡ bytes → put_blocks (first_blocks (suc (suc block)) evens odds) block bytes ≡ first_blocks (suc (suc block)) evens' odds'
+put_last : (block : ℕ) (bytes evens odds evens' odds' : List ℕ) → block % 2 ≡ 0 → HasBlocks (suc (suc block)) evens odds
+    → OthersSame (suc (suc block)) block evens odds evens' odds' → blocks_at (of_device (device_of block) evens' odds') (place_of block) ≡ bytes
+    → put_blocks (first_blocks (suc (suc block)) evens odds) block bytes ≡ first_blocks (suc (suc block)) evens' odds'
 put_last block bytes evens odds evens' odds' even has others written =
     let page = blocks_at (of_device (device_of block) evens odds) (place_of block) in
     ap (λ (image : List ℕ). put_blocks image block bytes) (last_page block evens odds even)
@@ -30,7 +33,9 @@ put_last block bytes evens odds evens' odds' even has others written =
     ∙ ap (λ (front : List ℕ). front ++ blocks_at (of_device (device_of block) evens' odds') (place_of block)) (front_same (suc (suc block)) block block evens odds evens' odds' (omega arith) (omega arith) others)
     ∙ ap (λ (back : List ℕ). first_blocks block evens odds ++ back) written)
 
-put_of_pair : (blocks block : ℕ) (bytes evens odds evens' odds' : List ℕ) → block % 2 ≡ 0 → suc (suc block) ≤ blocks → HasBlocks blocks evens odds → OthersSame blocks block evens odds evens' odds' → blocks_at (of_device (device_of block) evens' odds') (place_of block) ≡ bytes → put_blocks (first_blocks blocks evens odds) block bytes ≡ first_blocks blocks evens' odds'
+put_of_pair : (blocks block : ℕ) (bytes evens odds evens' odds' : List ℕ) → block % 2 ≡ 0 → suc (suc block) ≤ blocks → HasBlocks blocks evens odds
+    → OthersSame blocks block evens odds evens' odds' → blocks_at (of_device (device_of block) evens' odds') (place_of block) ≡ bytes
+    → put_blocks (first_blocks blocks evens odds) block bytes ≡ first_blocks blocks evens' odds'
 unfolding first_blocks
 put_of_pair zero block bytes evens odds evens' odds' even within has others written = absurd (omega arith)
 put_of_pair (suc last) block bytes evens odds evens' odds' even within has others written =
@@ -45,23 +50,28 @@ put_of_pair (suc last) block bytes evens odds evens' odds' even within has other
     ]
 
 -- on one device, the places of other blocks are apart from those of a page
-apart_places : (block other : ℕ) → block % 2 ≡ 0 → device_of other ≡ device_of block → (other < block) ⊎ (suc block < other) → (place_of other < place_of block) ⊎ (suc (place_of block) < place_of other)
+apart_places : (block other : ℕ) → block % 2 ≡ 0 → device_of other ≡ device_of block → (other < block) ⊎ (suc block < other)
+    → (place_of other < place_of block) ⊎ (suc (place_of block) < place_of other)
 apart_places block other even same (inl before) = inl (place_of-rises other block before same)
 apart_places block other even same (inr behind) =
     inr (omega (arith, place_of-rises (suc block) other behind (device_of-next block even ∙ sym same), place_of-next block even))
 
 -- the page is within its device's image
-page_within : (blocks block device : ℕ) (evens odds : List ℕ) → block % 2 ≡ 0 → suc (suc block) ≤ blocks → HasBlocks blocks evens odds → device_of block ≡ device → 512 * place_of block + 1024 ≤ length (of_device device evens odds)
+page_within : (blocks block device : ℕ) (evens odds : List ℕ) → block % 2 ≡ 0 → suc (suc block) ≤ blocks → HasBlocks blocks evens odds
+    → device_of block ≡ device → 512 * place_of block + 1024 ≤ length (of_device device evens odds)
 page_within blocks block device evens odds even within has on =
     omega (arith, has device (suc block) (device_of-next block even ∙ on) (omega arith), place_of-next block even)
 
 -- a page of an even unit is written on device 0 alone
-others_even : (blocks block : ℕ) (bytes evens odds : List ℕ) → block % 2 ≡ 0 → device_of block ≡ 0 → 512 * place_of block + 1024 ≤ length evens → length bytes ≡ 1024 → OthersSame blocks block evens odds (put_blocks evens (place_of block) bytes) odds
+others_even : (blocks block : ℕ) (bytes evens odds : List ℕ) → block % 2 ≡ 0 → device_of block ≡ 0 → 512 * place_of block + 1024 ≤ length evens
+    → length bytes ≡ 1024 → OthersSame blocks block evens odds (put_blocks evens (place_of block) bytes) odds
 others_even blocks block bytes evens odds even on within whole zero other other_on below apart =
     block_at-put_blocks_other (place_of block) (place_of other) bytes evens (apart_places block other even (other_on ∙ sym on) apart) within whole
 others_even blocks block bytes evens odds even on within whole (suc _) other other_on below apart = refl
 
-put_even : (blocks block : ℕ) (bytes evens odds : List ℕ) → block % 2 ≡ 0 → suc (suc block) ≤ blocks → HasBlocks blocks evens odds → length bytes ≡ 1024 → device_of block ≡ 0 → put_blocks (first_blocks blocks evens odds) block bytes ≡ first_blocks blocks (put_blocks evens (place_of block) bytes) odds
+put_even : (blocks block : ℕ) (bytes evens odds : List ℕ) → block % 2 ≡ 0 → suc (suc block) ≤ blocks → HasBlocks blocks evens odds
+    → length bytes ≡ 1024 → device_of block ≡ 0
+    → put_blocks (first_blocks blocks evens odds) block bytes ≡ first_blocks blocks (put_blocks evens (place_of block) bytes) odds
 put_even blocks block bytes evens odds even within has whole on =
     let inside : 512 * place_of block + 1024 ≤ length evens = page_within blocks block 0 evens odds even within has on in
     put_of_pair blocks block bytes evens odds (put_blocks evens (place_of block) bytes) odds even within has
@@ -74,12 +84,16 @@ odd_same : (a b c d : ℕ) → device_of a ≡ suc c → device_of b ≡ suc d �
 unfolding device_of
 odd_same a b c d on_one on_one' = omega arith
 
-others_odd : (blocks block unit : ℕ) (bytes evens odds : List ℕ) → block % 2 ≡ 0 → device_of block ≡ suc unit → 512 * place_of block + 1024 ≤ length odds → length bytes ≡ 1024 → OthersSame blocks block evens odds evens (put_blocks odds (place_of block) bytes)
+others_odd : (blocks block unit : ℕ) (bytes evens odds : List ℕ) → block % 2 ≡ 0 → device_of block ≡ suc unit
+    → 512 * place_of block + 1024 ≤ length odds → length bytes ≡ 1024
+    → OthersSame blocks block evens odds evens (put_blocks odds (place_of block) bytes)
 others_odd blocks block unit bytes evens odds even on within whole zero other other_on below apart = refl
 others_odd blocks block unit bytes evens odds even on within whole (suc parity) other other_on below apart =
     block_at-put_blocks_other (place_of block) (place_of other) bytes odds (apart_places block other even (odd_same other block parity unit other_on on) apart) within whole
 
-put_odd : (blocks block unit : ℕ) (bytes evens odds : List ℕ) → block % 2 ≡ 0 → suc (suc block) ≤ blocks → HasBlocks blocks evens odds → length bytes ≡ 1024 → device_of block ≡ suc unit → put_blocks (first_blocks blocks evens odds) block bytes ≡ first_blocks blocks evens (put_blocks odds (place_of block) bytes)
+put_odd : (blocks block unit : ℕ) (bytes evens odds : List ℕ) → block % 2 ≡ 0 → suc (suc block) ≤ blocks → HasBlocks blocks evens odds
+    → length bytes ≡ 1024 → device_of block ≡ suc unit
+    → put_blocks (first_blocks blocks evens odds) block bytes ≡ first_blocks blocks evens (put_blocks odds (place_of block) bytes)
 put_odd blocks block unit bytes evens odds even within has whole on =
     let inside : 512 * place_of block + 1024 ≤ length odds = page_within blocks block (suc unit) evens odds even within has on in
     put_of_pair blocks block bytes evens odds evens (put_blocks odds (place_of block) bytes) even within has
@@ -88,27 +102,35 @@ put_odd blocks block unit bytes evens odds even within has whole on =
     ∙ blocks_at-put_blocks_same odds bytes (place_of block) inside whole)
 
 -- a page that was read from a pair
-pub holds_even : (blocks block : ℕ) (evens odds : Option (List ℕ)) (bytes : List ℕ) → block % 2 ≡ 0 → suc (suc block) ≤ blocks → TellBlocks blocks evens odds → device_of block ≡ 0 → HoldsPage evens (place_of block) bytes → HoldsPage (pair_image blocks evens odds) block bytes
+pub holds_even : (blocks block : ℕ) (evens odds : Option (List ℕ)) (bytes : List ℕ) → block % 2 ≡ 0 → suc (suc block) ≤ blocks
+    → TellBlocks blocks evens odds → device_of block ≡ 0 → HoldsPage evens (place_of block) bytes
+    → HoldsPage (pair_image blocks evens odds) block bytes
 holds_even blocks block None odds bytes even within tell on held = tt
 holds_even blocks block (Some evens) None bytes even within tell on held = tt
 holds_even blocks block (Some evens) (Some odds) bytes even within tell on held =
     held ∙ sym (page_of_pair blocks block evens odds even within (tell evens odds refl refl) ∙ ap (λ (device : ℕ). blocks_at (of_device device evens odds) (place_of block)) on)
 
-pub holds_odd : (blocks block unit : ℕ) (evens odds : Option (List ℕ)) (bytes : List ℕ) → block % 2 ≡ 0 → suc (suc block) ≤ blocks → TellBlocks blocks evens odds → device_of block ≡ suc unit → HoldsPage odds (place_of block) bytes → HoldsPage (pair_image blocks evens odds) block bytes
+pub holds_odd : (blocks block unit : ℕ) (evens odds : Option (List ℕ)) (bytes : List ℕ) → block % 2 ≡ 0 → suc (suc block) ≤ blocks
+    → TellBlocks blocks evens odds → device_of block ≡ suc unit → HoldsPage odds (place_of block) bytes
+    → HoldsPage (pair_image blocks evens odds) block bytes
 holds_odd blocks block unit None odds bytes even within tell on held = tt
 holds_odd blocks block unit (Some evens) None bytes even within tell on held = tt
 holds_odd blocks block unit (Some evens) (Some odds) bytes even within tell on held =
     held ∙ sym (page_of_pair blocks block evens odds even within (tell evens odds refl refl) ∙ ap (λ (device : ℕ). blocks_at (of_device device evens odds) (place_of block)) on)
 
 -- a page that was written to a pair
-pub writes_even : (blocks block : ℕ) (evens odds new : Option (List ℕ)) (bytes : List ℕ) → block % 2 ≡ 0 → suc (suc block) ≤ blocks → TellBlocks blocks evens odds → length bytes ≡ 1024 → device_of block ≡ 0 → WritesPage evens (place_of block) bytes new → WritesPage (pair_image blocks evens odds) block bytes (pair_image blocks new odds)
+pub writes_even : (blocks block : ℕ) (evens odds new : Option (List ℕ)) (bytes : List ℕ) → block % 2 ≡ 0 → suc (suc block) ≤ blocks
+    → TellBlocks blocks evens odds → length bytes ≡ 1024 → device_of block ≡ 0 → WritesPage evens (place_of block) bytes new
+    → WritesPage (pair_image blocks evens odds) block bytes (pair_image blocks new odds)
 writes_even blocks block None odds new bytes even within tell whole on written = ap (λ (image : Option (List ℕ)). pair_image blocks image odds) written
 writes_even blocks block (Some evens) None new bytes even within tell whole on written = ap (λ (image : Option (List ℕ)). pair_image blocks image None) written
 writes_even blocks block (Some evens) (Some odds) new bytes even within tell whole on written =
     ap (λ (image : Option (List ℕ)). pair_image blocks image (Some odds)) written
     ∙ ap (λ (image : List ℕ). Some image) (sym (put_even blocks block bytes evens odds even within (tell evens odds refl refl) whole on))
 
-pub writes_odd : (blocks block unit : ℕ) (evens odds new : Option (List ℕ)) (bytes : List ℕ) → block % 2 ≡ 0 → suc (suc block) ≤ blocks → TellBlocks blocks evens odds → length bytes ≡ 1024 → device_of block ≡ suc unit → WritesPage odds (place_of block) bytes new → WritesPage (pair_image blocks evens odds) block bytes (pair_image blocks evens new)
+pub writes_odd : (blocks block unit : ℕ) (evens odds new : Option (List ℕ)) (bytes : List ℕ) → block % 2 ≡ 0 → suc (suc block) ≤ blocks
+    → TellBlocks blocks evens odds → length bytes ≡ 1024 → device_of block ≡ suc unit → WritesPage odds (place_of block) bytes new
+    → WritesPage (pair_image blocks evens odds) block bytes (pair_image blocks evens new)
 writes_odd blocks block unit None odds new bytes even within tell whole on written = refl
 writes_odd blocks block unit (Some evens) None new bytes even within tell whole on written = ap (λ (image : Option (List ℕ)). pair_image blocks (Some evens) image) written
 writes_odd blocks block unit (Some evens) (Some odds) new bytes even within tell whole on written =
@@ -120,10 +142,12 @@ pub not_even : (block : ℕ) → (device_of block ≡ 0 → ⊥) → device_of b
 unfolding device_of
 not_even block other = omega (arith, other)
 
-pub inside_even : (block even_size odd_size : ℕ) → block % 2 ≡ 0 → block + 2 ≤ pair_blocks even_size odd_size → device_of block ≡ 0 → place_of block + 2 ≤ even_size
+pub inside_even : (block even_size odd_size : ℕ) → block % 2 ≡ 0 → block + 2 ≤ pair_blocks even_size odd_size → device_of block ≡ 0
+    → place_of block + 2 ≤ even_size
 inside_even block even_size odd_size even within on =
     omega (arith, zero_has (suc block) even_size odd_size (omega arith) (device_of-next block even ∙ on), place_of-next block even)
 
-pub inside_odd : (block even_size odd_size : ℕ) → block % 2 ≡ 0 → block + 2 ≤ pair_blocks even_size odd_size → device_of block ≡ 1 → place_of block + 2 ≤ odd_size
+pub inside_odd : (block even_size odd_size : ℕ) → block % 2 ≡ 0 → block + 2 ≤ pair_blocks even_size odd_size → device_of block ≡ 1
+    → place_of block + 2 ≤ odd_size
 inside_odd block even_size odd_size even within on =
     omega (arith, one_has (suc block) even_size odd_size 0 (omega arith) (device_of-next block even ∙ on), place_of-next block even)

@@ -26,17 +26,21 @@ unfolding place_of
 place_of-even block even = omega arith
 
 -- the number of blocks is the largest whose needs are met
-zero_met : (device blocks even_size odd_size : ℕ) → device_of blocks ≡ device → blocks ≤ pair_blocks even_size odd_size → (blocks / 1024 - blocks / 1024 / 2) * 1024 + of_device device (blocks % 1024) 0 ≤ even_size
+zero_met : (device blocks even_size odd_size : ℕ) → device_of blocks ≡ device → blocks ≤ pair_blocks even_size odd_size
+    → (blocks / 1024 - blocks / 1024 / 2) * 1024 + of_device device (blocks % 1024) 0 ≤ even_size
 unfolding pair_blocks device_of
 zero_met zero blocks even_size odd_size on within = omega arith
 zero_met (suc _) blocks even_size odd_size on within = omega arith
 
-one_met : (device blocks even_size odd_size : ℕ) → device_of blocks ≡ device → blocks ≤ pair_blocks even_size odd_size → blocks / 1024 / 2 * 1024 + of_device device 0 (blocks % 1024) ≤ odd_size
+one_met : (device blocks even_size odd_size : ℕ) → device_of blocks ≡ device → blocks ≤ pair_blocks even_size odd_size
+    → blocks / 1024 / 2 * 1024 + of_device device 0 (blocks % 1024) ≤ odd_size
 unfolding pair_blocks device_of
 one_met zero blocks even_size odd_size on within = omega arith
 one_met (suc _) blocks even_size odd_size on within = omega arith
 
-within_pair : (device more even_size odd_size : ℕ) → device_of more ≡ device → more ≤ 131072 → (more / 1024 - more / 1024 / 2) * 1024 + of_device device (more % 1024) 0 ≤ even_size → more / 1024 / 2 * 1024 + of_device device 0 (more % 1024) ≤ odd_size → more ≤ pair_blocks even_size odd_size
+within_pair : (device more even_size odd_size : ℕ) → device_of more ≡ device → more ≤ 131072
+    → (more / 1024 - more / 1024 / 2) * 1024 + of_device device (more % 1024) 0 ≤ even_size
+    → more / 1024 / 2 * 1024 + of_device device 0 (more % 1024) ≤ odd_size → more ≤ pair_blocks even_size odd_size
 unfolding pair_blocks device_of
 within_pair zero more even_size odd_size on most zero_fits one_fits = omega arith
 within_pair (suc _) more even_size odd_size on most zero_fits one_fits = omega arith
@@ -55,7 +59,8 @@ largest_swap even_size odd_size =
     )
 
 -- the two blocks of a page are a page of its device
-pair_page : (block : ℕ) (evens odds : List ℕ) → block % 2 ≡ 0 → pair_block block evens odds ++ pair_block (suc block) evens odds ≡ blocks_at (of_device (device_of block) evens odds) (place_of block)
+pair_page : (block : ℕ) (evens odds : List ℕ) → block % 2 ≡ 0
+    → pair_block block evens odds ++ pair_block (suc block) evens odds ≡ blocks_at (of_device (device_of block) evens odds) (place_of block)
 pair_page block evens odds even =
     let image = of_device (device_of block) evens odds in
     let next : place_of (suc block) ≡ suc (place_of block) = place_of-next block even ∙ add-one (place_of block) in
@@ -64,13 +69,15 @@ pair_page block evens odds even =
     ∙ sym (page_blocks image (place_of block))
 
 -- the last page of a pair
-pub last_page : (block : ℕ) (evens odds : List ℕ) → block % 2 ≡ 0 → first_blocks (suc (suc block)) evens odds ≡ first_blocks block evens odds ++ blocks_at (of_device (device_of block) evens odds) (place_of block)
+pub last_page : (block : ℕ) (evens odds : List ℕ) → block % 2 ≡ 0
+    → first_blocks (suc (suc block)) evens odds ≡ first_blocks block evens odds ++ blocks_at (of_device (device_of block) evens odds) (place_of block)
 unfolding first_blocks
 last_page block evens odds even =
     append_assoc (first_blocks block evens odds) (pair_block block evens odds) (pair_block (suc block) evens odds)
     ∙ ap (λ (page : List ℕ). first_blocks block evens odds ++ page) (pair_page block evens odds even)
 
-pub length-last_page : (block : ℕ) (evens odds : List ℕ) → block % 2 ≡ 0 → HasBlocks (suc (suc block)) evens odds → length (blocks_at (of_device (device_of block) evens odds) (place_of block)) ≡ 1024
+pub length-last_page : (block : ℕ) (evens odds : List ℕ) → block % 2 ≡ 0 → HasBlocks (suc (suc block)) evens odds
+    → length (blocks_at (of_device (device_of block) evens odds) (place_of block)) ≡ 1024
 length-last_page block evens odds even has =
     omega (arith, ap length (pair_page block evens odds even), length-append (pair_block block evens odds) (pair_block (suc block) evens odds), length-pair_block (suc (suc block)) block evens odds has, length-pair_block (suc (suc block)) (suc block) evens odds has)
 
@@ -78,13 +85,15 @@ pub fewer : (blocks last : ℕ) (evens odds : List ℕ) → last ≤ blocks → 
 fewer blocks last evens odds below has device block on within = has device block on (omega arith)
 
 -- the page of a pair is the page of its device
-page_of_last : (block : ℕ) (evens odds : List ℕ) → block % 2 ≡ 0 → HasBlocks (suc (suc block)) evens odds → blocks_at (first_blocks (suc (suc block)) evens odds) block ≡ blocks_at (of_device (device_of block) evens odds) (place_of block)
+page_of_last : (block : ℕ) (evens odds : List ℕ) → block % 2 ≡ 0 → HasBlocks (suc (suc block)) evens odds
+    → blocks_at (first_blocks (suc (suc block)) evens odds) block ≡ blocks_at (of_device (device_of block) evens odds) (place_of block)
 page_of_last block evens odds even has =
     let page = blocks_at (of_device (device_of block) evens odds) (place_of block) in
     ap (λ (image : List ℕ). blocks_at image block) (last_page block evens odds even)
     ∙ blocks_at_last block (first_blocks block evens odds) page (length-first_blocks block evens odds (fewer (suc (suc block)) block evens odds (omega arith) has)) (length-last_page block evens odds even has)
 
-pub page_of_pair : (blocks block : ℕ) (evens odds : List ℕ) → block % 2 ≡ 0 → suc (suc block) ≤ blocks → HasBlocks blocks evens odds → blocks_at (first_blocks blocks evens odds) block ≡ blocks_at (of_device (device_of block) evens odds) (place_of block)
+pub page_of_pair : (blocks block : ℕ) (evens odds : List ℕ) → block % 2 ≡ 0 → suc (suc block) ≤ blocks → HasBlocks blocks evens odds
+    → blocks_at (first_blocks blocks evens odds) block ≡ blocks_at (of_device (device_of block) evens odds) (place_of block)
 unfolding first_blocks blocks_at
 page_of_pair zero block evens odds even within has = absurd (omega arith)
 page_of_pair (suc last) block evens odds even within has =

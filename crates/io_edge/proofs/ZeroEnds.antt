@@ -27,7 +27,8 @@ unfolding with_zeros blocks_at
 blocks_at-kept size block bytes within = part-append (512 * block) 1024 bytes (replicate (size - length bytes) 0) within
 
 -- a page of the zeros
-pub blocks_at-zeros : (size block : ℕ) (bytes : List ℕ) → length bytes ≤ 512 * block → 512 * block + 1024 ≤ size → blocks_at (with_zeros size bytes) block ≡ replicate 1024 0
+pub blocks_at-zeros : (size block : ℕ) (bytes : List ℕ) → length bytes ≤ 512 * block → 512 * block + 1024 ≤ size
+    → blocks_at (with_zeros size bytes) block ≡ replicate 1024 0
 unfolding with_zeros blocks_at
 blocks_at-zeros size block bytes past within =
     let zeros : List ℕ = replicate (size - length bytes) 0 in
@@ -37,7 +38,8 @@ blocks_at-zeros size block bytes past within =
     ∙ take-replicate 1024 (size - length bytes - (512 * block - length bytes)) 0 (omega (arith, past, within))
 
 -- a page that is written among what is kept
-pub put_blocks-kept : (size block : ℕ) (page bytes : List ℕ) → length page ≡ 1024 → 512 * block + 1024 ≤ length bytes → with_zeros size (put_blocks bytes block page) ≡ put_blocks (with_zeros size bytes) block page
+pub put_blocks-kept : (size block : ℕ) (page bytes : List ℕ) → length page ≡ 1024 → 512 * block + 1024 ≤ length bytes
+    → with_zeros size (put_blocks bytes block page) ≡ put_blocks (with_zeros size bytes) block page
 unfolding with_zeros
 put_blocks-kept size block page bytes whole within =
     ap (λ (n : ℕ). put_blocks bytes block page ++ replicate (size - n) 0) (length-put_blocks bytes page block within whole)

@@ -6,7 +6,8 @@ use Rattle.io_edge.specs.Striping.{of_device}
 use Rattle.io_edge.specs.PairFailures.{AddsFailures}
 
 -- the count of one device of two doesn't fall
-each_grows : (device old_zero new_zero old_one new_one : ℕ) → old_zero ≤ new_zero → old_one ≤ new_one → of_device device old_zero old_one ≤ of_device device new_zero new_one
+each_grows : (device old_zero new_zero old_one new_one : ℕ) → old_zero ≤ new_zero → old_one ≤ new_one
+    → of_device device old_zero old_one ≤ of_device device new_zero new_one
 each_grows zero old_zero new_zero old_one new_one zero_grows one_grows = zero_grows
 each_grows (suc _) old_zero new_zero old_one new_one zero_grows one_grows = one_grows
 
@@ -25,7 +26,9 @@ then_rose a b c grows (inr stands) =
 pub adds_nothing : (count : ℕ) (last : Option ℕ) (even odd : ℕ) → AddsFailures count count last last even even odd odd
 adds_nothing count last even odd = record { grows = le_refl count; named = λ device same. inl same; still = λ same below. (refl, refl) }
 
-pub adds_through : (count_a count_b count_c : ℕ) (last_a last_b last_c : Option ℕ) (zero_a zero_b zero_c one_a one_b one_c : ℕ) → zero_a ≤ zero_b → zero_b ≤ zero_c → one_a ≤ one_b → one_b ≤ one_c → AddsFailures count_a count_b last_a last_b zero_a zero_b one_a one_b → AddsFailures count_b count_c last_b last_c zero_b zero_c one_b one_c → AddsFailures count_a count_c last_a last_c zero_a zero_c one_a one_c
+pub adds_through : (count_a count_b count_c : ℕ) (last_a last_b last_c : Option ℕ) (zero_a zero_b zero_c one_a one_b one_c : ℕ) → zero_a ≤ zero_b
+    → zero_b ≤ zero_c → one_a ≤ one_b → one_b ≤ one_c → AddsFailures count_a count_b last_a last_b zero_a zero_b one_a one_b
+    → AddsFailures count_b count_c last_b last_c zero_b zero_c one_b one_c → AddsFailures count_a count_c last_a last_c zero_a zero_c one_a one_c
 adds_through count_a count_b count_c last_a last_b last_c zero_a zero_b zero_c one_a one_b one_c zero_first zero_then one_first one_then first then = record {
   grows = le_trans first.grows then.grows;
   named = λ device named.

@@ -17,7 +17,8 @@ one_has block even_size odd_size other within odd = omega arith
 abbrev pub HasBlocks : ℕ → List ℕ → List ℕ → Type 0
 HasBlocks blocks evens odds = (device block : ℕ) → device_of block ≡ device → block < blocks → 512 * place_of block + 512 ≤ length (of_device device evens odds)
 
-pub has_blocks : (even_size odd_size : ℕ) (evens odds : List ℕ) → length evens ≡ 512 * even_size → length odds ≡ 512 * odd_size → HasBlocks (pair_blocks even_size odd_size) evens odds
+pub has_blocks : (even_size odd_size : ℕ) (evens odds : List ℕ) → length evens ≡ 512 * even_size → length odds ≡ 512 * odd_size
+    → HasBlocks (pair_blocks even_size odd_size) evens odds
 has_blocks even_size odd_size evens odds even_long odd_long zero block on within = omega (arith, zero_has block even_size odd_size within on)
 has_blocks even_size odd_size evens odds even_long odd_long (suc other) block on within = omega (arith, one_has block even_size odd_size other within on)
 
@@ -30,7 +31,8 @@ unfolding block_at
 length-block_at image block within = length-take-le 512 (drop (512 * block) image) (omega (arith, length-drop (512 * block) image))
 
 pub length-pair_block : (blocks block : ℕ) (evens odds : List ℕ) → HasBlocks blocks evens odds → block < blocks → length (pair_block block evens odds) ≡ 512
-length-pair_block blocks block evens odds has within = length-block_at (of_device (device_of block) evens odds) (place_of block) (has (device_of block) block refl within)
+length-pair_block blocks block evens odds has within =
+    length-block_at (of_device (device_of block) evens odds) (place_of block) (has (device_of block) block refl within)
 
 -- the length of a pair's image
 pub length-first_blocks : (blocks : ℕ) (evens odds : List ℕ) → HasBlocks blocks evens odds → length (first_blocks blocks evens odds) ≡ 512 * blocks
@@ -46,7 +48,8 @@ abbrev pub TellBlocks : ℕ → Option (List ℕ) → Option (List ℕ) → Type
 TellBlocks blocks evens odds = (even_bytes odd_bytes : List ℕ) → evens ≡ Some even_bytes → odds ≡ Some odd_bytes → HasBlocks blocks even_bytes odd_bytes
 
 -- devices that tell whole images tell each block of the pair
-pub tell_blocks : (even_size odd_size : ℕ) (evens odds : Option (List ℕ)) → ((bytes : List ℕ) → evens ≡ Some bytes → length bytes ≡ 512 * even_size) → ((bytes : List ℕ) → odds ≡ Some bytes → length bytes ≡ 512 * odd_size) → TellBlocks (pair_blocks even_size odd_size) evens odds
+pub tell_blocks : (even_size odd_size : ℕ) (evens odds : Option (List ℕ)) → ((bytes : List ℕ) → evens ≡ Some bytes → length bytes ≡ 512 * even_size)
+    → ((bytes : List ℕ) → odds ≡ Some bytes → length bytes ≡ 512 * odd_size) → TellBlocks (pair_blocks even_size odd_size) evens odds
 tell_blocks even_size odd_size evens odds even_whole odd_whole even_bytes odd_bytes even_told odd_told =
     has_blocks even_size odd_size even_bytes odd_bytes (even_whole even_bytes even_told) (odd_whole odd_bytes odd_told)
 
@@ -54,7 +57,8 @@ some_is : (a b : List ℕ) → Some a ≡ Some b → a ≡ b
 some_is a b same = cc
 
 -- a told image of the pair has 512 bytes for each block
-pub pair_whole : (blocks : ℕ) (evens odds : Option (List ℕ)) (bytes : List ℕ) → TellBlocks blocks evens odds → pair_image blocks evens odds ≡ Some bytes → length bytes ≡ 512 * blocks
+pub pair_whole : (blocks : ℕ) (evens odds : Option (List ℕ)) (bytes : List ℕ) → TellBlocks blocks evens odds
+    → pair_image blocks evens odds ≡ Some bytes → length bytes ≡ 512 * blocks
 pair_whole blocks None odds bytes tell told = cc
 pair_whole blocks (Some evens) None bytes tell told = cc
 pair_whole blocks (Some evens) (Some odds) bytes tell told =

@@ -36,7 +36,9 @@ MeetsNeeds even_size odd_size blocks = (zero_needs blocks ≤ even_size) × (one
 
 -- the largest swap that two devices of these sizes hold
 abbrev pub IsLargestSwap : ℕ → ℕ → ℕ → Type 0
-IsLargestSwap even_size odd_size blocks = (blocks ≤ most_blocks) × MeetsNeeds even_size odd_size blocks × ((more : ℕ) → more ≤ most_blocks → MeetsNeeds even_size odd_size more → more ≤ blocks)
+IsLargestSwap even_size odd_size blocks =
+    (blocks ≤ most_blocks) × MeetsNeeds even_size odd_size blocks
+    × ((more : ℕ) → more ≤ most_blocks → MeetsNeeds even_size odd_size more → more ≤ blocks)
 
 -- how many blocks two devices of these sizes make together
 unfoldable pub pair_blocks : ℕ → ℕ → ℕ

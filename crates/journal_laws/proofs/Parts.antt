@@ -9,7 +9,8 @@ use Rattle.paging_laws.proofs.Lawful.{follows_state}
 use Rattle.journal_laws.specs.Economy.{IsPart}
 
 -- the first of them, and those behind
-pub both_follow : (A : Inputs) (us vs : List Entry) (s t : State) → Follows A s (us ++ vs) t → Follows A s us (state_after A s us) × Follows A (state_after A s us) vs t
+pub both_follow : (A : Inputs) (us vs : List Entry) (s t : State) → Follows A s (us ++ vs) t
+    → Follows A s us (state_after A s us) × Follows A (state_after A s us) vs t
 unfolding state_after
 both_follow A [] vs s t f = (refl, f)
 both_follow A (u ∷ us) vs s t f = let more = both_follow A us vs (after A s u) t f.1 in ((f.0, more.0), more.1)

@@ -68,7 +68,8 @@ turns_none _ n = refl
 cases_le : (a b : ℕ) → (a ≤ b) ⊎ (b < a)
 cases_le a b = grind arith
 
-few_idle : (A : Inputs) (us : List Entry) (s t : State) → ImagesFit A.images → IsRun A s → length s.point.flat.processes ≤ 64 → Follows A s us t → NoneCounts us → turns_of us ≤ 64
+few_idle : (A : Inputs) (us : List Entry) (s t : State) → ImagesFit A.images → IsRun A s → length s.point.flat.processes ≤ 64 → Follows A s us t
+    → NoneCounts us → turns_of us ≤ 64
 few_idle A [] s t images r l f n = omega arith
 few_idle A (u ∷ us) s t images r l f n = elim (cases_le (length A.lines) s.lines) [
   | inl e ↦ (let few = few_turns A s t (u ∷ us) images r e f n in let most = count_most s.point.flat.processes in omega arith)

@@ -25,7 +25,8 @@ get_at (suc n) [] x vs l = absurd (omega arith)
 get_at (suc n) (w ∷ ws) x vs l = get_at n ws x vs (omega arith)
 
 -- the codes of four bits
-codes_back : (r : List ℕ) (n z v c : Bool) → regs_from r (codes_of (record { r = r; n = n; z = z; v = v; c = c })) ≡ record { r = r; n = n; z = z; v = v; c = c }
+codes_back : (r : List ℕ) (n z v c : Bool)
+    → regs_from r (codes_of (record { r = r; n = n; z = z; v = v; c = c })) ≡ record { r = r; n = n; z = z; v = v; c = c }
 codes_back r true true true true = refl
 codes_back r true true true false = refl
 codes_back r true true false true = refl
@@ -84,5 +85,6 @@ regs_back_any regs d s a =
     c : get_or (longwords 17 (flat_map word_bytes ws ++ rest)) 16 0 ≡ codes_of regs
     c = ap (λ (xs : List ℕ). get_or xs 16 0) (words_read 17 ws rest (omega (arith, a.count, n)) k) ∙ get_at 16 regs.r (codes_of regs) [] a.count
 
-pub regs_back : (regs : Regs) (data_pages stack_pages : ℕ) → AreRegs regs → data_pages < 2 ^ 32 → stack_pages < 2 ^ 32 → regs_in (u_page regs data_pages stack_pages) ≡ regs
+pub regs_back : (regs : Regs) (data_pages stack_pages : ℕ) → AreRegs regs → data_pages < 2 ^ 32 → stack_pages < 2 ^ 32
+    → regs_in (u_page regs data_pages stack_pages) ≡ regs
 regs_back regs d s a ld ls = regs_back_any regs d s a

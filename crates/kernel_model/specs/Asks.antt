@@ -42,7 +42,8 @@ image_asked p sid image (Some facts) = image_pieces p sid image facts
 -- growth and break want the further pieces of data and stack; fork those of the child's data, stack and u page; vfork
 -- those of its u page; and execve those of the new space
 abbrev pub change_asks : List Image → Placement → ℕ → ℕ → Change → List Wanted
-change_asks images p sid next_sid (Resize data_pages stack_pages) = further (owners.Data sid) (data_count p sid) data_pages ++ further (owners.Stack sid) (stack_count p sid) stack_pages
+change_asks images p sid next_sid (Resize data_pages stack_pages) =
+    further (owners.Data sid) (data_count p sid) data_pages ++ further (owners.Stack sid) (stack_count p sid) stack_pages
 change_asks images p sid next_sid (Fork child) =
     wanted (owners.Data next_sid) (pieces (2 * data_count p sid)) ++ (wanted (owners.Stack next_sid) (pieces (2 * stack_count p sid)) ++ wanted (owners.U child) (u_pieces 2))
 change_asks images p sid next_sid (Lend child) = wanted (owners.U child) (u_pieces 2)

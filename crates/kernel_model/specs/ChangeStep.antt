@@ -34,7 +34,8 @@ is_ended _ = false
 
 -- zombie children vanish, and the others have no parent
 abbrev pub orphaned_procs : List Proc → ℕ → List Proc
-orphaned_procs ps pid = map (λ (q : Proc). record q { parent = cond (q.parent == pid) 0 q.parent }) (filter (λ (q : Proc). not ((q.parent == pid) && is_ended q.life)) ps)
+orphaned_procs ps pid =
+    map (λ (q : Proc). record q { parent = cond (q.parent == pid) 0 q.parent }) (filter (λ (q : Proc). not ((q.parent == pid) && is_ended q.life)) ps)
 
 abbrev pub woken_procs : List Proc → ℕ → List Proc
 woken_procs ps pid = map (λ (q : Proc). record q { asleep = cond (q.pid == pid) false q.asleep }) ps

@@ -107,5 +107,6 @@ KeepsRegs k image true q kept sid =
 pub record Coupled (k : Kernel) (images : List NamedImage) (image : List ℕ) (flat : FlatState) : Type 0 where
   pub tables : SameTables k flat
   pub pages : CouplesPages k.place (beside_kernel k images image flat)
-  pub regs : (q : Process) (p : Proc) → numbered (λ (x : Process). x.pid) q.pid flat.processes ≡ Some q → numbered (λ (x : Proc). x.pid) q.pid k.processes ≡ Some p
+  pub regs : (q : Process) (p : Proc) → numbered (λ (x : Process). x.pid) q.pid flat.processes ≡ Some q
+      → numbered (λ (x : Proc). x.pid) q.pid k.processes ≡ Some p
       → KeepsRegs k image (Rattle.page_model.specs.Swapper.is_out k.place q.pid) q p.regs (Rattle.page_model.specs.Place.space_of_holding q.holding)

@@ -80,7 +80,8 @@ starting_in number named = record { image = number; facts = named.image.facts }
 -- each first process starts in the image of its number
 abbrev pub AreStarting : List NamedImage → List ℕ → List Starting → Type 0
 AreStarting images [] [] = Unit {0}
-AreStarting images (n ∷ ns) (a ∷ more) = (named : NamedImage) × (image_numbered images n ≡ Some named) × (a.image ≡ n) × (a.facts ≡ named.image.facts) × AreStarting images ns more
+AreStarting images (n ∷ ns) (a ∷ more) =
+    (named : NamedImage) × (image_numbered images n ≡ Some named) × (a.image ≡ n) × (a.facts ≡ named.image.facts) × AreStarting images ns more
 AreStarting images _ _ = ⊥
 
 -- an image's text and data are those of its pages, of which there are no more than may be; and its name finds room in

@@ -101,7 +101,8 @@ fresh_slot : (slots : List Token) (v : ℕ) (b : Bool) → slot_shown slots (if 
 fresh_slot slots v true = refl
 fresh_slot slots v false = refl
 
-fresh_pages : (slots : List Token) (facts : Image) (a n : ℕ) → map (slot_shown slots) (map (first_place facts false) (range_with_len a n)) ≡ unfilled_data facts a n
+fresh_pages : (slots : List Token) (facts : Image) (a n : ℕ)
+    → map (slot_shown slots) (map (first_place facts false) (range_with_len a n)) ≡ unfilled_data facts a n
 fresh_pages slots facts a zero = refl
 fresh_pages slots facts a (suc n) =
     ap (λ (x : Slot). x ∷ map (slot_shown slots) (map (first_place facts false) (range_with_len (a + 1) n))) (fresh_slot slots a _)
@@ -125,7 +126,8 @@ zero_at : (v : ℕ) (x : Place) → slice_get (replicate 1 places.Zero) v ≡ So
 zero_at zero x e = sym (same_Some places.Zero x e)
 zero_at (suc v) x e = absurd cc
 
-pub image_is_new : (t : Lists) (sid image : ℕ) (facts : Image) → AllBelow sid (sids_of t.spaces) → facts_in 1 image t.facts ≡ Some facts → IsSound facts → IsNewSpace t (image_space sid image facts)
+pub image_is_new : (t : Lists) (sid image : ℕ) (facts : Image) → AllBelow sid (sids_of t.spaces) → facts_in 1 image t.facts ≡ Some facts
+    → IsSound facts → IsNewSpace t (image_space sid image facts)
 image_is_new t sid image facts above is sound = record {
   above = above;
   facts_are = is;

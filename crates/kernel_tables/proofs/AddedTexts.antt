@@ -59,7 +59,8 @@ pub all_done : {A : Type 0} (f : ℕ → A) (xs : List A) (n : ℕ) → n ≡ le
 all_done f xs n e = subst (λ (k : ℕ). so_far f xs k ≡ map f (range_with_len 0 k)) (sym e) (all_from f xs 0)
 
 -- a page of a new space's text, of which those before it have their places
-pub some_placed : (s n : Places) (f : ℕ → Place) (image v : ℕ) → n ≡ record s { text = so_far f s.text v } → image ≡ s.image → v < length s.text → IsSome (place_in n (Text image v))
+pub some_placed : (s n : Places) (f : ℕ → Place) (image v : ℕ) → n ≡ record s { text = so_far f s.text v } → image ≡ s.image → v < length s.text
+    → IsSome (place_in n (Text image v))
 some_placed s n f image v e same l =
     let i : image ≡ n.image = same ∙ sym (ap (λ (r : Places). r.image) e) in
     subst (λ (o : Option Place). IsSome o) (sym (text_hit n image v i))

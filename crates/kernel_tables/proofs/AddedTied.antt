@@ -249,7 +249,8 @@ dirty_still t s new (Text i v) = ap not (saved_still t.texts s.image i v)
 
 -- The whole tie.
 
-pub added_tied : (t : Lists) (s : Places) (fills : List DueFill) → Tied t → IsTable t.texts → IsNewSpace t s → AreWhole fills → DueOnce fills → Tied (with_space t s fills)
+pub added_tied : (t : Lists) (s : Places) (fills : List DueFill) → Tied t → IsTable t.texts → IsNewSpace t s → AreWhole fills → DueOnce fills
+    → Tied (with_space t s fills)
 added_tied t s fills tied table new whole once =
     let n : Places = with_text_places t s in
     record {
@@ -276,7 +277,8 @@ fresh_blank slots pages v (places.Image w) h = (refl, refl)
 fresh_blank slots pages v places.Swap h = absurd h
 fresh_blank slots pages v (places.Frame f valid changed) h = absurd h
 
-all_fresh : (slots : List Token) (pages : ℕ) (n : ℕ) (xs : List Place) → ((v : ℕ) (x : Place) → slice_get xs v ≡ Some x → IsFresh pages (n + v) x) → AllBlank (map (slot_shown slots) xs)
+all_fresh : (slots : List Token) (pages : ℕ) (n : ℕ) (xs : List Place) → ((v : ℕ) (x : Place) → slice_get xs v ≡ Some x → IsFresh pages (n + v) x)
+    → AllBlank (map (slot_shown slots) xs)
 all_fresh slots pages n [] h = tt
 all_fresh slots pages n (x ∷ xs) h = (
   fresh_blank slots pages (n + 0) x (h 0 x refl),
@@ -322,7 +324,8 @@ is_new slots (r ∷ ss) sid h =
 
 -- The whole.
 
-pub added_known : (t : Lists) (s : Places) (fills : List DueFill) → Known t → IsTable t.texts → IsNewSpace t s → AreWhole fills → DueOnce fills → Known (with_space t s fills)
+pub added_known : (t : Lists) (s : Places) (fills : List DueFill) → Known t → IsTable t.texts → IsNewSpace t s → AreWhole fills → DueOnce fills
+    → Known (with_space t s fills)
 added_known t s fills known table new whole once =
     let p : Placement = placement_of t in
     let due : List Due = map due_shown fills in

@@ -71,7 +71,8 @@ get_within [] v l = absurd (omega arith)
 get_within (x ∷ xs) zero l = (x, refl)
 get_within (x ∷ xs) (suc v) l = get_within xs v (omega arith)
 
-pub data_there : (slots : List Token) (ss : List Places) (n v : ℕ) → v < length (data_in (numbered space_number n (map (space_shown slots) ss))) → IsSome (entry_in ss (Data n v))
+pub data_there : (slots : List Token) (ss : List Places) (n v : ℕ) → v < length (data_in (numbered space_number n (map (space_shown slots) ss)))
+    → IsSome (entry_in ss (Data n v))
 data_there slots [] n v l = absurd (omega arith)
 data_there slots (s ∷ ss) n v l = elim (cases_eq s.sid n) [
   | inl e ↦
@@ -83,7 +84,8 @@ data_there slots (s ∷ ss) n v l = elim (cases_eq s.sid n) [
       subst IsSome (sym (ap (λ (o : Option Place). or_else o (entry_in ss (Data n v))) (data_miss s n v (λ e. d (sym e))))) (data_there slots ss n v k)
 ]
 
-pub stack_there : (slots : List Token) (ss : List Places) (n v : ℕ) → v < length (stack_in (numbered space_number n (map (space_shown slots) ss))) → IsSome (entry_in ss (Stack n v))
+pub stack_there : (slots : List Token) (ss : List Places) (n v : ℕ) → v < length (stack_in (numbered space_number n (map (space_shown slots) ss)))
+    → IsSome (entry_in ss (Stack n v))
 stack_there slots [] n v l = absurd (omega arith)
 stack_there slots (s ∷ ss) n v l = elim (cases_eq s.sid n) [
   | inl e ↦

@@ -48,7 +48,8 @@ shared_entry t (Data n v) k s there = data_there t.slots t.spaces n v there
 shared_entry t (Stack n v) k s there = stack_there t.slots t.spaces n v there
 shared_entry t (Text i v) k s there = k.shared i v s (text_within t i v there)
 
-come_arrives : (t : Lists) (page : Option Page) (rest : List ℕ) (token : Frame) (q : Page) (ts : List Transfer) → Known t → Took t (taken t token.number page rest) token.number → IsShared (placement_of t) q → IsThere (placement_of t) q
+come_arrives : (t : Lists) (page : Option Page) (rest : List ℕ) (token : Frame) (q : Page) (ts : List Transfer) → Known t
+    → Took t (taken t token.number page rest) token.number → IsShared (placement_of t) q → IsThere (placement_of t) q
     → Arrives (taken t token.number page rest) (coming (taken t token.number page rest) token q ts) q token.number (places.Frame token.number false false)
 come_arrives t page rest token q ts known k sh there = record {
   differ = k.differ;
@@ -63,7 +64,8 @@ come_arrives t page rest token q ts known k sh there = record {
 }
 
 -- the mark of a page with no frame stays: no data or stack page is dirty, and text is saved or not as before
-come_shown : (t n : Lists) (q : Page) (f : ℕ) → Known t → n.texts ≡ t.texts → slot_at n.slots f ≡ tokens.Away → IsThere (placement_of t) q → frame_of (state_of (placement_of t) q) ≡ None
+come_shown : (t n : Lists) (q : Page) (f : ℕ) → Known t → n.texts ≡ t.texts → slot_at n.slots f ≡ tokens.Away → IsThere (placement_of t) q
+    → frame_of (state_of (placement_of t) q) ≡ None
     → page_shown n q (places.Frame f false false) ≡ record { state = Coming f; mark = mark_of (placement_of t) q; filling = Zeros }
 come_shown t n (Data sid v) f k e a there fr =
     ap (λ (s : Token). let z : Slot = record { state = idle_state f (is_away s) false; mark = false; filling = Zeros } in z) a
@@ -76,7 +78,8 @@ come_shown t n (Text i v) f k e a there fr =
     ∙ ap (λ (b : Bool). let z : Slot = record { state = Coming f; mark = b; filling = Zeros } in z)
     (ap (λ (x : List Rattle.text_table.specs.Texts.Text). is_saved (text_of x i) v) e ∙ sym (ap (λ (y : Slot). y.mark) (text_at t i v (text_within t i v there))))
 
-pub come_is : (t : Lists) (page : Option Page) (rest : List ℕ) (token was : Frame) (q : Page) (e : Errand) → Known t → Head t token.number was page rest → IsShared (placement_of t) q → CanEnter (placement_of t) q
+pub come_is : (t : Lists) (page : Option Page) (rest : List ℕ) (token was : Frame) (q : Page) (e : Errand) → Known t
+    → Head t token.number was page rest → IsShared (placement_of t) q → CanEnter (placement_of t) q
     → placement_of (coming (taken t token.number page rest) token q (join_last t.transfers e (record { page = q; frame = token.number }))) ≡ get_one (placement_of t) e q
 come_is t page rest token was q e known h sh can =
     let f : ℕ = token.number in
@@ -113,7 +116,8 @@ come_is t page rest token was q e known h sh can =
     ∙ sym (ap (get_at p e q) h.free)
 
 -- The bytes of the frames stay: those of the frame go with its token.
-pub come_frames : (t : Lists) (page : Option Page) (rest : List ℕ) (token : Frame) (q : Page) (ts : List Transfer) → Known t → Head t token.number token page rest
+pub come_frames : (t : Lists) (page : Option Page) (rest : List ℕ) (token : Frame) (q : Page) (ts : List Transfer) → Known t
+    → Head t token.number token page rest
     → frames_of (coming (taken t token.number page rest) token q ts) ≡ frames_of t
 come_frames t page rest token q ts known h =
     let f : ℕ = token.number in
@@ -135,7 +139,8 @@ come_frames t page rest token q ts known h =
     ap (λ (m : ℕ). map (bytes_held n) (range_with_len 1 m)) (ap (λ (m : ℕ). m - 1) (length-set t.slots f tokens.Away))
     ∙ Rattle.kernel_tables.proofs.Evicts.frames_same (bytes_held t) (bytes_held n) (range_with_len 1 (length t.slots - 1)) same
 
-come_ties : (t : Lists) (page : Option Page) (rest : List ℕ) (token : Frame) (q : Page) (ts : List Transfer) → Known t → token_page (slot_at t.slots token.number) ≡ page → frame_of (state_of (placement_of t) q) ≡ None
+come_ties : (t : Lists) (page : Option Page) (rest : List ℕ) (token : Frame) (q : Page) (ts : List Transfer) → Known t
+    → token_page (slot_at t.slots token.number) ≡ page → frame_of (state_of (placement_of t) q) ≡ None
     → Ties t (coming (taken t token.number page rest) token q ts)
 come_ties t page rest token q ts k e none = record {
   slots = length-set t.slots token.number tokens.Away;
@@ -151,7 +156,8 @@ come_ties t page rest token q ts k e none = record {
   once = λ x. x;
 }
 
-pub come_known : (t : Lists) (page : Option Page) (rest : List ℕ) (token was : Frame) (q demanded : Page) (source : Source) → Known t → Head t token.number was page rest → IsShared (placement_of t) q → CanEnter (placement_of t) q
+pub come_known : (t : Lists) (page : Option Page) (rest : List ℕ) (token was : Frame) (q demanded : Page) (source : Source) → Known t
+    → Head t token.number was page rest → IsShared (placement_of t) q → CanEnter (placement_of t) q
     → IsOpen t.transfers (Reads source demanded) → IsSound rest (set t.slots token.number tokens.Away)
     → Known (coming (taken t token.number page rest) token q (join_last t.transfers (Reads source demanded) (record { page = q; frame = token.number })))
 come_known t page rest token was q demanded source known h sh can latest core =

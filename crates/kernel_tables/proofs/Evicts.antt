@@ -53,7 +53,8 @@ held_above t f q k e = above_zero t.free t.slots f k.core (λ n. absurd (let z =
 pub head_below : (t : Lists) (f : ℕ) (token : Frame) (page : Option Page) → slot_at t.slots f ≡ tokens.Free token page → f < length t.slots
 head_below t f token page e = below_length t.slots f (not_away t f token page e)
 
-pub head_page : (t : Lists) (f : ℕ) (token : Frame) (page : Option Page) → Known t → slot_at t.slots f ≡ tokens.Free token page → page_of (placement_of t) f ≡ page
+pub head_page : (t : Lists) (f : ℕ) (token : Frame) (page : Option Page) → Known t → slot_at t.slots f ≡ tokens.Free token page
+    → page_of (placement_of t) f ≡ page
 head_page t f token page k e = held_at t f (head_above t f token page k e) (head_below t f token page e) ∙ ap (λ (x : Token). page_by x (flown_at t.flown f)) e
 
 pub head_listed : (t : Lists) (f : ℕ) (token : Frame) (page : Option Page) (rest : List ℕ) → Head t f token page rest → 0 < times f t.free
@@ -72,7 +73,8 @@ entry_of slots None f e = absurd cc
 entry_of slots (Some x) f e = (x, refl)
 
 -- The frame's page, where it has one.
-moved_some : (t : Lists) (f : ℕ) (token : Frame) (e : Page) (rest : List ℕ) → Known t → Head t f token (Some e) rest → Moved t (taken t f (Some e) rest) (λ w. w ≢ e) f
+moved_some : (t : Lists) (f : ℕ) (token : Frame) (e : Page) (rest : List ℕ) → Known t → Head t f token (Some e) rest
+    → Moved t (taken t f (Some e) rest) (λ w. w ≢ e) f
 moved_some t f token e rest k h = record {
   differ = k.differ;
   slots = λ g n. get_or-set_other t.slots f g tokens.Away tokens.Away n;
@@ -175,7 +177,8 @@ frames_same g h [] s = refl
 frames_same g h (n ∷ ns) s = ap (λ z. z ∷ map h ns) (s n) ∙ ap (λ zs. g n ∷ zs) (frames_same g h ns s)
 
 -- the pages of all other frames
-pub other_held : (t : Lists) (f : ℕ) (x : Token) (slots : List Token) → slots ≡ set t.slots f x → (g : ℕ) → g ≢ f → page_by (slot_at slots g) (flown_at t.flown g) ≡ page_held t g
+pub other_held : (t : Lists) (f : ℕ) (x : Token) (slots : List Token) → slots ≡ set t.slots f x → (g : ℕ) → g ≢ f
+    → page_by (slot_at slots g) (flown_at t.flown g) ≡ page_held t g
 other_held t f x slots e g n = ap (λ (ss : List Token). page_by (slot_at ss g) (flown_at t.flown g)) e ∙ ap (λ (y : Token). page_by y (flown_at t.flown g)) (get_or-set_other t.slots f g x tokens.Away n)
 
 -- Taking the head of the free list evicts its page.

@@ -78,7 +78,8 @@ entry_there u (Data n v) w there = data_there u.slots u.spaces n v there
 entry_there u (Stack n v) w there = stack_there u.slots u.spaces n v there
 entry_there u (Text i v) w there = absurd w
 
-seat_arrives : (t u : Lists) (token : Frame) (q : Page) (dirty : Bool) → Took t u token.number → IsWritable q → IsThere (placement_of t) q → Arrives u (seated u token q dirty) q token.number (places.Frame token.number true dirty)
+seat_arrives : (t u : Lists) (token : Frame) (q : Page) (dirty : Bool) → Took t u token.number → IsWritable q → IsThere (placement_of t) q
+    → Arrives u (seated u token q dirty) q token.number (places.Frame token.number true dirty)
 seat_arrives t u token q dirty k w there = record {
   differ = k.differ;
   apart = λ r n. took_apart t u token.number k r;
@@ -91,7 +92,8 @@ seat_arrives t u token q dirty k w there = record {
   entry = entry_there u q w (took_there t u token.number q k there);
 }
 
-seat_shown : (u : Lists) (q : Page) (f : ℕ) (dirty : Bool) → IsWritable q → page_shown u q (places.Frame f true dirty) ≡ record { state = Valid f; mark = dirty; filling = Rattle.page_model.specs.Pages.Zeros }
+seat_shown : (u : Lists) (q : Page) (f : ℕ) (dirty : Bool) → IsWritable q
+    → page_shown u q (places.Frame f true dirty) ≡ record { state = Valid f; mark = dirty; filling = Rattle.page_model.specs.Pages.Zeros }
 seat_shown u (Data n v) f dirty w = refl
 seat_shown u (Stack n v) f dirty w = refl
 seat_shown u (Text i v) f dirty w = absurd w
@@ -123,7 +125,8 @@ seat_is t u token q dirty k w there =
     (ap (λ (p : Placement). p.due) k.place)
 
 -- The bytes of the frames.
-pub seat_frames : (t u : Lists) (token : Frame) (q : Page) (dirty : Bool) → Took t u token.number → ((g : ℕ) → g ≢ token.number → bytes_held u g ≡ bytes_held t g) → length u.slots ≡ length t.slots
+pub seat_frames : (t u : Lists) (token : Frame) (q : Page) (dirty : Bool) → Took t u token.number
+    → ((g : ℕ) → g ≢ token.number → bytes_held u g ≡ bytes_held t g) → length u.slots ≡ length t.slots
     → frames_of (seated u token q dirty) ≡ set_frame (frames_of t) token.number token.bytes
 seat_frames t u token q dirty k same count =
     let f : ℕ = token.number in

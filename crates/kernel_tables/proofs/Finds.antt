@@ -16,12 +16,14 @@ not_held (Some r) q n = go (same_page r q) refl
     go false e = refl
 
 -- the slot of one frame changes, and has the page neither before nor after
-found_set : (n : ℕ) (ss : List Token) (f : ℕ) (x : Token) (q : Page) → page_of (slot_at ss f) ≢ Some q → page_of x ≢ Some q → found_from n (set ss f x) q ≡ found_from n ss q
+found_set : (n : ℕ) (ss : List Token) (f : ℕ) (x : Token) (q : Page) → page_of (slot_at ss f) ≢ Some q → page_of x ≢ Some q
+    → found_from n (set ss f x) q ≡ found_from n ss q
 found_set n [] f x q a b = refl
 found_set n (s ∷ ss) zero x q a b = ap (λ (c : Bool). cond c (Some n) (found_from (n + 1) ss q)) (not_held (page_of x) q b ∙ sym (not_held (page_of s) q a))
 found_set n (s ∷ ss) (suc f) x q a b = ap (λ (o : Option ℕ). cond (holds_it (page_of s) q) (Some n) o) (found_set (n + 1) ss f x q a b)
 
-pub holding_set : (ss : List Token) (f : ℕ) (x : Token) (q : Page) → page_of (slot_at ss f) ≢ Some q → page_of x ≢ Some q → frame_holding (set ss f x) q ≡ frame_holding ss q
+pub holding_set : (ss : List Token) (f : ℕ) (x : Token) (q : Page) → page_of (slot_at ss f) ≢ Some q → page_of x ≢ Some q
+    → frame_holding (set ss f x) q ≡ frame_holding ss q
 holding_set ss f x q a b = found_set 0 ss f x q a b
 
 found_none : (n : ℕ) (ss : List Token) (q : Page) → ((f : ℕ) → page_of (slot_at ss f) ≢ Some q) → found_from n ss q ≡ None

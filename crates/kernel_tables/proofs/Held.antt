@@ -103,7 +103,8 @@ flown_last (y ∷ ys) x z = elim (cases_eq (flown_number y) (flown_number x)) [
 ]
 
 -- Placements that are the same in each part.
-pub placement_ext : (a b : Placement) → a.spaces ≡ b.spaces → a.texts ≡ b.texts → a.holds ≡ b.holds → a.free ≡ b.free → a.transfers ≡ b.transfers → a.front ≡ b.front → a.back ≡ b.back → a.residents ≡ b.residents → a.due ≡ b.due → a ≡ b
+pub placement_ext : (a b : Placement) → a.spaces ≡ b.spaces → a.texts ≡ b.texts → a.holds ≡ b.holds → a.free ≡ b.free → a.transfers ≡ b.transfers
+    → a.front ≡ b.front → a.back ≡ b.back → a.residents ≡ b.residents → a.due ≡ b.due → a ≡ b
 placement_ext a b e1 e2 e3 e4 e5 e6 e7 e8 e9 =
     ap (λ (x : List SpacePages). record a { spaces = x }) e1
     ∙ ap (λ (x : List TextPages). record a { spaces = b.spaces; texts = x }) e2

@@ -28,7 +28,8 @@ use Rattle.kernel_tables.proofs.Entries.{Head, head_of, entry_same, entry_other,
 
 -- Sharers go by the images of the spaces.
 
-pub sharers_heads : (a b : List Token) (ss rs : List Places) (image : ℕ) → map head_of ss ≡ map head_of rs → sharers_in image (map (space_shown a) ss) ≡ sharers_in image (map (space_shown b) rs)
+pub sharers_heads : (a b : List Token) (ss rs : List Places) (image : ℕ) → map head_of ss ≡ map head_of rs
+    → sharers_in image (map (space_shown a) ss) ≡ sharers_in image (map (space_shown b) rs)
 sharers_heads a b [] [] image e = refl
 sharers_heads a b [] (r ∷ rs) image e = absurd cc
 sharers_heads a b (s ∷ ss) [] image e = absurd cc
@@ -50,7 +51,8 @@ still_there ss q r place h = elim (page_cases r q) [
     go None k s e = absurd cc
     go (Some was) k s e = subst (λ (x : Page). IsSome (entry_in (map (placed q place) ss) x)) (sym e) (subst IsSome (sym (entry_same ss q place was (subst (λ (x : Page). entry_in ss x ≡ Some was) e k))) refl)
 
-pub evicted_there : (texts : List SharedText) (page : Option Page) (ss : List Places) (r : Page) → IsSome (entry_in ss r) → IsSome (entry_in (evicted texts page ss) r)
+pub evicted_there : (texts : List SharedText) (page : Option Page) (ss : List Places) (r : Page) → IsSome (entry_in ss r)
+    → IsSome (entry_in (evicted texts page ss) r)
 evicted_there texts None ss r h = h
 evicted_there texts (Some q) ss r h = still_there ss q r (left_place texts q) h
 

@@ -29,7 +29,8 @@ use Rattle.kernel_tables.specs.Known.{Known}
 use Rattle.kernel_tables.proofs.Arrives.{data_there, stack_there}
 use Rattle.kernel_tables.specs.Shown.{entry_in}
 
-pub kernel_ext : (a b : Kernel) → a.place ≡ b.place → a.holdings ≡ b.holdings → a.processes ≡ b.processes → a.next_pid ≡ b.next_pid → a.next_sid ≡ b.next_sid → a.starts ≡ b.starts
+pub kernel_ext : (a b : Kernel) → a.place ≡ b.place → a.holdings ≡ b.holdings → a.processes ≡ b.processes → a.next_pid ≡ b.next_pid
+    → a.next_sid ≡ b.next_sid → a.starts ≡ b.starts
     → a.frames ≡ b.frames → a.journal ≡ b.journal → a.stopped ≡ b.stopped → a ≡ b
 kernel_ext a b e1 e2 e3 e4 e5 e6 e7 e8 e9 =
     ap (λ (x : Placement). record a { place = x }) e1
@@ -44,13 +45,15 @@ kernel_ext a b e1 e2 e3 e4 e5 e6 e7 e8 e9 =
 
 -- The step of `Zero`.
 
-pub zeroing_rest : (t u v w : Tables) (token filling : Frame) (q : Page) → Zeroing t u v w token filling q → w ≡ record t { core = v.core; spaces = v.spaces; fills = w.fills }
+pub zeroing_rest : (t u v w : Tables) (token filling : Frame) (q : Page) → Zeroing t u v w token filling q
+    → w ≡ record t { core = v.core; spaces = v.spaces; fills = w.fills }
 zeroing_rest t u v w token filling q z =
     z.finish.rest
     ∙ ap (λ (x : Tables). record x { fills = w.fills }) z.seat.rest
     ∙ ap (λ (x : Tables). record x { core = v.core; spaces = v.spaces; fills = w.fills }) z.took.rest
 
-zeroing_head : (t u v w : Tables) (token filling : Frame) (q : Page) → Zeroing t u v w token filling q → Head (lists_of t) token.number token (token_page (slot_at t.core.slots token.number)) u.core.free
+zeroing_head : (t u v w : Tables) (token filling : Frame) (q : Page) → Zeroing t u v w token filling q
+    → Head (lists_of t) token.number token (token_page (slot_at t.core.slots token.number)) u.core.free
 zeroing_head t u v w token filling q z = record { free = z.took.free; was = z.took.was }
 
 pub zero_kernel : (t u v w : Tables) (token filling : Frame) (q : Page) (journal : List Entry) (stopped : Bool) → Zeroing t u v w token filling q
@@ -82,7 +85,8 @@ writable_entry t (Data n v) w there = data_there t.slots t.spaces n v there
 writable_entry t (Stack n v) w there = stack_there t.slots t.spaces n v there
 writable_entry t (Text i v) w there = absurd w
 
-pub zeroed_ties : (t : Lists) (f : ℕ) (page : Option Page) (rest : List ℕ) (filling : Frame) (q : Page) → Known t → token_page (slot_at t.slots f) ≡ page → IsWritable q → IsThere (placement_of t) q
+pub zeroed_ties : (t : Lists) (f : ℕ) (page : Option Page) (rest : List ℕ) (filling : Frame) (q : Page) → Known t
+    → token_page (slot_at t.slots f) ≡ page → IsWritable q → IsThere (placement_of t) q
     → frame_of (state_of (placement_of t) q) ≡ None → Ties t (zeroed t f page rest filling q)
 zeroed_ties t f page rest filling q k e w there none = record {
   slots = length-set (set t.slots f tokens.Away) filling.number (tokens.Resident filling q true) ∙ length-set t.slots f tokens.Away;
@@ -101,6 +105,7 @@ zeroed_ties t f page rest filling q k e w there none = record {
   once = once_rest t.fills;
 }
 
-pub zero_ties : (t u v w : Tables) (token filling : Frame) (q : Page) → Zeroing t u v w token filling q → frame_of (state_of (placement_of (lists_of t)) q) ≡ None → Ties (lists_of t) (lists_of w)
+pub zero_ties : (t u v w : Tables) (token filling : Frame) (q : Page) → Zeroing t u v w token filling q
+    → frame_of (state_of (placement_of (lists_of t)) q) ≡ None → Ties (lists_of t) (lists_of w)
 zero_ties t u v w token filling q z none =
     subst (Ties (lists_of t)) (sym (zeroing_lists t u v w token filling q z)) (zeroed_ties (lists_of t) token.number (token_page (slot_at t.core.slots token.number)) u.core.free filling q z.known refl z.writable z.there none)

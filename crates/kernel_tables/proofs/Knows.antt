@@ -46,7 +46,8 @@ pub texts_here : (t : Lists) → Known t → AreTextsHere t.slots
 texts_here t k f i v e = text_low t i v k (page_in (placement_of t) (Text i v) f (held_named t f (Text i v) k e))
 
 -- a page with no frame is held by none
-pub not_held : (t : Lists) (f : ℕ) (slots : List Token) (free : List ℕ) (q : Page) → Known t → frame_of (state_of (placement_of t) q) ≡ None → slots ≡ set t.slots f tokens.Away → f < length t.slots
+pub not_held : (t : Lists) (f : ℕ) (slots : List Token) (free : List ℕ) (q : Page) → Known t → frame_of (state_of (placement_of t) q) ≡ None
+    → slots ≡ set t.slots f tokens.Away → f < length t.slots
     → (g : ℕ) → token_page (slot_at slots g) ≢ Some q
 not_held t f slots free q k n e l g h = elim (cases_eq g f) [
   | inl i ↦ none_some q (sym (ap token_page (ap (λ (x : List Token). slot_at x g) e ∙ ap (slot_at (set t.slots f tokens.Away)) i ∙ get_or-set_same t.slots f tokens.Away tokens.Away l)) ∙ h)

@@ -28,7 +28,8 @@ like_one ss s q place h i v x e = elim (page_cases (Text i v) q) [
         let same : place ≡ x = same_Some place x (sym (placed_same s q place was k) ∙ sym (ap (place_in (placed q place s)) m) ∙ e) in
         ap (entry_in (map (placed q place) ss)) m ∙ entry_same ss q place was first ∙ ap (λ (y : Place). Some y) same
 
-like_each : (ss rs : List Places) (q : Page) (place : Place) → EachSpace (IsLikeFirst ss) rs → EachSpace (IsLikeFirst (map (placed q place) ss)) (map (placed q place) rs)
+like_each : (ss rs : List Places) (q : Page) (place : Place) → EachSpace (IsLikeFirst ss) rs
+    → EachSpace (IsLikeFirst (map (placed q place) ss)) (map (placed q place) rs)
 like_each ss [] q place h = tt
 like_each ss (r ∷ rs) q place h = (like_one ss r q place h.0, like_each ss rs q place h.1)
 
@@ -64,7 +65,8 @@ same_facts s q r place w h = go (place_in s q) q r h
     go (Some was) p (Stack m k) h = h
     go (Some was) p (Text m k) h = h
 
-placed_facts : (s : Places) (q : Page) (place : Place) (facts : List Image) → facts_in 1 s.image facts ≡ Some s.facts → facts_in 1 (placed q place s).image facts ≡ Some (placed q place s).facts
+placed_facts : (s : Places) (q : Page) (place : Place) (facts : List Image) → facts_in 1 s.image facts ≡ Some s.facts
+    → facts_in 1 (placed q place s).image facts ≡ Some (placed q place s).facts
 placed_facts s q place facts h = go (place_in s q) q
   where
     go : (o : Option Place) (p : Page) → facts_in 1 (placed_by o p place s).image facts ≡ Some (placed_by o p place s).facts
@@ -88,7 +90,8 @@ filled_one facts s q place f h = record {
         let same : place ≡ places.Image w = same_Some place (places.Image w) (sym (placed_same s q place was k) ∙ sym (ap (place_in (placed q place s)) m) ∙ e) in
         filled_text (placed q place s) r w (subst (λ (p : Page). IsTextNumber p w) (sym m) (f w same))
 
-pub placed_filled : (facts : List Image) (ss : List Places) (q : Page) (place : Place) → FitsPage q place → EachSpace (IsFilled facts) ss → EachSpace (IsFilled facts) (map (placed q place) ss)
+pub placed_filled : (facts : List Image) (ss : List Places) (q : Page) (place : Place) → FitsPage q place → EachSpace (IsFilled facts) ss
+    → EachSpace (IsFilled facts) (map (placed q place) ss)
 placed_filled facts [] q place f h = tt
 placed_filled facts (s ∷ ss) q place f h = (filled_one facts s q place f h.0, placed_filled facts ss q place f h.1)
 
@@ -104,6 +107,7 @@ left_fits texts (Text i v) w e = go (is_saved (text_of texts i) v) e
     go true k = absurd cc
     go false k = cc
 
-pub evicted_filled : (facts : List Image) (texts : List SharedText) (page : Option Page) (ss : List Places) → EachSpace (IsFilled facts) ss → EachSpace (IsFilled facts) (evicted texts page ss)
+pub evicted_filled : (facts : List Image) (texts : List SharedText) (page : Option Page) (ss : List Places) → EachSpace (IsFilled facts) ss
+    → EachSpace (IsFilled facts) (evicted texts page ss)
 evicted_filled facts texts None ss h = h
 evicted_filled facts texts (Some q) ss h = placed_filled facts ss q (left_place texts q) (left_fits texts q) h

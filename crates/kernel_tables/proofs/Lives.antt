@@ -33,7 +33,8 @@ pub record HasRecord (ps : List Record) (pid : ℕ) (q : Proc) : Type 0 where
   pub there : find pid ps ≡ Some found
   pub shows : proc_shown found ≡ q
 
-record_over : (ns : List ℕ) (ps : List Record) (pid : ℕ) (q : Proc) → numbered pid_of pid (filter_map (λ n. proc_of (find n ps)) ns) ≡ Some q → HasRecord ps pid q
+record_over : (ns : List ℕ) (ps : List Record) (pid : ℕ) (q : Proc) → numbered pid_of pid (filter_map (λ n. proc_of (find n ps)) ns) ≡ Some q
+    → HasRecord ps pid q
 record_over [] ps pid q e = absurd cc
 record_over (n ∷ ns) ps pid q e = go (find n ps) refl (λ k. record_over ns ps pid q k)
   where
@@ -60,7 +61,8 @@ life_space (lives.Lends n child) sid e = absurd cc
 life_space (lives.Zombie status) sid e = absurd cc
 
 -- a process that holds a space has it in its record
-pub holds_space : (ps : List Record) (next pid sid : ℕ) → life_of_proc (numbered pid_of pid (processes_of ps next)) ≡ HoldsSpace sid → space_held (find pid ps) ≡ Some sid
+pub holds_space : (ps : List Record) (next pid sid : ℕ) → life_of_proc (numbered pid_of pid (processes_of ps next)) ≡ HoldsSpace sid
+    → space_held (find pid ps) ≡ Some sid
 holds_space ps next pid sid e = go (numbered pid_of pid (processes_of ps next)) refl e
   where
     go : (o : Option Proc) → numbered pid_of pid (processes_of ps next) ≡ o → life_of_proc o ≡ HoldsSpace sid → space_held (find pid ps) ≡ Some sid

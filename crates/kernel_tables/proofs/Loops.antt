@@ -1,7 +1,8 @@
 -- A loop that changes each item in turn.
 use Rattle.std.proofs.Common.{◌≡◌, ℕ, zero, suc, ◌<◌, List, [], ◌∷◌, ◌++◌, length, map, take, drop, set, get_or, refl, ap, arith}
 
-pub changed_at : {A : Type 0} (f : A → A) (xs : List A) (i : ℕ) (d : A) → i < length xs → set (map f (take i xs) ++ drop i xs) i (f (get_or xs i d)) ≡ map f (take (suc i) xs) ++ drop (suc i) xs
+pub changed_at : {A : Type 0} (f : A → A) (xs : List A) (i : ℕ) (d : A) → i < length xs
+    → set (map f (take i xs) ++ drop i xs) i (f (get_or xs i d)) ≡ map f (take (suc i) xs) ++ drop (suc i) xs
 changed_at f [] i d l = absurd (omega arith)
 changed_at f (x ∷ xs) zero d l = refl
 changed_at f (x ∷ xs) (suc i) d l = ap (λ zs. f x ∷ zs) (changed_at f xs i d (omega arith))

@@ -25,7 +25,8 @@ use Rattle.kernel_tables.specs.Known.{Known}
 use Rattle.kernel_tables.proofs.Entries.{entry_same, entry_other}
 use Rattle.kernel_tables.proofs.Knows.{held_named, texts_here}
 
-same_dirty : (ss rs : List Places) (ts us : List SharedText) (w : Page) → entry_in rs w ≡ entry_in ss w → ((i v : ℕ) → w ≡ Text i v → is_saved (text_of us i) v ≡ is_saved (text_of ts i) v) → dirty_shown rs us w ≡ dirty_shown ss ts w
+same_dirty : (ss rs : List Places) (ts us : List SharedText) (w : Page) → entry_in rs w ≡ entry_in ss w
+    → ((i v : ℕ) → w ≡ Text i v → is_saved (text_of us i) v ≡ is_saved (text_of ts i) v) → dirty_shown rs us w ≡ dirty_shown ss ts w
 same_dirty ss rs ts us (Data n v) e h = ap changed_named e
 same_dirty ss rs ts us (Stack n v) e h = ap changed_named e
 same_dirty ss rs ts us (Text i v) e h = ap not (h i v refl)
@@ -40,7 +41,8 @@ marks_kept t u f slots others here k g token q mark e = elim (cases_eq g f) [
 ]
 
 -- one page takes its place with one frame
-pub marks_placed : (t u : Lists) (q : Page) (f : ℕ) (place : Place) → AreTextsHere t.slots → ((g : ℕ) → g ≢ f → slot_at u.slots g ≡ slot_at t.slots g) → u.spaces ≡ map (placed q place) t.spaces
+pub marks_placed : (t u : Lists) (q : Page) (f : ℕ) (place : Place) → AreTextsHere t.slots → ((g : ℕ) → g ≢ f → slot_at u.slots g ≡ slot_at t.slots g)
+    → u.spaces ≡ map (placed q place) t.spaces
     → ((i v : ℕ) → Text i v ≢ q → 1 ≤ i → is_saved (text_of u.texts i) v ≡ is_saved (text_of t.texts i) v)
     → ((g : ℕ) → token_page (slot_at t.slots g) ≡ Some q → g ≡ f)
     → ((token : Frame) (r : Page) (mark : Bool) → slot_at u.slots f ≡ tokens.Resident token r mark → mark ≡ dirty_shown u.spaces u.texts r)
@@ -63,7 +65,8 @@ some_of : {A : Type 0} (o : Option A) → IsSome o → (x : A) × (o ≡ Some x)
 some_of None h = absurd cc
 some_of (Some x) h = (x, refl)
 
-pub placed_dirty : (ss : List Places) (ts : List SharedText) (place : Place) (q : Page) → IsSome (entry_in ss q) → dirty_shown (map (placed q place) ss) ts q ≡ placed_mark ts place q
+pub placed_dirty : (ss : List Places) (ts : List SharedText) (place : Place) (q : Page) → IsSome (entry_in ss q)
+    → dirty_shown (map (placed q place) ss) ts q ≡ placed_mark ts place q
 placed_dirty ss ts place (Data n v) h = let x = some_of (entry_in ss (Data n v)) h in ap changed_named (entry_same ss (Data n v) place x.0 x.1)
 placed_dirty ss ts place (Stack n v) h = let x = some_of (entry_in ss (Stack n v)) h in ap changed_named (entry_same ss (Stack n v) place x.0 x.1)
 placed_dirty ss ts place (Text i v) h = refl
@@ -79,13 +82,15 @@ entry_is None x e = absurd cc
 entry_is (Some y) x e = refl
 
 -- the mark of the page itself
-pub marks_here : (ss : List Places) (ts : List SharedText) (place : Place) (q r : Page) (mark : Bool) → IsSome (entry_in ss q) → r ≡ q → mark ≡ placed_mark ts place q → mark ≡ dirty_shown (map (placed q place) ss) ts r
+pub marks_here : (ss : List Places) (ts : List SharedText) (place : Place) (q r : Page) (mark : Bool) → IsSome (entry_in ss q) → r ≡ q
+    → mark ≡ placed_mark ts place q → mark ≡ dirty_shown (map (placed q place) ss) ts r
 marks_here ss ts place q r mark h e m = m ∙ sym (placed_dirty ss ts place q h) ∙ sym (ap (dirty_shown (map (placed q place) ss) ts) e)
 
 within : (a b : ℕ) → (a < b) ⊎ (b ≤ a)
 within a b = grind arith
 
-pub set_resident : (slots : List Token) (f : ℕ) (x : Token) (token : Frame) (r : Page) (mark : Bool) → slot_at (set slots f x) f ≡ tokens.Resident token r mark → x ≡ tokens.Resident token r mark
+pub set_resident : (slots : List Token) (f : ℕ) (x : Token) (token : Frame) (r : Page) (mark : Bool)
+    → slot_at (set slots f x) f ≡ tokens.Resident token r mark → x ≡ tokens.Resident token r mark
 set_resident slots f x token r mark e = elim (within f (length slots)) [
   | inl l ↦ sym (get_or-set_same slots f x tokens.Away l) ∙ e
   | inr l ↦ absurd (let a : tokens.Away ≡ tokens.Resident token r mark = sym (get_or_past (set slots f x) f tokens.Away (omega (arith, length-set slots f x))) ∙ e in cc)
@@ -98,12 +103,14 @@ pub resident_mark : (a b : Frame) (q r : Page) (m n : Bool) → tokens.Resident 
 resident_mark a b q r m n e = cc
 
 -- a page that a frame holds is held by no other
-pub alone_in : (t : Lists) (q : Page) (f : ℕ) → Known t → frame_of (state_of (placement_of t) q) ≡ Some f → (g : ℕ) → token_page (slot_at t.slots g) ≡ Some q → g ≡ f
+pub alone_in : (t : Lists) (q : Page) (f : ℕ) → Known t → frame_of (state_of (placement_of t) q) ≡ Some f → (g : ℕ)
+    → token_page (slot_at t.slots g) ≡ Some q → g ≡ f
 alone_in t q f k e g h = same_Some g f (sym (held_named t g q k h) ∙ e)
 
 -- The first free frame is taken.
 
-pub marks_taken : (t : Lists) (f : ℕ) (page : Option Page) (rest : List ℕ) → Known t → token_page (slot_at t.slots f) ≡ page → AreMarked t.slots t.spaces t.texts
+pub marks_taken : (t : Lists) (f : ℕ) (page : Option Page) (rest : List ℕ) → Known t → token_page (slot_at t.slots f) ≡ page
+    → AreMarked t.slots t.spaces t.texts
     → AreMarked (set t.slots f tokens.Away) (evicted t.texts page t.spaces) t.texts
 marks_taken t f page rest k e = marks_kept t (taken t f page rest) f (λ g n. get_or-set_other t.slots f g tokens.Away tokens.Away n) (others page e)
     (λ token r mark h. absurd (let a = set_resident t.slots f tokens.Away token r mark h in cc))
@@ -127,7 +134,8 @@ texts_left : (t : Lists) (f : ℕ) → Known t → AreTextsHere (set t.slots f t
 texts_left t f k g i v e = texts_here t k g i v (stayed t f g (Text i v) e)
 
 -- and then a page takes its place in it, which had no frame
-pub marks_entered : (t : Lists) (f g : ℕ) (page : Option Page) (rest : List ℕ) (q : Page) (place : Place) (u : Lists) → Known t → token_page (slot_at t.slots f) ≡ page → frame_of (state_of (placement_of t) q) ≡ None
+pub marks_entered : (t : Lists) (f g : ℕ) (page : Option Page) (rest : List ℕ) (q : Page) (place : Place) (u : Lists) → Known t
+    → token_page (slot_at t.slots f) ≡ page → frame_of (state_of (placement_of t) q) ≡ None
     → ((h : ℕ) → h ≢ g → slot_at u.slots h ≡ slot_at (set t.slots f tokens.Away) h) → u.spaces ≡ map (placed q place) (evicted t.texts page t.spaces) → u.texts ≡ t.texts
     → ((token : Frame) (r : Page) (mark : Bool) → slot_at u.slots g ≡ tokens.Resident token r mark → mark ≡ dirty_shown u.spaces u.texts r)
     → AreMarked t.slots t.spaces t.texts → AreMarked u.slots u.spaces u.texts

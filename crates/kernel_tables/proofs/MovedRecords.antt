@@ -24,7 +24,8 @@ use Rattle.kernel_tables.proofs.Recorded.{changed_records, same_life}
 use Rattle.kernel_tables.proofs.Lives.{pid_of, hit, miss}
 
 -- the same first, and the same behind it
-pub same_first : {B : Type 0} (g h : ℕ → Option B) (x : ℕ) (xs : List ℕ) → g x ≡ h x → filter_map g xs ≡ filter_map h xs → filter_map g (x ∷ xs) ≡ filter_map h (x ∷ xs)
+pub same_first : {B : Type 0} (g h : ℕ → Option B) (x : ℕ) (xs : List ℕ) → g x ≡ h x → filter_map g xs ≡ filter_map h xs
+    → filter_map g (x ∷ xs) ≡ filter_map h (x ∷ xs)
 same_first {B = B} g h x xs e rest = go (h x) refl
   where
     go : (o : Option B) → h x ≡ o → filter_map g (x ∷ xs) ≡ filter_map h (x ∷ xs)
@@ -37,7 +38,8 @@ now_of was regs out since = record was { regs = regs; out = out; since = since }
 
 -- Processes.
 
-pub moved_processes : (old new : List Record) (next pid : ℕ) (regs : Regs) (out : Bool) (since : ℕ) → MovedRecord old new pid regs out since → processes_of new next ≡ map (with_regs pid regs) (processes_of old next)
+pub moved_processes : (old new : List Record) (next pid : ℕ) (regs : Regs) (out : Bool) (since : ℕ) → MovedRecord old new pid regs out since
+    → processes_of new next ≡ map (with_regs pid regs) (processes_of old next)
 moved_processes old new next pid regs out since m =
     changed_over proc_of refl (with_regs pid regs) pid old new m.changes.others changed_is gone still (range_with_len 1 (next - 1))
   where
@@ -65,10 +67,12 @@ moves_to out since r = record r { out = out; since = since }
 changed_hit : (pid : ℕ) (f : Residence → Residence) (r : Residence) (rs : List Residence) → r.pid ≡ pid → changed pid_in pid f (r ∷ rs) ≡ f r ∷ rs
 changed_hit pid f r rs e = grind (arith, nat_tests)
 
-changed_miss : (pid : ℕ) (f : Residence → Residence) (r : Residence) (rs : List Residence) → r.pid ≢ pid → changed pid_in pid f (r ∷ rs) ≡ r ∷ changed pid_in pid f rs
+changed_miss : (pid : ℕ) (f : Residence → Residence) (r : Residence) (rs : List Residence) → r.pid ≢ pid
+    → changed pid_in pid f (r ∷ rs) ≡ r ∷ changed pid_in pid f rs
 changed_miss pid f r rs e = grind (arith, nat_tests)
 
-residence_is : (p : Record) (life : RecordLife) → Lasts life → residence_by p life ≡ Some (let r : Residence = record { pid = p.pid; out = p.out; since = p.since } in r)
+residence_is : (p : Record) (life : RecordLife) → Lasts life
+    → residence_by p life ≡ Some (let r : Residence = record { pid = p.pid; out = p.out; since = p.since } in r)
 residence_is p lives.New l = refl
 residence_is p (lives.Holds sid) l = refl
 residence_is p (lives.Lends sid child) l = refl
@@ -94,7 +98,8 @@ same_above zero a old new pid found c l = refl
 same_above (suc k) a old new pid found c l =
     same_first (λ n. residence_of (find n new)) (λ n. residence_of (find n old)) a (range_with_len (a + 1) k) (ap residence_of (c.others a (λ e. absurd (omega arith)))) (same_above k (a + 1) old new pid found c (omega arith))
 
-residents_over : (k a : ℕ) (old new : List Record) (pid : ℕ) (regs : Regs) (out : Bool) (since : ℕ) (m : MovedRecord old new pid regs out since) → Lasts m.was.state
+residents_over : (k a : ℕ) (old new : List Record) (pid : ℕ) (regs : Regs) (out : Bool) (since : ℕ) (m : MovedRecord old new pid regs out since)
+    → Lasts m.was.state
     → filter_map (λ n. residence_of (find n new)) (range_with_len a k) ≡ changed pid_in pid (moves_to out since) (filter_map (λ n. residence_of (find n old)) (range_with_len a k))
 residents_over zero a old new pid regs out since m l = refl
 residents_over (suc k) a old new pid regs out since m l = elim (cases_eq a pid) [
@@ -124,13 +129,15 @@ residents_over (suc k) a old new pid regs out since m l = elim (cases_eq a pid) 
         ∙ sym (changed_miss pid (moves_to out since) r (filter_map (λ n. residence_of (find n old)) ns) (λ h. d (sym (found_residence a old r f) ∙ h)))
         ∙ sym (ap (changed pid_in pid (moves_to out since)) (keeps_some (λ n. residence_of (find n old)) a ns r f))
 
-pub moved_residents : (old new : List Record) (next pid : ℕ) (regs : Regs) (out : Bool) (since : ℕ) (m : MovedRecord old new pid regs out since) → Lasts m.was.state
+pub moved_residents : (old new : List Record) (next pid : ℕ) (regs : Regs) (out : Bool) (since : ℕ) (m : MovedRecord old new pid regs out since)
+    → Lasts m.was.state
     → residents_of new next ≡ changed (λ (r : Residence). r.pid) pid (λ (r : Residence). record r { out = out; since = since }) (residents_of old next)
 moved_residents old new next pid regs out since m l = residents_over (next - 1) 1 old new pid regs out since m l
 
 -- What the records hold.
 
-pub moved_records : (old new : List Record) (next pid : ℕ) (regs : Regs) (out : Bool) (since : ℕ) → MovedRecord old new pid regs out since → AreRecords old next → AreRecords new next
+pub moved_records : (old new : List Record) (next pid : ℕ) (regs : Regs) (out : Bool) (since : ℕ) → MovedRecord old new pid regs out since
+    → AreRecords old next → AreRecords new next
 moved_records old new next pid regs out since m h =
     changed_records old new next pid m.was (Some (now_of m.was regs out since)) m.after m.found m.changes (same_life old next pid m.was (now_of m.was regs out since) h m.found refl refl) h
 
@@ -151,7 +158,8 @@ lasting p (lives.Holds sid) r e = tt
 lasting p (lives.Lends sid child) r e = tt
 lasting p (lives.Zombie status) r e = none_some r e
 
-out_over : (ns : List ℕ) (ps : List Record) (pid : ℕ) → (swapper.residence_of (filter_map (λ n. residence_of (find n ps)) ns) pid).out ≡ true → IsOutThere ps pid (filter_map (λ n. proc_of (find n ps)) ns)
+out_over : (ns : List ℕ) (ps : List Record) (pid : ℕ) → (swapper.residence_of (filter_map (λ n. residence_of (find n ps)) ns) pid).out ≡ true
+    → IsOutThere ps pid (filter_map (λ n. proc_of (find n ps)) ns)
 out_over [] ps pid e = absurd cc
 out_over (n ∷ ns) ps pid e = go (find n ps) refl (λ k. out_over ns ps pid k)
   where

@@ -78,7 +78,8 @@ stack_within t n v rising h = go (numbered (λ (s : Places). s.sid) n t.spaces) 
         ap (λ (p : Option SpacePages). length (stack_in p)) (numbered_shown t.slots t.spaces n ∙ ap (option_map (space_shown t.slots)) e) ∙ map_length (slot_shown t.slots) s.stack in
         omega arith
 
-text_tells : (t : Lists) (image v : ℕ) (b : Bool) → ltb v (pages_in 1 image t.facts) ≡ b → TellsState t (Text image v) (text_if b (text_place t.spaces t.slots (Text image v) v))
+text_tells : (t : Lists) (image v : ℕ) (b : Bool) → ltb v (pages_in 1 image t.facts) ≡ b
+    → TellsState t (Text image v) (text_if b (text_place t.spaces t.slots (Text image v) v))
 text_tells t image v true e =
     let l : v < pages_in 1 image t.facts = ltb-true v (pages_in 1 image t.facts) e in
     record {
@@ -110,7 +111,8 @@ place_tells t (Text image v) k rising = text_tells t image v (ltb v (pages_in 1 
 holds_self : (q : Page) → holds_it (Some q) q ≡ true
 holds_self q = same_page_self q
 
-held_first : (n : ℕ) (ss : List Token) (f : ℕ) (q : Page) → token_page (slot_at ss f) ≡ Some q → ((g h : ℕ) → token_page (slot_at ss g) ≡ Some q → token_page (slot_at ss h) ≡ Some q → g ≡ h) → found_from n ss q ≡ Some (n + f)
+held_first : (n : ℕ) (ss : List Token) (f : ℕ) (q : Page) → token_page (slot_at ss f) ≡ Some q
+    → ((g h : ℕ) → token_page (slot_at ss g) ≡ Some q → token_page (slot_at ss h) ≡ Some q → g ≡ h) → found_from n ss q ≡ Some (n + f)
 held_first n [] f q e one = absurd cc
 held_first n (s ∷ ss) zero q e one = ap (λ (o : Option Page). cond (holds_it o q) (Some n) (found_from (n + 1) ss q)) e ∙ ap (λ (b : Bool). cond b (Some n) (found_from (n + 1) ss q)) (holds_self q) ∙ ap (λ (m : ℕ). Some m) (omega arith)
 held_first n (s ∷ ss) (suc f) q e one = go (holds_it (token_page s) q) refl (held_first (n + 1) ss f q e (λ g h a b. (let j = one (suc g) (suc h) a b in omega arith)))
@@ -123,7 +125,8 @@ held_first n (s ∷ ss) (suc f) q e one = go (holds_it (token_page s) q) refl (h
     go true h more = absurd (let j = one 0 (suc f) (held_is (token_page s) h) e in omega arith)
     go false h more = more ∙ ap (λ (m : ℕ). Some m) (omega arith)
 
-pub cached_found : (free : List ℕ) (ss : List Token) (f : ℕ) (q : Page) (v : ℕ) → IsSound free ss → token_page (slot_at ss f) ≡ Some q → cached_place ss q v ≡ places.Frame f false false
+pub cached_found : (free : List ℕ) (ss : List Token) (f : ℕ) (q : Page) (v : ℕ) → IsSound free ss → token_page (slot_at ss f) ≡ Some q
+    → cached_place ss q v ≡ places.Frame f false false
 cached_found free ss f q v s e =
     let same : 0 + f ≡ f = omega arith in
     ap (λ (o : Option ℕ). cached_by o v) (held_first 0 ss f q e (λ g h a b. s.unique g h q a b) ∙ ap (λ (n : ℕ). Some n) same)
@@ -137,7 +140,8 @@ pub pages_zero : (k : ℕ) (ns : List Named) → 1 ≤ k → pages_in k 0 (map (
 pages_zero k [] l = refl
 pages_zero k (n ∷ ns) l = pages_miss k 0 n.facts (map (λ (n : Named). n.facts) ns) (λ e. absurd (omega arith)) ∙ pages_zero (k + 1) ns (omega arith)
 
-pub pages_item : (k i : ℕ) (ns : List Named) (n : Named) → slice_get ns i ≡ Some n → pages_in k (k + i) (map (λ (n : Named). n.facts) ns) ≡ text_pages_of n.facts
+pub pages_item : (k i : ℕ) (ns : List Named) (n : Named) → slice_get ns i ≡ Some n
+    → pages_in k (k + i) (map (λ (n : Named). n.facts) ns) ≡ text_pages_of n.facts
 pages_item k i [] n e = absurd cc
 pages_item k zero (m ∷ ms) n e = let same : m ≡ n = cc in pages_hit k (k + 0) m.facts (map (λ (n : Named). n.facts) ms) (omega arith) ∙ ap (λ (x : Named). text_pages_of x.facts) same
 pages_item k (suc i) (m ∷ ms) n e =

@@ -75,7 +75,8 @@ module _ {A : Type 0} (show : Option Record → Option A) (none : show None ≡ 
           ∙ ap (λ (xs : List A). step x ∷ xs) more ∙ sym (ap (map step) (keeps_some (λ m. show (find m old)) n ns x f))
 
 -- `set` of the table is `with_proc` of the kernel
-pub set_is : (old new : List Record) (p was : Record) (next : ℕ) → Changes old new p.pid (Some p) → find p.pid old ≡ Some was → processes_of new next ≡ with_proc (processes_of old next) (proc_shown p)
+pub set_is : (old new : List Record) (p was : Record) (next : ℕ) → Changes old new p.pid (Some p) → find p.pid old ≡ Some was
+    → processes_of new next ≡ with_proc (processes_of old next) (proc_shown p)
 set_is old new p was next c e = changed_over proc_of refl step p.pid old new c.others changed gone still (range_with_len 1 (next - 1))
   where
     step : Proc → Proc
@@ -92,7 +93,8 @@ set_is old new p was next c e = changed_over proc_of refl step p.pid old new c.o
 
 -- Other registers of a process.
 
-pub regs_are : (old new : List Record) (pid : ℕ) (regs : Regs) (was : Record) (next : ℕ) → find pid old ≡ Some was → Changes old new pid (Some (record was { regs = regs }))
+pub regs_are : (old new : List Record) (pid : ℕ) (regs : Regs) (was : Record) (next : ℕ) → find pid old ≡ Some was
+    → Changes old new pid (Some (record was { regs = regs }))
     → processes_of new next ≡ map (λ (q : Proc). cond (q.pid == pid) (record q { regs = regs }) q) (processes_of old next)
 regs_are old new pid regs was next e c = changed_over proc_of refl (λ q. cond (q.pid == pid) (record q { regs = regs }) q) pid old new c.others changed gone still (range_with_len 1 (next - 1))
   where
@@ -116,7 +118,8 @@ residence_regs p regs (lives.Lends sid child) = refl
 residence_regs p regs (lives.Zombie status) = refl
 
 -- and the residents stay
-pub residents_are : (old new : List Record) (pid : ℕ) (regs : Regs) (was : Record) (next : ℕ) → find pid old ≡ Some was → Changes old new pid (Some (record was { regs = regs })) → residents_of new next ≡ residents_of old next
+pub residents_are : (old new : List Record) (pid : ℕ) (regs : Regs) (was : Record) (next : ℕ) → find pid old ≡ Some was
+    → Changes old new pid (Some (record was { regs = regs })) → residents_of new next ≡ residents_of old next
 residents_are old new pid regs was next e c =
     changed_over residence_of refl (λ r. r) pid old new c.others (λ r h. same ∙ h) (λ h. same ∙ h) (λ n r d h. refl) (range_with_len 1 (next - 1)) ∙ map_same (residents_of old next)
   where

@@ -22,7 +22,8 @@ free_is tokens.Away q c h = absurd cc
 pub below_held : (slots : List Token) (f : ℕ) (q : Page) → page_of (slot_at slots f) ≡ Some q → f < length slots
 below_held slots f q e = below_length slots f (λ n. none_some q (sym (ap page_of n) ∙ e))
 
-pub revive_slots : (old one two three : List Token) (f : ℕ) (token : Frame) (q : Page) (c : Bool) → f < length old → IsTrue (is_free (slot_at old f)) → token ≡ token_of (slot_at old f) → token.number ≡ f → one ≡ set old f tokens.Away
+pub revive_slots : (old one two three : List Token) (f : ℕ) (token : Frame) (q : Page) (c : Bool) → f < length old → IsTrue (is_free (slot_at old f))
+    → token ≡ token_of (slot_at old f) → token.number ≡ f → one ≡ set old f tokens.Away
     → two ≡ set one token.number (tokens.Resident token q false) → three ≡ set two f (with_dirty (slot_at two f) c) → three ≡ set old f (revived (slot_at old f) q c)
 revive_slots old one two three f token q c l h t n e1 e2 e3 =
     let r : Token = tokens.Resident token q false in
@@ -36,7 +37,8 @@ pub record Stays (free : List ℕ) (slots : List Token) (f : ℕ) (q : Page) (c 
   pub free_stays : free ≡ without f free
   pub slots_stay : slots ≡ set slots f (revived (slot_at slots f) q c)
 
-pub revive_stays : (free : List ℕ) (slots : List Token) (f : ℕ) (q : Page) (c : Bool) → IsSound free slots → page_of (slot_at slots f) ≡ Some q → ((p : Option Page) → owner_of (slot_at slots f) ≢ owners.Free p) → Stays free slots f q c
+pub revive_stays : (free : List ℕ) (slots : List Token) (f : ℕ) (q : Page) (c : Bool) → IsSound free slots → page_of (slot_at slots f) ≡ Some q
+    → ((p : Option Page) → owner_of (slot_at slots f) ≢ owners.Free p) → Stays free slots f q c
 revive_stays free slots f q c so e n = go (slot_at slots f) refl
   where
     go : (s : Token) → slot_at slots f ≡ s → Stays free slots f q c

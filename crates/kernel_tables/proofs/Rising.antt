@@ -83,7 +83,8 @@ module _ (ss : List Places) (rising : AreRising (sids_of ss)) (sid : ℕ) where
     ]);
   }
 
-pub searched : (ss : List Places) → AreRising (sids_of ss) → (sid : ℕ) (r : Result ℕ ℕ) → IsSearchInRange r (length ss) → IsBinarySearchResult (λ (s : Places). nat_cmp s.sid sid) ss r
+pub searched : (ss : List Places) → AreRising (sids_of ss) → (sid : ℕ) (r : Result ℕ ℕ) → IsSearchInRange r (length ss)
+    → IsBinarySearchResult (λ (s : Places). nat_cmp s.sid sid) ss r
     → record { found : IfSome (result_ok r) (StandsAt ss sid); absent : IfNone (result_ok r) (IsAbsent sid (sids_of ss)) }
 searched [] rising sid (Ok at) in_range equal = absurd (omega arith)
 searched [] rising sid (Err at) in_range parted = record { found = tt; absent = tt }
@@ -118,7 +119,8 @@ module _ (q : Page) (sid : ℕ) (of : IsOfSpace q sid) where
   pub absent_places : (ss : List Places) (place : Place) → IsAbsent sid (sids_of ss) → map (placed q place) ss ≡ ss
   absent_places ss place h = entry_none ss q place (absent_entry ss h)
 
-  pub here_places : (ss : List Places) (i : ℕ) (d : Places) (place : Place) → AreRising (sids_of ss) → slice_get (sids_of ss) i ≡ Some sid → set ss i (placed q place (get_or ss i d)) ≡ map (placed q place) ss
+  pub here_places : (ss : List Places) (i : ℕ) (d : Places) (place : Place) → AreRising (sids_of ss) → slice_get (sids_of ss) i ≡ Some sid
+      → set ss i (placed q place (get_or ss i d)) ≡ map (placed q place) ss
   here_places [] i d place h e = absurd cc
   here_places (s ∷ ss) zero d place h e =
       let same : s.sid ≡ sid = cc in
@@ -140,14 +142,16 @@ pub found_none : (ss : List Places) (sid : ℕ) → IsAbsent sid (sids_of ss) �
 found_none [] sid h = refl
 found_none (s ∷ ss) sid h = num_miss sid s ss h.0 ∙ found_none ss sid h.1
 
-pub found_here : (ss : List Places) (sid i : ℕ) (d : Places) → AreRising (sids_of ss) → slice_get (sids_of ss) i ≡ Some sid → numbered (λ (s : Places). s.sid) sid ss ≡ Some (get_or ss i d)
+pub found_here : (ss : List Places) (sid i : ℕ) (d : Places) → AreRising (sids_of ss) → slice_get (sids_of ss) i ≡ Some sid
+    → numbered (λ (s : Places). s.sid) sid ss ≡ Some (get_or ss i d)
 found_here [] sid i d h e = absurd cc
 found_here (s ∷ ss) sid zero d h e = num_hit sid s ss cc
 found_here (s ∷ ss) sid (suc i) d h e =
     let l : s.sid < sid = below_at s.sid sid i (sids_of ss) h.0 e in
     num_miss sid s ss (λ n. absurd (omega arith)) ∙ found_here ss sid i d h.1 e
 
-pub found_entry : (q : Page) (sid : ℕ) → IsOfSpace q sid → (ss : List Places) (s : Places) → AreRising (sids_of ss) → numbered (λ (s : Places). s.sid) sid ss ≡ Some s → entry_in ss q ≡ place_in s q
+pub found_entry : (q : Page) (sid : ℕ) → IsOfSpace q sid → (ss : List Places) (s : Places) → AreRising (sids_of ss)
+    → numbered (λ (s : Places). s.sid) sid ss ≡ Some s → entry_in ss q ≡ place_in s q
 found_entry q sid of [] s h e = absurd cc
 found_entry q sid of (x ∷ xs) s h e = elim (cases_eq x.sid sid) [
   | inl i ↦
@@ -174,7 +178,8 @@ found_image (x ∷ xs) sid = go (x.sid == sid) (found_image xs sid)
 
 -- The first space that has a page.
 
-pub entry_past : (ss : List Places) (i : ℕ) (d : Places) (q : Page) → i < length ss → entry_in (drop i ss) q ≡ or_else (place_in (get_or ss i d) q) (entry_in (drop (suc i) ss) q)
+pub entry_past : (ss : List Places) (i : ℕ) (d : Places) (q : Page) → i < length ss
+    → entry_in (drop i ss) q ≡ or_else (place_in (get_or ss i d) q) (entry_in (drop (suc i) ss) q)
 entry_past [] i d q l = absurd (omega arith)
 entry_past (s ∷ ss) zero d q l = refl
 entry_past (s ∷ ss) (suc i) d q l = entry_past ss i d q (omega arith)

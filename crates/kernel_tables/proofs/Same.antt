@@ -93,7 +93,8 @@ text_absent : (n : ℕ) (xs : List TextPages) → IsAbsent n (map image_number x
 text_absent n [] z = refl
 text_absent n (x ∷ xs) z = text_miss n x xs z.0 ∙ text_absent n xs z.1
 
-pub texts_ext : (xs ys : List TextPages) → map image_number xs ≡ map image_number ys → AllDistinct (map image_number xs) → ((n : ℕ) → text_in (numbered image_number n xs) ≡ text_in (numbered image_number n ys)) → xs ≡ ys
+pub texts_ext : (xs ys : List TextPages) → map image_number xs ≡ map image_number ys → AllDistinct (map image_number xs)
+    → ((n : ℕ) → text_in (numbered image_number n xs) ≡ text_in (numbered image_number n ys)) → xs ≡ ys
 texts_ext [] [] e d h = refl
 texts_ext [] (y ∷ ys) e d h = absurd cc
 texts_ext (x ∷ xs) [] e d h = absurd cc

@@ -106,7 +106,8 @@ pages_hit n image facts more e = grind (arith, nat_tests)
 pub pages_miss : (n image : ℕ) (facts : Image) (more : List Image) → n ≢ image → pages_in n image (facts ∷ more) ≡ pages_in (n + 1) image more
 pages_miss n image facts more e = grind (arith, nat_tests)
 
-pub texts_shown : (t : Lists) (n image : ℕ) (facts : List Image) → text_in (numbered image_number image (texts_of t n facts)) ≡ text_slots t image (pages_in n image facts)
+pub texts_shown : (t : Lists) (n image : ℕ) (facts : List Image)
+    → text_in (numbered image_number image (texts_of t n facts)) ≡ text_slots t image (pages_in n image facts)
 texts_shown t n image [] = refl
 texts_shown t n image (x ∷ more) = elim (cases_eq n image) [
   | inl e ↦ ap text_in (text_hit image (let y : TextPages = record { image = n; text_pages = text_slots t n (text_pages_of x) } in y) (texts_of t (n + 1) more) e)
@@ -171,14 +172,16 @@ pub length_map : {A B : Type 0} (g : A → B) (xs : List A) → length (map g xs
 length_map g [] = refl
 length_map g (x ∷ xs) = ap suc (length_map g xs)
 
-data_length : (slots : List Token) (n : ℕ) (ss : List Places) → length (data_in (numbered space_number n (map (space_shown slots) ss))) ≡ data_counted (head_numbered n (map head_of ss))
+data_length : (slots : List Token) (n : ℕ) (ss : List Places)
+    → length (data_in (numbered space_number n (map (space_shown slots) ss))) ≡ data_counted (head_numbered n (map head_of ss))
 data_length slots n [] = refl
 data_length slots n (s ∷ ss) = elim (cases_eq s.sid n) [
   | inl e ↦ ap (λ (o : Option SpacePages). length (data_in o)) (hit n (space_shown slots s) (map (space_shown slots) ss) e) ∙ length_map (slot_shown slots) s.data ∙ sym (ap data_counted (head_hit n (head_of s) (map head_of ss) e))
   | inr d ↦ ap (λ (o : Option SpacePages). length (data_in o)) (miss n (space_shown slots s) (map (space_shown slots) ss) d) ∙ data_length slots n ss ∙ sym (ap data_counted (head_miss n (head_of s) (map head_of ss) d))
 ]
 
-stack_length : (slots : List Token) (n : ℕ) (ss : List Places) → length (stack_in (numbered space_number n (map (space_shown slots) ss))) ≡ stack_counted (head_numbered n (map head_of ss))
+stack_length : (slots : List Token) (n : ℕ) (ss : List Places)
+    → length (stack_in (numbered space_number n (map (space_shown slots) ss))) ≡ stack_counted (head_numbered n (map head_of ss))
 stack_length slots n [] = refl
 stack_length slots n (s ∷ ss) = elim (cases_eq s.sid n) [
   | inl e ↦ ap (λ (o : Option SpacePages). length (stack_in o)) (hit n (space_shown slots s) (map (space_shown slots) ss) e) ∙ length_map (slot_shown slots) s.stack ∙ sym (ap stack_counted (head_hit n (head_of s) (map head_of ss) e))
@@ -189,7 +192,8 @@ pub text_length : (t : Lists) (image n : ℕ) → length (text_slots t image n) 
 text_length t image n = length-map-range_with_len (text_slot t image) 0 n
 
 -- the pages stay as many
-pub lengths_same : (t u : Lists) → map head_of u.spaces ≡ map head_of t.spaces → u.facts ≡ t.facts → (w : Page) → length (slots_of (placement_of u) w) ≡ length (slots_of (placement_of t) w)
+pub lengths_same : (t u : Lists) → map head_of u.spaces ≡ map head_of t.spaces → u.facts ≡ t.facts → (w : Page)
+    → length (slots_of (placement_of u) w) ≡ length (slots_of (placement_of t) w)
 lengths_same t u h fs (Data n v) = data_length u.slots n u.spaces ∙ ap (λ (hs : List Head). data_counted (head_numbered n hs)) h ∙ sym (data_length t.slots n t.spaces)
 lengths_same t u h fs (Stack n v) = stack_length u.slots n u.spaces ∙ ap (λ (hs : List Head). stack_counted (head_numbered n hs)) h ∙ sym (stack_length t.slots n t.spaces)
 lengths_same t u h fs (Text i v) =
@@ -204,7 +208,8 @@ idle_frame g false changed = refl
 idle_frame g true true = refl
 idle_frame g true false = refl
 
-same_shown : (a b : List Token) (f : ℕ) (x : Place) → ((g : ℕ) → g ≢ f → slot_at b g ≡ slot_at a g) → frame_of (state_shown a x) ≢ Some f → state_shown b x ≡ state_shown a x
+same_shown : (a b : List Token) (f : ℕ) (x : Place) → ((g : ℕ) → g ≢ f → slot_at b g ≡ slot_at a g) → frame_of (state_shown a x) ≢ Some f
+    → state_shown b x ≡ state_shown a x
 same_shown a b f places.Zero s n = refl
 same_shown a b f (places.Image v) s n = refl
 same_shown a b f places.Swap s n = refl
@@ -214,7 +219,8 @@ same_shown a b f (places.Frame g false changed) s n = elim (cases_eq g f) [
   | inr d ↦ ap (λ (x : Token). idle_state g (is_away x) changed) (s g d)
 ]
 
-same_slot : (a b : List Token) (f : ℕ) (o : Option Place) → ((g : ℕ) → g ≢ f → slot_at b g ≡ slot_at a g) → frame_of (slot_or (slot_shown a) o).state ≢ Some f → slot_or (slot_shown b) o ≡ slot_or (slot_shown a) o
+same_slot : (a b : List Token) (f : ℕ) (o : Option Place) → ((g : ℕ) → g ≢ f → slot_at b g ≡ slot_at a g)
+    → frame_of (slot_or (slot_shown a) o).state ≢ Some f → slot_or (slot_shown b) o ≡ slot_or (slot_shown a) o
 same_slot a b f None s n = refl
 same_slot a b f (Some x) s n = ap (λ (y : PageState). record (slot_shown a x) { state = y }) (same_shown a b f x s n)
 
@@ -281,7 +287,8 @@ list_ext d [] (y ∷ ys) l h = absurd cc
 list_ext d (x ∷ xs) [] l h = absurd cc
 list_ext d (x ∷ xs) (y ∷ ys) l h = ap (λ z. z ∷ xs) (h 0 (omega arith)) ∙ ap (λ zs. y ∷ zs) (list_ext d xs ys (omega arith) (λ v k. h (suc v) (omega arith)))
 
-pub frames_set : {A : Type 0} (d : A) (g h : ℕ → A) (n f : ℕ) → ((k : ℕ) → k ≢ f → h k ≡ g k) → map h (range_with_len 1 n) ≡ set_frame (map g (range_with_len 1 n)) f (h f)
+pub frames_set : {A : Type 0} (d : A) (g h : ℕ → A) (n f : ℕ) → ((k : ℕ) → k ≢ f → h k ≡ g k)
+    → map h (range_with_len 1 n) ≡ set_frame (map g (range_with_len 1 n)) f (h f)
 frames_set d g h n zero s = list_ext d (map h (range_with_len 1 n)) (map g (range_with_len 1 n)) (length-map-range_with_len h 1 n ∙ sym (length-map-range_with_len g 1 n))
     (λ v l. let k : v < n = omega (arith, length-map-range_with_len h 1 n) in
     get_or-map-range_with_len h 1 n v (1 + v) d k refl ∙ s (1 + v) (λ e. absurd (omega arith)) ∙ sym (get_or-map-range_with_len g 1 n v (1 + v) d k refl))
@@ -296,7 +303,8 @@ frames_set d g h n (suc f) s = list_ext d (map h (range_with_len 1 n)) (set (map
 
 -- The whole.
 
-names_shown : (slots : List Token) (ss rs : List Places) (slots2 : List Token) → map head_of ss ≡ map head_of rs → map name_of (map (space_shown slots) ss) ≡ map name_of (map (space_shown slots2) rs)
+names_shown : (slots : List Token) (ss rs : List Places) (slots2 : List Token) → map head_of ss ≡ map head_of rs
+    → map name_of (map (space_shown slots) ss) ≡ map name_of (map (space_shown slots2) rs)
 names_shown slots [] [] slots2 e = refl
 names_shown slots [] (r ∷ rs) slots2 e = absurd cc
 names_shown slots (s ∷ ss) [] slots2 e = absurd cc
@@ -306,7 +314,8 @@ names_shown slots (s ∷ ss) (r ∷ rs) slots2 e =
     ap (λ (n : Named). n ∷ map name_of (map (space_shown slots) ss)) (ap (λ (h : Head). let z : Named = record { sid = h.sid; image = h.image } in z) a)
     ∙ ap (λ (ns : List Named). name_of (space_shown slots2 r) ∷ ns) (names_shown slots ss rs slots2 b)
 
-names_changed : (n : ℕ) (change : SpacePages → SpacePages) → ((x : SpacePages) → name_of (change x) ≡ name_of x) → (xs : List SpacePages) → map name_of (changed space_number n change xs) ≡ map name_of xs
+names_changed : (n : ℕ) (change : SpacePages → SpacePages) → ((x : SpacePages) → name_of (change x) ≡ name_of x) → (xs : List SpacePages)
+    → map name_of (changed space_number n change xs) ≡ map name_of xs
 names_changed n change k [] = refl
 names_changed n change k (x ∷ xs) = go (x.sid == n) (names_changed n change k xs)
   where
@@ -314,7 +323,8 @@ names_changed n change k (x ∷ xs) = go (x.sid == n) (names_changed n change k 
     go true rest = ap (λ (m : Named). m ∷ map name_of xs) (k x)
     go false rest = ap (λ (ms : List Named). name_of x ∷ ms) rest
 
-images_changed : (n : ℕ) (change : TextPages → TextPages) → ((x : TextPages) → (change x).image ≡ x.image) → (xs : List TextPages) → map image_number (changed image_number n change xs) ≡ map image_number xs
+images_changed : (n : ℕ) (change : TextPages → TextPages) → ((x : TextPages) → (change x).image ≡ x.image) → (xs : List TextPages)
+    → map image_number (changed image_number n change xs) ≡ map image_number xs
 images_changed n change k [] = refl
 images_changed n change k (x ∷ xs) = go (x.image == n) (images_changed n change k xs)
   where
@@ -348,7 +358,8 @@ put_alike t q s m = record { names = put_names (placement_of t) q s m; images = 
 pub self_alike : (t : Lists) → AlikeLists t (placement_of t)
 self_alike t = record { names = refl; images = refl; lengths = λ w. refl }
 
-pub lists_same : (t u : Lists) (E : Page → Type 0) (f : ℕ) (p : Placement) → Moved t u E f → AlikeLists t p → ((w : Page) → slot_of (placement_of u) w ≡ slot_of p w) → SameLists u p
+pub lists_same : (t u : Lists) (E : Page → Type 0) (f : ℕ) (p : Placement) → Moved t u E f → AlikeLists t p
+    → ((w : Page) → slot_of (placement_of u) w ≡ slot_of p w) → SameLists u p
 lists_same t u E f p mv a each = record {
   spaces = spaces_ext (placement_of u).spaces p.spaces
       (names_shown u.slots u.spaces t.spaces t.slots mv.heads ∙ sym a.names)
@@ -371,7 +382,8 @@ pub record Here (t u : Lists) (q : Page) (s : PageState) (m : Bool) : Type 0 whe
   pub there : IsThere (placement_of t) q
   pub slot : slot_of (placement_of u) q ≡ record { state = s; mark = m; filling = filling_behind s (slot_of (placement_of t) q).filling }
 
-pub segments_are : (t u : Lists) (q : Page) (f : ℕ) (s : PageState) (m : Bool) → Moved t u (λ w. w ≢ q) f → Here t u q s m → SameLists u (put (placement_of t) q s m)
+pub segments_are : (t u : Lists) (q : Page) (f : ℕ) (s : PageState) (m : Bool) → Moved t u (λ w. w ≢ q) f → Here t u q s m
+    → SameLists u (put (placement_of t) q s m)
 segments_are t u q f s m mv here = lists_same t u (λ w. w ≢ q) f (put (placement_of t) q s m) mv (put_alike t q s m)
     (λ w. elim (page_cases w q) [
       | inl e ↦ subst (λ (x : Page). slot_of (placement_of u) x ≡ slot_of (put (placement_of t) q s m) x) (sym e) (here.slot ∙ sym (put_same (placement_of t) q s m here.there))

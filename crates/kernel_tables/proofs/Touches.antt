@@ -77,7 +77,8 @@ writable_entry t (Data n v) w there = data_there t.slots t.spaces n v there
 writable_entry t (Stack n v) w there = stack_there t.slots t.spaces n v there
 writable_entry t (Text i v) w there = absurd w
 
-write_shown : (t : Lists) (q : Page) (f : ℕ) → IsWritable q → page_shown t q (places.Frame f true true) ≡ record { state = Valid f; mark = true; filling = Zeros }
+write_shown : (t : Lists) (q : Page) (f : ℕ) → IsWritable q
+    → page_shown t q (places.Frame f true true) ≡ record { state = Valid f; mark = true; filling = Zeros }
 write_shown t (Data n v) f w = refl
 write_shown t (Stack n v) f w = refl
 write_shown t (Text i v) f w = absurd w
@@ -87,7 +88,8 @@ touch_is p (Data n v) f w = refl
 touch_is p (Stack n v) f w = refl
 touch_is p (Text i v) f w = absurd w
 
-pub write_place : (t : Lists) (q : Page) (f : ℕ) (token : Frame) → Known t → IsWritable q → (e : state_of (placement_of t) q ≡ Valid f) → InFrame t q f → placement_of (written t q f (tokens.Resident token q true)) ≡ touch (placement_of t) q
+pub write_place : (t : Lists) (q : Page) (f : ℕ) (token : Frame) → Known t → IsWritable q → (e : state_of (placement_of t) q ≡ Valid f)
+    → InFrame t q f → placement_of (written t q f (tokens.Resident token q true)) ≡ touch (placement_of t) q
 write_place t q f token k w e i =
     let p : Placement = placement_of t in
     let s : Token = tokens.Resident token q true in

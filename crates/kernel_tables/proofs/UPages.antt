@@ -14,14 +14,16 @@ words_length [] = refl
 words_length (w ∷ ws) = let h = words_length ws in let n = length-append (word_bytes w) (flat_map word_bytes ws) in omega arith
 
 -- words behind those at the front of a page of zeros
-front_is : (ws : List ℕ) → length ws ≡ 16 → (p0 p1 : List ℕ) → p0 ≡ replicate 1024 0 → p1 ≡ take 0 p0 ++ flat_map word_bytes ws ++ drop (0 + 4 * length ws) p0 → p1 ≡ flat_map word_bytes ws ++ replicate 960 0
+front_is : (ws : List ℕ) → length ws ≡ 16 → (p0 p1 : List ℕ) → p0 ≡ replicate 1024 0
+    → p1 ≡ take 0 p0 ++ flat_map word_bytes ws ++ drop (0 + 4 * length ws) p0 → p1 ≡ flat_map word_bytes ws ++ replicate 960 0
 front_is ws n p0 p1 z e =
     let m : 0 + 4 * length ws ≡ 64 = omega (arith, n) in
     e ∙ ap (λ (k : ℕ). flat_map word_bytes ws ++ drop k p0) m
     ∙ ap (λ (p : List ℕ). flat_map word_bytes ws ++ drop 64 p) z
     ∙ ap (λ (p : List ℕ). flat_map word_bytes ws ++ p) (drop-replicate 64 1024 0)
 
-pub made : (regs : Regs) (d s : ℕ) (p0 p1 p2 : List ℕ) → length regs.r ≡ 16 → p0 ≡ replicate 1024 0 → p1 ≡ take 0 p0 ++ flat_map word_bytes regs.r ++ drop (0 + 4 * length regs.r) p0
+pub made : (regs : Regs) (d s : ℕ) (p0 p1 p2 : List ℕ) → length regs.r ≡ 16 → p0 ≡ replicate 1024 0
+    → p1 ≡ take 0 p0 ++ flat_map word_bytes regs.r ++ drop (0 + 4 * length regs.r) p0
     → p2 ≡ take 64 p1 ++ flat_map word_bytes (codes_of regs ∷ d ∷ s ∷ []) ++ drop 76 p1 → p2 ≡ u_page regs d s
 unfolding u_page
 made regs d s p0 p1 p2 n z e1 e2 =
@@ -72,7 +74,8 @@ words_front (suc n) (a ∷ b ∷ []) ys l = absurd (omega arith)
 words_front (suc n) (a ∷ b ∷ c ∷ []) ys l = absurd (omega arith)
 words_front (suc n) (a ∷ b ∷ c ∷ d ∷ xs) ys l = ap (λ (ws : List ℕ). (a + 2 ^ 8 * b + 2 ^ 16 * c + 2 ^ 24 * d) ∷ ws) (words_front n xs ys (omega arith))
 
-pub words_are : (page read : List ℕ) → length page ≡ 1024 → length read ≡ 16 → IsRead (λ n xs. little_number n xs) 4 (take (4 * length read) page) read → read ≡ longwords 16 page
+pub words_are : (page read : List ℕ) → length page ≡ 1024 → length read ≡ 16
+    → IsRead (λ n xs. little_number n xs) 4 (take (4 * length read) page) read → read ≡ longwords 16 page
 words_are page read lp lr h =
     let four : 4 * length read ≡ 64 = omega (arith, lr) in
     let l : length (take 64 page) ≡ 64 = Rattle.std.proofs.lemmas.List.length-take-le 64 page (omega (arith, lp)) in

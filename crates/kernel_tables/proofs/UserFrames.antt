@@ -75,7 +75,8 @@ at_sid [] i s e = absurd cc
 at_sid (x ∷ xs) zero s e = let same : x ≡ s = cc in ap (λ (y : Places). Some y.sid) same
 at_sid (x ∷ xs) (suc i) s e = at_sid xs i s e
 
-at_image : (slots : List Token) (ss : List Places) (i : ℕ) (s : Places) → slice_get ss i ≡ Some s → slice_get (map (λ (x : SpacePages). x.image) (map (space_shown slots) ss)) i ≡ Some s.image
+at_image : (slots : List Token) (ss : List Places) (i : ℕ) (s : Places) → slice_get ss i ≡ Some s
+    → slice_get (map (λ (x : SpacePages). x.image) (map (space_shown slots) ss)) i ≡ Some s.image
 at_image slots [] i s e = absurd cc
 at_image slots (x ∷ xs) zero s e = let same : x ≡ s = cc in ap (λ (y : Places). Some y.image) same
 at_image slots (x ∷ xs) (suc i) s e = at_image slots xs i s e
@@ -113,7 +114,8 @@ pub map_length : {A B : Type 0} (g : A → B) (xs : List A) → length (map g xs
 map_length g [] = refl
 map_length g (x ∷ xs) = ap suc (map_length g xs)
 
-pub numbered_shown : (slots : List Token) (ss : List Places) (sid : ℕ) → numbered space_number sid (map (space_shown slots) ss) ≡ option_map (space_shown slots) (numbered (λ (s : Places). s.sid) sid ss)
+pub numbered_shown : (slots : List Token) (ss : List Places) (sid : ℕ)
+    → numbered space_number sid (map (space_shown slots) ss) ≡ option_map (space_shown slots) (numbered (λ (s : Places). s.sid) sid ss)
 numbered_shown slots [] sid = refl
 numbered_shown slots (s ∷ ss) sid = go (s.sid == sid) (numbered_shown slots ss sid)
   where
@@ -165,7 +167,8 @@ module _ (t : Lists) (i : ℕ) (s : Places) (k : Known t) (rising : AreRising (s
   image_shown : image_of (placement_of t) s.sid ≡ s.image
   image_shown = ap image_in shown
 
-  pub names_frames : (sid : ℕ) → length s.text ≡ text_pages_of s.facts → slice_get (map space_number (placement_of t).spaces) i ≡ Some sid → NamesFrames (placement_of t) sid s
+  pub names_frames : (sid : ℕ) → length s.text ≡ text_pages_of s.facts → slice_get (map space_number (placement_of t).spaces) i ≡ Some sid
+      → NamesFrames (placement_of t) sid s
   names_frames sid whole number =
       let image : ℕ = image_of (placement_of t) s.sid in
       subst (λ (n : ℕ). NamesFrames (placement_of t) n s) (sym (own_number sid number))
@@ -181,7 +184,8 @@ module _ (t : Lists) (i : ℕ) (s : Places) (k : Known t) (rising : AreRising (s
       ∙ ap (λ (xs : List Slot). 1024 * length xs) (texts_shown t 1 s.image t.facts)
       ∙ ap (λ (n : ℕ). 1024 * n) (text_length t s.image (pages_in 1 s.image t.facts) ∙ facts_pages 1 s.image t.facts s.facts (at_each (IsFilled t.facts) t.spaces i s k.tied.filled at).facts_are)
 
-  pub laid_out : (x : Kernel) (sid image : ℕ) (a b c : ℕ) → x.place ≡ placement_of t → x.stopped ≡ false → slice_get (sids_of t.spaces) i ≡ Some sid → image ≡ s.image → a ≡ 1024 * text_pages_of s.facts → b ≡ 1024 * length s.data → c ≡ 1024 * length s.stack
+  pub laid_out : (x : Kernel) (sid image : ℕ) (a b c : ℕ) → x.place ≡ placement_of t → x.stopped ≡ false → slice_get (sids_of t.spaces) i ≡ Some sid
+      → image ≡ s.image → a ≡ 1024 * text_pages_of s.facts → b ≡ 1024 * length s.data → c ≡ 1024 * length s.stack
       → a + b < 2 ^ 24 → c ≤ 0x80000 → IsLaidOut x i sid image a b c
   laid_out x sid image a b c place running number same text data_size stack_size low high =
       let own : sid ≡ s.sid = some_number sid s.sid (sym number ∙ at_sid t.spaces i s at) in
@@ -232,18 +236,21 @@ held_frame p q frame e = subst (λ (o : Option ℕ). IfSome o (IsHeld p)) (sym e
 pub held_resident : (t : Lists) (f : ℕ) → Known t → IsHeld (placement_of t) f → IsTrue (is_resident (slot_at t.slots f))
 held_resident t f k h = let i = in_frame t h.page f k h.valid in subst (λ (s : Token). IsTrue (is_resident s)) (sym i.resident) refl
 
-pub held_bytes : (t : Lists) (f : ℕ) → Known t → IsHeld (placement_of t) f → (token_of (slot_at t.slots f)).bytes ≡ Rattle.page_model.specs.Frames.at_frame (frames_of t) f []
+pub held_bytes : (t : Lists) (f : ℕ) → Known t → IsHeld (placement_of t) f
+    → (token_of (slot_at t.slots f)).bytes ≡ Rattle.page_model.specs.Frames.at_frame (frames_of t) f []
 held_bytes t f k h =
     let i = in_frame t h.page f k h.valid in
     ap (λ (s : Token). (token_of s).bytes) i.resident ∙ sym (bytes_at t f i.above i.below ∙ ap (λ (s : Token). bytes_by s (flown_at t.flown f)) i.resident)
 
-pub held_whole : (t : Lists) → Known t → (q : Page) (f : ℕ) → state_of (placement_of t) q ≡ Valid f → length (Rattle.page_model.specs.Frames.at_frame (frames_of t) f []) ≡ 1024
+pub held_whole : (t : Lists) → Known t → (q : Page) (f : ℕ) → state_of (placement_of t) q ≡ Valid f
+    → length (Rattle.page_model.specs.Frames.at_frame (frames_of t) f []) ≡ 1024
 held_whole t k q f e =
     let i = in_frame t q f k e in
     sym (ap length (held_bytes t f k (record { page = q; valid = e }))) ∙ ap (λ (s : Token). length (token_of s).bytes) i.resident ∙ subst IsWhole i.resident (k.core.whole f)
 
 -- the layout of a space, by the number of the space that stands there
-pub layout_shown : (t : Tables) (j : List Entry) (b : Bool) (index sid image a c d : ℕ) → Known (lists_of t) → b ≡ false → slice_get (sids_of t.spaces) index ≡ Some sid → HasLengths t.spaces index image a c d
+pub layout_shown : (t : Tables) (j : List Entry) (b : Bool) (index sid image a c d : ℕ) → Known (lists_of t) → b ≡ false
+    → slice_get (sids_of t.spaces) index ≡ Some sid → HasLengths t.spaces index image a c d
     → IsLaidOut (kernel_by t j b) index sid image a c d
 layout_shown t j b index sid image a c d k running number h =
     laid_out (lists_of t) index h.space k h.rising h.at (kernel_by t j b) sid image a c d refl running number h.image_is h.text_is h.data_is h.stack_is h.low h.high

@@ -57,12 +57,14 @@ shown_entry : (slots : List Token) (o : Option Place) (f : ℕ) → (slot_or (sl
 shown_entry slots None f e = absurd cc
 shown_entry slots (Some x) f e = let d = valid_is slots x f e in (d.0, ap (λ (y : Place). Some y) d.1)
 
-pub valid_entry : (t : Lists) (q : Page) (f : ℕ) → Known t → IsWritable q → state_of (placement_of t) q ≡ Valid f → (c : Bool) × (entry_in t.spaces q ≡ Some (places.Frame f true c))
+pub valid_entry : (t : Lists) (q : Page) (f : ℕ) → Known t → IsWritable q → state_of (placement_of t) q ≡ Valid f
+    → (c : Bool) × (entry_in t.spaces q ≡ Some (places.Frame f true c))
 valid_entry t (Data n v) f k w e = shown_entry t.slots (entry_in t.spaces (Data n v)) f (sym (ap (λ (y : Slot). y.state) (data_shown t.slots t.spaces n v k.differ)) ∙ e)
 valid_entry t (Stack n v) f k w e = shown_entry t.slots (entry_in t.spaces (Stack n v)) f (sym (ap (λ (y : Slot). y.state) (stack_shown t.slots t.spaces n v k.differ)) ∙ e)
 valid_entry t (Text i v) f k w e = absurd w
 
-pub marked_byte : (old one two : List Token) (f at byte : ℕ) → f < length old → one ≡ set old f (with_byte (slot_at old f) at byte) → two ≡ set one f (with_dirty (slot_at one f) true)
+pub marked_byte : (old one two : List Token) (f at byte : ℕ) → f < length old → one ≡ set old f (with_byte (slot_at old f) at byte)
+    → two ≡ set one f (with_dirty (slot_at one f) true)
     → two ≡ set old f (with_dirty (with_byte (slot_at old f) at byte) true)
 marked_byte old one two f at byte l e1 e2 =
     let x : Token = with_byte (slot_at old f) at byte in
@@ -76,7 +78,8 @@ pub record Writing (t u : Tables) (q : Page) (f at byte : ℕ) : Type 0 where
   pub writable : IsWritable q
   pub wrote : WroteByte t u q f at byte
 
-writing_lists : (t u : Tables) (q : Page) (f at byte : ℕ) (w : Writing t u q f at byte) (i : InFrame (lists_of t) q f) → lists_of u ≡ written (lists_of t) q f (tokens.Resident (record i.token { bytes = set i.token.bytes at byte }) q true)
+writing_lists : (t u : Tables) (q : Page) (f at byte : ℕ) (w : Writing t u q f at byte) (i : InFrame (lists_of t) q f)
+    → lists_of u ≡ written (lists_of t) q f (tokens.Resident (record i.token { bytes = set i.token.bytes at byte }) q true)
 writing_lists t u q f at byte w i =
     let s : Token = tokens.Resident (record i.token { bytes = set i.token.bytes at byte }) q true in
     ap lists_of w.wrote.rest
@@ -84,7 +87,8 @@ writing_lists t u q f at byte w i =
     ∙ ap (λ (fs : List ℕ). record (lists_of t) { slots = set t.core.slots f s; free = fs; spaces = u.spaces }) w.wrote.free
     ∙ ap (λ (ss : List Places). record (lists_of t) { slots = set t.core.slots f s; spaces = ss }) w.wrote.spaces
 
-pub write_kernel : (t u : Tables) (q : Page) (f at byte : ℕ) (journal : List Entry) (stopped : Bool) → Writing t u q f at byte → kernel_by u journal stopped ≡ write_step (kernel_by t journal stopped) q f at byte
+pub write_kernel : (t u : Tables) (q : Page) (f at byte : ℕ) (journal : List Entry) (stopped : Bool) → Writing t u q f at byte
+    → kernel_by u journal stopped ≡ write_step (kernel_by t journal stopped) q f at byte
 write_kernel t u q f at byte journal stopped w =
     let i : InFrame (lists_of t) q f = in_frame (lists_of t) q f w.known w.valid in
     let l = writing_lists t u q f at byte w i in
@@ -107,7 +111,8 @@ wrote_tables t u = record t { core = u.core; spaces = u.spaces }
 pub wrote_itself : (t u : Tables) (q : Page) (f at byte : ℕ) → Writing t u q f at byte → Writing t (wrote_tables t u) q f at byte
 wrote_itself t u q f at byte w = record { known = w.known; valid = w.valid; writable = w.writable; wrote = record { free = w.wrote.free; slots = w.wrote.slots; spaces = w.wrote.spaces; rest = refl } }
 
-write_runs : (t u : Tables) (q : Page) (f at byte : ℕ) (j : List Entry) (b : Bool) (hs : Holdings) → Runs (record (kernel_by t j b) { holdings = hs }) (lists_of t) t.book.size → Writing t u q f at byte
+write_runs : (t u : Tables) (q : Page) (f at byte : ℕ) (j : List Entry) (b : Bool) (hs : Holdings)
+    → Runs (record (kernel_by t j b) { holdings = hs }) (lists_of t) t.book.size → Writing t u q f at byte
     → Runs (record (kernel_by u j b) { holdings = hs }) (lists_of u) t.book.size
 write_runs t u q f at byte j b hs r w =
     let k : Kernel = record (kernel_by t j b) { holdings = hs } in

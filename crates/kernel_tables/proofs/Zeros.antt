@@ -41,7 +41,8 @@ bytes_first (fills.Start r bytes ∷ ds) q h = sym (ap (λ (b : Bool). cond b by
 bytes_first (fills.Copy child parent ∷ ds) q h = absurd h
 
 -- the bytes that are kept for other pages stay
-pub others_kept : (ds : List DueFill) (q : Page) → EachPage (λ (r : Page). r ≡ q → ⊥) (map due_page (map due_shown ds)) → starts_after (starts_of ds) q ≡ starts_of ds
+pub others_kept : (ds : List DueFill) (q : Page) → EachPage (λ (r : Page). r ≡ q → ⊥) (map due_page (map due_shown ds))
+    → starts_after (starts_of ds) q ≡ starts_of ds
 others_kept [] q h = refl
 others_kept (fills.Copy child parent ∷ ds) q h = others_kept ds q h.1
 others_kept (fills.Start r bytes ∷ ds) q h = go (same_page r q) refl (others_kept ds q h.1)
@@ -61,7 +62,8 @@ starts_first (fills.Start r bytes ∷ ds) q o h =
 
 -- The lists.
 
-pub took_lists : (t u : Tables) (token : Frame) → TookFrame t u token → lists_of u ≡ taken (lists_of t) token.number (page_of (slot_at t.core.slots token.number)) u.core.free
+pub took_lists : (t u : Tables) (token : Frame) → TookFrame t u token
+    → lists_of u ≡ taken (lists_of t) token.number (page_of (slot_at t.core.slots token.number)) u.core.free
 took_lists t u token k =
     ap lists_of k.rest
     ∙ ap (λ (ss : List Token). record (lists_of t) { slots = ss; free = u.core.free; spaces = u.spaces }) k.slots
@@ -101,7 +103,8 @@ zeroing_lists t u v w token filling q z =
     ∙ ap (λ (ds : List DueFill). record (lists_of v) { fills = drop 1 ds }) (ap (λ (x : Tables). x.fills.items) z.seat.rest ∙ ap (λ (x : Tables). x.fills.items) z.took.rest)
     ∙ ap (λ (l : Lists). record l { fills = drop 1 t.fills.items }) (seated_lists u v filling q true z.seat ∙ ap (λ (l : Lists). seated l filling q true) (took_lists t u token z.took))
 
-pub zero_place : (t : Lists) (f : ℕ) (token filling : Frame) (page : Option Page) (rest : List ℕ) (q : Page) → Known t → Head t f token page rest → filling.number ≡ f → IsWritable q
+pub zero_place : (t : Lists) (f : ℕ) (token filling : Frame) (page : Option Page) (rest : List ℕ) (q : Page) → Known t → Head t f token page rest
+    → filling.number ≡ f → IsWritable q
     → IsThere (placement_of t) q → IsFirstStart (map due_shown t.fills) q
     → placement_of (zeroed t f page rest filling q) ≡ filled (placement_of t) q
 zero_place t f token filling page rest q k h n w there first =
@@ -110,7 +113,8 @@ zero_place t f token filling page rest q k h n w there first =
     ap (λ (p : Placement). record p { due = map due_shown (drop 1 t.fills) }) (fill_is t u filling q took w there refl)
     ∙ ap (λ (ds : List Due). record (fill (placement_of t) q) { due = ds }) (due_first t.fills q first)
 
-pub zero_frames : (t : Lists) (f : ℕ) (token filling : Frame) (page : Option Page) (rest : List ℕ) (q : Page) → Known t → Head t f token page rest → filling.number ≡ f
+pub zero_frames : (t : Lists) (f : ℕ) (token filling : Frame) (page : Option Page) (rest : List ℕ) (q : Page) → Known t → Head t f token page rest
+    → filling.number ≡ f
     → filling.bytes ≡ first_bytes t.fills → IsFirstStart (map due_shown t.fills) q
     → frames_of (zeroed t f page rest filling q) ≡ put_first t.free (frames_of t) (start_bytes (starts_of t.fills) q)
 zero_frames t f token filling page rest q k h n b first =

@@ -91,7 +91,8 @@ HoldsOrNew _ = ⊥
 
 -- a process more, of the next number, which is in since that place in the journal
 abbrev pub HasOneMore : Tables → Tables → Proc → ℕ → Type 0
-HasOneMore t u p since = HasProcesses t u (t.next_pid + 1) (processes_in t ++ p ∷ []) (residents_in t ++ record { pid = t.next_pid; out = false; since = since } ∷ [])
+HasOneMore t u p since =
+    HasProcesses t u (t.next_pid + 1) (processes_in t ++ p ∷ []) (residents_in t ++ record { pid = t.next_pid; out = false; since = since } ∷ [])
 
 -- a process is this now
 abbrev pub HasChanged : Tables → Tables → Proc → Type 0

@@ -51,7 +51,9 @@ KeepsFlat old new = (images : List NamedImage) (image : List ℕ) (flat : FlatSt
 
 -- every page that isn't the one has the same bytes in its frame and on swap
 abbrev pub SameElsewhere : Kernel → Kernel → Page → Type 0
-SameElsewhere old new q = (images : List NamedImage) (image : List ℕ) (flat : FlatState) (w : Page) → w ≢ q → SamePage old.place new.place (beside_kernel old images image flat) (beside_kernel new images image flat) w
+SameElsewhere old new q =
+    (images : List NamedImage) (image : List ℕ) (flat : FlatState) (w : Page) → w ≢ q
+    → SamePage old.place new.place (beside_kernel old images image flat) (beside_kernel new images image flat) w
 
 -- pages with no frame that are all read from where the demanded page is read from, a frame for each, and a transfer
 pub record CanBringIn (p : Placement) (q : Page) (lo n : ℕ) : Type 0 where
@@ -66,7 +68,9 @@ pub record CanBringIn (p : Placement) (q : Page) (lo n : ℕ) : Type 0 where
 
 -- every page outside a run has the same bytes in its frame and on swap
 abbrev pub SameOutside : Kernel → Kernel → List Page → Type 0
-SameOutside old new qs = (images : List NamedImage) (image : List ℕ) (flat : FlatState) (w : Page) → EachPage (λ r. w ≢ r) qs → SamePage old.place new.place (beside_kernel old images image flat) (beside_kernel new images image flat) w
+SameOutside old new qs =
+    (images : List NamedImage) (image : List ℕ) (flat : FlatState) (w : Page) → EachPage (λ r. w ≢ r) qs
+    → SamePage old.place new.place (beside_kernel old images image flat) (beside_kernel new images image flat) w
 
 -- a page that a frame holds, of a space or of text that a space shares
 pub record CanReclaim (p : Placement) (q : Page) : Type 0 where
@@ -76,8 +80,12 @@ pub record CanReclaim (p : Placement) (q : Page) : Type 0 where
 
 -- every page has the same bytes in its frame and on swap
 abbrev pub SameEverywhere : Kernel → Kernel → Type 0
-SameEverywhere old new = (images : List NamedImage) (image : List ℕ) (flat : FlatState) (w : Page) → SamePage old.place new.place (beside_kernel old images image flat) (beside_kernel new images image flat) w
+SameEverywhere old new =
+    (images : List NamedImage) (image : List ℕ) (flat : FlatState) (w : Page)
+    → SamePage old.place new.place (beside_kernel old images image flat) (beside_kernel new images image flat) w
 
 -- whatever the images and the swap image, the machine stands for what a change makes of the flat states that it stood for
 abbrev pub ChangesFlat : Kernel → Kernel → ℕ → Regs → Change → Type 0
-ChangesFlat old new pid regs change = (images : List NamedImage) (image : List ℕ) (flat : FlatState) → Coupled old images image flat → Coupled new images image (apply_change images flat pid regs change)
+ChangesFlat old new pid regs change =
+    (images : List NamedImage) (image : List ℕ) (flat : FlatState) → Coupled old images image flat
+    → Coupled new images image (apply_change images flat pid regs change)

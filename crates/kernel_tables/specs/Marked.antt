@@ -11,4 +11,5 @@ use Rattle.kernel_tables.specs.Steps.{dirty_shown}
 
 -- the mark of a frame off the free list says whether its page is dirty
 abbrev pub AreMarked : List Token → List Places → List SharedText → Type 0
-AreMarked slots spaces texts = (f : ℕ) (token : Frame) (q : Page) (mark : Bool) → slot_at slots f ≡ tokens.Resident token q mark → mark ≡ dirty_shown spaces texts q
+AreMarked slots spaces texts =
+    (f : ℕ) (token : Frame) (q : Page) (mark : Bool) → slot_at slots f ≡ tokens.Resident token q mark → mark ≡ dirty_shown spaces texts q

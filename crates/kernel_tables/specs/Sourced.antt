@@ -82,7 +82,8 @@ IsSourced ns image_of hs size q (froms.File id offset count) = IsPageRange ns im
 -- all parts of a read are of one kind
 abbrev pub AreSourcedIn : List ImageNamed → (ℕ → ℕ) → Holdings → ℕ → Source → List Inbound → Type 0
 AreSourcedIn ns image_of hs size source [] = Unit {0}
-AreSourcedIn ns image_of hs size source (x ∷ xs) = (source_of x.source ≡ source) × IsSourced ns image_of hs size x.page x.source × AreSourcedIn ns image_of hs size source xs
+AreSourcedIn ns image_of hs size source (x ∷ xs) =
+    (source_of x.source ≡ source) × IsSourced ns image_of hs size x.page x.source × AreSourcedIn ns image_of hs size source xs
 
 abbrev pub AreOwnBlocks : Holdings → ℕ → List Outbound → Type 0
 AreOwnBlocks hs size [] = Unit {0}

@@ -52,5 +52,6 @@ none_by p (kins.Idle locked front) q w n =
     (unfilled (expire p locked.now) (beside q w) (still_gone p locked.now (beside q w) n))
 none_by p kins.Seated q w n = ap (λ (s : PageState). is_seated_by p s && (is_dirty p (beside q w) && is_near q w)) (unfilled p (beside q w) n)
 
-pub none_joins : (p : Placement) (core : Frames) (s : Places) (kin : Kin) (q : Page) (w : ℕ) → ShowsSpace p core s → IsNamedBy s q → place_in s (beside q w) ≡ None → false ≡ joins p kin q w
+pub none_joins : (p : Placement) (core : Frames) (s : Places) (kin : Kin) (q : Page) (w : ℕ) → ShowsSpace p core s → IsNamedBy s q
+    → place_in s (beside q w) ≡ None → false ≡ joins p kin q w
 none_joins p core s kin q w h n e = sym (none_by p kin q w (gone p core s (beside q w) h (named_beside s q w n) e))

@@ -98,7 +98,8 @@ none_listed f free other e z = ap (λ (fs : List ℕ). times f fs == 0) e ∙ ap
 
 -- what the back hand takes along behind the front hand's change: what is dirty in a frame off the free list, isn't
 -- locked, and is invalid or the front page
-pub goes_behind : (p : Placement) (locked : List Page) (front : Option Page) (q : Page) → Expires p locked front → ((f : ℕ) → state_of p q ≡ Valid f → times f p.free ≡ 0)
+pub goes_behind : (p : Placement) (locked : List Page) (front : Option Page) (q : Page) → Expires p locked front
+    → ((f : ℕ) → state_of p q ≡ Valid f → times f p.free ≡ 0)
     → goes_along (expire p locked) locked q ≡ ((is_seated p q && is_dirty p q) && (not (is_among q locked) && (is_front q front || not (is_valid (state_of p q)))))
 goes_behind p locked front q x off = elim (turned p locked q) [
   | inl e ↦
@@ -114,7 +115,8 @@ goes_behind p locked front q x off = elim (turned p locked q) [
       ∙ ap (λ (s : PageState). (is_seated_by p s && is_dirty p q) && (not (is_among q locked) && (is_front q front || not (is_valid s)))) (sym t.was)
 ]
 
-pub taken : (p : Placement) (locked : List Page) (front : Option Page) (q : Page) (s : PageState) (seat may : Bool) → Expires p locked front → ((f : ℕ) → state_of p q ≡ Valid f → times f p.free ≡ 0)
+pub taken : (p : Placement) (locked : List Page) (front : Option Page) (q : Page) (s : PageState) (seat may : Bool) → Expires p locked front
+    → ((f : ℕ) → state_of p q ≡ Valid f → times f p.free ≡ 0)
     → state_of p q ≡ s → seat ≡ (is_seated_by p s && is_dirty p q) → may ≡ (not (is_among q locked) && (is_front q front || not (is_valid s)))
     → (seat && may) ≡ goes_along (expire p locked) locked q
 taken p locked front q s seat may x off e g h =

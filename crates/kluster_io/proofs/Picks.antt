@@ -21,30 +21,35 @@ named s (Data sid v) h = grind (arith, nat_tests)
 named s (Stack sid v) h = grind (arith, nat_tests)
 named s (Text image v) h = grind (arith, nat_tests)
 
-pub text_from_swap : (p : Placement) (q : Page) (image v spare m n : ℕ) → q ≡ Text image v → m ≡ min 2 spare → run_up (joins p kins.OnSwap q) (number_of q) m ≡ record { lo = number_of q; n = n }
+pub text_from_swap : (p : Placement) (q : Page) (image v spare m n : ℕ) → q ≡ Text image v → m ≡ min 2 spare
+    → run_up (joins p kins.OnSwap q) (number_of q) m ≡ record { lo = number_of q; n = n }
     → run_in_by p q OnSwap spare ≡ record { lo = v; n = n }
 text_from_swap p q image v spare m n e k h =
     subst (λ (x : Page). run_up (joins p kins.OnSwap x) (number_of x) m ≡ record { lo = number_of x; n = n } → run_in_by p x OnSwap spare ≡ record { lo = v; n = n }) (sym e)
     (λ g. ap (run_up (joins p kins.OnSwap (Text image v)) v) (sym k) ∙ g) h
 
-pub text_from_file : (p : Placement) (q : Page) (image v spare m n : ℕ) → q ≡ Text image v → m ≡ min 2 spare → run_up (joins p kins.Unfilled q) (number_of q) m ≡ record { lo = number_of q; n = n }
+pub text_from_file : (p : Placement) (q : Page) (image v spare m n : ℕ) → q ≡ Text image v → m ≡ min 2 spare
+    → run_up (joins p kins.Unfilled q) (number_of q) m ≡ record { lo = number_of q; n = n }
     → run_in_by p q Unfilled spare ≡ record { lo = v; n = n }
 text_from_file p q image v spare m n e k h =
     subst (λ (x : Page). run_up (joins p kins.Unfilled x) (number_of x) m ≡ record { lo = number_of x; n = n } → run_in_by p x Unfilled spare ≡ record { lo = v; n = n }) (sym e)
     (λ g. ap (run_up (joins p kins.Unfilled (Text image v)) v) (sym k) ∙ g) h
 
-pub data_from_swap : (p : Placement) (q : Page) (sid v spare m : ℕ) (r : Run) → q ≡ Data sid v → m ≡ min 4 spare → run_both (joins p kins.OnSwap q) (number_of q) m ≡ r → run_in_by p q OnSwap spare ≡ r
+pub data_from_swap : (p : Placement) (q : Page) (sid v spare m : ℕ) (r : Run) → q ≡ Data sid v → m ≡ min 4 spare
+    → run_both (joins p kins.OnSwap q) (number_of q) m ≡ r → run_in_by p q OnSwap spare ≡ r
 data_from_swap p q sid v spare m r e k h =
     subst (λ (x : Page). run_both (joins p kins.OnSwap x) (number_of x) m ≡ r → run_in_by p x OnSwap spare ≡ r) (sym e)
     (λ g. ap (run_both (joins p kins.OnSwap (Data sid v)) v) (sym k) ∙ g) h
 
-pub stack_from_swap : (p : Placement) (q : Page) (sid v spare m : ℕ) (r : Run) → q ≡ Stack sid v → m ≡ min 4 spare → run_both (joins p kins.OnSwap q) (number_of q) m ≡ r → run_in_by p q OnSwap spare ≡ r
+pub stack_from_swap : (p : Placement) (q : Page) (sid v spare m : ℕ) (r : Run) → q ≡ Stack sid v → m ≡ min 4 spare
+    → run_both (joins p kins.OnSwap q) (number_of q) m ≡ r → run_in_by p q OnSwap spare ≡ r
 stack_from_swap p q sid v spare m r e k h =
     subst (λ (x : Page). run_both (joins p kins.OnSwap x) (number_of x) m ≡ r → run_in_by p x OnSwap spare ≡ r) (sym e)
     (λ g. ap (run_both (joins p kins.OnSwap (Stack sid v)) v) (sym k) ∙ g) h
 
 -- the page of a `Put` is dirty
-pub dirty_put : (p : Placement) (core : Frames) (s : Places) (q : Page) (place : Place) (b : Bool) (n : ℕ) → ShowsSpace p core s → IsSome (place_in s q) → Some place ≡ place_in s q
+pub dirty_put : (p : Placement) (core : Frames) (s : Places) (q : Page) (place : Place) (b : Bool) (n : ℕ) → ShowsSpace p core s
+    → IsSome (place_in s q) → Some place ≡ place_in s q
     → ((x : Placement) (dirty : Bool) → x.free ≡ core.free → ShowsMark core.slots place dirty → b ≡ (is_seated_by x (state_shown core.slots place) && dirty))
     → b ≡ true → run_up (joins p kins.Seated q) (number_of q) 16 ≡ record { lo = number_of q; n = n } → n ≡ (run_put p q).n
 dirty_put p core s q place b n h some e tests t u =

@@ -22,14 +22,16 @@ listed : (p : Placement) (free : List ℕ) (slots : List Slot) (f : ℕ) → IsS
 listed p free slots f s e = ap (times f) e ∙ s.listed f
 
 -- by the slot, how often the frame is listed, and whether the page is valid
-seat_by : (p : Placement) (f : ℕ) (slot : Slot) (valid changed dirty : Bool) → times f p.free ≡ listings slot → MarkShown slot valid dirty → IsTrue (is_resident slot)
+seat_by : (p : Placement) (f : ℕ) (slot : Slot) (valid changed dirty : Bool) → times f p.free ≡ listings slot → MarkShown slot valid dirty
+    → IsTrue (is_resident slot)
     → is_dirty slot ≡ (is_seated_by p (cond valid (Valid f) (idle_state f (is_away slot) changed)) && dirty)
 seat_by p f (Resident token page mark) true changed dirty t m r = m
 seat_by p f (Resident token page mark) false changed dirty t m r = m ∙ sym (ap (λ (n : ℕ). (n == 0) && dirty) t)
 seat_by p f (Free token page) valid changed dirty t m r = absurd cc
 seat_by p f Away valid changed dirty t m r = absurd cc
 
-bare_by : (p : Placement) (f : ℕ) (slot : Slot) (valid changed dirty : Bool) → times f p.free ≡ listings slot → MarkShown slot valid dirty → is_resident slot ≡ false
+bare_by : (p : Placement) (f : ℕ) (slot : Slot) (valid changed dirty : Bool) → times f p.free ≡ listings slot → MarkShown slot valid dirty
+    → is_resident slot ≡ false
     → false ≡ (is_seated_by p (cond valid (Valid f) (idle_state f (is_away slot) changed)) && dirty)
 bare_by p f (Resident token page mark) valid changed dirty t m r = absurd cc
 bare_by p f (Free token page) true changed dirty t m r = absurd cc
@@ -38,16 +40,19 @@ bare_by p f Away true changed dirty t m r = absurd cc
 bare_by p f Away false true dirty t m r = refl
 bare_by p f Away false false dirty t m r = refl
 
-frame_shown : (slots : List Slot) (f : ℕ) (valid changed : Bool) → cond valid (Valid f) (idle_state f (is_away (slot_at slots f)) changed) ≡ state_shown slots (Frame f valid changed)
+frame_shown : (slots : List Slot) (f : ℕ) (valid changed : Bool)
+    → cond valid (Valid f) (idle_state f (is_away (slot_at slots f)) changed) ≡ state_shown slots (Frame f valid changed)
 frame_shown slots f true changed = refl
 frame_shown slots f false changed = refl
 
-pub seat_shown : (p : Placement) (free : List ℕ) (slots : List Slot) (f : ℕ) (valid changed dirty : Bool) → IsSound free slots → p.free ≡ free → ShowsMark slots (Frame f valid changed) dirty
+pub seat_shown : (p : Placement) (free : List ℕ) (slots : List Slot) (f : ℕ) (valid changed dirty : Bool) → IsSound free slots → p.free ≡ free
+    → ShowsMark slots (Frame f valid changed) dirty
     → IsTrue (is_resident (slot_at slots f)) → is_dirty (slot_at slots f) ≡ (is_seated_by p (state_shown slots (Frame f valid changed)) && dirty)
 seat_shown p free slots f valid changed dirty s e m r =
     seat_by p f (slot_at slots f) valid changed dirty (listed p free slots f s e) m r ∙ ap (λ (x : PageState). is_seated_by p x && dirty) (frame_shown slots f valid changed)
 
-pub bare_shown : (p : Placement) (free : List ℕ) (slots : List Slot) (f : ℕ) (valid changed dirty : Bool) → IsSound free slots → p.free ≡ free → ShowsMark slots (Frame f valid changed) dirty
+pub bare_shown : (p : Placement) (free : List ℕ) (slots : List Slot) (f : ℕ) (valid changed dirty : Bool) → IsSound free slots → p.free ≡ free
+    → ShowsMark slots (Frame f valid changed) dirty
     → is_resident (slot_at slots f) ≡ false → false ≡ (is_seated_by p (state_shown slots (Frame f valid changed)) && dirty)
 bare_shown p free slots f valid changed dirty s e m r =
     bare_by p f (slot_at slots f) valid changed dirty (listed p free slots f s e) m r ∙ ap (λ (x : PageState). is_seated_by p x && dirty) (frame_shown slots f valid changed)
@@ -81,6 +86,7 @@ valid_in p free slots (Frame g false changed) dirty s e m f h = absurd (idle_not
     idle_not true true h = absurd cc
     idle_not true false h = absurd cc
 
-pub valid_off : (p : Placement) (free : List ℕ) (slots : List Slot) (place : Place) (q : Page) (dirty : Bool) → IsSound free slots → p.free ≡ free → ShowsMark slots place dirty
+pub valid_off : (p : Placement) (free : List ℕ) (slots : List Slot) (place : Place) (q : Page) (dirty : Bool) → IsSound free slots → p.free ≡ free
+    → ShowsMark slots place dirty
     → state_of p q ≡ state_shown slots place → (f : ℕ) → state_of p q ≡ Valid f → times f p.free ≡ 0
 valid_off p free slots place q dirty s e m t f h = valid_in p free slots place dirty s e m f (sym t ∙ h)

@@ -74,7 +74,8 @@ abbrev Assembles : (ℕ → List ℕ) → (ℕ → List ℕ) → (ℕ → ℕ) �
 Assembles source bytes bss lines pages =
     assembly_of (source pages) ≡ record { bytes = Some (bytes pages); lines = lines; size = length (bytes pages); bss = bss pages }
 
-is_program : (source bytes : ℕ → List ℕ) (bss : ℕ → ℕ) (lines pages : ℕ) → lines ≤ 4096 → Assembles source bytes bss lines pages → IsProgramOf (source pages) (bytes pages) (bss pages)
+is_program : (source bytes : ℕ → List ℕ) (bss : ℕ → ℕ) (lines pages : ℕ) → lines ≤ 4096 → Assembles source bytes bss lines pages
+    → IsProgramOf (source pages) (bytes pages) (bss pages)
 is_program source bytes bss lines pages few e =
     let whole : laid (labels_of (source pages)) [] (items_in (source pages)) ≡ Some (bytes pages) = ap (λ (a : Assembly). a.bytes) e in
     record {

@@ -8,7 +8,8 @@ use Rattle.vm_facts.specs.declared.entry.Entry.{Entry}
 use Rattle.flat_state.specs.Journal.{counted, instructions_of}
 use Rattle.flat_state.proofs.Joins.{count-append}
 
-pub instructions_more : (journal : List Entry) (i n k : ℕ) (e : Entry) → i < length journal → e ≡ get_or journal i e → n ≡ instructions_of (take i journal) → k ≡ counted e → n + k ≡ instructions_of (take (i + 1) journal)
+pub instructions_more : (journal : List Entry) (i n k : ℕ) (e : Entry) → i < length journal → e ≡ get_or journal i e
+    → n ≡ instructions_of (take i journal) → k ≡ counted e → n + k ≡ instructions_of (take (i + 1) journal)
 instructions_more journal i n k e lt is so_far here =
     let there : counted e ≡ counted (get_or journal i e) = ap counted is in
     let one : instructions_of (take (i + 1) journal) ≡ instructions_of (take i journal) + (counted (get_or journal i e) + 0) =
@@ -27,7 +28,8 @@ sum_more f journal base i n k e lt is so_far here =
     step : (base n k a b d t : ℕ) → n ≡ base + a → k ≡ b → b ≡ d → t ≡ a + d → n + k ≡ base + t
     step base n k a b d t e f g h = omega (arith, e, f, g, h)
 
-pub sum_more_alone : (f : Entry → ℕ) (journal : List Entry) (i n k : ℕ) (e : Entry) → i < length journal → e ≡ get_or journal i e → n ≡ sum_by f (take i journal) → k ≡ f e → n + k ≡ sum_by f (take (i + 1) journal)
+pub sum_more_alone : (f : Entry → ℕ) (journal : List Entry) (i n k : ℕ) (e : Entry) → i < length journal → e ≡ get_or journal i e
+    → n ≡ sum_by f (take i journal) → k ≡ f e → n + k ≡ sum_by f (take (i + 1) journal)
 sum_more_alone f journal i n k e lt is so_far here =
     sum_more f journal 0 i n k e lt is (so_far ∙ from_zero (sum_by f (take i journal))) here ∙ sym (from_zero (sum_by f (take (i + 1) journal)))
   where

@@ -7,7 +7,8 @@ use Rattle.vm_facts.specs.declared.event.Event.TheVariants.{Dispatch, Interrupt,
 use Rattle.run_text.specs.Schedule.{IsInRanges}
 use Rattle.load_maker.specs.Load.{drawn, line_drawn, load_lines}
 
-case_in_ranges : (q : ℕ) (a b c d : Bool) → IsInRanges (if a then Dispatch (q + 1) 50 else (if b then Interrupt else (if c then Hands 16 else (if d then Swapper else Audit))))
+case_in_ranges : (q : ℕ) (a b c d : Bool)
+    → IsInRanges (if a then Dispatch (q + 1) 50 else (if b then Interrupt else (if c then Hands 16 else (if d then Swapper else Audit))))
 case_in_ranges q true b c d = (omega arith, omega arith, omega arith)
 case_in_ranges q false true c d = tt
 case_in_ranges q false false true d = (omega arith, omega arith)

@@ -25,7 +25,8 @@ use Rattle.table_steps.specs.Sourced.{ImageNamed, named_at, IsRangeOf, IsSourced
 use Rattle.table_steps.specs.View.{source_shown, in_part, out_part, transfer_shown}
 
 -- a page keeps its block where pieces are found behind those that are held
-pub block_still : (size : ℕ) (hs now : Holdings) (ws : List Wanted) (q : Page) (block : ℕ) → place_all size hs ws ≡ Ok now → block_of hs q ≡ Some block → block_of now q ≡ Some block
+pub block_still : (size : ℕ) (hs now : Holdings) (ws : List Wanted) (q : Page) (block : ℕ) → place_all size hs ws ≡ Ok now
+    → block_of hs q ≡ Some block → block_of now q ≡ Some block
 block_still size hs now ws q block e b =
     let a : Added hs now ws = place_all_adds size hs now ws e in
     block_in_more hs now (of_owner (owner_of q) a.pieces) (owner_of q) (number_of q) block

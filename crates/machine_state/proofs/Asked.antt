@@ -24,7 +24,8 @@ split_found : (b now : Book) (x : Result Holdings ℕ) → true ≡ is_ok x → 
 split_found b now (Ok hs) t e = (hs, refl, e)
 split_found b now (Err n) t e = absurd cc
 
-pub found_ok : (r : Result Bool NoMemory) (b now : Book) (ws : List Want) → r ≡ Ok true → IfOk r (λ fits. fits ≡ fits_for b.size b.holdings ws) → OnOk r (now ≡ book_asked true b ws)
+pub found_ok : (r : Result Bool NoMemory) (b now : Book) (ws : List Want) → r ≡ Ok true → IfOk r (λ fits. fits ≡ fits_for b.size b.holdings ws)
+    → OnOk r (now ≡ book_asked true b ws)
     → (hs : Holdings) × (found_for b.size b.holdings ws ≡ Ok hs) × (now ≡ with_holdings b hs)
 found_ok r b now ws e answer book =
     split_found b now (found_for b.size b.holdings ws) (subst (λ (x : Result Bool NoMemory). IfOk x (λ fits. fits ≡ fits_for b.size b.holdings ws)) e answer) (subst (λ (x : Result Bool NoMemory). OnOk x (now ≡ book_asked true b ws)) e book)
@@ -33,7 +34,8 @@ none_found : (b now : Book) (x : Result Holdings ℕ) → false ≡ is_ok x → 
 none_found b now (Ok hs) t e = absurd cc
 none_found b now (Err n) t e = e
 
-pub found_none : (r : Result Bool NoMemory) (b now : Book) (ws : List Want) → r ≡ Ok false → IfOk r (λ fits. fits ≡ fits_for b.size b.holdings ws) → OnOk r (now ≡ book_asked true b ws) → now ≡ b
+pub found_none : (r : Result Bool NoMemory) (b now : Book) (ws : List Want) → r ≡ Ok false → IfOk r (λ fits. fits ≡ fits_for b.size b.holdings ws)
+    → OnOk r (now ≡ book_asked true b ws) → now ≡ b
 found_none r b now ws e answer book =
     none_found b now (found_for b.size b.holdings ws) (subst (λ (x : Result Bool NoMemory). IfOk x (λ fits. fits ≡ fits_for b.size b.holdings ws)) e answer) (subst (λ (x : Result Bool NoMemory). OnOk x (now ≡ book_asked true b ws)) e book)
 
@@ -64,7 +66,8 @@ unlooked (Err none) b now e h = h
 abbrev pub booked : Inside → Book → ℕ → Inside
 booked m b found = record m { tables = record m.tables { book = b; found = found } }
 
-pub asked_none : (m : Inside) (s : Standing) (b : Book) → RunsInside m → standing_of m ≡ s → s.kernel.stopped ≡ false → b ≡ m.tables.book → RunsNow (booked m b m.tables.found)
+pub asked_none : (m : Inside) (s : Standing) (b : Book) → RunsInside m → standing_of m ≡ s → s.kernel.stopped ≡ false → b ≡ m.tables.book
+    → RunsNow (booked m b m.tables.found)
 asked_none m s b h e r is = subst (λ (x : Book). RunsNow (booked m x m.tables.found)) (sym is) (stands_now m s h e r)
 
 pub standing_none : (m : Inside) (s : Standing) (b : Book) → standing_of m ≡ s → b ≡ m.tables.book → standing_of (booked m b m.tables.found) ≡ s
@@ -78,13 +81,15 @@ pub record Asked (m : Inside) (s : Standing) (b : Book) (found : ℕ) (ws : List
   pub book : b ≡ with_holdings m.tables.book hs
   pub count : found ≡ length b.holdings - length m.tables.book.holdings
 
-before_still : (m : Inside) (s : Standing) (b : Book) (found : ℕ) (ws : List Wanted) (hs : Holdings) → Asked m s b found ws hs → take (length b.holdings - found) b.holdings ≡ m.tables.book.holdings
+before_still : (m : Inside) (s : Standing) (b : Book) (found : ℕ) (ws : List Wanted) (hs : Holdings) → Asked m s b found ws hs
+    → take (length b.holdings - found) b.holdings ≡ m.tables.book.holdings
 before_still m s b found ws hs a =
     ap (λ (n : ℕ). take (length b.holdings - n) b.holdings) a.count
     ∙ ap (λ (x : Book). take (length x.holdings - (length x.holdings - length m.tables.book.holdings)) x.holdings) a.book
     ∙ asked_before m.tables.book.size m.tables.book.holdings hs ws a.placed
 
-pub asked_stands : (m : Inside) (s : Standing) (b : Book) (found : ℕ) (ws : List Wanted) (hs : Holdings) → Asked m s b found ws hs → RunsInside m → s.kernel.stopped ≡ false → RunsNow (booked m b found)
+pub asked_stands : (m : Inside) (s : Standing) (b : Book) (found : ℕ) (ws : List Wanted) (hs : Holdings) → Asked m s b found ws hs → RunsInside m
+    → s.kernel.stopped ≡ false → RunsNow (booked m b found)
 asked_stands m s b found ws hs a h r =
     let n : RunsNow m = stands_now m s h a.view_is r in
     let t : Tables = m.tables in

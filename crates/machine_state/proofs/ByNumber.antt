@@ -36,7 +36,8 @@ over_empty g v next none (suc k) e =
     over_none g v next (omega (arith, e)) (none v (omega arith) (omega (arith, e)))
     ∙ over_empty g (v + 1) next (λ n l m. none n (omega (arith, l)) m) k (omega (arith, e))
 
-over_skips : {A : Type 0} (g : ℕ → Option A) (v w next : ℕ) → w ≤ next → ((n : ℕ) → v ≤ n → n < w → g n ≡ None) → (k : ℕ) → w ≡ v + k → over g v next ≡ over g w next
+over_skips : {A : Type 0} (g : ℕ → Option A) (v w next : ℕ) → w ≤ next → ((n : ℕ) → v ≤ n → n < w → g n ≡ None) → (k : ℕ) → w ≡ v + k
+    → over g v next ≡ over g w next
 over_skips g v w next l none zero e = let i : v ≡ w = omega (arith, e) in ap (λ (n : ℕ). over g n next) i
 over_skips g v w next l none (suc k) e =
     over_none g v next (omega (arith, e, l)) (none v (omega arith) (omega (arith, e)))

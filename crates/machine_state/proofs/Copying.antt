@@ -51,7 +51,8 @@ use Rattle.table_steps.proofs.Residing.{Resides, seat_resides}
 
 -- What is due.
 
-pub due_next : (ds : List DueFill) (q parent : Page) (others : List Due) → map due_shown ds ≡ CopyOf q parent ∷ others → map due_shown (drop 1 ds) ≡ due_after (map due_shown ds) q
+pub due_next : (ds : List DueFill) (q parent : Page) (others : List Due) → map due_shown ds ≡ CopyOf q parent ∷ others
+    → map due_shown (drop 1 ds) ≡ due_after (map due_shown ds) q
 due_next [] q parent others e = absurd cc
 due_next (fills.Start r bytes ∷ ds) q parent others e = absurd cc
 due_next (fills.Copy child from ∷ ds) q parent others e =
@@ -66,7 +67,8 @@ starts_next (fills.Copy child from ∷ ds) q parent others e = refl
 due_copied : (ds : List Due) (q parent : Page) (others : List Due) → ds ≡ CopyOf q parent ∷ others → due_at ds q ≡ Some (CopyOf q parent)
 due_copied ds q parent others e = ap (λ (x : List Due). due_at x q) e ∙ ap (λ (b : Bool). cond b (Some (CopyOf q parent)) (due_at others q)) (same_page_self q)
 
-left_due : (ds : List DueFill) (q parent : Page) (others : List Due) → DueOnce ds → map due_shown ds ≡ CopyOf q parent ∷ others → NotDue (due_after (map due_shown ds) q) q
+left_due : (ds : List DueFill) (q parent : Page) (others : List Due) → DueOnce ds → map due_shown ds ≡ CopyOf q parent ∷ others
+    → NotDue (due_after (map due_shown ds) q) q
 left_due [] q parent others o e = absurd cc
 left_due (fills.Start r bytes ∷ ds) q parent others o e = absurd cc
 left_due (fills.Copy child from ∷ ds) q parent others o e =
@@ -95,13 +97,15 @@ copying_lists t u v w token copy q parent f others z =
     ∙ ap (λ (ds : List DueFill). record (lists_of v) { fills = drop 1 ds }) (ap (λ (x : Tables). x.fills.items) z.seat.rest ∙ ap (λ (x : Tables). x.fills.items) z.took.rest)
     ∙ ap (λ (l : Lists). record l { fills = drop 1 t.fills.items }) (seated_lists u v copy q true z.seat ∙ ap (λ (l : Lists). seated l copy q true) (took_lists t u token z.took))
 
-pub copying_rest : (t u v w : Tables) (token copy : Frame) (q parent : Page) (f : ℕ) (others : List Due) → Copying t u v w token copy q parent f others → w ≡ record t { core = v.core; spaces = v.spaces; fills = w.fills }
+pub copying_rest : (t u v w : Tables) (token copy : Frame) (q parent : Page) (f : ℕ) (others : List Due)
+    → Copying t u v w token copy q parent f others → w ≡ record t { core = v.core; spaces = v.spaces; fills = w.fills }
 copying_rest t u v w token copy q parent f others z =
     z.finish.rest
     ∙ ap (λ (x : Tables). record x { fills = w.fills }) z.seat.rest
     ∙ ap (λ (x : Tables). record x { core = v.core; spaces = v.spaces; fills = w.fills }) z.took.rest
 
-pub copy_ties : (t u v w : Tables) (token copy : Frame) (q parent : Page) (f : ℕ) (others : List Due) → Copying t u v w token copy q parent f others → frame_of (state_of (placement_of (lists_of t)) q) ≡ None → Ties (lists_of t) (lists_of w)
+pub copy_ties : (t u v w : Tables) (token copy : Frame) (q parent : Page) (f : ℕ) (others : List Due) → Copying t u v w token copy q parent f others
+    → frame_of (state_of (placement_of (lists_of t)) q) ≡ None → Ties (lists_of t) (lists_of w)
 copy_ties t u v w token copy q parent f others z none =
     subst (Ties (lists_of t)) (sym (copying_lists t u v w token copy q parent f others z)) (zeroed_ties (lists_of t) token.number (page_of (slot_at t.core.slots token.number)) u.core.free copy q z.known refl z.writable z.there none)
 
@@ -113,7 +117,8 @@ copying_took t u v w token copy q parent f others z =
     let head : Head (lists_of t) token.number token page u.core.free = record { free = z.took.free; was = z.took.was } in
     subst (Took (lists_of t) (taken (lists_of t) token.number page u.core.free)) (sym (ap (λ (x : Frame). x.number) z.is)) (took_is (lists_of t) token.number token page u.core.free z.known head)
 
-copy_place : (t u v w : Tables) (token copy : Frame) (q parent : Page) (f : ℕ) (others : List Due) → Copying t u v w token copy q parent f others → placement_of (lists_of w) ≡ filled (placement_of (lists_of t)) q
+copy_place : (t u v w : Tables) (token copy : Frame) (q parent : Page) (f : ℕ) (others : List Due) → Copying t u v w token copy q parent f others
+    → placement_of (lists_of w) ≡ filled (placement_of (lists_of t)) q
 copy_place t u v w token copy q parent f others z =
     let l : Lists = taken (lists_of t) token.number (page_of (slot_at t.core.slots token.number)) u.core.free in
     ap placement_of (copying_lists t u v w token copy q parent f others z)
@@ -121,7 +126,8 @@ copy_place t u v w token copy q parent f others z =
     ∙ ap (λ (ds : List Due). record (fill (placement_of (lists_of t)) q) { due = ds }) (due_next t.fills.items q parent others z.due)
 
 -- the bytes of the parent's page
-copied_is : (t : Tables) (journal : List Entry) (stopped : Bool) (q parent : Page) (f : ℕ) (others : List Due) → Known (lists_of t) → state_of (placement_of (lists_of t)) parent ≡ Valid f
+copied_is : (t : Tables) (journal : List Entry) (stopped : Bool) (q parent : Page) (f : ℕ) (others : List Due) → Known (lists_of t)
+    → state_of (placement_of (lists_of t)) parent ≡ Valid f
     → map due_shown t.fills.items ≡ CopyOf q parent ∷ others
     → copied_bytes (kernel_by t journal stopped) (due_at (map due_shown t.fills.items) q) ≡ (token_of (slot_at t.core.slots f)).bytes
 copied_is t journal stopped q parent f others known valid due =
@@ -133,7 +139,8 @@ copied_is t journal stopped q parent f others known valid due =
     ∙ ap (λ (y : Token). bytes_by y (flown_at (lists_of t).flown f)) r.slot
     ∙ sym (ap (λ (y : Token). (token_of y).bytes) r.slot)
 
-pub copy_kernel : (t u v w : Tables) (token copy : Frame) (q parent : Page) (f : ℕ) (others : List Due) (journal : List Entry) (stopped : Bool) → Copying t u v w token copy q parent f others
+pub copy_kernel : (t u v w : Tables) (token copy : Frame) (q parent : Page) (f : ℕ) (others : List Due) (journal : List Entry) (stopped : Bool)
+    → Copying t u v w token copy q parent f others
     → kernel_by w (journal ++ entries.Copy q ∷ []) stopped ≡ copy_step (kernel_by t journal stopped) q
 copy_kernel t u v w token copy q parent f others journal stopped z =
     let g : ℕ = token.number in

@@ -7,9 +7,11 @@ use Rattle.page_model.specs.Ownership.{block_of}
 use Rattle.page_model.specs.Stored.{stored_at, stored, store_at}
 
 -- a page that was read from its blocks
-pub read_is : (hs : Holdings) (image bytes : List ℕ) (q : Page) (b : ℕ) → block_of hs q ≡ Some b → device.HoldsPage (Some image) b bytes → bytes ≡ stored hs image q
+pub read_is : (hs : Holdings) (image bytes : List ℕ) (q : Page) (b : ℕ) → block_of hs q ≡ Some b → device.HoldsPage (Some image) b bytes
+    → bytes ≡ stored hs image q
 read_is hs image bytes q b e h = h ∙ sym (ap (stored_at image) e)
 
 -- a page that was written into them
-pub written_is : (hs : Holdings) (image bytes : List ℕ) (q : Page) (b : ℕ) (new : Option (List ℕ)) → block_of hs q ≡ Some b → device.WritesPage (Some image) b bytes new → new ≡ Some (store_at image (block_of hs q) bytes)
+pub written_is : (hs : Holdings) (image bytes : List ℕ) (q : Page) (b : ℕ) (new : Option (List ℕ)) → block_of hs q ≡ Some b
+    → device.WritesPage (Some image) b bytes new → new ≡ Some (store_at image (block_of hs q) bytes)
 written_is hs image bytes q b new e h = h ∙ ap (λ (i : List ℕ). Some i) (sym (ap (λ (o : Option ℕ). store_at image o bytes) e))

@@ -21,7 +21,8 @@ mark_by slots (Some (places.Image v)) = refl
 mark_by slots (Some places.Swap) = refl
 mark_by slots (Some (places.Frame f valid changed)) = refl
 
-pub dirty_is : (t : Lists) (q : Page) → AllDistinct (sids_of t.spaces) → IsThere (placement_of t) q → dirty_shown t.spaces t.texts q ≡ is_dirty (placement_of t) q
+pub dirty_is : (t : Lists) (q : Page) → AllDistinct (sids_of t.spaces) → IsThere (placement_of t) q
+    → dirty_shown t.spaces t.texts q ≡ is_dirty (placement_of t) q
 dirty_is t (Data n v) d there = sym (ap (λ (s : Slot). s.mark) (data_shown t.slots t.spaces n v d) ∙ mark_by t.slots (entry_in t.spaces (Data n v)))
 dirty_is t (Stack n v) d there = sym (ap (λ (s : Slot). s.mark) (stack_shown t.slots t.spaces n v d) ∙ mark_by t.slots (entry_in t.spaces (Stack n v)))
 dirty_is t (Text i v) d there = sym (ap (λ (s : Slot). not s.mark) (text_at t i v (text_within t i v there)))

@@ -41,7 +41,8 @@ pub record Came (ring : List Flight) (holds : Option (List NamedFile)) (before a
   pub ring_is : ring ≡ oldest ∷ rest
   pub ends : Ends oldest holds before after f
 
-pub came : (ring : List Flight) (holds : Option (List NamedFile)) (before after : Option (List ℕ)) (f : Finished) → EndsOldest ring holds before after f → f ≢ answers.Idle → Came ring holds before after f
+pub came : (ring : List Flight) (holds : Option (List NamedFile)) (before after : Option (List ℕ)) (f : Finished)
+    → EndsOldest ring holds before after f → f ≢ answers.Idle → Came ring holds before after f
 came [] holds before after f e n = absurd (n e.0)
 came (o ∷ rest) holds before after f e n = record { oldest = o; rest = rest; ring_is = refl; ends = e }
 
@@ -54,7 +55,8 @@ was_lists t r rest o e d =
     ap (λ (ts : List Flight). record (lists_of t) { transfers = map transfer_shown ts; flown = flown ts }) e
     ∙ ap (λ (ts : List Flight). record (lists_of t) { transfers = transfer_shown o ∷ map transfer_shown ts; flown = flown_in o ++ flown ts }) (sym (d ∙ ap (drop 1) e))
 
-pub back_known : (t : Tables) (r : List Flight) (o n : Flight) → lists_of t ≡ ending (record t { ring = r }) o → IsBack o n → Known (lists_of t) → Known (ending (record t { ring = r }) n)
+pub back_known : (t : Tables) (r : List Flight) (o n : Flight) → lists_of t ≡ ending (record t { ring = r }) o → IsBack o n → Known (lists_of t)
+    → Known (ending (record t { ring = r }) n)
 back_known t r o n e b k = ending_known (record t { ring = r }) o n (alike o n b) (subst Known e k)
 
 -- What a call leaves.
@@ -68,12 +70,14 @@ pub record Doing (t w : Tables) (r : List Flight) (o n : Flight) : Type 0 where
 done_place : (t w : Tables) (r : List Flight) (o n : Flight) → Doing t w r o n → placement_of (lists_of w) ≡ done (placement_of (lists_of t))
 done_place t w r o n d = d.place ∙ ap done (ending_place (record t { ring = r }) o n (alike o n d.back) ∙ sym (ap placement_of d.was))
 
-done_frames : (t w : Tables) (r : List Flight) (o n : Flight) → Doing t w r o n → frames_of (lists_of w) ≡ landed (map transfer_shown t.ring) (brought n) (frames_of (lists_of t))
+done_frames : (t w : Tables) (r : List Flight) (o n : Flight) → Doing t w r o n
+    → frames_of (lists_of w) ≡ landed (map transfer_shown t.ring) (brought n) (frames_of (lists_of t))
 done_frames t w r o n d =
     d.all.frames ∙ ending_frames (record t { ring = r }) o n d.back (subst Known d.was d.known)
     ∙ sym (ap (λ (l : Lists). landed l.transfers (brought n) (frames_of l)) d.was)
 
-pub done_kernel : (t w : Tables) (r : List Flight) (o n : Flight) (journal : List Entry) (stopped : Bool) → Doing t w r o n → kernel_by w (journal ++ entries.Done ∷ []) stopped ≡ done_step (kernel_by t journal stopped) (brought n)
+pub done_kernel : (t w : Tables) (r : List Flight) (o n : Flight) (journal : List Entry) (stopped : Bool) → Doing t w r o n
+    → kernel_by w (journal ++ entries.Done ∷ []) stopped ≡ done_step (kernel_by t journal stopped) (brought n)
 done_kernel t w r o n journal stopped d =
     let rest = d.all.rest in
     kernel_ext (kernel_by w (journal ++ entries.Done ∷ []) stopped) (done_step (kernel_by t journal stopped) (brought n))
@@ -87,7 +91,8 @@ done_kernel t w r o n journal stopped d =
     refl
     refl
 
-pub done_runs : (t w : Tables) (r : List Flight) (o n : Flight) (k new : Kernel) → Doing t w r o n → k.place ≡ placement_of (lists_of t) → new ≡ done_step k (brought n) → Runs k (lists_of t) t.book.size → Runs new (lists_of w) w.book.size
+pub done_runs : (t w : Tables) (r : List Flight) (o n : Flight) (k new : Kernel) → Doing t w r o n → k.place ≡ placement_of (lists_of t)
+    → new ≡ done_step k (brought n) → Runs k (lists_of t) t.book.size → Runs new (lists_of w) w.book.size
 done_runs t w r o n k new d p is run =
     let size : w.book.size ≡ t.book.size = ap (λ (x : Tables). x.book.size) d.all.rest in
     record {
@@ -99,10 +104,12 @@ done_runs t w r o n k new d p is run =
 
 -- The bytes.
 
-pub head_sourced : (ns : List ImageNamed) (f : ℕ → ℕ) (hs : Holdings) (size : ℕ) (ts rest : List Flight) (o : Flight) → ts ≡ o ∷ rest → AreSourced ns f hs size ts → IsFlightSourced ns f hs size o
+pub head_sourced : (ns : List ImageNamed) (f : ℕ → ℕ) (hs : Holdings) (size : ℕ) (ts rest : List Flight) (o : Flight) → ts ≡ o ∷ rest
+    → AreSourced ns f hs size ts → IsFlightSourced ns f hs size o
 head_sourced ns f hs size ts rest o e h = (subst (AreSourced ns f hs size) e h).0
 
-pub rest_sourced : (ns : List ImageNamed) (f : ℕ → ℕ) (hs : Holdings) (size : ℕ) (ts rest : List Flight) (o : Flight) → ts ≡ o ∷ rest → AreSourced ns f hs size ts → AreSourced ns f hs size rest
+pub rest_sourced : (ns : List ImageNamed) (f : ℕ → ℕ) (hs : Holdings) (size : ℕ) (ts rest : List Flight) (o : Flight) → ts ≡ o ∷ rest
+    → AreSourced ns f hs size ts → AreSourced ns f hs size rest
 rest_sourced ns f hs size ts rest o e h = (subst (AreSourced ns f hs size) e h).1
 
 -- What is known of the transfer before.
@@ -113,10 +120,12 @@ pub record Before (t : Tables) (ns : List ImageNamed) (k : Kernel) (o : Flight) 
   pub known : Known (lists_of t)
   pub sourced : IsFlightSourced ns (image_of k.place) k.holdings size o
 
-oldest_first : (t : Tables) (ns : List ImageNamed) (k : Kernel) (o : Flight) (rest : List Flight) (size : ℕ) → Before t ns k o rest size → k.place.transfers ≡ transfer_shown o ∷ map transfer_shown rest
+oldest_first : (t : Tables) (ns : List ImageNamed) (k : Kernel) (o : Flight) (rest : List Flight) (size : ℕ) → Before t ns k o rest size
+    → k.place.transfers ≡ transfer_shown o ∷ map transfer_shown rest
 oldest_first t ns k o rest size b = ap (λ (p : Placement). p.transfers) b.place ∙ ap (map transfer_shown) b.ring
 
-own_bytes : (t : Tables) (ns : List ImageNamed) (k : Kernel) (o : Flight) (rest : List Flight) (size : ℕ) (xs : List Outbound) → Before t ns k o rest size → flown_in o ≡ map outbound_flown xs
+own_bytes : (t : Tables) (ns : List ImageNamed) (k : Kernel) (o : Flight) (rest : List Flight) (size : ℕ) (xs : List Outbound)
+    → Before t ns k o rest size → flown_in o ≡ map outbound_flown xs
     → flying (map (moving (transfer_shown o).errand) (transfer_shown o).parts) ≡ map flown_number (map outbound_flown xs) → AreBytes k.frames xs
 own_bytes t ns k o rest size xs b e m =
     let is : lists_of t ≡ ending (record t { ring = rest }) o = was_lists t rest rest o b.ring (sym (ap (drop 1) b.ring)) in

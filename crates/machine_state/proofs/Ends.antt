@@ -171,7 +171,8 @@ flown_swap (z ∷ zs) ys x y g a b = elim (cases_eq (flown_number z) g) [
   | inr d ↦ miss z (zs ++ y ∷ ys) g d ∙ flown_swap zs ys x y g a b ∙ sym (miss z (zs ++ x ∷ ys) g d)
 ]
 
-before_none : (pre ys : List Flown) (y : Flown) → times (flown_number y) (map flown_number (pre ++ y ∷ ys)) ≤ 1 → times (flown_number y) (map flown_number pre) ≡ 0
+before_none : (pre ys : List Flown) (y : Flown) → times (flown_number y) (map flown_number (pre ++ y ∷ ys)) ≤ 1
+    → times (flown_number y) (map flown_number pre) ≡ 0
 before_none pre ys y h =
     let f : ℕ = flown_number y in
     let a : times f (map flown_number (pre ++ y ∷ ys)) ≡ times f (map flown_number pre) + times f (f ∷ map flown_number ys) = ap (times f) (map-append flown_number pre (y ∷ ys)) ∙ times-append f (map flown_number pre) (f ∷ map flown_number ys) in
@@ -184,7 +185,8 @@ bytes_of xs = map (λ (x : Inbound). x.token.bytes) xs
 abbrev with_flown : Lists → List Flown → Lists
 with_flown t xs = record t { flown = xs }
 
-pub reads_into : (olds news : List Inbound) (t : Lists) (pre post : List Flown) → AreSameParts olds news → AllFly t (map flown_number (map inbound_flown olds)) → Once t (pre ++ (map inbound_flown olds ++ post))
+pub reads_into : (olds news : List Inbound) (t : Lists) (pre post : List Flown) → AreSameParts olds news
+    → AllFly t (map flown_number (map inbound_flown olds)) → Once t (pre ++ (map inbound_flown olds ++ post))
     → frames_of (with_flown t (pre ++ (map inbound_flown news ++ post))) ≡ read_into (map in_part olds) (map (λ (x : Inbound). x.token.bytes) news) (frames_of (with_flown t (pre ++ (map inbound_flown olds ++ post))))
 reads_into [] [] t pre post h a o = refl
 reads_into [] (n ∷ ns) t pre post h a o = absurd h
@@ -214,7 +216,8 @@ abbrev pub brought : Flight → List (List ℕ)
 brought (flights.Read demanded parts) = map (λ (x : Inbound). x.token.bytes) parts.items
 brought (flights.Write parts) = []
 
-pub ending_frames : (t : Tables) (o n : Flight) → IsBack o n → Known (ending t o) → frames_of (ending t n) ≡ landed_by (transfer_shown o).errand (transfer_shown o).parts (brought n) (frames_of (ending t o))
+pub ending_frames : (t : Tables) (o n : Flight) → IsBack o n → Known (ending t o)
+    → frames_of (ending t n) ≡ landed_by (transfer_shown o).errand (transfer_shown o).parts (brought n) (frames_of (ending t o))
 ending_frames t (flights.Write parts) n b k = ap (λ (x : Flight). frames_of (ending t x)) b
 ending_frames t (flights.Read demanded parts) (flights.Write news) b k = absurd b
 ending_frames t (flights.Read demanded parts) (flights.Read page news) b k =
@@ -230,7 +233,8 @@ abbrev pub AreBytes : List (List ℕ) → List Outbound → Type 0
 AreBytes frames [] = Unit {0}
 AreBytes frames (x ∷ xs) = (at_frame frames x.token.number [] ≡ x.token.bytes) × AreBytes frames xs
 
-write_bytes : (xs : List Outbound) (t : Lists) (pre post : List Flown) → t.flown ≡ pre ++ (map outbound_flown xs ++ post) → AllFly t (map flown_number (map outbound_flown xs)) → Once t t.flown → AreBytes (frames_of t) xs
+write_bytes : (xs : List Outbound) (t : Lists) (pre post : List Flown) → t.flown ≡ pre ++ (map outbound_flown xs ++ post)
+    → AllFly t (map flown_number (map outbound_flown xs)) → Once t t.flown → AreBytes (frames_of t) xs
 write_bytes [] t pre post e a o = tt
 write_bytes (x ∷ xs) t pre post e a o =
     let f : ℕ = x.token.number in

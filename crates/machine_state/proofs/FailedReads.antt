@@ -24,7 +24,8 @@ file_shown (froms.Swap block) h = absurd h
 file_shown (froms.File id offset count) h = refl
 
 -- where all parts are of one kind, that of one part is the kind of all
-one_kind : (ns : List ImageNamed) (f : ℕ → ℕ) (hs : Holdings) (size : ℕ) (source kind : Source) (IsKind : From → Type 0) (xs : List Inbound) → ((x : From) → IsKind x → source_of x ≡ kind)
+one_kind : (ns : List ImageNamed) (f : ℕ → ℕ) (hs : Holdings) (size : ℕ) (source kind : Source) (IsKind : From → Type 0) (xs : List Inbound)
+    → ((x : From) → IsKind x → source_of x ≡ kind)
     → AreSourcedIn ns f hs size source xs → SomeFrom IsKind xs → source ≡ kind
 one_kind ns f hs size source kind IsKind [] shown a h = absurd h
 one_kind ns f hs size source kind IsKind (x ∷ xs) shown a (inl k) = sym a.0 ∙ shown x.source k

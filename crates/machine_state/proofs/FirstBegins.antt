@@ -78,7 +78,8 @@ dead_first k below =
     let unused : IsUnused k.processes k.next_pid = absent_none (λ (p : Proc). p.pid) k.next_pid k.processes (below_absent k.next_pid (map (λ (p : Proc). p.pid) k.processes) below) in
     ap lives_in unused
 
-holds_none : (size : ℕ) (alive : ℕ → Bool) (p : Placement) (hs : Holdings) (pid image : ℕ) → OwnsBlocks size alive p hs → IsNew p pid → alive pid ≡ false → HoldsNone p hs pid image
+holds_none : (size : ℕ) (alive : ℕ → Bool) (p : Placement) (hs : Holdings) (pid image : ℕ) → OwnsBlocks size alive p hs → IsNew p pid
+    → alive pid ≡ false → HoldsNone p hs pid image
 holds_none size alive p hs pid image o new dead = record {
   of_data = o.data_held pid ∙ ap (λ (x : Option SpacePages). pieces (2 * length (data_in x))) new ∙ no_pieces (owners.Data pid);
   of_stack = o.stack_held pid ∙ ap (λ (x : Option SpacePages). pieces (2 * length (stack_in x))) new ∙ no_pieces (owners.Stack pid);
@@ -113,7 +114,8 @@ facts_at [] place facts e = absurd cc
 facts_at (x ∷ images) zero facts e = (image_shown x, refl, same_Some x.facts facts e)
 facts_at (x ∷ images) (suc place) facts e = facts_at images place facts e
 
-pub has_facts : (images : List Named) (image : ℕ) (facts : Image) → facts_numbered (map (λ (x : Named). x.facts) images) image ≡ Some facts → HasFacts images image facts
+pub has_facts : (images : List Named) (image : ℕ) (facts : Image) → facts_numbered (map (λ (x : Named). x.facts) images) image ≡ Some facts
+    → HasFacts images image facts
 has_facts images zero facts e = absurd cc
 has_facts images (suc place) facts e = let f = facts_at images place facts e in record { named = f.0; is = f.1; same = f.2 }
 
@@ -132,7 +134,8 @@ runs_none m u pid image stopped b l same =
     subst (λ (x : Tables). RunsNow (record m { tables = x; stopped = stopped })) (sym (looked_none m.tables u pid image l))
     (subst (λ (x : Bool). RunsNow (record m { stopped = x })) (sym same) b.now)
 
-pub no_place : (m : Inside) (s : Standing) (u : Tables) (pid image : ℕ) → standing_of m ≡ s → Before m pid image → LookedFirst m.tables u pid image false → FindsNoPlace s image
+pub no_place : (m : Inside) (s : Standing) (u : Tables) (pid image : ℕ) → standing_of m ≡ s → Before m pid image
+    → LookedFirst m.tables u pid image false → FindsNoPlace s image
 no_place m s u pid image e b l =
     let t : Tables = m.tables in
     let p : Placement = placement_of (lists_of t) in
@@ -160,7 +163,8 @@ looked_found t u pid image l = go (found_first t pid image l.facts) refl l.answe
     go (Ok hs) k a e = record { facts = l.facts; is = l.is; holdings = hs; placed = k; book = e }
     go (Err n) k a e = absurd cc
 
-pub may_enter : (m : Inside) (u : Tables) (pid image : ℕ) → Before m pid image → IsCore m.tables.core.free m.tables.core.slots → FoundFirst m.tables u pid image → MayEnterFirst u image
+pub may_enter : (m : Inside) (u : Tables) (pid image : ℕ) → Before m pid image → IsCore m.tables.core.free m.tables.core.slots
+    → FoundFirst m.tables u pid image → MayEnterFirst u image
 may_enter m u pid image b core f =
     let t : Tables = m.tables in
     let may : MayEnterFirst (record t { book = with_holdings t.book f.holdings }) image = record {

@@ -181,7 +181,8 @@ none_placed : (size : ℕ) (hs : Holdings) → place_all size hs [] ≡ Ok hs
 unfolding place_all
 none_placed size hs = refl
 
-pub began_stands : (m : Inside) (pid image : ℕ) (facts : Image) (hs : Holdings) (u : Tables) (b : Began m pid image facts hs u) (s : Bool) → s ≡ m.stopped → RunsNow (begun m u s)
+pub began_stands : (m : Inside) (pid image : ℕ) (facts : Image) (hs : Holdings) (u : Tables) (b : Began m pid image facts hs u) (s : Bool)
+    → s ≡ m.stopped → RunsNow (begun m u s)
 began_stands m pid image facts hs u b s same =
     let t : Tables = m.tables in
     let w : Tables = record u { found = 0 } in

@@ -113,7 +113,8 @@ nil_of : {A : Type 0} (xs : List A) → length xs ≡ 0 → xs ≡ []
 nil_of [] e = refl
 nil_of (x ∷ xs) e = absurd (omega (arith, e))
 
-pub can_all : (p : Placement) (hs : Holdings) (pid image : ℕ) (facts : Image) → HoldsNone p hs pid image → sharers p image ≡ 0 → CanAsk hs (all_wants pid image facts)
+pub can_all : (p : Placement) (hs : Holdings) (pid image : ℕ) (facts : Image) → HoldsNone p hs pid image → sharers p image ≡ 0
+    → CanAsk hs (all_wants pid image facts)
 can_all p hs pid image facts h none = record {
   differ = (((λ e. cc), ((λ e. cc), ((λ e. cc), tt))), (can_own hs pid facts).differ);
   each = ((mul-mod_right 2 (text_pages_of facts), nil_of (of_owner (owners.Text image) hs) (none_held hs (owners.Text image) (h.of_text none))), (can_own hs pid facts).each);
@@ -154,7 +155,8 @@ shares t pid image m =
     let l = m.within in
     m.tied.counted image m.above (omega arith)
 
-pub looked : (t : Tables) (now : Book) (pid image : ℕ) (facts : Image) (ws : List Want) (r : Result Bool NoMemory) → facts_numbered (lists_of t).facts image ≡ Some facts
+pub looked : (t : Tables) (now : Book) (pid image : ℕ) (facts : Image) (ws : List Want) (r : Result Bool NoMemory)
+    → facts_numbered (lists_of t).facts image ≡ Some facts
     → wanted_of t.book.holdings ws ≡ begin_asks (placement_of (lists_of t)) pid image facts
     → IfOk r (λ fits. fits ≡ fits_for t.book.size t.book.holdings ws) → OnOk r (now ≡ book_asked true t.book ws)
     → IfOk r (λ fits. LookedFirst t (record t { book = now }) pid image fits)

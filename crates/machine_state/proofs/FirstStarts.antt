@@ -44,7 +44,8 @@ few_processes ps next = few_kept (λ pid. proc_of (find pid ps)) 1 (next - 1)
 
 -- What a space that comes leaves as it was.
 
-pub same_records : (t m : Tables) (image : ℕ) (facts : Image) (top : List ℕ) → EnteredImage t m image facts top → AreRecords t.processes t.next_pid → AreRecords m.processes m.next_pid
+pub same_records : (t m : Tables) (image : ℕ) (facts : Image) (top : List ℕ) → EnteredImage t m image facts top → AreRecords t.processes t.next_pid
+    → AreRecords m.processes m.next_pid
 same_records t m image facts top e h =
     subst (λ (n : ℕ). AreRecords m.processes n) (sym (ap (λ (x : Tables). x.next_pid) e.rest)) (subst (λ (ps : List Record). AreRecords ps t.next_pid) (sym (ap (λ (x : Tables). x.processes) e.rest)) h)
 
@@ -53,7 +54,8 @@ same_records t m image facts top e h =
 abbrev first_proc : ℕ → Regs → ℕ → Proc
 first_proc pid regs sid = record { pid = pid; parent = 0; regs = regs; life = HoldsSpace sid; asleep = false }
 
-pub began : (t m u : Tables) (image sid : ℕ) (n : ImageNamed) (regs : Regs) (top : List ℕ) (r : Result (Unit {0}) NoMemory) → named_at (images_of t) image ≡ Some n
+pub began : (t m u : Tables) (image sid : ℕ) (n : ImageNamed) (regs : Regs) (top : List ℕ) (r : Result (Unit {0}) NoMemory)
+    → named_at (images_of t) image ≡ Some n
     → EnteredImage t m image n.facts top → regs ≡ start_regs n.facts.entry (n.name ∷ []) → top ≡ start_page (n.name ∷ []) → sid ≡ t.next_sid
     → OnOk r (HasOneMore m u (first_proc m.next_pid regs sid) 0) → OnOk r (BeganFirst t u image)
 began t m u image sid n regs top (Err e) is entered registers page number more = tt

@@ -30,7 +30,8 @@ byte_there bytes i =
     let whole : 1024 * (i / 1024) + i % 1024 ≡ i = omega arith in
     sym (get_or-take 1024 (drop (1024 * (i / 1024)) bytes) (i % 1024) 0 (omega arith) ∙ get_or-drop (1024 * (i / 1024)) bytes (i % 1024) 0 ∙ ap (λ n. get_or bytes n 0) whole)
 
-read_or_miss : (k : Kernel) (s : PageState) (at byte : ℕ) → ((f : ℕ) → s ≡ Valid f → slice_index (frame_bytes k f) at ≡ byte) → (read_by_state k s at ≡ reads.Miss) ⊎ (read_by_state k s at ≡ reads.Is byte)
+read_or_miss : (k : Kernel) (s : PageState) (at byte : ℕ) → ((f : ℕ) → s ≡ Valid f → slice_index (frame_bytes k f) at ≡ byte)
+    → (read_by_state k s at ≡ reads.Miss) ⊎ (read_by_state k s at ≡ reads.Is byte)
 read_or_miss k (Valid f) at byte h = inr (ap (λ (n : ℕ). reads.Is n) (h f refl))
 read_or_miss k Unfilled at byte h = inl refl
 read_or_miss k (Invalid f) at byte h = inl refl

@@ -67,7 +67,8 @@ pub record Gone (m : Inside) (ps : List Record) (journal : List Entry) (stopped 
 abbrev pub with_records : Tables → List Record → Tables
 with_records t ps = record t { processes = ps }
 
-place_is : (m : Inside) (ps : List Record) (journal : List Entry) (stopped : Bool) (pid : ℕ) (regs : Regs) (out : Bool) (since : ℕ) (e : Entry) → Gone m ps journal stopped pid regs out since e
+place_is : (m : Inside) (ps : List Record) (journal : List Entry) (stopped : Bool) (pid : ℕ) (regs : Regs) (out : Bool) (since : ℕ) (e : Entry)
+    → Gone m ps journal stopped pid regs out since e
     → placement_of (lists_of (with_records m.tables ps)) ≡ moved (placement_of (lists_of m.tables)) pid out (length (m.journal.items ++ e ∷ []))
 place_is m ps journal stopped pid regs out since e g =
     let p : Placement = placement_of (lists_of m.tables) in
@@ -75,7 +76,8 @@ place_is m ps journal stopped pid regs out since e g =
     ap (λ (rs : List Residence). record p { residents = rs }) (moved_residents m.tables.processes ps m.tables.next_pid pid regs out since g.moved g.lasts)
     ∙ ap (moved p pid out) n
 
-pub out_is : (m : Inside) (ps : List Record) (journal : List Entry) (stopped : Bool) (pid : ℕ) (regs : Regs) (since : ℕ) → Gone m ps journal stopped pid regs true since (entries.SwapOut pid) → regs ≡ cleared
+pub out_is : (m : Inside) (ps : List Record) (journal : List Entry) (stopped : Bool) (pid : ℕ) (regs : Regs) (since : ℕ)
+    → Gone m ps journal stopped pid regs true since (entries.SwapOut pid) → regs ≡ cleared
     → kernel_by (with_records m.tables ps) journal stopped ≡ out_step (kernel_by m.tables m.journal.items m.stopped) pid
 out_is m ps journal stopped pid regs since g c =
     let k : Kernel = kernel_by m.tables m.journal.items m.stopped in
@@ -85,7 +87,8 @@ out_is m ps journal stopped pid regs since g c =
     (moved_processes m.tables.processes ps m.tables.next_pid pid regs true since g.moved ∙ ap (λ (r : Regs). map (with_regs pid r) k.processes) c)
     refl refl refl refl g.journal_is g.stopped_is
 
-pub in_is : (m : Inside) (ps : List Record) (journal : List Entry) (stopped : Bool) (pid : ℕ) (regs : Regs) (since : ℕ) → Gone m ps journal stopped pid regs false since (entries.SwapIn pid)
+pub in_is : (m : Inside) (ps : List Record) (journal : List Entry) (stopped : Bool) (pid : ℕ) (regs : Regs) (since : ℕ)
+    → Gone m ps journal stopped pid regs false since (entries.SwapIn pid)
     → kernel_by (with_records m.tables ps) journal stopped ≡ in_step (kernel_by m.tables m.journal.items m.stopped) pid regs
 in_is m ps journal stopped pid regs since g =
     let k : Kernel = kernel_by m.tables m.journal.items m.stopped in
@@ -96,7 +99,8 @@ in_is m ps journal stopped pid regs since g =
     refl refl refl refl g.journal_is g.stopped_is
 
 -- what no change of records changes
-stands_by : (m : Inside) (ps : List Record) (j : List Entry) (b : Bool) → Stands m.tables m.journal.items m.stopped → before_of m.tables ≡ m.tables.book.holdings → AreRecords ps m.tables.next_pid
+stands_by : (m : Inside) (ps : List Record) (j : List Entry) (b : Bool) → Stands m.tables m.journal.items m.stopped
+    → before_of m.tables ≡ m.tables.book.holdings → AreRecords ps m.tables.next_pid
     → Runs (kernel_by (with_records m.tables ps) j b) (lists_of (with_records m.tables ps)) m.tables.book.size → Grown m.journal.items j m.tables.params.journal → Stands (with_records m.tables ps) j b
 stands_by m ps j b s whole records r grown =
     let w : Tables = with_records m.tables ps in
@@ -111,10 +115,12 @@ stands_by m ps j b s whole records r grown =
       numbers = λ e. s.numbers (grown.some e);
     }
 
-within_by : (m : Inside) (journal : List Entry) (e : Entry) → journal ≡ m.journal.items ++ e ∷ [] → length m.journal.items + 1 ≤ m.tables.params.journal → Grown m.journal.items journal m.tables.params.journal
+within_by : (m : Inside) (journal : List Entry) (e : Entry) → journal ≡ m.journal.items ++ e ∷ []
+    → length m.journal.items + 1 ≤ m.tables.params.journal → Grown m.journal.items journal m.tables.params.journal
 within_by m journal e j l = pushed m.journal.items m.journal.items journal e m.tables.params.journal refl j (omega (arith, l))
 
-pub out_stands : (m : Inside) (ps : List Record) (journal : List Entry) (stopped : Bool) (pid : ℕ) (regs : Regs) (since : ℕ) → Gone m ps journal stopped pid regs true since (entries.SwapOut pid) → regs ≡ cleared
+pub out_stands : (m : Inside) (ps : List Record) (journal : List Entry) (stopped : Bool) (pid : ℕ) (regs : Regs) (since : ℕ)
+    → Gone m ps journal stopped pid regs true since (entries.SwapOut pid) → regs ≡ cleared
     → Stands m.tables m.journal.items m.stopped → before_of m.tables ≡ m.tables.book.holdings → Runs (kernel_by m.tables m.journal.items m.stopped) (lists_of m.tables) m.tables.book.size
     → length m.journal.items + 1 ≤ m.tables.params.journal → Stands (with_records m.tables ps) journal stopped
 out_stands m ps journal stopped pid regs since g c s whole r l =
@@ -130,7 +136,8 @@ out_stands m ps journal stopped pid regs since g c s whole r l =
     })
     (within_by m journal (entries.SwapOut pid) g.journal_is l)
 
-pub in_stands : (m : Inside) (ps : List Record) (journal : List Entry) (stopped : Bool) (pid : ℕ) (regs : Regs) (since : ℕ) → Gone m ps journal stopped pid regs false since (entries.SwapIn pid)
+pub in_stands : (m : Inside) (ps : List Record) (journal : List Entry) (stopped : Bool) (pid : ℕ) (regs : Regs) (since : ℕ)
+    → Gone m ps journal stopped pid regs false since (entries.SwapIn pid)
     → Stands m.tables m.journal.items m.stopped → before_of m.tables ≡ m.tables.book.holdings → Runs (kernel_by m.tables m.journal.items m.stopped) (lists_of m.tables) m.tables.book.size
     → length m.journal.items + 1 ≤ m.tables.params.journal → Stands (with_records m.tables ps) journal stopped
 in_stands m ps journal stopped pid regs since g s whole r l =
@@ -169,7 +176,8 @@ state_is (lives.Holds n) sid e = let same : n ≡ sid = cc in ap lives.Holds sam
 state_is (lives.Lends n child) sid e = absurd cc
 state_is (lives.Zombie status) sid e = absurd cc
 
-space_there : (slots : List Token) (ss : List Places) (sid : ℕ) → numbered space_number sid (map (space_shown slots) ss) ≢ None → IsSome (numbered (λ (s : Places). s.sid) sid ss)
+space_there : (slots : List Token) (ss : List Places) (sid : ℕ) → numbered space_number sid (map (space_shown slots) ss) ≢ None
+    → IsSome (numbered (λ (s : Places). s.sid) sid ss)
 space_there slots ss sid h = go (numbered (λ (s : Places). s.sid) sid ss) refl
   where
     go : (o : Option Places) → numbered (λ (s : Places). s.sid) sid ss ≡ o → IsSome o
@@ -205,18 +213,21 @@ holding_lasts l sid e = subst Lasts (sym e) tt
 pub leaving_lasts : (t : Tables) (k : Kernel) (pid : ℕ) (was : Record) → Leaving t k pid → find pid t.processes ≡ Some was → Lasts was.state
 leaving_lasts t k pid was l f = subst (λ (x : Record). Lasts x.state) (same_Some l.found was (sym l.there ∙ f)) (holding_lasts l.found.state l.sid l.state)
 
-data_length : (t : Tables) (sid : ℕ) (s : Places) → numbered (λ (s : Places). s.sid) sid t.spaces ≡ Some s → length (slots_of (placement_of (lists_of t)) (Data sid 0)) ≡ length s.data
+data_length : (t : Tables) (sid : ℕ) (s : Places) → numbered (λ (s : Places). s.sid) sid t.spaces ≡ Some s
+    → length (slots_of (placement_of (lists_of t)) (Data sid 0)) ≡ length s.data
 data_length t sid s e =
     ap (λ (o : Option Rattle.page_model.specs.Pages.SpacePages). length (Rattle.page_model.specs.Pages.data_in o)) (numbered_shown t.core.slots t.spaces sid ∙ ap (option_map (space_shown t.core.slots)) e)
     ∙ length-map s.data (Rattle.table_steps.specs.KernelTablesShown.slot_shown t.core.slots)
 
-stack_length : (t : Tables) (sid : ℕ) (s : Places) → numbered (λ (s : Places). s.sid) sid t.spaces ≡ Some s → length (slots_of (placement_of (lists_of t)) (Stack sid 0)) ≡ length s.stack
+stack_length : (t : Tables) (sid : ℕ) (s : Places) → numbered (λ (s : Places). s.sid) sid t.spaces ≡ Some s
+    → length (slots_of (placement_of (lists_of t)) (Stack sid 0)) ≡ length s.stack
 stack_length t sid s e =
     ap (λ (o : Option Rattle.page_model.specs.Pages.SpacePages). length (Rattle.page_model.specs.Pages.stack_in o)) (numbered_shown t.core.slots t.spaces sid ∙ ap (option_map (space_shown t.core.slots)) e)
     ∙ length-map s.stack (Rattle.table_steps.specs.KernelTablesShown.slot_shown t.core.slots)
 
 -- the bytes that are written are the kernel's u page
-pub bytes_are : (t : Tables) (j : List Entry) (b : Bool) (pid : ℕ) (bytes : List ℕ) → Leaving t (kernel_by t j b) pid → IsUPage t pid bytes → bytes ≡ u_bytes (kernel_by t j b) (proc_of (kernel_by t j b) pid)
+pub bytes_are : (t : Tables) (j : List Entry) (b : Bool) (pid : ℕ) (bytes : List ℕ) → Leaving t (kernel_by t j b) pid → IsUPage t pid bytes
+    → bytes ≡ u_bytes (kernel_by t j b) (proc_of (kernel_by t j b) pid)
 bytes_are t j b pid bytes l u =
     let k : Kernel = kernel_by t j b in
     let same : proc_shown u.process ≡ l.process = ap proc_shown (same_Some u.process l.found (sym u.found ∙ l.there)) ∙ l.shows in
@@ -233,25 +244,29 @@ bytes_are t j b pid bytes l u =
 pub block_there : (size : ℕ) (k : Kernel) (pid : ℕ) → Sound size k → lives_at k.processes pid ≡ true → IsSome (block_in k.holdings (owners.U pid) 0)
 block_there size k pid s a = u_found size k pid s a
 
-pub block_place : (size : ℕ) (k : Kernel) (pid block : ℕ) → Sound size k → block_in k.holdings (owners.U pid) 0 ≡ Some block → IsPlace size k.holdings (owners.U pid) block
+pub block_place : (size : ℕ) (k : Kernel) (pid block : ℕ) → Sound size k → block_in k.holdings (owners.U pid) 0 ≡ Some block
+    → IsPlace size k.holdings (owners.U pid) block
 block_place size k pid block s e =
     let a : ArePlacesApart size k.holdings = places_apart_of size k.holdings s.owner.blocks.book in
     a.own (owners.U pid) 0 block e
 
 -- The device.
 
-pub written : (k : Kernel) (pid block : ℕ) (bytes : List ℕ) (before after : Option (List ℕ)) → u_block k pid ≡ Some block → bytes ≡ u_bytes k (proc_of k pid) → WritesPage before block bytes after → WritesU k pid before after
+pub written : (k : Kernel) (pid block : ℕ) (bytes : List ℕ) (before after : Option (List ℕ)) → u_block k pid ≡ Some block
+    → bytes ≡ u_bytes k (proc_of k pid) → WritesPage before block bytes after → WritesU k pid before after
 written k pid block bytes None after e b h = h
 written k pid block bytes (Some image) after e b h =
     h ∙ ap (λ (x : List ℕ). Some (put_blocks image block x)) b ∙ ap (λ (o : Option ℕ). Some (store_at image o (u_bytes k (proc_of k pid)))) (sym e)
 
-pub read_regs : (k : Kernel) (pid block : ℕ) (bytes : List ℕ) (regs : Regs) (image : Option (List ℕ)) → u_block k pid ≡ Some block → regs ≡ regs_in bytes → HoldsPage image block bytes → AreStored k pid image regs
+pub read_regs : (k : Kernel) (pid block : ℕ) (bytes : List ℕ) (regs : Regs) (image : Option (List ℕ)) → u_block k pid ≡ Some block
+    → regs ≡ regs_in bytes → HoldsPage image block bytes → AreStored k pid image regs
 read_regs k pid block bytes regs None e r h = tt
 read_regs k pid block bytes regs (Some image) e r h = r ∙ ap regs_in (h ∙ sym (ap (stored_at image) e))
 
 -- Coupling.
 
-pub out_keeps : (size : ℕ) (t : Tables) (k : Kernel) (pid : ℕ) (before after : Option (List ℕ)) → Leaving t k pid → Sound size k → Numbered k → is_out k.place pid ≡ false
+pub out_keeps : (size : ℕ) (t : Tables) (k : Kernel) (pid : ℕ) (before after : Option (List ℕ)) → Leaving t k pid → Sound size k → Numbered k
+    → is_out k.place pid ≡ false
     → (bytes : List ℕ) → IsUPage t pid bytes → ((image : List ℕ) → before ≡ Some image → 512 * size ≤ length image) → WritesU k pid before after → KeepsOut k (out_step k pid) before after
 out_keeps size t k pid None after l s n out bytes u long w images flat c = absurd c
 out_keeps size t k pid (Some image) after l s n out bytes u long w images flat c =
@@ -262,7 +277,8 @@ out_keeps size t k pid (Some image) after l s n out bytes u long w images flat c
     (subst (λ (o : Option Proc). Coupled (out_step k pid) images (store_at image (u_block k pid) (u_bytes k o)) flat) (sym l.kept)
     (out_coupled size k images image flat pid q s (long image refl) l.kept alive (subst Rattle.kernel_model.specs.UPage.AreRegs regs u.regs) (n.residents pid (leaving_alive t k pid l)) out c))
 
-pub in_keeps : (k : Kernel) (pid : ℕ) (regs : Regs) (before after : Option (List ℕ)) → AreStored k pid before regs → after ≡ before → KeepsIn k (in_step k pid regs) pid before after
+pub in_keeps : (k : Kernel) (pid : ℕ) (regs : Regs) (before after : Option (List ℕ)) → AreStored k pid before regs → after ≡ before
+    → KeepsIn k (in_step k pid regs) pid before after
 in_keeps k pid regs None after a e images flat may c = absurd c
 in_keeps k pid regs (Some image) after a e images flat may c =
     subst (λ (o : Option (List ℕ)). StandsTold (in_step k pid regs) images o flat) (sym e)
@@ -270,7 +286,8 @@ in_keeps k pid regs (Some image) after a e images flat may c =
 
 -- Who comes in.
 
-pub entering : (t : Tables) (j : List Entry) (b : Bool) (pid : ℕ) → CanComeIn (kernel_by t j b) pid → IsOutThere t.processes pid (Kernel.processes (kernel_by t j b))
+pub entering : (t : Tables) (j : List Entry) (b : Bool) (pid : ℕ) → CanComeIn (kernel_by t j b) pid
+    → IsOutThere t.processes pid (Kernel.processes (kernel_by t j b))
 entering t j b pid can = out_there t.processes t.next_pid pid can.out
 
 lasting_lives : (l : RecordLife) → Lasts l → has_life (life_shown l) ≡ true

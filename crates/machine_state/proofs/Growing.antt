@@ -63,7 +63,8 @@ kept_front owner (h ∷ hs) gs ns e = elim (cases_Bool (same_owner h.owner owner
 ]
 
 -- what was found for an owner is given back: the holdings are as before
-pub given_back : (size : ℕ) (hs now : List Held) (owner : Owner) (blocks : ℕ) → place_all size hs (more_pieces hs owner blocks) ≡ Ok now → kept owner (length (of_owner owner hs)) now ≡ hs
+pub given_back : (size : ℕ) (hs now : List Held) (owner : Owner) (blocks : ℕ) → place_all size hs (more_pieces hs owner blocks) ≡ Ok now
+    → kept owner (length (of_owner owner hs)) now ≡ hs
 given_back size hs now owner blocks e =
     let a : Added hs now (more_pieces hs owner blocks) = place_all_adds size hs now (more_pieces hs owner blocks) e in
     ap (kept owner (length (of_owner owner hs))) a.is ∙ kept_front owner hs a.pieces (drop (length (of_owner owner hs)) (pieces_of owner blocks)) a.wanted
@@ -74,7 +75,8 @@ count_is : (owner : Owner) (hs : List Held) → length (lengths owner hs) ≡ le
 count_is owner hs = length-map (of_owner owner hs) (λ (h : Held). h.length)
 
 -- an owner that holds as many as it wants gets none
-none_more : (size : ℕ) (hs now : List Held) (owner : Owner) (blocks : ℕ) → place_all size hs (more_pieces hs owner blocks) ≡ Ok now → length (pieces_of owner blocks) ≤ length (of_owner owner hs)
+none_more : (size : ℕ) (hs now : List Held) (owner : Owner) (blocks : ℕ) → place_all size hs (more_pieces hs owner blocks) ≡ Ok now
+    → length (pieces_of owner blocks) ≤ length (of_owner owner hs)
     → length (of_owner owner now) ≤ length (of_owner owner hs)
 none_more size hs now owner blocks e l =
     let n : ℕ = length (of_owner owner hs) in
@@ -84,18 +86,21 @@ none_more size hs now owner blocks e l =
     let same : length (of_owner owner now) ≡ n = sym (count_is owner now) ∙ ap (λ (ns : List ℕ). length ns) is ∙ count_is owner hs in
     omega (arith, same)
 
-u_back : (size : ℕ) (hs now : List Held) (pid n : ℕ) → length (of_owner (U pid) hs) ≡ n → place_all size hs (more_pieces hs (U pid) 2) ≡ Ok now → MayGiveBack (U pid) 2 (length (of_owner (U pid) hs)) now
+u_back : (size : ℕ) (hs now : List Held) (pid n : ℕ) → length (of_owner (U pid) hs) ≡ n → place_all size hs (more_pieces hs (U pid) 2) ≡ Ok now
+    → MayGiveBack (U pid) 2 (length (of_owner (U pid) hs)) now
 u_back size hs now pid zero is e = inl is
 u_back size hs now pid (suc n) is e = inr (none_more size hs now (U pid) 2 e (let one : length (u_pieces 2) ≡ 1 = refl in omega (arith, is, one)))
 
-chunks_back : (size : ℕ) (hs now : List Held) (owner : Owner) (blocks : ℕ) → pieces_of owner blocks ≡ pieces blocks → place_all size hs (more_pieces hs owner blocks) ≡ Ok now
+chunks_back : (size : ℕ) (hs now : List Held) (owner : Owner) (blocks : ℕ) → pieces_of owner blocks ≡ pieces blocks
+    → place_all size hs (more_pieces hs owner blocks) ≡ Ok now
     → (length (of_owner owner hs) < length (pieces blocks)) ⊎ (length (of_owner owner now) ≤ length (of_owner owner hs))
 chunks_back size hs now owner blocks is e = elim (cases_lt (length (of_owner owner hs)) (length (pieces blocks))) [
   | inl few ↦ inl few
   | inr all ↦ inr (none_more size hs now owner blocks e (subst (λ (ns : List ℕ). length ns ≤ length (of_owner owner hs)) (sym is) all))
 ]
 
-pub may_give_back : (size : ℕ) (hs now : List Held) (owner : Owner) (blocks : ℕ) → CanGrow hs owner blocks → place_all size hs (more_pieces hs owner blocks) ≡ Ok now → MayGiveBack owner blocks (length (of_owner owner hs)) now
+pub may_give_back : (size : ℕ) (hs now : List Held) (owner : Owner) (blocks : ℕ) → CanGrow hs owner blocks
+    → place_all size hs (more_pieces hs owner blocks) ≡ Ok now → MayGiveBack owner blocks (length (of_owner owner hs)) now
 may_give_back size hs now (Data sid) blocks can e = chunks_back size hs now (Data sid) blocks refl e
 may_give_back size hs now (Stack sid) blocks can e = chunks_back size hs now (Stack sid) blocks refl e
 may_give_back size hs now (U pid) blocks can e =
@@ -113,14 +118,16 @@ not_same a b d = elim (cases_Bool (same_owner a b)) [
 pub record Grew (size : ℕ) (hs now : List Held) (owner : Owner) (blocks : ℕ) : Type 0 where
   pub found : place_all size hs (more_pieces hs owner blocks) ≡ Ok now
 
-other_count : (size : ℕ) (hs now : List Held) (owner other : Owner) (blocks : ℕ) → Grew size hs now owner blocks → owner ≢ other → length (of_owner other now) ≡ length (of_owner other hs)
+other_count : (size : ℕ) (hs now : List Held) (owner other : Owner) (blocks : ℕ) → Grew size hs now owner blocks → owner ≢ other
+    → length (of_owner other now) ≡ length (of_owner other hs)
 other_count size hs now owner other blocks g d =
     let is : lengths other now ≡ lengths other hs =
     found_lengths size hs now (more_pieces hs owner blocks) other g.found
     ∙ ap (λ (ns : List ℕ). lengths other hs ++ ns) (lengths_other owner other (drop (length (of_owner owner hs)) (pieces_of owner blocks)) (not_same owner other d)) ∙ append-nil (lengths other hs) in
     sym (count_is other now) ∙ ap (λ (ns : List ℕ). length ns) is ∙ count_is other hs
 
-wanted_still : (size : ℕ) (hs now : List Held) (owner : Owner) (blocks : ℕ) (ws : List Want) → Grew size hs now owner blocks → IsOther owner ws → wanted_of now ws ≡ wanted_of hs ws
+wanted_still : (size : ℕ) (hs now : List Held) (owner : Owner) (blocks : ℕ) (ws : List Want) → Grew size hs now owner blocks → IsOther owner ws
+    → wanted_of now ws ≡ wanted_of hs ws
 wanted_still size hs now owner blocks [] g o = refl
 wanted_still size hs now owner blocks (w ∷ ws) g o =
     ap (λ (n : ℕ). wanted w.owner (drop n (pieces_of w.owner w.blocks)) ++ wanted_of now ws) (other_count size hs now owner w.owner blocks g o.0)
@@ -130,26 +137,30 @@ no_length : (hs : List Held) → length hs ≡ 0 → hs ≡ []
 no_length [] e = refl
 no_length (h ∷ hs) e = absurd cc
 
-grow_still : (hs now : List Held) (other : Owner) (blocks : ℕ) → length (of_owner other now) ≡ length (of_owner other hs) → CanGrow hs other blocks → CanGrow now other blocks
+grow_still : (hs now : List Held) (other : Owner) (blocks : ℕ) → length (of_owner other now) ≡ length (of_owner other hs) → CanGrow hs other blocks
+    → CanGrow now other blocks
 grow_still hs now (Data sid) blocks e can = tt
 grow_still hs now (Stack sid) blocks e can = tt
 grow_still hs now (U pid) blocks e can = can
 grow_still hs now (Text image) blocks e can = (can.0, no_length (of_owner (Text image) now) (e ∙ ap (λ (gs : List Held). length gs) can.1))
 
-pub each_still : (size : ℕ) (hs now : List Held) (owner : Owner) (blocks : ℕ) (ws : List Want) → Grew size hs now owner blocks → IsOther owner ws → MayGrow hs ws → MayGrow now ws
+pub each_still : (size : ℕ) (hs now : List Held) (owner : Owner) (blocks : ℕ) (ws : List Want) → Grew size hs now owner blocks → IsOther owner ws
+    → MayGrow hs ws → MayGrow now ws
 each_still size hs now owner blocks [] g o may = tt
 each_still size hs now owner blocks (w ∷ ws) g o may =
     (grow_still hs now w.owner w.blocks (other_count size hs now owner w.owner blocks g o.0) may.0, each_still size hs now owner blocks ws g o.1 may.1)
 
 -- The first want, and the others behind it.
 
-pub found_behind : (size : ℕ) (hs now : List Held) (w : Want) (ws : List Want) → Grew size hs now w.owner w.blocks → IsOther w.owner ws → found_for size hs (w ∷ ws) ≡ found_for size now ws
+pub found_behind : (size : ℕ) (hs now : List Held) (w : Want) (ws : List Want) → Grew size hs now w.owner w.blocks → IsOther w.owner ws
+    → found_for size hs (w ∷ ws) ≡ found_for size now ws
 found_behind size hs now w ws g o =
     place_all-append size hs (more_pieces hs w.owner w.blocks) (wanted_of hs ws)
     ∙ ap (λ (r : Result (List Held) ℕ). and_then r (λ then. place_all size then (wanted_of hs ws))) g.found
     ∙ ap (place_all size now) (sym (wanted_still size hs now w.owner w.blocks ws g o))
 
-pub none_behind : (size : ℕ) (hs : List Held) (w : Want) (ws : List Want) (n : ℕ) → place_all size hs (more_pieces hs w.owner w.blocks) ≡ Err n → found_for size hs (w ∷ ws) ≡ Err n
+pub none_behind : (size : ℕ) (hs : List Held) (w : Want) (ws : List Want) (n : ℕ) → place_all size hs (more_pieces hs w.owner w.blocks) ≡ Err n
+    → found_for size hs (w ∷ ws) ≡ Err n
 none_behind size hs w ws n e =
     place_all-append size hs (more_pieces hs w.owner w.blocks) (wanted_of hs ws)
     ∙ ap (λ (r : Result (List Held) ℕ). and_then r (λ then. place_all size then (wanted_of hs ws))) e
@@ -192,14 +203,17 @@ pub record Behind (b now later : Book) (w : Want) (ws : List Want) (keeps : Bool
   pub book : OnOk r (later ≡ book_asked keeps now ws)
   pub err : OnErr r (later ≡ now)
 
-now_with : (b now later : Book) (w : Want) (ws : List Want) (keeps : Bool) (r : Result Bool NoMemory) (g : Behind b now later w ws keeps r) → now ≡ with_holdings b g.hs
+now_with : (b now later : Book) (w : Want) (ws : List Want) (keeps : Bool) (r : Result Bool NoMemory) (g : Behind b now later w ws keeps r)
+    → now ≡ with_holdings b g.hs
 now_with b now later w ws keeps r g = g.now_is ∙ ap (grown_book b) g.found
 
-same_found : (b now later : Book) (w : Want) (ws : List Want) (keeps : Bool) (r : Result Bool NoMemory) → Behind b now later w ws keeps r → found_for now.size now.holdings ws ≡ found_for b.size b.holdings (w ∷ ws)
+same_found : (b now later : Book) (w : Want) (ws : List Want) (keeps : Bool) (r : Result Bool NoMemory) → Behind b now later w ws keeps r
+    → found_for now.size now.holdings ws ≡ found_for b.size b.holdings (w ∷ ws)
 same_found b now later w ws keeps r g =
     ap (λ (x : Book). found_for x.size x.holdings ws) (now_with b now later w ws keeps r g) ∙ sym (found_behind b.size b.holdings g.hs w ws (record { found = g.found }) g.others)
 
-pub behind_answer : (b now later : Book) (w : Want) (ws : List Want) (keeps : Bool) (r : Result Bool NoMemory) → Behind b now later w ws keeps r → IfOk r (λ fits. fits ≡ fits_for b.size b.holdings (w ∷ ws))
+pub behind_answer : (b now later : Book) (w : Want) (ws : List Want) (keeps : Bool) (r : Result Bool NoMemory) → Behind b now later w ws keeps r
+    → IfOk r (λ fits. fits ≡ fits_for b.size b.holdings (w ∷ ws))
 behind_answer b now later w ws keeps (Ok fits) g = g.answer ∙ ap (λ (x : Result Holdings ℕ). is_ok x) (same_found b now later w ws keeps (Ok fits) g)
 behind_answer b now later w ws keeps (Err e) g = tt
 
@@ -207,7 +221,8 @@ found_later : (b now : Book) (hs : Holdings) (x y : Result Holdings ℕ) → now
 found_later b now hs (Ok gs) y e f t = ap (λ (z : Book). with_holdings z gs) e ∙ ap (grown_book b) f
 found_later b now hs (Err n) y e f t = absurd cc
 
-pub behind_kept : (b now later : Book) (w : Want) (ws : List Want) (keeps : Bool) (r : Result Bool NoMemory) → Behind b now later w ws keeps r → is_kept keeps r ≡ true → OnOk r (later ≡ book_asked keeps b (w ∷ ws))
+pub behind_kept : (b now later : Book) (w : Want) (ws : List Want) (keeps : Bool) (r : Result Bool NoMemory) → Behind b now later w ws keeps r
+    → is_kept keeps r ≡ true → OnOk r (later ≡ book_asked keeps b (w ∷ ws))
 behind_kept b now later w ws true (Ok true) g k =
     g.book ∙ found_later b now g.hs (found_for now.size now.holdings ws) (found_for b.size b.holdings (w ∷ ws)) (now_with b now later w ws true (Ok true) g) (same_found b now later w ws true (Ok true) g) g.answer
 behind_kept b now later w ws true (Ok false) g k = absurd cc
@@ -220,26 +235,30 @@ none_found b (Ok hs) e = absurd cc
 none_found b (Err n) e = refl
 
 -- what isn't kept is as before the others were asked for
-pub behind_left : (b now later : Book) (w : Want) (ws : List Want) (keeps : Bool) (r : Result Bool NoMemory) → Behind b now later w ws keeps r → is_kept keeps r ≡ false → later ≡ now
+pub behind_left : (b now later : Book) (w : Want) (ws : List Want) (keeps : Bool) (r : Result Bool NoMemory) → Behind b now later w ws keeps r
+    → is_kept keeps r ≡ false → later ≡ now
 behind_left b now later w ws true (Ok true) g k = absurd cc
 behind_left b now later w ws true (Ok false) g k = g.book ∙ none_found now (found_for now.size now.holdings ws) g.answer
 behind_left b now later w ws false (Ok fits) g k = g.book
 behind_left b now later w ws keeps (Err e) g k = g.err
 
-pub behind_back : (b now later : Book) (w : Want) (ws : List Want) (keeps : Bool) (r : Result Bool NoMemory) → Behind b now later w ws keeps r → is_kept keeps r ≡ false
+pub behind_back : (b now later : Book) (w : Want) (ws : List Want) (keeps : Bool) (r : Result Bool NoMemory) → Behind b now later w ws keeps r
+    → is_kept keeps r ≡ false
     → with_holdings later (kept w.owner (length (of_owner w.owner b.holdings)) later.holdings) ≡ b
 behind_back b now later w ws keeps r g k =
     ap (λ (x : Book). with_holdings x (kept w.owner (length (of_owner w.owner b.holdings)) x.holdings)) (behind_left b now later w ws keeps r g k ∙ now_with b now later w ws keeps r g)
     ∙ ap (with_holdings b) (given_back b.size b.holdings g.hs w.owner w.blocks g.found)
 
-pub behind_not : (b now later last : Book) (w : Want) (ws : List Want) (keeps : Bool) (r : Result Bool NoMemory) → Behind b now later w ws keeps r → is_kept keeps r ≡ false → last ≡ b → OnOk r (last ≡ book_asked keeps b (w ∷ ws))
+pub behind_not : (b now later last : Book) (w : Want) (ws : List Want) (keeps : Bool) (r : Result Bool NoMemory) → Behind b now later w ws keeps r
+    → is_kept keeps r ≡ false → last ≡ b → OnOk r (last ≡ book_asked keeps b (w ∷ ws))
 behind_not b now later last w ws true (Ok true) g k e = absurd cc
 behind_not b now later last w ws true (Ok false) g k e =
     e ∙ sym (none_found b (found_for b.size b.holdings (w ∷ ws)) (g.answer ∙ ap (λ (x : Result Holdings ℕ). is_ok x) (same_found b now later w ws true (Ok false) g)))
 behind_not b now later last w ws false (Ok fits) g k e = e
 behind_not b now later last w ws keeps (Err x) g k e = tt
 
-pub behind_may : (b now later : Book) (w : Want) (ws : List Want) (keeps : Bool) (r : Result Bool NoMemory) → Behind b now later w ws keeps r → is_kept keeps r ≡ false → CanGrow b.holdings w.owner w.blocks
+pub behind_may : (b now later : Book) (w : Want) (ws : List Want) (keeps : Bool) (r : Result Bool NoMemory) → Behind b now later w ws keeps r
+    → is_kept keeps r ≡ false → CanGrow b.holdings w.owner w.blocks
     → MayGiveBack w.owner w.blocks (length (of_owner w.owner b.holdings)) later.holdings
 behind_may b now later w ws keeps r g k can =
     subst (λ (x : Book). MayGiveBack w.owner w.blocks (length (of_owner w.owner b.holdings)) x.holdings) (sym (behind_left b now later w ws keeps r g k ∙ now_with b now later w ws keeps r g))
@@ -250,7 +269,8 @@ behind_err (Ok fits) last b e = tt
 behind_err (Err x) last b e = e
 
 -- the others may be asked for behind the first
-pub can_behind : (b now : Book) (hs : Holdings) (w : Want) (ws : List Want) → growth_of b w.owner w.blocks ≡ Ok hs → now ≡ grown_book b (growth_of b w.owner w.blocks) → CanAsk b.holdings (w ∷ ws) → CanAsk now.holdings ws
+pub can_behind : (b now : Book) (hs : Holdings) (w : Want) (ws : List Want) → growth_of b w.owner w.blocks ≡ Ok hs
+    → now ≡ grown_book b (growth_of b w.owner w.blocks) → CanAsk b.holdings (w ∷ ws) → CanAsk now.holdings ws
 can_behind b now hs w ws found is can =
     subst (λ (x : Book). CanAsk x.holdings ws) (sym (is ∙ ap (grown_book b) found))
     (record { differ = can.differ.1; each = each_still b.size b.holdings hs w.owner w.blocks ws (record { found = found }) can.differ.0 can.each.1 })
@@ -271,21 +291,25 @@ shrunk (Stack sid) keep can = pieces_kept keep
 shrunk (U pid) keep can = absurd can
 shrunk (Text image) keep can = absurd can
 
-few_chunks : (b : Book) (owner : Owner) (blocks keep : ℕ) → (keep < blocks) ⊎ (length (of_owner owner b.holdings) ≤ keep) → blocks ≤ keep → b ≡ with_holdings b (kept owner keep b.holdings)
+few_chunks : (b : Book) (owner : Owner) (blocks keep : ℕ) → (keep < blocks) ⊎ (length (of_owner owner b.holdings) ≤ keep) → blocks ≤ keep
+    → b ≡ with_holdings b (kept owner keep b.holdings)
 few_chunks b owner blocks keep (inl l) m = absurd (omega arith)
 few_chunks b owner blocks keep (inr l) m = ap (with_holdings b) (sym (kept_all owner keep b.holdings l))
 
-pub nothing_back : (b : Book) (owner : Owner) (blocks keep : ℕ) → CanShrink owner → MayGiveBack owner blocks keep b.holdings → length (pieces blocks) ≤ keep → b ≡ with_holdings b (kept owner keep b.holdings)
+pub nothing_back : (b : Book) (owner : Owner) (blocks keep : ℕ) → CanShrink owner → MayGiveBack owner blocks keep b.holdings
+    → length (pieces blocks) ≤ keep → b ≡ with_holdings b (kept owner keep b.holdings)
 nothing_back b (Data sid) blocks keep can may l = few_chunks b (Data sid) (length (pieces blocks)) keep may l
 nothing_back b (Stack sid) blocks keep can may l = few_chunks b (Stack sid) (length (pieces blocks)) keep may l
 nothing_back b (U pid) blocks keep can may l = absurd can
 nothing_back b (Text image) blocks keep can may l = absurd can
 
-whole_back : (b : Book) (owner : Owner) (keep : ℕ) → (keep ≡ 0) ⊎ (length (of_owner owner b.holdings) ≤ keep) → keep ≢ 0 → b ≡ with_holdings b (kept owner keep b.holdings)
+whole_back : (b : Book) (owner : Owner) (keep : ℕ) → (keep ≡ 0) ⊎ (length (of_owner owner b.holdings) ≤ keep) → keep ≢ 0
+    → b ≡ with_holdings b (kept owner keep b.holdings)
 whole_back b owner keep (inl e) d = absurd (d e)
 whole_back b owner keep (inr l) d = ap (with_holdings b) (sym (kept_all owner keep b.holdings l))
 
-pub none_back : (b : Book) (owner : Owner) (blocks keep : ℕ) → (CanShrink owner → ⊥) → MayGiveBack owner blocks keep b.holdings → keep ≢ 0 → b ≡ with_holdings b (kept owner keep b.holdings)
+pub none_back : (b : Book) (owner : Owner) (blocks keep : ℕ) → (CanShrink owner → ⊥) → MayGiveBack owner blocks keep b.holdings → keep ≢ 0
+    → b ≡ with_holdings b (kept owner keep b.holdings)
 none_back b (Data sid) blocks keep not may d = absurd (not tt)
 none_back b (Stack sid) blocks keep not may d = absurd (not tt)
 none_back b (U pid) blocks keep not may d = whole_back b (U pid) keep may d

@@ -39,14 +39,16 @@ use Rattle.table_steps.proofs.Recorded.{regs_records}
 use Rattle.table_steps.proofs.Stills.{append_some}
 
 -- a process that holds a space is there
-holder : (k : Kernel) (pid : ℕ) (sid : ℕ) → life_in k pid ≡ HoldsSpace sid → (p : Proc) × (numbered kept_pid pid k.processes ≡ Some p) × (p.life ≡ HoldsSpace sid)
+holder : (k : Kernel) (pid : ℕ) (sid : ℕ) → life_in k pid ≡ HoldsSpace sid
+    → (p : Proc) × (numbered kept_pid pid k.processes ≡ Some p) × (p.life ≡ HoldsSpace sid)
 holder k pid sid h = go (numbered kept_pid pid k.processes) refl h
   where
     go : (o : Option Proc) → numbered kept_pid pid k.processes ≡ o → life_of_proc o ≡ HoldsSpace sid → (p : Proc) × (numbered kept_pid pid k.processes ≡ Some p) × (p.life ≡ HoldsSpace sid)
     go None e l = absurd cc
     go (Some p) e l = (p, e, l)
 
-pub has_record : (t : Tables) (journal : List Entry) (stopped : Bool) (pid : ℕ) → CanLend (kernel_by t journal stopped) pid → (was : Record) × (find pid t.processes ≡ Some was)
+pub has_record : (t : Tables) (journal : List Entry) (stopped : Bool) (pid : ℕ) → CanLend (kernel_by t journal stopped) pid
+    → (was : Record) × (find pid t.processes ≡ Some was)
 has_record t journal stopped pid can =
     let p = holder (kernel_by t journal stopped) pid can.sid can.holds in
     let r : HasRecord t.processes pid p.0 = record_of t.processes t.next_pid pid p.0 p.1 in
@@ -58,7 +60,8 @@ held_flat (Holds s) sid e = (s, refl)
 held_flat (Lends n child) sid e = absurd cc
 held_flat (Zombie status) sid e = absurd cc
 
-flat_holder : (k : Kernel) (images : List NamedImage) (image : List ℕ) (flat : FlatState) (pid sid : ℕ) → Coupled k images image flat → life_in k pid ≡ HoldsSpace sid → (q : Process) × (s : Space) × (process_of flat pid ≡ Some q) × (q.holding ≡ Holds s)
+flat_holder : (k : Kernel) (images : List NamedImage) (image : List ℕ) (flat : FlatState) (pid sid : ℕ) → Coupled k images image flat
+    → life_in k pid ≡ HoldsSpace sid → (q : Process) × (s : Space) × (process_of flat pid ≡ Some q) × (q.holding ≡ Holds s)
 flat_holder k images image flat pid sid c h =
     let p = holder k pid sid h in
     go p.0 p.2 (numbered pid_of pid flat.processes) refl (sym (outlines_at k.processes flat.processes c.tables.processes pid) ∙ ap (image_by outline_kept) p.1)
@@ -80,7 +83,8 @@ module _ (t u : Tables) (pid : ℕ) (regs : Regs) (left : LeftRegs t u pid regs)
   pub lists_are : lists_of u ≡ lists_of t
   lists_are = ap lists_of left.rest ∙ ap (λ (rs : List Residence). let x : Lists = record (lists_of t) { residents = rs } in x) (residents_are t.processes u.processes pid regs left.was t.next_pid left.there left.changes)
 
-  pub regs_kernel : (old journal : List Entry) (a b : Bool) → journal ≡ append old (Ran pid 1) → b ≡ a → kernel_by u journal b ≡ ran_by (kernel_by t old a) pid regs (Ran pid 1)
+  pub regs_kernel : (old journal : List Entry) (a b : Bool) → journal ≡ append old (Ran pid 1) → b ≡ a
+      → kernel_by u journal b ≡ ran_by (kernel_by t old a) pid regs (Ran pid 1)
   regs_kernel old journal a b j s =
       ap (λ (x : Tables). kernel_by x journal b) left.rest
       ∙ ap (λ (rs : List Residence). let x : Kernel = record (kernel_by t journal b) { place = placement_of (record (lists_of t) { residents = rs }); processes = Rattle.table_steps.specs.Machine.processes_of u.processes t.next_pid } in x)
@@ -91,7 +95,8 @@ module _ (t u : Tables) (pid : ℕ) (regs : Regs) (left : LeftRegs t u pid regs)
       ran_regs : List Entry → Bool → Kernel
       ran_regs es x = record (kernel_by t es x) { processes = map (λ (p : Proc). cond (p.pid == pid) (record p { regs = regs }) p) (Rattle.table_steps.specs.Machine.processes_of t.processes t.next_pid) }
 
-  pub regs_stand : (old journal : List Entry) (a b : Bool) → Stands t old a → journal ≡ append old (Ran pid 1) → b ≡ a → length journal ≤ t.params.journal → Stands u journal b
+  pub regs_stand : (old journal : List Entry) (a b : Bool) → Stands t old a → journal ≡ append old (Ran pid 1) → b ≡ a
+      → length journal ≤ t.params.journal → Stands u journal b
   regs_stand old journal a b s j e within =
       let k : Kernel = record (kernel_by t old a) { holdings = before_of t } in
       let is : (let x : Kernel = record (kernel_by u journal b) { holdings = before_of u } in x) ≡ ran_by k pid regs (Ran pid 1) =

@@ -8,7 +8,8 @@ use Rattle.table_steps.proofs.Shows.{sids_shown}
 use Rattle.table_steps.proofs.Held.{flown_numbers}
 use Rattle.table_steps.specs.Known.{Known}
 
-pub known_of : (m : Inside) → IsSound m.tables.core.free m.tables.core.slots → Runs (kernel_by m.tables m.journal.items m.stopped) (lists_of m.tables) m.tables.book.size → Known (lists_of m.tables)
+pub known_of : (m : Inside) → IsSound m.tables.core.free m.tables.core.slots
+    → Runs (kernel_by m.tables m.journal.items m.stopped) (lists_of m.tables) m.tables.book.size → Known (lists_of m.tables)
 known_of m c r = record {
   core = c;
   owns = r.sound.owner.frames;

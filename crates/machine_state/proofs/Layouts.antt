@@ -12,7 +12,8 @@ use Rattle.kernel_model.specs.Kernel.{Kernel, write_step}
 use Rattle.table_steps.proofs.Shapes.{touch_shaped, image_kept, sizes_kept}
 use Rattle.table_steps.specs.UserMemory.{bytes_of, IsLaidOut}
 
-changed_kept : {A : Type 0} (number : A → ℕ) (n : ℕ) (change : A → A) (g : A → ℕ) → ((x : A) → g (change x) ≡ g x) → (xs : List A) → map g (changed number n change xs) ≡ map g xs
+changed_kept : {A : Type 0} (number : A → ℕ) (n : ℕ) (change : A → A) (g : A → ℕ) → ((x : A) → g (change x) ≡ g x) → (xs : List A)
+    → map g (changed number n change xs) ≡ map g xs
 changed_kept number n change g e [] = refl
 changed_kept number n change g e (x ∷ xs) = go (number x == n) (changed_kept number n change g e xs)
   where
@@ -24,7 +25,8 @@ changed_kept number n change g e (x ∷ xs) = go (number x == n) (changed_kept n
 abbrev IsSteady : (SpacePages → ℕ) → Type 0
 IsSteady g = (v : ℕ) (s : PageState) (m : Bool) (x : SpacePages) → (g (with_data v s m x) ≡ g x) × (g (with_stack v s m x) ≡ g x)
 
-spaces_kept : (g : SpacePages → ℕ) → IsSteady g → (spaces : List SpacePages) (q : Page) (s : PageState) (m : Bool) → map g (spaces_with spaces q s m) ≡ map g spaces
+spaces_kept : (g : SpacePages → ℕ) → IsSteady g → (spaces : List SpacePages) (q : Page) (s : PageState) (m : Bool)
+    → map g (spaces_with spaces q s m) ≡ map g spaces
 spaces_kept g e spaces (Data n v) s m = changed_kept space_number n (with_data v s m) g (λ x. (e v s m x).0) spaces
 spaces_kept g e spaces (Stack n v) s m = changed_kept space_number n (with_stack v s m) g (λ x. (e v s m x).1) spaces
 spaces_kept g e spaces (Text i v) s m = refl
@@ -47,7 +49,8 @@ touch_kept g e p q = go q (state_of p q)
     go (Stack n v) OnSwap = refl
     go (Text i v) s = refl
 
-pub layout_kept : (k : Kernel) (q : Page) (f at byte index sid image t d s : ℕ) → IsLaidOut k index sid image t d s → IsLaidOut (write_step k q f at byte) index sid image t d s
+pub layout_kept : (k : Kernel) (q : Page) (f at byte index sid image t d s : ℕ) → IsLaidOut k index sid image t d s
+    → IsLaidOut (write_step k q f at byte) index sid image t d s
 layout_kept k q f at byte index sid image t d s h =
     let size : (r : Page) → bytes_of k.place r ≡ bytes_of (touch k.place q) r = λ r. ap (λ (n : ℕ). 1024 * n) (sym (sizes_kept k.place (touch k.place q) (touch_shaped k.place q) r)) in
     let same : image_of k.place sid ≡ image_of (touch k.place q) sid = sym (image_kept k.place (touch k.place q) (touch_shaped k.place q) sid) in

@@ -50,7 +50,8 @@ moved_still t u p m = record {
   next_sid = ap (λ (x : Tables). x.next_sid) m.rest;
 }
 
-pub moving_kernel : (m : Inside) (u : Tables) (p : Placement) (locked : List Page) (e : Entry) (journal : List Entry) (stopped : Bool) → Moving m u p locked e → journal ≡ append m.journal.items e → stopped ≡ m.stopped
+pub moving_kernel : (m : Inside) (u : Tables) (p : Placement) (locked : List Page) (e : Entry) (journal : List Entry) (stopped : Bool)
+    → Moving m u p locked e → journal ≡ append m.journal.items e → stopped ≡ m.stopped
     → kernel_by u journal stopped ≡ plain_step (kernel_by m.tables m.journal.items m.stopped) locked e
 moving_kernel m u p locked e journal stopped g ej es =
     kernel_ext (kernel_by u journal stopped) (plain_step (kernel_by m.tables m.journal.items m.stopped) locked e)
@@ -64,7 +65,8 @@ moving_kernel m u p locked e journal stopped g ej es =
     ej
     es
 
-moving_runs : (m : Inside) (u : Tables) (p : Placement) (locked : List Page) (e : Entry) (journal : List Entry) (stopped : Bool) → Moving m u p locked e → journal ≡ append m.journal.items e → stopped ≡ m.stopped
+moving_runs : (m : Inside) (u : Tables) (p : Placement) (locked : List Page) (e : Entry) (journal : List Entry) (stopped : Bool)
+    → Moving m u p locked e → journal ≡ append m.journal.items e → stopped ≡ m.stopped
     → Runs (kernel_by u journal stopped) (lists_of u) u.book.size
 moving_runs m u p locked e journal stopped g ej es =
     let k : Kernel = kernel_by m.tables m.journal.items m.stopped in
@@ -88,7 +90,8 @@ own_flight : (ns : List ImageNamed) (f : ℕ → ℕ) (hs : Holdings) (size : �
 own_flight ns f hs size (flights.Read demanded parts) book h = absurd h
 own_flight ns f hs size (flights.Write parts) book h = own_blocks hs size parts.items book h
 
-added_sources : (ns : List ImageNamed) (f : ℕ → ℕ) (hs : Holdings) (size : ℕ) (old new : List Flight) → IsBook size hs → AddsWrite hs old new → AreSourced ns f hs size old → AreSourced ns f hs size new
+added_sources : (ns : List ImageNamed) (f : ℕ → ℕ) (hs : Holdings) (size : ℕ) (old new : List Flight) → IsBook size hs → AddsWrite hs old new
+    → AreSourced ns f hs size old → AreSourced ns f hs size new
 added_sources ns f hs size old new book (inl e) h = subst (AreSourced ns f hs size) (sym e) h
 added_sources ns f hs size old new book (inr a) h = subst (AreSourced ns f hs size) (sym a.1) (sourced_more ns f hs size old a.0 h (own_flight ns f hs size a.0 book a.2))
 

@@ -218,7 +218,8 @@ new_lists_are t facts frames n =
     ∙ ap (λ (x : ℕ). record (new_lists facts frames) { front = x; back = t.back }) n.front
     ∙ ap (λ (x : ℕ). record (new_lists facts frames) { back = x }) n.back
 
-pub new_kernel_is : (t : Tables) (facts : List Image) (frames : ℕ) (journal : List Entry) → NewTables t facts frames → journal ≡ [] → kernel_by t journal false ≡ fresh_kernel facts frames
+pub new_kernel_is : (t : Tables) (facts : List Image) (frames : ℕ) (journal : List Entry) → NewTables t facts frames → journal ≡ []
+    → kernel_by t journal false ≡ fresh_kernel facts frames
 new_kernel_is t facts frames journal n e =
     let l = new_lists_are t facts frames n in
     kernel_ext (kernel_by t journal false) (fresh_kernel facts frames)

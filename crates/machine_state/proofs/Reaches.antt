@@ -20,7 +20,8 @@ use Rattle.table_steps.specs.View.{source_shown}
 use Rattle.table_steps.specs.Sourced.{ImageNamed, named_at, IsRange, IsRangeOf, IsPageRange, IsSourced, AreSourcedIn, AreOwnBlocks, IsFlightSourced, AreSourced}
 use Rattle.table_steps.specs.Files.{HasFile, HaveFiles, AreFiles}
 
-within_file : (facts : Image) (text : Bool) (v : ℕ) → offset_of text facts + min (1024 * v) (given_of text facts) + min 1024 (given_of text facts - 1024 * v) ≤ offset_of text facts + given_of text facts
+within_file : (facts : Image) (text : Bool) (v : ℕ)
+    → offset_of text facts + min (1024 * v) (given_of text facts) + min 1024 (given_of text facts - 1024 * v) ≤ offset_of text facts + given_of text facts
 within_file facts text v = go (offset_of text facts) (given_of text facts) (1024 * v)
   where
     go : (o n a : ℕ) → o + min a n + min 1024 (n - a) ≤ o + n
@@ -49,7 +50,8 @@ named_file : (ns : List ImageNamed) (files : List NamedFile) (i : ℕ) (n : Imag
 named_file ns files zero n h e = absurd cc
 named_file ns files (suc i) n h e = file_at ns files i n h e
 
-range_there : (n : ImageNamed) (files : List NamedFile) (text : Bool) (v id offset count : ℕ) → HasFile n files → IsRange n text v id offset count → HasRange (Some files) id offset count
+range_there : (n : ImageNamed) (files : List NamedFile) (text : Bool) (v id offset count : ℕ) → HasFile n files → IsRange n text v id offset count
+    → HasRange (Some files) id offset count
 range_there n files text v id offset count f r =
     let a = f.whole in
     let b = given_within n.facts text in
@@ -60,12 +62,14 @@ range_there n files text v id offset count f r =
       subst (λ (x : ℕ). offset + count ≤ length (bytes_at files x)) (sym r.file) (omega arith),
     )
 
-some_range : (ns : List ImageNamed) (files : List NamedFile) (i : ℕ) (text : Bool) (v id offset count : ℕ) (o : Option ImageNamed) → HaveFiles ns files → named_at ns i ≡ o
+some_range : (ns : List ImageNamed) (files : List NamedFile) (i : ℕ) (text : Bool) (v id offset count : ℕ) (o : Option ImageNamed)
+    → HaveFiles ns files → named_at ns i ≡ o
     → IsRangeOf o text v id offset count → HasRange (Some files) id offset count
 some_range ns files i text v id offset count None h e r = absurd r
 some_range ns files i text v id offset count (Some n) h e r = range_there n files text v id offset count (named_file ns files i n h e) r
 
-page_range : (ns : List ImageNamed) (f : ℕ → ℕ) (holds : Option (List NamedFile)) (q : Page) (id offset count : ℕ) → AreFiles ns holds → IsPageRange ns f q id offset count → HasRange holds id offset count
+page_range : (ns : List ImageNamed) (f : ℕ → ℕ) (holds : Option (List NamedFile)) (q : Page) (id offset count : ℕ) → AreFiles ns holds
+    → IsPageRange ns f q id offset count → HasRange holds id offset count
 page_range ns f None q id offset count h r = tt
 page_range ns f (Some files) (Data sid v) id offset count h r = some_range ns files (f sid) false v id offset count (named_at ns (f sid)) h refl r
 page_range ns f (Some files) (Stack sid v) id offset count h r = absurd r
@@ -74,11 +78,13 @@ page_range ns f (Some files) (Text i v) id offset count h r = some_range ns file
 block_there : (size blocks b : ℕ) → size ≤ blocks → IsBlock size b → IsBlock blocks b
 block_there size blocks b l h = let k = h.1 in (h.0, omega arith)
 
-source_there : (ns : List ImageNamed) (f : ℕ → ℕ) (hs : Holdings) (size blocks : ℕ) (holds : Option (List NamedFile)) (q : Page) (x : From) → size ≤ blocks → AreFiles ns holds → IsSourced ns f hs size q x → IsThere holds blocks x
+source_there : (ns : List ImageNamed) (f : ℕ → ℕ) (hs : Holdings) (size blocks : ℕ) (holds : Option (List NamedFile)) (q : Page) (x : From)
+    → size ≤ blocks → AreFiles ns holds → IsSourced ns f hs size q x → IsThere holds blocks x
 source_there ns f hs size blocks holds q (froms.Swap block) l h s = block_there size blocks block l s.place
 source_there ns f hs size blocks holds q (froms.File id offset count) l h s = page_range ns f holds q id offset count h s
 
-parts_there : (ns : List ImageNamed) (f : ℕ → ℕ) (hs : Holdings) (size blocks : ℕ) (holds : Option (List NamedFile)) (s : Source) (xs : List Inbound) → size ≤ blocks → AreFiles ns holds
+parts_there : (ns : List ImageNamed) (f : ℕ → ℕ) (hs : Holdings) (size blocks : ℕ) (holds : Option (List NamedFile)) (s : Source) (xs : List Inbound)
+    → size ≤ blocks → AreFiles ns holds
     → AreSourcedIn ns f hs size s xs → AreThere holds blocks xs
 parts_there ns f hs size blocks holds s [] l h a = tt
 parts_there ns f hs size blocks holds s (x ∷ xs) l h a = (source_there ns f hs size blocks holds x.page x.source l h a.1, parts_there ns f hs size blocks holds s xs l h a.2)
@@ -87,10 +93,12 @@ blocks_there : (hs : Holdings) (size blocks : ℕ) (xs : List Outbound) → size
 blocks_there hs size blocks [] l a = tt
 blocks_there hs size blocks (x ∷ xs) l a = (block_there size blocks x.block l a.0.place, blocks_there hs size blocks xs l a.1)
 
-flight_there : (ns : List ImageNamed) (f : ℕ → ℕ) (hs : Holdings) (size blocks : ℕ) (holds : Option (List NamedFile)) (t : Flight) → size ≤ blocks → AreFiles ns holds → IsFlightSourced ns f hs size t → IsReachable holds blocks t
+flight_there : (ns : List ImageNamed) (f : ℕ → ℕ) (hs : Holdings) (size blocks : ℕ) (holds : Option (List NamedFile)) (t : Flight) → size ≤ blocks
+    → AreFiles ns holds → IsFlightSourced ns f hs size t → IsReachable holds blocks t
 flight_there ns f hs size blocks holds (flights.Read demanded parts) l h a = parts_there ns f hs size blocks holds (source_shown parts.items) parts.items l h a
 flight_there ns f hs size blocks holds (flights.Write parts) l h a = blocks_there hs size blocks parts.items l a
 
-pub reachable : (ns : List ImageNamed) (f : ℕ → ℕ) (hs : Holdings) (size blocks : ℕ) (holds : Option (List NamedFile)) (ts : List Flight) → size ≤ blocks → AreFiles ns holds → AreSourced ns f hs size ts → AreReachable holds blocks ts
+pub reachable : (ns : List ImageNamed) (f : ℕ → ℕ) (hs : Holdings) (size blocks : ℕ) (holds : Option (List NamedFile)) (ts : List Flight)
+    → size ≤ blocks → AreFiles ns holds → AreSourced ns f hs size ts → AreReachable holds blocks ts
 reachable ns f hs size blocks holds [] l h a = tt
 reachable ns f hs size blocks holds (t ∷ ts) l h a = (flight_there ns f hs size blocks holds t l h a.0, reachable ns f hs size blocks holds ts l h a.1)

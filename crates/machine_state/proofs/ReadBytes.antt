@@ -29,7 +29,8 @@ use Rattle.machine_state.proofs.Ends.{AreBytes}
 
 -- A page that was read from its file.
 
-loaded_segment : (facts : Image) (bytes : List ℕ) (text : Bool) → segment_of text (loaded facts bytes) ≡ in_pages (pages_of text facts) (take (given_of text facts) (drop (offset_of text facts) bytes))
+loaded_segment : (facts : Image) (bytes : List ℕ) (text : Bool)
+    → segment_of text (loaded facts bytes) ≡ in_pages (pages_of text facts) (take (given_of text facts) (drop (offset_of text facts) bytes))
 unfolding loaded
 loaded_segment facts bytes true = refl
 loaded_segment facts bytes false = refl
@@ -44,7 +45,8 @@ given_fits facts false = go (data_given facts) facts.bss_len
     go : (n b : ℕ) → n ≤ 1024 * ((n + b + 1023) / 1024)
     go n b = omega arith
 
-range_read : (n : ImageNamed) (files : List NamedFile) (text : Bool) (v id offset count : ℕ) (bytes : List ℕ) → HasFile n files → IsRange n text v id offset count → length bytes ≡ 1024
+range_read : (n : ImageNamed) (files : List NamedFile) (text : Bool) (v id offset count : ℕ) (bytes : List ℕ) → HasFile n files
+    → IsRange n text v id offset count → length bytes ≡ 1024
     → HoldsRange (Some files) id offset (take count bytes) → drop count bytes ≡ replicate (1024 - count) 0 → bytes ≡ page_at v (segment_of text (loaded n.facts (bytes_at files n.file)))
 range_read n files text v id offset count bytes f r whole h z =
     let file : List ℕ = bytes_at files n.file in
@@ -59,14 +61,16 @@ range_read n files text v id offset count bytes f r whole h z =
     ∙ sym (ap (page_at v) (loaded_segment n.facts file text)
     ∙ page_at-in_pages (offset_of text n.facts) (given_of text n.facts) (pages_of text n.facts) v file (let a = f.whole in let b = given_within n.facts text in omega arith) (given_fits n.facts text) r.within)
 
-pub loaded_at : (ns : List ImageNamed) (files : List NamedFile) (images : List NamedImage) (i : ℕ) (n : ImageNamed) → AreLoaded ns files images → slice_get ns i ≡ Some n
+pub loaded_at : (ns : List ImageNamed) (files : List NamedFile) (images : List NamedImage) (i : ℕ) (n : ImageNamed) → AreLoaded ns files images
+    → slice_get ns i ≡ Some n
     → (x : NamedImage) × (slice_get images i ≡ Some x) × (x.image ≡ loaded n.facts (bytes_at files n.file))
 loaded_at [] files images i n h e = absurd cc
 loaded_at (m ∷ ms) files [] i n h e = absurd h
 loaded_at (m ∷ ms) files (x ∷ xs) zero n h e = let same : m ≡ n = cc in (x, refl, subst (λ (y : ImageNamed). x.image ≡ loaded y.facts (bytes_at files y.file)) same h.0)
 loaded_at (m ∷ ms) files (x ∷ xs) (suc i) n h e = loaded_at ms files xs i n h.1 e
 
-text_read : (ns : List ImageNamed) (files : List NamedFile) (images : List NamedImage) (i v id offset count : ℕ) (bytes : List ℕ) (o : Option ImageNamed) → HaveFiles ns files
+text_read : (ns : List ImageNamed) (files : List NamedFile) (images : List NamedImage) (i v id offset count : ℕ) (bytes : List ℕ) (o : Option ImageNamed)
+    → HaveFiles ns files
     → AreLoaded ns files images → named_at ns i ≡ o → IsRangeOf o true v id offset count → length bytes ≡ 1024
     → HoldsRange (Some files) id offset (take count bytes) → drop count bytes ≡ replicate (1024 - count) 0 → bytes ≡ page_at v (text_of (image_numbered images i))
 text_read ns files images i v id offset count bytes None f l e r w h z = absurd r
@@ -76,7 +80,8 @@ text_read ns files images (suc i) v id offset count bytes (Some n) f l e r w h z
     range_read n files true v id offset count bytes (file_at ns files i n f e) r w h z
     ∙ ap (λ (y : Loaded). page_at v y.text) (sym x.2) ∙ sym (ap (λ (y : Option NamedImage). page_at v (text_of y)) x.1)
 
-data_read : (ns : List ImageNamed) (files : List NamedFile) (images : List NamedImage) (i v id offset count : ℕ) (bytes : List ℕ) (o : Option ImageNamed) → HaveFiles ns files
+data_read : (ns : List ImageNamed) (files : List NamedFile) (images : List NamedImage) (i v id offset count : ℕ) (bytes : List ℕ) (o : Option ImageNamed)
+    → HaveFiles ns files
     → AreLoaded ns files images → named_at ns i ≡ o → IsRangeOf o false v id offset count → length bytes ≡ 1024
     → HoldsRange (Some files) id offset (take count bytes) → drop count bytes ≡ replicate (1024 - count) 0 → bytes ≡ page_at v (data_of (image_numbered images i))
 data_read ns files images i v id offset count bytes None f l e r w h z = absurd r
@@ -86,7 +91,8 @@ data_read ns files images (suc i) v id offset count bytes (Some n) f l e r w h z
     range_read n files false v id offset count bytes (file_at ns files i n f e) r w h z
     ∙ ap (λ (y : Loaded). page_at v y.data) (sym x.2) ∙ sym (ap (λ (y : Option NamedImage). page_at v (data_of y)) x.1)
 
-file_read : (ns : List ImageNamed) (p : Placement) (files : List NamedFile) (images : List NamedImage) (q : Page) (id offset count : ℕ) (bytes : List ℕ) → HaveFiles ns files
+file_read : (ns : List ImageNamed) (p : Placement) (files : List NamedFile) (images : List NamedImage) (q : Page) (id offset count : ℕ) (bytes : List ℕ)
+    → HaveFiles ns files
     → AreLoaded ns files images → IsPageRange ns (image_of p) q id offset count → length bytes ≡ 1024
     → HoldsRange (Some files) id offset (take count bytes) → drop count bytes ≡ replicate (1024 - count) 0 → bytes ≡ file_of images p q
 file_read ns p files images (Data sid v) id offset count bytes f l r w h z = data_read ns files images (image_of p sid) v id offset count bytes (named_at ns (image_of p sid)) f l refl r w h z
@@ -116,7 +122,8 @@ pages_read ns k size holds images image flat s (x ∷ xs) (y ∷ ys) f l r p w h
 
 -- Pages that were written.
 
-pub pages_written : (k : Kernel) (size : ℕ) (image : List ℕ) (xs : List Outbound) (new : Option (List ℕ)) → AreOwnBlocks k.holdings size xs → AreBytes k.frames xs → WritesParts xs (Some image) new
+pub pages_written : (k : Kernel) (size : ℕ) (image : List ℕ) (xs : List Outbound) (new : Option (List ℕ)) → AreOwnBlocks k.holdings size xs
+    → AreBytes k.frames xs → WritesParts xs (Some image) new
     → new ≡ Some (store_all k image (map out_part xs))
 pages_written k size image [] new o b h = h
 pages_written k size image (x ∷ xs) new o b h =
@@ -128,7 +135,8 @@ pub none_written : (xs : List Outbound) (new : Option (List ℕ)) → WritesPart
 none_written [] new h = h
 none_written (x ∷ xs) new h = none_written xs new (subst (λ (i : Option (List ℕ)). WritesParts xs i new) h.1 h.2)
 
-pub pages_spoiled : (k : Kernel) (size : ℕ) (image : List ℕ) (xs : List Outbound) (new : Option (List ℕ)) → AreOwnBlocks k.holdings size xs → AreBytes k.frames xs → SpoilsParts xs (Some image) new
+pub pages_spoiled : (k : Kernel) (size : ℕ) (image : List ℕ) (xs : List Outbound) (new : Option (List ℕ)) → AreOwnBlocks k.holdings size xs
+    → AreBytes k.frames xs → SpoilsParts xs (Some image) new
     → (after : List ℕ) × (new ≡ Some after) × SpoilsAll k image (map out_part xs) after
 pages_spoiled k size image [] new o b h = absurd h
 pages_spoiled k size image (x ∷ xs) new o b (inl s) =

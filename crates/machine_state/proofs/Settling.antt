@@ -26,7 +26,8 @@ beside_done old new r = record {
   before = ap (λ (s : Standing). s.before) r;
 }
 
-pub same_sources : (old next : Standing) (holds later : Option (List NamedFile)) → later ≡ holds → IsSameBeside old next → sources next later ≡ sources old holds
+pub same_sources : (old next : Standing) (holds later : Option (List NamedFile)) → later ≡ holds → IsSameBeside old next
+    → sources next later ≡ sources old holds
 same_sources old next holds later e b =
     ap (λ (x : Option (List NamedFile)). sources next x) e ∙ ap (λ (ns : List ImageNamed). let f : Sources = record { images = ns; files = holds } in f) b.images
 
@@ -45,7 +46,8 @@ fewer_left k l = go k.place.transfers l
     go [] m = absurd (omega arith)
     go (t ∷ ts) m = let e = ap (λ (us : List Transfer). length us) (land_all_rest t.parts k.place t.errand ts) in omega arith
 
-pub goes_on : (old new : Standing) (from : Sources) (i : Option (List ℕ)) → old.before ≡ old.kernel.holdings → IsDone from i old.kernel new.kernel → new ≡ record old { kernel = new.kernel; room = None } → GoesOn old new
+pub goes_on : (old new : Standing) (from : Sources) (i : Option (List ℕ)) → old.before ≡ old.kernel.holdings → IsDone from i old.kernel new.kernel
+    → new ≡ record old { kernel = new.kernel; room = None } → GoesOn old new
 goes_on old new from i w d r =
     let k : Kernel = done_step old.kernel d.read in
     record {
@@ -58,7 +60,8 @@ goes_on old new from i w d r =
           (λ i. f i ∙ ap (λ (n : ℕ). 1024 * n) (sym (sizes_kept old.kernel.place (done old.kernel.place) (done_shaped old.kernel.place) (Text i 0))));
     }
 
-pub one_more : (from later : Sources) (sid : ℕ) (old next new : Kernel) (i j h : Option (List ℕ)) → later ≡ from → is_settled old.place sid ≡ false → IsDone from i old next → ImageAfter old i j
+pub one_more : (from later : Sources) (sid : ℕ) (old next new : Kernel) (i j h : Option (List ℕ)) → later ≡ from → is_settled old.place sid ≡ false
+    → IsDone from i old next → ImageAfter old i j
     → SettledBy later sid next new j h → SettledBy from sid old new i h
 one_more from later sid old next new i j h e u d a s = record {
   count = suc s.count;
@@ -66,7 +69,8 @@ one_more from later sid old next new i j h e u d a s = record {
   settled = s.settled;
 }
 
-pub one_stopped : (sid : ℕ) (old next new : Standing) (holds later : Option (List NamedFile)) (i j h : Option (List ℕ)) (stop : Stop) → later ≡ holds → IsSameBeside old next
+pub one_stopped : (sid : ℕ) (old next new : Standing) (holds later : Option (List NamedFile)) (i j h : Option (List ℕ)) (stop : Stop) → later ≡ holds
+    → IsSameBeside old next
     → is_settled old.kernel.place sid ≡ false → IsDone (sources old holds) i old.kernel next.kernel → ImageAfter old.kernel i j
     → StopsSettling sid next new later j h stop → StopsSettling sid old new holds i h stop
 one_stopped sid old next new holds later i j h stop e b u d a s =
@@ -84,7 +88,8 @@ one_stopped sid old next new holds later i j h stop e b u d a s =
 err_same : (s t : Stop) → (let r : Result Bool Stop = Err s in r) ≡ Err t → s ≡ t
 err_same s t e = cc
 
-pub stopped_first : (sid : ℕ) (old new : Standing) (holds : Option (List NamedFile)) (i j : Option (List ℕ)) (stop : Stop) → is_settled old.kernel.place sid ≡ false
+pub stopped_first : (sid : ℕ) (old new : Standing) (holds : Option (List NamedFile)) (i j : Option (List ℕ)) (stop : Stop)
+    → is_settled old.kernel.place sid ≡ false
     → HasStopped old new → old.before ≡ old.kernel.holdings → StopsFor (Err stop) old.kernel.place.transfers
     → (((let r : Result Bool Stop = Err stop in r) ≡ Err stops.JournalFull) ↔ ((0 < length old.kernel.place.transfers) × (old.params.journal ≤ length old.kernel.journal)))
     → SwapAfter (Err stop) old.kernel i j → StopsSettling sid old new holds i j stop
@@ -107,6 +112,7 @@ stopped_first sid old new holds i j stop u s w c full a = record {
   };
 }
 
-pub through : (old next new : Standing) (holds later : Option (List NamedFile)) (a b c : Option (List ℕ)) → GoesOn old next → later ≡ holds → KeepsThrough old next holds a b → KeepsThrough next new later b c → KeepsThrough old new holds a c
+pub through : (old next new : Standing) (holds later : Option (List NamedFile)) (a b c : Option (List ℕ)) → GoesOn old next → later ≡ holds
+    → KeepsThrough old next holds a b → KeepsThrough next new later b c → KeepsThrough old new holds a c
 through old next new holds later a b c g e f s images flat l t h =
     s images flat (subst (λ (ns : List ImageNamed). AreImages ns later images) (sym g.images) (subst (λ (x : Option (List NamedFile)). AreImages old.images x images) (sym e) l)) (g.fits images t) (f images flat l t h)

@@ -15,7 +15,8 @@ use Rattle.table_steps.proofs.Shows.{hit, miss}
 
 -- The loop over the spaces.
 
-pub sharer_past : (ss : List Places) (i : ℕ) (d : Places) (image : ℕ) → i < length ss → first_sharer (drop i ss) image ≡ cond ((get_or ss i d).image == image) (Some (get_or ss i d).sid) (first_sharer (drop (suc i) ss) image)
+pub sharer_past : (ss : List Places) (i : ℕ) (d : Places) (image : ℕ) → i < length ss
+    → first_sharer (drop i ss) image ≡ cond ((get_or ss i d).image == image) (Some (get_or ss i d).sid) (first_sharer (drop (suc i) ss) image)
 sharer_past [] i d image l = absurd (omega arith)
 sharer_past (s ∷ ss) zero d image l = refl
 sharer_past (s ∷ ss) (suc i) d image l = sharer_past ss i d image (omega arith)
@@ -43,7 +44,8 @@ record Shares (slots : List Token) (ss : List Places) (image sid : ℕ) : Type 0
   there : numbered space_number sid (map (space_shown slots) ss) ≡ Some space
   shares : space.image ≡ image
 
-above : (slots : List Token) (ss : List Places) (n sid : ℕ) (x : SpacePages) → IsBelowAll n (sids_of ss) → numbered space_number sid (map (space_shown slots) ss) ≡ Some x → n < sid
+above : (slots : List Token) (ss : List Places) (n sid : ℕ) (x : SpacePages) → IsBelowAll n (sids_of ss)
+    → numbered space_number sid (map (space_shown slots) ss) ≡ Some x → n < sid
 above slots [] n sid x b e = absurd cc
 above slots (s ∷ ss) n sid x b e = elim (cases_eq s.sid sid) [
   | inl i ↦ let l = b.0 in omega arith
@@ -58,7 +60,8 @@ behind slots s ss image sid n h = elim (cases_eq s.sid sid) [
   | inr d ↦ record { space = h.space; there = sym (miss sid (space_shown slots s) (map (space_shown slots) ss) d) ∙ h.there; shares = h.shares }
 ]
 
-before : (slots : List Token) (s : Places) (ss : List Places) (image sid : ℕ) → IsBelowAll s.sid (sids_of ss) → Shares slots ss image sid → Shares slots (s ∷ ss) image sid
+before : (slots : List Token) (s : Places) (ss : List Places) (image sid : ℕ) → IsBelowAll s.sid (sids_of ss) → Shares slots ss image sid
+    → Shares slots (s ∷ ss) image sid
 before slots s ss image sid b h =
     let l : s.sid < sid = above slots ss s.sid sid h.space b h.there in
     record { space = h.space; there = miss sid (space_shown slots s) (map (space_shown slots) ss) (λ i. absurd (omega arith)) ∙ h.there; shares = h.shares }
@@ -83,7 +86,8 @@ lowest_among slots (s ∷ ss) image r = elim (cases_eq s.image image) [
     more n None h = λ sid x. h sid (behind slots s ss image sid n x)
     more n (Some m) h = (before slots s ss image m r.0 h.0, λ sid x. h.1 sid (behind slots s ss image sid n x))
 
-pub lowest_sharer : (p : Placement) (slots : List Token) (ss : List Places) (image : ℕ) → p.spaces ≡ map (space_shown slots) ss → AreRising (sids_of ss) → Lowest (IsSharer p image) (first_sharer ss image)
+pub lowest_sharer : (p : Placement) (slots : List Token) (ss : List Places) (image : ℕ) → p.spaces ≡ map (space_shown slots) ss
+    → AreRising (sids_of ss) → Lowest (IsSharer p image) (first_sharer ss image)
 lowest_sharer p slots ss image e r = go (first_sharer ss image) (lowest_among slots ss image r)
   where
     to : (sid : ℕ) → Shares slots ss image sid → IsSharer p image sid

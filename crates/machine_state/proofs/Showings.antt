@@ -47,7 +47,8 @@ some_moves n l = grind (arith, nat_tests)
 zero_or : (n : ℕ) → (n ≡ 0) ⊎ (0 < n)
 zero_or n = grind arith
 
-away_is : (t : Lists) (f : ℕ) → Known t → IsFrame (placement_of t) f → (s : Token) → slot_at t.slots f ≡ s → is_away s ≡ ltb 0 (times f (flying (parts_of t.transfers)))
+away_is : (t : Lists) (f : ℕ) → Known t → IsFrame (placement_of t) f → (s : Token) → slot_at t.slots f ≡ s
+    → is_away s ≡ ltb 0 (times f (flying (parts_of t.transfers)))
 away_is t f k w (tokens.Free token page) e =
     none_moves (times f (flying (parts_of t.transfers))) (let l = k.core.listed f ∙ ap listings e in let o = k.owns.once f w in omega arith)
 away_is t f k w (tokens.Resident token q mark) e =
@@ -65,7 +66,8 @@ away_is t f k w tokens.Away e = elim (zero_or (times f (flying (parts_of t.trans
 ]
 
 -- a free frame has its page in the placement too
-free_page : (t : Lists) → Known t → (f : ℕ) (token : Frame) (page : Option Page) → slot_at t.slots f ≡ tokens.Free token page → page_of (placement_of t) f ≡ page
+free_page : (t : Lists) → Known t → (f : ℕ) (token : Frame) (page : Option Page) → slot_at t.slots f ≡ tokens.Free token page
+    → page_of (placement_of t) f ≡ page
 free_page t k f token page e =
     let there : slot_at t.slots f ≢ tokens.Away = λ away. let clash : tokens.Free token page ≡ tokens.Away = sym e ∙ away in absurd cc in
     held_at t f (above_zero t.free t.slots f k.core there) (below_length t.slots f there) ∙ ap (λ (s : Token). page_by s (flown_at t.flown f)) e
@@ -170,13 +172,15 @@ module _ (t : Lists) (i : ℕ) (s : Places) (k : Known t) (rising : AreRising (s
 pub space_number_is : (t : Lists) (i : ℕ) (s : Places) → slice_get t.spaces i ≡ Some s → (sid : ℕ) → slice_get (sids_of t.spaces) i ≡ Some sid → s.sid ≡ sid
 space_number_is t i s at sid e = same_Some s.sid sid (sym (at_sid t.spaces i s at) ∙ e)
 
-pub space_there : (t : Lists) (i : ℕ) (s : Places) → slice_get t.spaces i ≡ Some s → AreRising (sids_of t.spaces) → (sid : ℕ) → s.sid ≡ sid → HasSpace (placement_of t) sid
+pub space_there : (t : Lists) (i : ℕ) (s : Places) → slice_get t.spaces i ≡ Some s → AreRising (sids_of t.spaces) → (sid : ℕ) → s.sid ≡ sid
+    → HasSpace (placement_of t) sid
 space_there t i s at rising sid e h =
     let found : numbered (λ (x : Places). x.sid) s.sid t.spaces ≡ Some s = found_here t.spaces s.sid i s rising (at_sid t.spaces i s at) ∙ ap (λ (x : Places). Some x) (get_spaces t.spaces i s s at) in
     let shown : numbered space_number s.sid (placement_of t).spaces ≡ Some (space_shown t.slots s) = numbered_shown t.slots t.spaces s.sid ∙ ap (option_map (space_shown t.slots)) found in
     absurd (let x : Some (space_shown t.slots s) ≡ None = sym shown ∙ ap (λ (n : ℕ). numbered space_number n (placement_of t).spaces) e ∙ h in cc)
 
-pub space_image : (t : Lists) (i : ℕ) (s : Places) → slice_get t.spaces i ≡ Some s → AreRising (sids_of t.spaces) → (sid : ℕ) → s.sid ≡ sid → s.image ≡ image_of (placement_of t) sid
+pub space_image : (t : Lists) (i : ℕ) (s : Places) → slice_get t.spaces i ≡ Some s → AreRising (sids_of t.spaces) → (sid : ℕ) → s.sid ≡ sid
+    → s.image ≡ image_of (placement_of t) sid
 space_image t i s at rising sid e =
     let found : numbered (λ (x : Places). x.sid) s.sid t.spaces ≡ Some s = found_here t.spaces s.sid i s rising (at_sid t.spaces i s at) ∙ ap (λ (x : Places). Some x) (get_spaces t.spaces i s s at) in
     let shown : numbered space_number s.sid (placement_of t).spaces ≡ Some (space_shown t.slots s) = numbered_shown t.slots t.spaces s.sid ∙ ap (option_map (space_shown t.slots)) found in

@@ -19,7 +19,8 @@ use Rattle.table_steps.proofs.KernelTablesEntries.{head_of}
 use Rattle.table_steps.proofs.Stills.{Grown, Still, images_heads, sourced_still, still_before, still_images}
 
 -- a machine that runs, with no pieces found for an entry to come
-pub running : (m : Inside) (s : Standing) → RunsInside m → standing_of m ≡ s → s.kernel.stopped ≡ false → s.before ≡ s.kernel.holdings → Runs (kernel_by m.tables m.journal.items m.stopped) (lists_of m.tables) m.tables.book.size
+pub running : (m : Inside) (s : Standing) → RunsInside m → standing_of m ≡ s → s.kernel.stopped ≡ false → s.before ≡ s.kernel.holdings
+    → Runs (kernel_by m.tables m.journal.items m.stopped) (lists_of m.tables) m.tables.book.size
 running m s h e r w =
     let n : RunsNow m = h (ap (λ (x : Standing). x.kernel.stopped) e ∙ r) in
     let same : before_of m.tables ≡ m.tables.book.holdings = ap (λ (x : Standing). x.before) e ∙ w ∙ sym (ap (λ (x : Standing). x.kernel.holdings) e) in
@@ -37,7 +38,8 @@ no_room None journal limit e = tt
 no_room (Some pid) journal limit e = absurd cc
 
 -- room was made for an instruction of a process
-pub room_of : (m : Inside) (pid : ℕ) → RunsNow m → m.room ≡ Some pid → last_says (instructions_in pid) m.journal.items ≡ None → (length m.journal.items < m.tables.params.journal) × (vec_len m.journal < vec_capacity m.journal)
+pub room_of : (m : Inside) (pid : ℕ) → RunsNow m → m.room ≡ Some pid → last_says (instructions_in pid) m.journal.items ≡ None
+    → (length m.journal.items < m.tables.params.journal) × (vec_len m.journal < vec_capacity m.journal)
 room_of m pid n e = subst (λ (o : Option ℕ). HasRoom o m.journal m.tables.params.journal) e n.room
 
 pub rest_of : (m : Inside) (s : Standing) (w : Tables) (k : Kernel) (now room : Option ℕ) → standing_of m ≡ s → Still m.tables w → now ≡ room
@@ -51,7 +53,8 @@ rest_of m s w k now room e z r =
 
 -- The whole, from the part that a step changes.
 
-pub stands_on : (m : Inside) (w : Tables) (j : List Entry) (b : Bool) → Stands m.tables m.journal.items m.stopped → before_of m.tables ≡ m.tables.book.holdings → Still m.tables w → Runs (kernel_by w j b) (lists_of w) w.book.size
+pub stands_on : (m : Inside) (w : Tables) (j : List Entry) (b : Bool) → Stands m.tables m.journal.items m.stopped
+    → before_of m.tables ≡ m.tables.book.holdings → Still m.tables w → Runs (kernel_by w j b) (lists_of w) w.book.size
     → AreSourced (images_of m.tables) (image_at m.tables) (before_of m.tables) m.tables.book.size w.ring → ((sid : ℕ) → image_at w sid ≡ image_at m.tables sid) → Grown m.journal.items j m.tables.params.journal → Stands w j b
 stands_on m w j b s whole z r ring images grown =
     let t : Tables = m.tables in
@@ -71,7 +74,8 @@ stands_on m w j b s whole z r ring images grown =
     }
 
 -- the same where no transfer begins or ends
-pub stands_same : (m : Inside) (w : Tables) (j : List Entry) (b : Bool) → Stands m.tables m.journal.items m.stopped → before_of m.tables ≡ m.tables.book.holdings → Still m.tables w → Runs (kernel_by w j b) (lists_of w) w.book.size
+pub stands_same : (m : Inside) (w : Tables) (j : List Entry) (b : Bool) → Stands m.tables m.journal.items m.stopped
+    → before_of m.tables ≡ m.tables.book.holdings → Still m.tables w → Runs (kernel_by w j b) (lists_of w) w.book.size
     → w.ring ≡ m.tables.ring → map head_of w.spaces ≡ map head_of m.tables.spaces → Grown m.journal.items j m.tables.params.journal → Stands w j b
 stands_same m w j b s whole z r ring heads grown =
     stands_on m w j b s whole z r (subst (λ (ts : List Flight). AreSourced (images_of m.tables) (image_at m.tables) (before_of m.tables) m.tables.book.size ts) (sym ring) s.ring) (images_heads m.tables w heads) grown

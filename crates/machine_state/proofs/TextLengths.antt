@@ -13,7 +13,8 @@ use Rattle.table_steps.specs.Machine.{lists_of, image_shown, images_of}
 use Rattle.table_steps.proofs.Shows.{pages_hit, pages_miss, texts_shown, text_length}
 
 -- as many as the header tells of the image at a place
-pages_at : (k i : ℕ) (ns : List Named) (n : ImageNamed) → slice_get (map image_shown ns) i ≡ Some n → pages_in k (k + i) (map (λ (x : Named). x.facts) ns) ≡ text_pages_of n.facts
+pages_at : (k i : ℕ) (ns : List Named) (n : ImageNamed) → slice_get (map image_shown ns) i ≡ Some n
+    → pages_in k (k + i) (map (λ (x : Named). x.facts) ns) ≡ text_pages_of n.facts
 pages_at k i [] n e = absurd cc
 pages_at k zero (m ∷ ms) n e =
     let same : image_shown m ≡ n = cc in

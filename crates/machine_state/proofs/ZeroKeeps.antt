@@ -19,7 +19,8 @@ use Rattle.table_steps.specs.View.{due_shown, starts_of}
 use Rattle.table_steps.specs.Due.{IsFirstStart}
 use Rattle.table_steps.specs.Conditions.{CanZero, KeepsFlat, SameElsewhere}
 
-pub zero_keeps : (size : ℕ) (k : Kernel) (q : Page) (ds : List DueFill) → Sound size k → CanZero k.place q → k.place.due ≡ map due_shown ds → k.starts ≡ starts_of ds → KeepsFlat k (zero_step k q)
+pub zero_keeps : (size : ℕ) (k : Kernel) (q : Page) (ds : List DueFill) → Sound size k → CanZero k.place q → k.place.due ≡ map due_shown ds
+    → k.starts ≡ starts_of ds → KeepsFlat k (zero_step k q)
 zero_keeps size k q ds so can due starts images image flat c = go ds due starts (subst (λ (x : List Due). IsFirstStart x q) due can.first)
   where
     enter : CanEnter k.place q

@@ -19,7 +19,8 @@ standing_of m = record {
 -- for an entry
 abbrev pub HasRoom : {A : Type 0} → Option ℕ → Vec Entry A → ℕ → Type 0
 HasRoom None journal limit = Unit {0}
-HasRoom (Some pid) journal limit = last_says (instructions_in pid) journal.items ≡ None → (length journal.items < limit) × (vec_len journal < vec_capacity journal)
+HasRoom (Some pid) journal limit =
+    last_says (instructions_in pid) journal.items ≡ None → (length journal.items < limit) × (vec_len journal < vec_capacity journal)
 
 -- what holds of a machine that hasn't stopped
 pub record RunsNow (m : Inside) : Type 0 where

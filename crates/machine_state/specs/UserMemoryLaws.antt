@@ -86,7 +86,8 @@ read_there k q f at byte t =
     ∙ ap (λ (bs : List ℕ). reads.Is (slice_index bs at)) (frame_after k q f at byte t)
     ∙ ap (λ (b : ℕ). reads.Is b) (get_or-set_same (frame_bytes k f) at byte 0 (let h = t.whole in let w = t.within in omega arith))
 
-read_beside : (k : Kernel) (q r : Page) (f at byte other : ℕ) → IsTouched k q f at → (r ≡ q → other ≡ at → ⊥) → read_page (write_step k q f at byte) r other ≡ read_page k r other
+read_beside : (k : Kernel) (q r : Page) (f at byte other : ℕ) → IsTouched k q f at → (r ≡ q → other ≡ at → ⊥)
+    → read_page (write_step k q f at byte) r other ≡ read_page k r other
 read_beside k q r f at byte other t apart =
     ap (λ (s : PageState). read_by_state (write_step k q f at byte) s other) (touch_state k.place q r f t.writable t.valid) ∙ go (state_of k.place r) refl
   where
@@ -216,7 +217,8 @@ read_after k sid byte a b m may = go (cases_eq a b)
         m.names.others m.frame byte (spot_in k.place sid a) m.touched (λ e. d (spot_once k.place sid a b (spot_in k.place sid b) may e refl))
         ∙ ap (λ (t : Bool). read_by t byte (read_spot k sid (spot_in k.place sid a))) (let test : false ≡ (a == b) = grind (arith, nat_tests) in test)
 
-may_after : (k : Kernel) (sid byte : ℕ) (q : Page) (f at : ℕ) (spot : Spot) → IsTouched k q f at → may_write_spot (write_step k q f at byte).place sid spot ≡ may_write_spot k.place sid spot
+may_after : (k : Kernel) (sid byte : ℕ) (q : Page) (f at : ℕ) (spot : Spot) → IsTouched k q f at
+    → may_write_spot (write_step k q f at byte).place sid spot ≡ may_write_spot k.place sid spot
 may_after k sid byte q f at (Text i) t = refl
 may_after k sid byte q f at (Data i) t = ap may_write_by (touch_state k.place q (pages.Data sid (i / 1024)) f t.writable t.valid)
 may_after k sid byte q f at (Stack i) t = ap may_write_by (touch_state k.place q (pages.Stack sid (i / 1024)) f t.writable t.valid)
@@ -234,7 +236,8 @@ put_answers k sid w h =
     })
 
 -- so it is after writes in a row
-pub writes_answer : (k : Kernel) (sid : ℕ) (ws : List ByteWrite) → AreWritten k sid ws → kernel_answers (writes_in k sid ws) sid ≡ written (kernel_answers k sid) ws
+pub writes_answer : (k : Kernel) (sid : ℕ) (ws : List ByteWrite) → AreWritten k sid ws
+    → kernel_answers (writes_in k sid ws) sid ≡ written (kernel_answers k sid) ws
 writes_answer k sid [] h = refl
 writes_answer k sid (w ∷ ws) h = writes_answer (write_in k sid w) sid ws h.1 ∙ ap (λ (x : Answers). written x ws) (put_answers k sid w h.0)
 
@@ -243,7 +246,8 @@ pub writes_append : (k : Kernel) (sid : ℕ) (xs ys : List ByteWrite) → writes
 writes_append k sid [] ys = refl
 writes_append k sid (x ∷ xs) ys = writes_append (write_in k sid x) sid xs ys
 
-pub written_append : (k : Kernel) (sid : ℕ) (xs ys : List ByteWrite) → AreWritten k sid xs → AreWritten (writes_in k sid xs) sid ys → AreWritten k sid (xs ++ ys)
+pub written_append : (k : Kernel) (sid : ℕ) (xs ys : List ByteWrite) → AreWritten k sid xs → AreWritten (writes_in k sid xs) sid ys
+    → AreWritten k sid (xs ++ ys)
 written_append k sid [] ys h j = j
 written_append k sid (x ∷ xs) ys h j = (h.0, written_append (write_in k sid x) sid xs ys h.1 j)
 
@@ -270,9 +274,11 @@ wrote_answers a b sid ws h = ap (λ (s : Standing). kernel_answers s.kernel sid)
 pub through_none : (m : MutBor Standing) (l : Layout) → WroteThrough m l [] m l
 through_none m l = (refl, refl, wrote_none m.now l.sid)
 
-pub through_more : (a b c : MutBor Standing) (x y z : Layout) (xs ys : List ByteWrite) → WroteThrough a x xs b y → WroteThrough b y ys c z → WroteThrough a x (xs ++ ys) c z
+pub through_more : (a b c : MutBor Standing) (x y z : Layout) (xs ys : List ByteWrite) → WroteThrough a x xs b y → WroteThrough b y ys c z
+    → WroteThrough a x (xs ++ ys) c z
 through_more a b c x y z xs ys h j =
     (j.0 ∙ h.0, j.1 ∙ h.1, wrote_more a.now b.now c.now x.sid xs ys h.2 (subst (λ (l : Layout). Wrote b.now l.sid ys c.now) h.1 j.2))
 
-pub through_answers : (a b : MutBor Standing) (x y : Layout) (ws : List ByteWrite) → WroteThrough a x ws b y → kernel_answers b.now.kernel y.sid ≡ written (kernel_answers a.now.kernel x.sid) ws
+pub through_answers : (a b : MutBor Standing) (x y : Layout) (ws : List ByteWrite) → WroteThrough a x ws b y
+    → kernel_answers b.now.kernel y.sid ≡ written (kernel_answers a.now.kernel x.sid) ws
 through_answers a b x y ws h = ap (λ (l : Layout). kernel_answers b.now.kernel l.sid) h.1 ∙ wrote_answers a.now b.now x.sid ws h.2

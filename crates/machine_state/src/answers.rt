@@ -32,7 +32,8 @@ impl Machine {
     /// each of its pages is moved from or to its own two blocks of swap, or comes from a range of its image's file.
     pub fn transfer(&self, place: u32) -> Option<&Transfer>
         ensures transfer { option_map transfer_shown (option_copied result) ≡ slice_get self.now.kernel.place.transfers place }
-        ensures sources { self.now.kernel.stopped ≡ false → IfSome result (λ t. IsFlightSourced self.now.images (image_of self.now.kernel.place) self.now.before self.now.params.swap_blocks t.now) }
+        ensures sources { self.now.kernel.stopped ≡ false
+            → IfSome result (λ t. IsFlightSourced self.now.images (image_of self.now.kernel.place) self.now.before self.now.params.swap_blocks t.now) }
     {
         self.tables.ring.get(place)
     }

@@ -32,13 +32,15 @@ impl Machine {
         requires whole { self.old.before ≡ self.old.kernel.holdings }
         requires can { CanAsk self.old.kernel.holdings wants.now }
         ensures answer { IfOk result (λ fits. fits ≡ fits_for self.old.params.swap_blocks self.old.kernel.holdings wants.now) }
-        ensures found { result ≡ Ok true → (hs : Holdings) × (found_for self.old.params.swap_blocks self.old.kernel.holdings wants.now ≡ Ok hs) × (self.new ≡ record self.old { kernel = record self.old.kernel { holdings = hs } }) }
+        ensures found { result ≡ Ok true → (hs : Holdings) × (found_for self.old.params.swap_blocks self.old.kernel.holdings wants.now ≡ Ok hs)
+            × (self.new ≡ record self.old { kernel = record self.old.kernel { holdings = hs } }) }
         ensures refused { result ≡ Ok false → self.new ≡ record self.old { kernel = note_step self.old.kernel (Refused pid); room = None } }
         ensures keeps { result ≡ Ok false → KeepsFlat self.old.kernel self.new.kernel }
         ensures same { result ≡ Ok false → SameEverywhere self.old.kernel self.new.kernel }
         ensures stop { OnErr result (HasStopped self.old self.new) }
         ensures cause { OnErr result ((result ≡ Err Stop.JournalFull) ⊎ (result ≡ Err Stop.NoMemory)) }
-        ensures full { result ≡ Err Stop.JournalFull → (fits_for self.old.params.swap_blocks self.old.kernel.holdings wants.now ≡ false) × (self.old.params.journal ≤ length self.old.kernel.journal) }
+        ensures full { result ≡ Err Stop.JournalFull → (fits_for self.old.params.swap_blocks self.old.kernel.holdings wants.now ≡ false)
+            × (self.old.params.journal ≤ length self.old.kernel.journal) }
         ensures has_room { result ≡ Ok false → length self.old.kernel.journal < self.old.params.journal }
     {
         let before = self.tables.book.holdings().len();

@@ -223,7 +223,8 @@ impl SpaceMemory<'_> {
     fn read_frame(&self, frame: Option<u32>, at: u32) -> ByteRead
         requires held { IfSome frame (IsHeld self.now.machine.now.kernel.place) }
         requires within { at < 1024 }
-        ensures { (page : Page) → frame ≡ valid_frame (state_of self.now.machine.now.kernel.place page) → result ≡ read_page self.now.machine.now.kernel page at }
+        ensures { (page : Page) → frame ≡ valid_frame (state_of self.now.machine.now.kernel.place page)
+            → result ≡ read_page self.now.machine.now.kernel page at }
     {
         match frame {
             Some(frame) => ByteRead::Is(self.machine.frame_byte(frame, at)),

@@ -48,7 +48,8 @@ StaysOrTaken p e r q f = (frame_of (state_of r q) ≡ Some f) ⊎ ((takes_frames
 
 -- behind a change the page has the frame that it had, if any, or it has none and was given up
 abbrev pub StaysOrGivenUp : Placement → ℕ → Bool → Change → Placement → Page → Type 0
-StaysOrGivenUp p sid borrowed change r q = (frame_of (state_of r q) ≡ frame_of (state_of p q)) ⊎ ((frame_of (state_of r q) ≡ None) × IsGivenUp sid borrowed change q)
+StaysOrGivenUp p sid borrowed change r q =
+    (frame_of (state_of r q) ≡ frame_of (state_of p q)) ⊎ ((frame_of (state_of r q) ≡ None) × IsGivenUp sid borrowed change q)
 
 -- a data or stack page that is dirty, in this frame
 pub record IsDirtyIn (p : Placement) (q : Page) (f : ℕ) : Type 0 where

@@ -88,7 +88,8 @@ fronts p xs ys best b other c a =
     record { none = omega arith; one = omega arith; more = omega arith }
 
 -- what counts where the references to come have the page, and where they don't
-added : (h : Bool) (other best : ℕ) → ((bit h ≡ 1) × (cond h 0 other ≡ 0) × (cond h 0 best ≡ 0)) ⊎ ((bit h ≡ 0) × (cond h 0 other ≡ other) × (cond h 0 best ≡ best))
+added : (h : Bool) (other best : ℕ)
+    → ((bit h ≡ 1) × (cond h 0 other ≡ 0) × (cond h 0 best ≡ 0)) ⊎ ((bit h ≡ 0) × (cond h 0 other ≡ other) × (cond h 0 best ≡ best))
 added true other best = inl (refl, refl, refl)
 added false other best = inr (refl, refl, refl)
 

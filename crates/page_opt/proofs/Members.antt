@@ -31,7 +31,8 @@ has_first p q cache = elim (cases_eq q p) [
   | inr other ↦ ap (λ (b : Bool). b || has q cache) (ne_eqb p q (λ e. other (sym e))) ∙ ap (λ (b : Bool). b || has q cache) (sym (ne_eqb q p other))
 ]
 
-pub has-without : (v q : ℕ) (cache : List ℕ) → ((r : ℕ) → times r cache ≤ 1) → has v cache ≡ true → has q (without_first v cache) ≡ (has q cache && not (q == v))
+pub has-without : (v q : ℕ) (cache : List ℕ) → ((r : ℕ) → times r cache ≤ 1) → has v cache ≡ true
+    → has q (without_first v cache) ≡ (has q cache && not (q == v))
 has-without v q cache once there = elim (cases_eq q v) [
   | inl same ↦
       let one = ap bit (eq-eqb v q (sym same)) in

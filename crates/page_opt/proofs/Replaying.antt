@@ -39,7 +39,8 @@ pub tracks_none : (s : BTreeSet ℕ) → ((q : ℕ) → in_set s q ≡ false) �
 unfolding has
 tracks_none s none empty = record { same = none; size = empty; once = λ q. omega arith }
 
-tracks_entered : (page : ℕ) (cache : List ℕ) (s t : BTreeSet ℕ) → Tracks cache s → has page cache ≡ false → Changes s t page true → btree_set_len t ≡ btree_set_len s + 1 → Tracks (page ∷ cache) t
+tracks_entered : (page : ℕ) (cache : List ℕ) (s t : BTreeSet ℕ) → Tracks cache s → has page cache ≡ false → Changes s t page true
+    → btree_set_len t ≡ btree_set_len s + 1 → Tracks (page ∷ cache) t
 tracks_entered page cache s t k away c e = record {
   same = λ q. elim (cases_eq q page) [
     | inl same ↦
@@ -53,7 +54,8 @@ tracks_entered page cache s t k away c e = record {
   once = λ q. times_enter page q cache (hasnt_times page cache away) k.once;
 }
 
-tracks_left : (v : ℕ) (cache : List ℕ) (s t : BTreeSet ℕ) → Tracks cache s → has v cache ≡ true → Changes s t v false → btree_set_len t + 1 ≡ btree_set_len s → Tracks (without_first v cache) t
+tracks_left : (v : ℕ) (cache : List ℕ) (s t : BTreeSet ℕ) → Tracks cache s → has v cache ≡ true → Changes s t v false
+    → btree_set_len t + 1 ≡ btree_set_len s → Tracks (without_first v cache) t
 tracks_left v cache s t k there c e = record {
   same = λ q. elim (cases_eq q v) [
     | inl same ↦
@@ -72,7 +74,8 @@ abbrev EntersRun : ℕ → ℕ → Run → Replay → Bool → Type 0
 EntersRun n page run s true = (later : List ℕ) × Tracks later s.cache × (entered n page run ≡ Some (run_of later s)) × (s.faults ≤ run.faults + 1)
 EntersRun n page run s false = entered n page run ≡ None
 
-enters_run : (n page : ℕ) (cache : List ℕ) (victims : List Victim) (faults : ℕ) (m s : Replay) (ok : Bool) → Tracks cache m.cache → m.victims.now ≡ victims → m.faults ≡ faults → has page cache ≡ false
+enters_run : (n page : ℕ) (cache : List ℕ) (victims : List Victim) (faults : ℕ) (m s : Replay) (ok : Bool) → Tracks cache m.cache
+    → m.victims.now ≡ victims → m.faults ≡ faults → has page cache ≡ false
     → Entering n page m s ok → EntersRun n page (record { cache = cache; victims = victims; faults = faults }) s ok
 unfolding entered
 enters_run n page cache victims faults m s true k same_victims same_faults away e =
@@ -89,7 +92,8 @@ enters_run n page cache victims faults m s false k same_victims same_faults away
     ap (λ (b : Bool). cond b (Some (record { cache = page ∷ cache; victims = victims; faults = faults + 1 })) None) (le-ltb (length cache) n (omega arith))
 
 -- a hit
-pub replay_hit : (n at page : ℕ) (cache : List ℕ) (r : Replay) (o : Option ℕ) (ok : Bool) → Tracks cache r.cache → in_set r.cache page ≡ true → o ≡ due at r.victims.now
+pub replay_hit : (n at page : ℕ) (cache : List ℕ) (r : Replay) (o : Option ℕ) (ok : Bool) → Tracks cache r.cache → in_set r.cache page ≡ true
+    → o ≡ due at r.victims.now
     → is_some o ≡ not ok → Serving n at page cache r r ok
 unfolding serve served
 replay_hit n at page cache r None true k there d e = record {
@@ -107,7 +111,8 @@ replay_hit n at page cache r (Some v) false k there d e =
     ap (λ (o : Option ℕ). served n page true o (run_of cache r)) (sym d)
 
 -- a fault whose victim isn't there
-pub replay_stuck : (n at page : ℕ) (cache : List ℕ) (r m : Replay) (o : Option ℕ) → Tracks cache r.cache → in_set r.cache page ≡ false → o ≡ due at r.victims.now
+pub replay_stuck : (n at page : ℕ) (cache : List ℕ) (r m : Replay) (o : Option ℕ) → Tracks cache r.cache → in_set r.cache page ≡ false
+    → o ≡ due at r.victims.now
     → Leaving o r m false → Serving n at page cache r m false
 unfolding serve served left then
 replay_stuck n at page cache r m None k away d l = absurd (false≢true l.yes)
@@ -117,7 +122,8 @@ replay_stuck n at page cache r m (Some v) k away d l =
     ap (λ (b : Bool). then (entered n page) (cond b (Some (record { cache = without_first v cache; victims = drop 1 r.victims.now; faults = r.faults })) None)) (sym (k.same v) ∙ sym l.test)
 
 -- another fault
-pub replay_fault : (n at page : ℕ) (cache : List ℕ) (r m s : Replay) (o : Option ℕ) (ok : Bool) → Tracks cache r.cache → in_set r.cache page ≡ false → o ≡ due at r.victims.now
+pub replay_fault : (n at page : ℕ) (cache : List ℕ) (r m s : Replay) (o : Option ℕ) (ok : Bool) → Tracks cache r.cache → in_set r.cache page ≡ false
+    → o ≡ due at r.victims.now
     → Leaving o r m true → Entering n page m s ok → Serving n at page cache r s ok
 unfolding serve served left then
 replay_fault n at page cache r m s o ok k away d l e = go o d l
@@ -153,7 +159,8 @@ due_there at (v ∷ vs) o e h = omega arith
 
 -- ---- the loop over the references
 
-pub replays_start : (refs : List ℕ) (n : ℕ) (victims : List Victim) (r : Replay) → Tracks [] r.cache → r.victims.now ≡ victims → r.faults ≡ 0 → Replays refs n 0 victims r
+pub replays_start : (refs : List ℕ) (n : ℕ) (victims : List Victim) (r : Replay) → Tracks [] r.cache → r.victims.now ≡ victims → r.faults ≡ 0
+    → Replays refs n 0 victims r
 unfolding plan_faults
 replays_start refs n victims r k v f = record {
   cache = [];
@@ -192,7 +199,8 @@ replays_fail refs n i victims r s false l p step e =
     ap (λ (o : Option Run). faults_of o) (sym (runs_step refs n i (run_of p.cache r) None l (step p.cache p.tracks))) ∙
     p.run
 
-pub replays_end : (refs : List ℕ) (n i : ℕ) (victims : List Victim) (r : Replay) → length refs ≤ i → Replays refs n i victims r → all_left r.victims.now r.faults ≡ plan_faults refs n victims
+pub replays_end : (refs : List ℕ) (n i : ℕ) (victims : List Victim) (r : Replay) → length refs ≤ i → Replays refs n i victims r
+    → all_left r.victims.now r.faults ≡ plan_faults refs n victims
 unfolding runs faults_of
 replays_end refs n i victims r last p =
     subst (λ (ps : List ℕ). faults_of (runs n (i + 1) ps (Some (run_of p.cache r))) ≡ plan_faults refs n victims) (drop_all i refs last) p.run

@@ -33,7 +33,8 @@ entered_gives n p c d e =
     (ltb-true (length c.cache) n parts.0, parts.1)
 
 -- a page enters after another may have left
-enters : (n p : ℕ) (c m d : Run) → has p c.cache ≡ false → m.faults ≡ c.faults → ((xs : List ℕ) → count xs m.cache ≤ count xs c.cache) → entered n p m ≡ Some d → Miss n p c d
+enters : (n p : ℕ) (c m d : Run) → has p c.cache ≡ false → m.faults ≡ c.faults → ((xs : List ℕ) → count xs m.cache ≤ count xs c.cache)
+    → entered n p m ≡ Some d → Miss n p c d
 unfolding with_page
 enters n p c m d away faults fewer e =
     let parts = entered_gives n p m d e in
@@ -45,7 +46,8 @@ enters n p c m d away faults fewer e =
       small = let r = parts.0 in omega arith;
     })
 
-pub left_gives : (v : ℕ) (c m : Run) → left v c ≡ Some m → (has v c.cache ≡ true) × (record { cache = without_first v c.cache; victims = drop 1 c.victims; faults = c.faults } ≡ m)
+pub left_gives : (v : ℕ) (c m : Run) → left v c ≡ Some m
+    → (has v c.cache ≡ true) × (record { cache = without_first v c.cache; victims = drop 1 c.victims; faults = c.faults } ≡ m)
 unfolding left
 left_gives v c m e = cond_some (has v c.cache) (record { cache = without_first v c.cache; victims = drop 1 c.victims; faults = c.faults }) m e
 

@@ -125,7 +125,8 @@ split_held : (refs : List ℕ) (i : ℕ) (inside : ℕ → Bool) (r : Resident) 
     → Holds (get_or refs i 0 ∷ drop (i + 1) refs) i inside r
 split_held refs i inside r l h = subst (λ (future : List ℕ). Holds future i inside r) (drop_more refs i 0 l) h
 
-pub stands_within : (refs : List ℕ) (n i : ℕ) (r s : Resident) (victims : List Victim) (faults : ℕ) (hit : Bool) → i < length refs → Stands refs n i r victims faults
+pub stands_within : (refs : List ℕ) (n i : ℕ) (r s : Resident) (victims : List Victim) (faults : ℕ) (hit : Bool) → i < length refs
+    → Stands refs n i r victims faults
     → Arrives r s i hit → IsWithin refs s
 stands_within refs n i r s victims faults hit l st a = λ k there.
     let h = arrives_held (get_or refs i 0) i (drop (i + 1) refs) st.cache r s hit (split_held refs i (λ q. has q st.cache) r l st.held) a in
@@ -239,7 +240,8 @@ leaves_room : (refs : List ℕ) (r s : Resident) (v : ℕ) → Leaves refs r s v
 leaves_room refs r s v (inl a) = ap (λ (b : Bits). capacity b) a.awaited
 leaves_room refs r s v (inr a) = a.awaited.room
 
-pub room_kept : (refs : List ℕ) (n i : ℕ) (r s : Resident) (before later : List Victim) → HasRoom refs n i r s before later → capacity s.awaited ≡ capacity r.awaited
+pub room_kept : (refs : List ℕ) (n i : ℕ) (r s : Resident) (before later : List Victim) → HasRoom refs n i r s before later
+    → capacity s.awaited ≡ capacity r.awaited
 room_kept refs n i r s before later (inl room) = ap (λ (b : Bits). capacity b) room.awaited
 room_kept refs n i r s before later (inr made) = leaves_room refs r s made.victim made.leaves
 
@@ -300,7 +302,8 @@ stands_miss refs n i r s t u victims later faults some l st a (inr made) put =
 
 -- ---- before the first reference and after the last
 
-pub stands_start : (refs : List ℕ) (n : ℕ) (r : Resident) → length refs ≤ capacity r.awaited → ((k : ℕ) → has_place r.awaited k ≡ false) → ((q : ℕ) → in_set r.spent q ≡ false) → r.used ≡ 0 → Stands refs n 0 r [] 0
+pub stands_start : (refs : List ℕ) (n : ℕ) (r : Resident) → length refs ≤ capacity r.awaited → ((k : ℕ) → has_place r.awaited k ≡ false)
+    → ((q : ℕ) → in_set r.spent q ≡ false) → r.used ≡ 0 → Stands refs n 0 r [] 0
 unfolding furthest_victims has
 stands_start refs n r room none none' empty = record {
   cache = [];

@@ -48,7 +48,8 @@ use Rattle.pager_tests.proofs.SmallMachine.{shown_files}
 
 -- Behind units of paging.
 
-pub makes_ready : (g : Ground) (us : List Entry) (old new : Standing) (i j : Option (List ℕ)) (holds later : Option (List NamedFile)) (blocks more : ℕ) → Makes g us old new i j
+pub makes_ready : (g : Ground) (us : List Entry) (old new : Standing) (i j : Option (List ℕ)) (holds later : Option (List NamedFile)) (blocks more : ℕ)
+    → Makes g us old new i j
     → later ≡ holds → more ≡ blocks → IsReady old holds blocks → IsReady new later more
 makes_ready g us old new i j holds later blocks more m e f r = record {
   running = (let a : SameBeside old.kernel new.kernel = made_same g us old.kernel new.kernel i j m.made in a.stopped) ∙ r.running;
@@ -64,12 +65,14 @@ beside_of old new e = record {
   before = ap (λ (s : Standing). s.before) e;
 }
 
-pub unit_ready : (g : Ground) (e : Entry) (old new : Standing) (i j : Option (List ℕ)) (holds later : Option (List NamedFile)) (blocks more : ℕ) → MakesUnit g e old new i j
+pub unit_ready : (g : Ground) (e : Entry) (old new : Standing) (i j : Option (List ℕ)) (holds later : Option (List NamedFile)) (blocks more : ℕ)
+    → MakesUnit g e old new i j
     → later ≡ holds → more ≡ blocks → IsReady old holds blocks → IsReady new later more
 unit_ready g e old new i j holds later blocks more m = makes_ready g (e ∷ []) old new i j holds later blocks more
     (record { made = made_one g e old.kernel new.kernel i j m.made m.told; beside = m.beside })
 
-pub filled_ready : (q : Page) (old new : Standing) (holds : Option (List NamedFile)) (blocks : ℕ) → new.kernel ≡ zero_step old.kernel q → new ≡ record old { kernel = new.kernel; room = None }
+pub filled_ready : (q : Page) (old new : Standing) (holds : Option (List NamedFile)) (blocks : ℕ) → new.kernel ≡ zero_step old.kernel q
+    → new ≡ record old { kernel = new.kernel; room = None }
     → IsReady old holds blocks → IsReady new holds blocks
 filled_ready q old new holds blocks s b = unit_ready (ground old holds []) (entries.Zero q) old new None None holds holds blocks blocks
     (record { made = s; told = refl; beside = beside_of old new b }) refl refl
@@ -181,7 +184,8 @@ blank_is (Coming f) x e = absurd cc
 blank_is (Going f) x e = absurd cc
 blank_is OnSwap x e = absurd cc
 
-pub can_zero : (p : Placement) → IsThere p (Stack 1 0) → is_blank (state_of p (Stack 1 0)) (filling_of p (Stack 1 0)) ≡ true → p.due ≡ Start (Stack 1 0) ∷ [] → 0 < length p.free
+pub can_zero : (p : Placement) → IsThere p (Stack 1 0) → is_blank (state_of p (Stack 1 0)) (filling_of p (Stack 1 0)) ≡ true
+    → p.due ≡ Start (Stack 1 0) ∷ [] → 0 < length p.free
     → CanZero p (Stack 1 0)
 can_zero p t b d f = record {
   writable = tt;
@@ -216,12 +220,14 @@ pub forced_ready : (r : Result (Unit {0}) Stop) (old new : Standing) (i j : Opti
 forced_ready (Ok u) old new i j holds later blocks more s e f r = makes_ready (ground old holds []) s.units old new i j holds later blocks more s.makes e f r
 forced_ready (Err stop) old new i j holds later blocks more s e f r = tt
 
-pub landed_ready : (old new : Standing) (i j : Option (List ℕ)) (holds later : Option (List NamedFile)) (blocks more : ℕ) → IsDone (sources old holds) i old.kernel new.kernel
+pub landed_ready : (old new : Standing) (i j : Option (List ℕ)) (holds later : Option (List NamedFile)) (blocks more : ℕ)
+    → IsDone (sources old holds) i old.kernel new.kernel
     → new ≡ record old { kernel = new.kernel; room = None } → ImageAfter old.kernel i j → later ≡ holds → more ≡ blocks → IsReady old holds blocks → IsReady new later more
 landed_ready old new i j holds later blocks more d b a = unit_ready (ground old holds []) entries.Done old new i j holds later blocks more
     (record { made = d; told = a; beside = beside_of old new b })
 
-pub started_ready : (m : Standing) (facts : Image) (holds : Option (List NamedFile)) (blocks : ℕ) → HasStarted m facts → file_length_of facts ≤ 32768 → blocks ≡ 260
+pub started_ready : (m : Standing) (facts : Image) (holds : Option (List NamedFile)) (blocks : ℕ) → HasStarted m facts → file_length_of facts ≤ 32768
+    → blocks ≡ 260
     → ((images : List ImageNamed) → ((files : List NamedFile) → 0 < length files → 32768 ≤ length (bytes_at files 0) → HaveFiles images files) → AreFiles images holds) → IsReady m holds blocks
 started_ready m facts holds blocks s l b f = record {
   running = s.running;

@@ -174,7 +174,8 @@ zero_called A s q r h = elim (unit_names A s (entries.Zero q) h) [
 pub get_called : (A : Inputs) (s : State) (q : Page) (lo n : ℕ) → next_unit A s ≡ Some (entries.Get q lo n) → IsWanted A s q ⊎ IsParentOfDue s.place q
 get_called A s q lo n h = (unit_names A s (entries.Get q lo n) h).0
 
-pub get_run : (A : Inputs) (s : State) (q : Page) (lo n : ℕ) → next_unit A s ≡ Some (entries.Get q lo n) → (lo ≡ (run_in s.place q).lo) × (n ≡ (run_in s.place q).n)
+pub get_run : (A : Inputs) (s : State) (q : Page) (lo n : ℕ) → next_unit A s ≡ Some (entries.Get q lo n)
+    → (lo ≡ (run_in s.place q).lo) × (n ≡ (run_in s.place q).n)
 get_run A s q lo n h = let k = unit_names A s (entries.Get q lo n) h in (k.1, k.2)
 
 pub reclaim_called : (A : Inputs) (s : State) (q : Page) → next_unit A s ≡ Some (entries.Reclaim q) → IsWanted A s q ⊎ IsParentOfDue s.place q

@@ -68,13 +68,15 @@ must_write p q f o d = record { dirty = marked_is q (mark_of p q) d.dirty; held 
 
 -- Units.
 
-plain_dirty : (A : Inputs) (s : State) (u : Entry) (q : Page) (f : ℕ) → IsRun A s → next_unit A s ≡ Some u → process_of_entry u ≡ None → IsDirtyIn s.place q f → IsDirtyIn (after A s u).place q f ⊎ IsCleaned A s u q f
+plain_dirty : (A : Inputs) (s : State) (u : Entry) (q : Page) (f : ℕ) → IsRun A s → next_unit A s ≡ Some u → process_of_entry u ≡ None
+    → IsDirtyIn s.place q f → IsDirtyIn (after A s u).place q f ⊎ IsCleaned A s u q f
 plain_dirty A s u q f r h n d = elim (unit_written A s u q f r h n (must_write s.place q f (owns A s r.placed) d)) [
   | inl k ↦ inl (record { frame = held_frame (after A s u).place q f k; dirty = is_marked q (mark_of s.place q) (mark_of (after A s u).place q) d.dirty k.dirty })
   | inr k ↦ inr (WasWritten k.0 k.1)
 ]
 
-stepped_dirty : (A : Inputs) (s : State) (u : Entry) (q : Page) (f pid at : ℕ) (qs : List Page) → IsRun A s → process_of_entry u ≡ Some pid → IsDirtyIn s.place q f
+stepped_dirty : (A : Inputs) (s : State) (u : Entry) (q : Page) (f pid at : ℕ) (qs : List Page) → IsRun A s → process_of_entry u ≡ Some pid
+    → IsDirtyIn s.place q f
     → IsDirtyIn (place_change (facts_of A.images) (touch_all s.place qs) pid (space_held s pid) (is_borrower s.point.flat.processes pid) s.point.flat.next_sid at (step_at A s.point pid).change) q f ⊎ IsCleaned A s u q f
 stepped_dirty A s u q f pid at qs r e d =
     elim (change_dirty (facts_of A.images) (touch_all s.place qs) pid (space_held s pid) (is_borrower s.point.flat.processes pid) s.point.flat.next_sid at (step_at A s.point pid).change q f (touched_new A s qs r) (touch_all_dirty qs s.place q f d)) [
@@ -82,7 +84,8 @@ stepped_dirty A s u q f pid at qs r e d =
       | inr k ↦ inr (WasGivenUp pid e k)
     ]
 
-flat_dirty : (A : Inputs) (s : State) (u : Entry) (q : Page) (f pid : ℕ) → IsRun A s → process_of_entry u ≡ Some pid → IsDirtyIn s.place q f → IsDirtyIn (after A s u).place q f ⊎ IsCleaned A s u q f
+flat_dirty : (A : Inputs) (s : State) (u : Entry) (q : Page) (f pid : ℕ) → IsRun A s → process_of_entry u ≡ Some pid → IsDirtyIn s.place q f
+    → IsDirtyIn (after A s u).place q f ⊎ IsCleaned A s u q f
 unfolding after
 flat_dirty A s (entries.Ran p n) q f pid r e d = stepped_dirty A s (entries.Ran p n) q f p (place_at s (entries.Ran p n)) (pages_written s.point.flat p (step_at A s.point p)) r refl d
 flat_dirty A s (entries.Grew p n) q f pid r e d = stepped_dirty A s (entries.Grew p n) q f p (place_at s (entries.Grew p n)) (pages_written s.point.flat p (step_at A s.point p)) r refl d
@@ -93,7 +96,8 @@ flat_dirty A s (entries.Out p bytes) q f pid r e d = inl d
 flat_dirty A s (entries.Refused p) q f pid r e d = inl d
 flat_dirty A s _ q f pid r e d = absurd cc
 
-pub unit_dirty : (A : Inputs) (s : State) (u : Entry) (q : Page) (f : ℕ) → IsRun A s → next_unit A s ≡ Some u → IsDirtyIn s.place q f → IsDirtyIn (after A s u).place q f ⊎ IsCleaned A s u q f
+pub unit_dirty : (A : Inputs) (s : State) (u : Entry) (q : Page) (f : ℕ) → IsRun A s → next_unit A s ≡ Some u → IsDirtyIn s.place q f
+    → IsDirtyIn (after A s u).place q f ⊎ IsCleaned A s u q f
 unit_dirty A s u q f r h d = go (process_of_entry u) refl
   where
     go : (o : Option ℕ) → process_of_entry u ≡ o → IsDirtyIn (after A s u).place q f ⊎ IsCleaned A s u q f
@@ -102,7 +106,8 @@ unit_dirty A s u q f r h d = go (process_of_entry u) refl
 
 -- Lists of units.
 
-pub units_dirty : (A : Inputs) (us : List Entry) (s t : State) (q : Page) (f : ℕ) → ImagesFit A.images → IsRun A s → Follows A s us t → IsDirtyIn s.place q f → IsDirtyIn t.place q f ⊎ CleanedIn A s us q f
+pub units_dirty : (A : Inputs) (us : List Entry) (s t : State) (q : Page) (f : ℕ) → ImagesFit A.images → IsRun A s → Follows A s us t
+    → IsDirtyIn s.place q f → IsDirtyIn t.place q f ⊎ CleanedIn A s us q f
 units_dirty A [] s t q f images r h d = inl (subst (λ (x : State). IsDirtyIn x.place q f) h d)
 units_dirty A (u ∷ us) s t q f images r h d = elim (unit_dirty A s u q f r h.0 d) [
   | inl k ↦ elim (units_dirty A us (after A s u) t q f images (unit_run A s u images r h.0) h.1 k) [

@@ -32,7 +32,8 @@ use Rattle.paging_laws.specs.Lost.{space_held, IsLost, WasFree, WasCutOff, WasRe
 
 -- Units of no process.
 
-plain_lost : (A : Inputs) (s : State) (u : Entry) (q : Page) (f : ℕ) → IsRun A s → next_unit A s ≡ Some u → process_of_entry u ≡ None → frame_of (state_of s.place q) ≡ Some f
+plain_lost : (A : Inputs) (s : State) (u : Entry) (q : Page) (f : ℕ) → IsRun A s → next_unit A s ≡ Some u → process_of_entry u ≡ None
+    → frame_of (state_of s.place q) ≡ Some f
     → frame_of (state_of (after A s u).place q) ≢ Some f → IsLost A s u q f
 plain_lost A s u q f r h n e k = elim (subst (λ (p : Placement). StaysOrTaken s.place u p q f) (sym (plain_place A s u n)) stays) [
   | inl i ↦ absurd (k i)
@@ -42,7 +43,8 @@ plain_lost A s u q f r h n e k = elim (subst (λ (p : Placement). StaysOrTaken s
     stays : StaysOrTaken s.place u (place_entry (locked A s) (place_at s u) s.place u) q f
     stays = let a : IsAllowed s.place u = unit_allowed A s u r h in entry_frame (locked A s) (place_at s u) s.place u q f (owns A s r.placed) a.can e
 
-pub unit_written : (A : Inputs) (s : State) (u : Entry) (q : Page) (f : ℕ) → IsRun A s → next_unit A s ≡ Some u → process_of_entry u ≡ None → IsUnwritten s.place q f → StaysOrWritten s.place u (after A s u).place q f
+pub unit_written : (A : Inputs) (s : State) (u : Entry) (q : Page) (f : ℕ) → IsRun A s → next_unit A s ≡ Some u → process_of_entry u ≡ None
+    → IsUnwritten s.place q f → StaysOrWritten s.place u (after A s u).place q f
 unit_written A s u q f r h n w = subst (λ (p : Placement). StaysOrWritten s.place u p q f) (sym (plain_place A s u n))
     (let a : IsAllowed s.place u = unit_allowed A s u r h in entry_held (locked A s) (place_at s u) s.place u q f (owns A s r.placed) a.can w)
 
@@ -66,7 +68,8 @@ touched_new A s qs r =
     let st : Placed A s.point.flat (touch_all s.place qs) s.holdings = touch_all_placed A s.point.flat qs s.place s.holdings r.placed in
     new_number (machine_of s.point.flat (touch_all s.place qs) s.holdings) st.numbered
 
-stepped_lost : (A : Inputs) (s : State) (u : Entry) (q : Page) (f pid at : ℕ) (qs : List Page) → IsRun A s → process_of_entry u ≡ Some pid → frame_of (state_of s.place q) ≡ Some f
+stepped_lost : (A : Inputs) (s : State) (u : Entry) (q : Page) (f pid at : ℕ) (qs : List Page) → IsRun A s → process_of_entry u ≡ Some pid
+    → frame_of (state_of s.place q) ≡ Some f
     → frame_of (state_of (place_change (facts_of A.images) (touch_all s.place qs) pid (space_held s pid) (is_borrower s.point.flat.processes pid) s.point.flat.next_sid at (step_at A s.point pid).change) q) ≢ Some f → IsLost A s u q f
 stepped_lost A s u q f pid at qs r e h k = elim (change_frame (facts_of A.images) p pid (space_held s pid) (is_borrower s.point.flat.processes pid) s.point.flat.next_sid at (step_at A s.point pid).change q (touched_new A s qs r)) [
   | inl i ↦ absurd (k (i ∙ t.frames q ∙ h))
@@ -79,7 +82,8 @@ stepped_lost A s u q f pid at qs r e h k = elim (change_frame (facts_of A.images
     t : Steady s.place p
     t = touch_all_steady qs s.place
 
-flat_lost : (A : Inputs) (s : State) (u : Entry) (q : Page) (f pid : ℕ) → IsRun A s → process_of_entry u ≡ Some pid → frame_of (state_of s.place q) ≡ Some f → frame_of (state_of (after A s u).place q) ≢ Some f → IsLost A s u q f
+flat_lost : (A : Inputs) (s : State) (u : Entry) (q : Page) (f pid : ℕ) → IsRun A s → process_of_entry u ≡ Some pid
+    → frame_of (state_of s.place q) ≡ Some f → frame_of (state_of (after A s u).place q) ≢ Some f → IsLost A s u q f
 unfolding after
 flat_lost A s (entries.Ran p n) q f pid r e h k = stepped_lost A s (entries.Ran p n) q f p (place_at s (entries.Ran p n)) (pages_written s.point.flat p (step_at A s.point p)) r refl h k
 flat_lost A s (entries.Grew p n) q f pid r e h k = stepped_lost A s (entries.Grew p n) q f p (place_at s (entries.Grew p n)) (pages_written s.point.flat p (step_at A s.point p)) r refl h k
@@ -90,7 +94,8 @@ flat_lost A s (entries.Out p bytes) q f pid r e h k = absurd (k h)
 flat_lost A s (entries.Refused p) q f pid r e h k = absurd (k h)
 flat_lost A s _ q f pid r e h k = absurd cc
 
-pub unit_lost : (A : Inputs) (s : State) (u : Entry) (q : Page) (f : ℕ) → IsRun A s → next_unit A s ≡ Some u → frame_of (state_of s.place q) ≡ Some f → frame_of (state_of (after A s u).place q) ≢ Some f → IsLost A s u q f
+pub unit_lost : (A : Inputs) (s : State) (u : Entry) (q : Page) (f : ℕ) → IsRun A s → next_unit A s ≡ Some u → frame_of (state_of s.place q) ≡ Some f
+    → frame_of (state_of (after A s u).place q) ≢ Some f → IsLost A s u q f
 unit_lost A s u q f r h e k = go (process_of_entry u) refl
   where
     go : (o : Option ℕ) → process_of_entry u ≡ o → IsLost A s u q f

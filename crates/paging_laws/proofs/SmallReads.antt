@@ -37,7 +37,8 @@ record IsSmallRun (p : Placement) (q : Page) (r : Run) : Type 0 where
   spares : (r.n ≡ 1) ⊎ (r.n + desired_free p ≤ length p.free)
 
 -- the page itself is in its chunk, and so is each other
-near_by : (p : Placement) (q : Page) (r : Run) → ((w : ℕ) → r.lo ≤ w → w < r.lo + r.n → w ≢ number_of q → IsSwappedBeside p q w) → (w : ℕ) → r.lo ≤ w → w < r.lo + r.n → chunk_of (beside q w) ≡ chunk_of q
+near_by : (p : Placement) (q : Page) (r : Run) → ((w : ℕ) → r.lo ≤ w → w < r.lo + r.n → w ≢ number_of q → IsSwappedBeside p q w) → (w : ℕ) → r.lo ≤ w
+    → w < r.lo + r.n → chunk_of (beside q w) ≡ chunk_of q
 near_by p q r h w l m = elim (cases_eq w (number_of q)) [
   | inl e ↦ ap (λ (x : ℕ). chunk_of (beside q x)) e ∙ ap chunk_of (beside_self q)
   | inr n ↦ (let k : IsSwappedBeside p q w = h w l m n in k.near)
@@ -46,7 +47,8 @@ near_by p q r h w l m = elim (cases_eq w (number_of q)) [
 unfilled_swapped : {C : Type 0} (p : Placement) (q : Page) → state_of p q ≡ OnSwap → state_of p q ≡ Unfilled → C
 unfilled_swapped p q e h = absurd (let k : OnSwap ≡ Unfilled = sym e ∙ h in cc)
 
-widest_small : (p : Placement) (q : Page) → most_read q ≡ 4 → state_of p q ≡ OnSwap → IsWidestRun (IsSwappedBeside p q) (MayRead p 4) (number_of q) (run_in p q) → IsSmallRun p q (run_in p q)
+widest_small : (p : Placement) (q : Page) → most_read q ≡ 4 → state_of p q ≡ OnSwap
+    → IsWidestRun (IsSwappedBeside p q) (MayRead p 4) (number_of q) (run_in p q) → IsSmallRun p q (run_in p q)
 widest_small p q most e w = record {
   has = w.has;
   few = let k = w.may_be in subst (λ (x : ℕ). (run_in p q).n ≤ x) (sym most) k.0;
@@ -64,7 +66,9 @@ alone_small p q most e i = subst (IsSmallRun p q) (sym i) (record {
   spares = inl refl;
 })
 
-text_swapped : (p : Placement) (image v : ℕ) → state_of p (Text image v) ≡ OnSwap → IsLongestRun (IsSwappedBeside p (Text image v)) (MayRead p 2) v (run_in p (Text image v)) → IsSmallRun p (Text image v) (run_in p (Text image v))
+text_swapped : (p : Placement) (image v : ℕ) → state_of p (Text image v) ≡ OnSwap
+    → IsLongestRun (IsSwappedBeside p (Text image v)) (MayRead p 2) v (run_in p (Text image v))
+    → IsSmallRun p (Text image v) (run_in p (Text image v))
 text_swapped p image v e w = let from = w.from in let some = w.some in record {
   has = (omega arith, omega arith);
   few = let k = w.may_be in k.0;
@@ -73,7 +77,9 @@ text_swapped p image v e w = let from = w.from in let some = w.some in record {
   spares = let k = w.may_be in k.1;
 }
 
-text_filed : (p : Placement) (image v : ℕ) → state_of p (Text image v) ≡ Unfilled → IsLongestRun (IsUnfilledBeside p (Text image v)) (MayRead p 2) v (run_in p (Text image v)) → IsSmallRun p (Text image v) (run_in p (Text image v))
+text_filed : (p : Placement) (image v : ℕ) → state_of p (Text image v) ≡ Unfilled
+    → IsLongestRun (IsUnfilledBeside p (Text image v)) (MayRead p 2) v (run_in p (Text image v))
+    → IsSmallRun p (Text image v) (run_in p (Text image v))
 text_filed p image v e w = let from = w.from in let some = w.some in record {
   has = (omega arith, omega arith);
   few = let k = w.may_be in k.0;

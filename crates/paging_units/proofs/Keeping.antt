@@ -46,7 +46,8 @@ fits_shaped p q s images f = λ i. f i ∙ ap (λ (n : ℕ). 1024 * n) (sym (siz
 
 -- The flat states for which a machine stands.
 
-stands_flat : (k l : Kernel) (images : List NamedImage) (i : Option (List ℕ)) (flat : FlatState) → KeepsFlat k l → StandsTold k images i flat → StandsTold l images i flat
+stands_flat : (k l : Kernel) (images : List NamedImage) (i : Option (List ℕ)) (flat : FlatState) → KeepsFlat k l → StandsTold k images i flat
+    → StandsTold l images i flat
 stands_flat k l images None flat f h = absurd h
 stands_flat k l images (Some image) flat f h = f images image flat h
 
@@ -58,7 +59,8 @@ pub keeps_same : (old new : Standing) (holds : Option (List NamedFile)) (i : Opt
 keeps_same old new holds i e = λ images flat l t h. subst (λ (k : Kernel). StandsTold k images i flat) e h
 
 -- one part after another
-pub keeps_both : (old next new : Standing) (holds later : Option (List NamedFile)) (a b c : Option (List ℕ)) → next.images ≡ old.images → Shaped old.kernel.place next.kernel.place → later ≡ holds
+pub keeps_both : (old next new : Standing) (holds later : Option (List NamedFile)) (a b c : Option (List ℕ)) → next.images ≡ old.images
+    → Shaped old.kernel.place next.kernel.place → later ≡ holds
     → KeepsThrough old next holds a b → KeepsThrough next new later b c → KeepsThrough old new holds a c
 keeps_both old next new holds later a b c g p e f s images flat l t h =
     s images flat (subst (λ (ns : List ImageNamed). AreImages ns later images) (sym g) (subst (λ (x : Option (List NamedFile)). AreImages old.images x images) (sym e) l))

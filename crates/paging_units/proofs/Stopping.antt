@@ -28,7 +28,8 @@ err_same s t e = cc
 
 -- a call that stops at the journal's bound leaves the machine running, with the placement, the processes and the holdings as they
 -- were, where no pieces wait
-pub held_here : (stop : Stop) (old new : Standing) → HasStopped old new → old.before ≡ old.kernel.holdings → (stop ≡ stops.JournalFull → old.params.journal ≤ length old.kernel.journal)
+pub held_here : (stop : Stop) (old new : Standing) → HasStopped old new → old.before ≡ old.kernel.holdings
+    → (stop ≡ stops.JournalFull → old.params.journal ≤ length old.kernel.journal)
     → StaysWhereFull old.kernel stop new
 held_here stop old new s w full e =
     let same = s.held (full e) in
@@ -64,7 +65,8 @@ call_stops {A} (Err stop) e old new i cause image full s c w = record {
 }
 
 -- for an entry that is never joined, it is enough that the journal is at its bound
-pub plain_full : (e : Entry) (journal : List Entry) (limit : ℕ) (P : Type 0) → IsPlain e → (P ↔ (limit ≤ length journal)) → P ↔ ((limit ≤ length journal) × (length journal < length (append journal e)))
+pub plain_full : (e : Entry) (journal : List Entry) (limit : ℕ) (P : Type 0) → IsPlain e → (P ↔ (limit ≤ length journal))
+    → P ↔ ((limit ≤ length journal) × (length journal < length (append journal e)))
 plain_full e journal limit P p f = ((λ h. (f.0 h, plain_longer journal e p)), (λ h. f.1 h.0))
 
 -- some transfer was in flight

@@ -18,7 +18,8 @@ use Rattle.paging_units.specs.Made.{Ground, ground, MadeBy, ImageBy, Made, Makes
 
 -- One unit.
 
-pub unit_place : (g : Ground) (e : Entry) (k l : Kernel) (i : Option (List ℕ)) → MadeBy g e k i l → l.place ≡ place_entry g.locked (length (append k.journal e)) k.place e
+pub unit_place : (g : Ground) (e : Entry) (k l : Kernel) (i : Option (List ℕ)) → MadeBy g e k i l
+    → l.place ≡ place_entry g.locked (length (append k.journal e)) k.place e
 unit_place g (entries.Zero q) k l i h = ap (λ (x : Kernel). x.place) h
 unit_place g (entries.Copy q) k l i h = ap (λ (x : Kernel). x.place) h
 unit_place g (entries.Get q lo n) k l i h = ap (λ (x : Kernel). x.place) h
@@ -72,7 +73,8 @@ forced_place g k l i h =
     unit_place g (force_entry k.place.transfers) k l i h
     ∙ force_places g.locked (length (append k.journal (force_entry k.place.transfers))) k.place k.place.transfers
 
-pub served_place : (g : Ground) (q : Page) (now : Bool) (e : Entry) (k l : Kernel) (i : Option (List ℕ)) → serve_unit k.place q now ≡ Some e → due_after k.place.due q ≡ k.place.due
+pub served_place : (g : Ground) (q : Page) (now : Bool) (e : Entry) (k l : Kernel) (i : Option (List ℕ)) → serve_unit k.place q now ≡ Some e
+    → due_after k.place.due q ≡ k.place.due
     → MadeBy g e k i l → l.place ≡ serve_step k.place g.locked q
 served_place g q now e k l i s d h =
     let u = unit_is k.place q now e s in
@@ -81,7 +83,8 @@ served_place g q now e k l i s d h =
 
 -- Units in order.
 
-pub made_append : (g : Ground) (us vs : List Entry) (k l m : Kernel) (i j h : Option (List ℕ)) → Made g us k i l j → Made g vs l j m h → Made g (us ++ vs) k i m h
+pub made_append : (g : Ground) (us vs : List Entry) (k l m : Kernel) (i j h : Option (List ℕ)) → Made g us k i l j → Made g vs l j m h
+    → Made g (us ++ vs) k i m h
 made_append g [] vs k l m i j h a b =
     subst (λ (x : Kernel). Made g vs x i m h) (sym a.0) (subst (λ (x : Option (List ℕ)). Made g vs l x m h) (sym a.1) b)
 made_append g (e ∷ us) vs k l m i j h a b =
@@ -114,7 +117,8 @@ made_starts g (e ∷ us) k l i j a =
     made_starts g us a.next l a.image j a.rest ∙ ap (starts_behind us) (unit_starts g e k a.next i a.made)
 
 -- units that force a frame lead to the placement that forcing leads to
-pub made_forces : (g : Ground) (us : List Entry) (k l : Kernel) (i j : Option (List ℕ)) (r : Placement) → Made g us k i l j → Forces us k.place g.locked r → l.place ≡ r
+pub made_forces : (g : Ground) (us : List Entry) (k l : Kernel) (i j : Option (List ℕ)) (r : Placement) → Made g us k i l j
+    → Forces us k.place g.locked r → l.place ≡ r
 made_forces g [] k l i j r a f = sym (ap (λ (x : Kernel). x.place) a.0) ∙ f
 made_forces g (e ∷ us) k l i j r a f =
     let forced : a.next.place ≡ force k.place g.locked = forced_place g k a.next i (subst (λ (u : Entry). MadeBy g u k i a.next) f.1 a.made) in
@@ -131,31 +135,37 @@ makes_none g old new i j e f = record {
   beside = record { params = ap (λ (s : Standing). s.params) e; images = ap (λ (s : Standing). s.images) e; before = ap (λ (s : Standing). s.before) e };
 }
 
-pub makes_first : (g : Ground) (e : Entry) (us : List Entry) (old next new : Standing) (i h j : Option (List ℕ)) → MakesUnit g e old next i h → Makes g us next new h j → Makes g (e ∷ us) old new i j
+pub makes_first : (g : Ground) (e : Entry) (us : List Entry) (old next new : Standing) (i h j : Option (List ℕ)) → MakesUnit g e old next i h
+    → Makes g us next new h j → Makes g (e ∷ us) old new i j
 makes_first g e us old next new i h j a b = record {
   made = record { next = next.kernel; image = h; made = a.made; told = a.told; rest = b.made };
   beside = beside_both old next new a.beside b.beside;
 }
 
 -- behind a part that leaves its images, with the same files, the ground is the same
-pub same_ground : (old next : Standing) (holds later : Option (List NamedFile)) (locked : List Page) → later ≡ holds → IsSameBeside old next → ground next later locked ≡ ground old holds locked
+pub same_ground : (old next : Standing) (holds later : Option (List NamedFile)) (locked : List Page) → later ≡ holds → IsSameBeside old next
+    → ground next later locked ≡ ground old holds locked
 same_ground old next holds later locked e b =
     ap (λ (x : Option (List NamedFile)). ground next x locked) e
     ∙ ap (λ (ns : List ImageNamed). let g : Ground = record { locked = locked; from = record { images = ns; files = holds } } in g) b.images
 
-pub makes_on : (us : List Entry) (old next new : Standing) (holds later : Option (List NamedFile)) (locked : List Page) (i j : Option (List ℕ)) → later ≡ holds → IsSameBeside old next
+pub makes_on : (us : List Entry) (old next new : Standing) (holds later : Option (List NamedFile)) (locked : List Page) (i j : Option (List ℕ))
+    → later ≡ holds → IsSameBeside old next
     → Makes (ground next later locked) us next new i j → Makes (ground old holds locked) us next new i j
 makes_on us old next new holds later locked i j e b m = subst (λ (g : Ground). Makes g us next new i j) (same_ground old next holds later locked e b) m
 
-pub makes_both : (g : Ground) (us vs : List Entry) (old next new : Standing) (i h j : Option (List ℕ)) → Makes g us old next i h → Makes g vs next new h j → Makes g (us ++ vs) old new i j
+pub makes_both : (g : Ground) (us vs : List Entry) (old next new : Standing) (i h j : Option (List ℕ)) → Makes g us old next i h
+    → Makes g vs next new h j → Makes g (us ++ vs) old new i j
 makes_both g us vs old next new i h j a b = record {
   made = made_append g us vs old.kernel next.kernel new.kernel i h j a.made b.made;
   beside = beside_both old next new a.beside b.beside;
 }
 
 -- no piece of swap waits behind a unit, where none did before it
-pub unit_whole : (g : Ground) (e : Entry) (old new : Standing) (i j : Option (List ℕ)) → MakesUnit g e old new i j → old.before ≡ old.kernel.holdings → new.before ≡ new.kernel.holdings
+pub unit_whole : (g : Ground) (e : Entry) (old new : Standing) (i j : Option (List ℕ)) → MakesUnit g e old new i j → old.before ≡ old.kernel.holdings
+    → new.before ≡ new.kernel.holdings
 unit_whole g e old new i j m w = m.beside.before ∙ w ∙ sym (unit_same g e old.kernel new.kernel i m.made).holdings
 
-pub makes_whole : (g : Ground) (us : List Entry) (old new : Standing) (i j : Option (List ℕ)) → Makes g us old new i j → old.before ≡ old.kernel.holdings → new.before ≡ new.kernel.holdings
+pub makes_whole : (g : Ground) (us : List Entry) (old new : Standing) (i j : Option (List ℕ)) → Makes g us old new i j
+    → old.before ≡ old.kernel.holdings → new.before ≡ new.kernel.holdings
 makes_whole g us old new i j m w = m.beside.before ∙ w ∙ sym (made_same g us old.kernel new.kernel i j m.made).holdings

@@ -30,7 +30,8 @@ without_has p q pages there h = elim (cases_eq q p) [
 ]
 
 -- a page that isn't awaited
-other_ahead : (p : ℕ) (pages refs : List ℕ) → has p pages ≡ false → ((q : ℕ) → has q pages ≡ true → has q (p ∷ refs) ≡ true) → (q : ℕ) → has q pages ≡ true → has q refs ≡ true
+other_ahead : (p : ℕ) (pages refs : List ℕ) → has p pages ≡ false → ((q : ℕ) → has q pages ≡ true → has q (p ∷ refs) ≡ true) → (q : ℕ)
+    → has q pages ≡ true → has q refs ≡ true
 unfolding has
 other_ahead p pages refs away ahead q h = elim (or_cases (p == q) (has q refs) (ahead q h)) [
   | inl e ↦ absurd (false≢true (sym away ∙ ap (λ (r : ℕ). has r pages) (eqb-true p q e) ∙ h))
@@ -90,7 +91,8 @@ unfolding has
 none_ahead [] cache a = refl
 none_ahead (p ∷ ps) cache a = absurd (false≢true (a.ahead p (or_left (p == p) (has p ps) (eq-eqb p p refl))))
 
-awaited_fault : (refs : List ℕ) (n at : ℕ) (pages : List ℕ) (c d : Run) → Awaited pages refs c.cache → runs n at refs (Some c) ≡ Some d → length pages + c.faults ≤ d.faults
+awaited_fault : (refs : List ℕ) (n at : ℕ) (pages : List ℕ) (c d : Run) → Awaited pages refs c.cache → runs n at refs (Some c) ≡ Some d
+    → length pages + c.faults ≤ d.faults
 unfolding runs then
 awaited_fault [] n at pages c d a r =
     let same : c ≡ d = cc in
@@ -122,7 +124,8 @@ unfolding all_left
 left_faults [] m faults e = cc
 left_faults (v ∷ vs) m faults e = cc
 
-pub pages_fault : (refs pages : List ℕ) (n : ℕ) → ((p : ℕ) → times p pages ≤ 1) → ((p : ℕ) → has p pages ≡ true → has p refs ≡ true) → NoneFewer refs n (length pages)
+pub pages_fault : (refs pages : List ℕ) (n : ℕ) → ((p : ℕ) → times p pages ≤ 1) → ((p : ℕ) → has p pages ≡ true → has p refs ≡ true)
+    → NoneFewer refs n (length pages)
 unfolding plan_faults faults_of
 pages_fault refs pages n once ahead victims faults e = go (runs n 1 refs (Some (record { cache = []; victims = victims; faults = 0 }))) refl e
   where

@@ -74,7 +74,8 @@ first_served : (n at p : ℕ) (refs held after : List ℕ) (before victims : Lis
 unfolding runs then
 first_served n at p refs held after before victims last faults more total s r = ap (λ (o : Option Run). runs n (at + 1) refs o) s ∙ r
 
-planned_hit : (n at p : ℕ) (refs held : List ℕ) (faults most : ℕ) → has p held ≡ true → Planned n (at + 1) refs held faults most → Planned n at (p ∷ refs) held faults most
+planned_hit : (n at p : ℕ) (refs held : List ℕ) (faults most : ℕ) → has p held ≡ true → Planned n (at + 1) refs held faults most
+    → Planned n at (p ∷ refs) held faults most
 planned_hit n at p refs held faults most there k = record {
   victims = k.victims;
   last = k.last;

@@ -186,7 +186,8 @@ all_or_idle (r ∷ rs) pages = elim (cases_Bool (has r pages)) [
 ]
 
 -- where all n frames are held and a page of the memory isn't, some page that is held isn't in memory
-pub some_idle : (n p : ℕ) (held pages : List ℕ) → IsCache n held → IsCache n pages → n ≤ length held → has p pages ≡ true → has p held ≡ false → (v : ℕ) × IsIdle held pages v
+pub some_idle : (n p : ℕ) (held pages : List ℕ) → IsCache n held → IsCache n pages → n ≤ length held → has p pages ≡ true → has p held ≡ false
+    → (v : ℕ) × IsIdle held pages v
 some_idle n p held pages c m full there away = elim (all_or_idle held pages) [
   | inl all ↦ absurd (
       let one = enter_fewer p held pages there away in

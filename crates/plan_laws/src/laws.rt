@@ -16,5 +16,6 @@ pub fn demand_paging_brings_least()
 /// Each page of the references faults at least once, when it is first referenced, however many frames there are. So a plan
 /// has at least as many faults as there are pages.
 pub fn each_page_faults()
-    ensures { (refs pages : List ℕ) (n : ℕ) → ((p : ℕ) → times p pages ≤ 1) → ((p : ℕ) → has p pages ≡ true → has p refs ≡ true) → NoneFewer refs n (length pages) }
+    ensures { (refs pages : List ℕ) (n : ℕ) → ((p : ℕ) → times p pages ≤ 1) → ((p : ℕ) → has p pages ≡ true → has p refs ≡ true)
+        → NoneFewer refs n (length pages) }
 {}

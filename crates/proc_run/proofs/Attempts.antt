@@ -86,7 +86,8 @@ wrote_none old mid new sid ws o e w = record {
   only = w.machine ∙ ap (λ (vs : List ByteWrite). let m : Standing = record mid { kernel = writes_in mid.kernel sid vs } in m) e ∙ o.only;
 }
 
-pub room_answers : (old new : Standing) (pid : ℕ) (regs : Regs) → RoomOnly old new → run (own_answers new pid) (instruction regs) ≡ run (own_answers old pid) (instruction regs)
+pub room_answers : (old new : Standing) (pid : ℕ) (regs : Regs) → RoomOnly old new
+    → run (own_answers new pid) (instruction regs) ≡ run (own_answers old pid) (instruction regs)
 room_answers old new pid regs o = ap (λ (m : Standing). run (own_answers m pid) (instruction regs)) o.only
 
 pub room_steady : (old new : Standing) → RoomOnly old new → IsSteady old → IsSteady new
@@ -107,7 +108,8 @@ pub room_goes_on : (old mid new : Standing) (n : ℕ) → RoomOnly old mid → I
 room_goes_on old mid new n o h c =
     let e : 0 + n ≡ n = omega arith in subst (λ (k : ℕ). Continues old new k) e (continues_both old mid new 0 n (room_continues old mid o.made (ready_of old h) o.only) c)
 
-pub room_runs : (A : Inputs) (s : State) (old new : Standing) (holds : Option (List NamedFile)) (i : Option (List ℕ)) (image : List ℕ) (pid : ℕ) (now : Bool) (p : Process) (x : Space) → RoomOnly old new
+pub room_runs : (A : Inputs) (s : State) (old new : Standing) (holds : Option (List NamedFile)) (i : Option (List ℕ)) (image : List ℕ) (pid : ℕ) (now : Bool) (p : Process) (x : Space)
+    → RoomOnly old new
     → RunsAt A s old holds i image pid now p x → RunsAt A s new holds i image pid now p x
 room_runs A s old new holds i image pid now p x o r =
     room_kernel (λ m. RunsAt A s m holds i image pid now p x) old new o (record {
@@ -121,19 +123,22 @@ room_runs A s old new holds i image pid now p x o r =
     })
 
 -- An instruction that makes a call writes nothing.
-pub call_quiet : (m : Standing) (pid : ℕ) (before : Regs) (number : ℤ) (r : Result Effect Refused) → run (own_answers m pid) (instruction before) ≡ r → answer_of r ≡ steps.Call number → writes_of r ≡ []
+pub call_quiet : (m : Standing) (pid : ℕ) (before : Regs) (number : ℤ) (r : Result Effect Refused) → run (own_answers m pid) (instruction before) ≡ r
+    → answer_of r ≡ steps.Call number → writes_of r ≡ []
 call_quiet m pid before number r e a =
     let c = called r number a in
     ap writes_of c.1 ∙ calls_write_none (own_answers m pid) before c.0 number (e ∙ c.1) c.2
 
-pub made_quiet : (m : Standing) (pid : ℕ) (before : Regs) (number : ℤ) (after : Regs) → MadeCall m pid before number after → writes_of (run (own_answers m pid) (instruction before)) ≡ []
+pub made_quiet : (m : Standing) (pid : ℕ) (before : Regs) (number : ℤ) (after : Regs) → MadeCall m pid before number after
+    → writes_of (run (own_answers m pid) (instruction before)) ≡ []
 made_quiet m pid before number after c = ap writes_of c.made ∙ calls_write_none (own_answers m pid) before c.effect number c.made c.number_is
 
 -- nor does one that is refused
 pub refused_quiet : (r : Result Effect Refused) (refused : Refused) → r ≡ Err refused → writes_of r ≡ []
 refused_quiet r refused e = ap writes_of e
 
-pub call_made : (old mid : Standing) (pid : ℕ) (before after : Regs) (number : ℤ) → RoomOnly old mid → answer_of (run (own_answers old pid) (instruction before)) ≡ steps.Call number
+pub call_made : (old mid : Standing) (pid : ℕ) (before after : Regs) (number : ℤ) → RoomOnly old mid
+    → answer_of (run (own_answers old pid) (instruction before)) ≡ steps.Call number
     → after ≡ registers_after before (run (own_answers old pid) (instruction before)) → MadeCall mid pid before number after
 call_made old mid pid before after number o a e =
     let c = called (run (own_answers old pid) (instruction before)) number a in

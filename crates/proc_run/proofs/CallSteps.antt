@@ -49,7 +49,8 @@ module _ (A : Inputs) (s : State) (old new : Standing) (holds : Option (List Nam
   ready : (called : Called) (j : Option (List ℕ)) → called ≡ calls.Ready → CallLeads A s old.kernel image x calls.Ready new.kernel j → CallLeads A s old.kernel image x called new.kernel j
   ready called j e h = subst (λ (c : Called). CallLeads A s old.kernel image x c new.kernel j) (sym e) h
 
-  pub call_leads : (call : SystemCall) (j : Option (List ℕ)) (called : Called) → MakesCall old p x effect call → CallComes call old new pid effect.regs holds (Some image) j called
+  pub call_leads : (call : SystemCall) (j : Option (List ℕ)) (called : Called) → MakesCall old p x effect call
+      → CallComes call old new pid effect.regs holds (Some image) j called
       → CallLeads A s old.kernel image x called new.kernel j
   call_leads system_calls.Exit j called m h =
       exit_made A s old new holds image j pid now p x effect on m called refused_made
@@ -68,7 +69,8 @@ module _ (A : Inputs) (s : State) (old new : Standing) (holds : Option (List Nam
   call_leads system_calls.Vfork j called m h = ready called j h.0 (told system_calls.Vfork j calls.Ready h.2 (vfork_made A s old new holds image pid now p x effect on m h.1))
   call_leads system_calls.Wait j called m h = told system_calls.Wait j called h.1 (wait_made A s old new holds image pid now p x effect called on m h.0)
 
-  pub call_stops : (call : SystemCall) (j : Option (List ℕ)) (stop : Stop) → MakesCall old p x effect call → CallStops call old new pid effect.regs holds (Some image) j stop
+  pub call_stops : (call : SystemCall) (j : Option (List ℕ)) (stop : Stop) → MakesCall old p x effect call
+      → CallStops call old new pid effect.regs holds (Some image) j stop
       → StopLeads A s old.kernel image stop new j
   call_stops system_calls.Exit j stop m h =
       exit_stops A s old new holds image j pid now p x effect on m stop refused_stops

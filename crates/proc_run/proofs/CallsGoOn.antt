@@ -54,7 +54,8 @@ module _ (old new : Standing) (pid : ℕ) (regs : Regs) (holds : Option (List Na
   counted : (called : Called) → called ≡ calls.Ready → Continues old new 1 → Continues old new (called_count called)
   counted called e h = subst (λ (c : Called). Continues old new (called_count c)) (sym e) h
 
-  pub calls_go_on : (known : List NamedImage) → AreNamed known old.images → (call : SystemCall) (called : Called) → CallComes call old new pid regs holds i j called → Continues old new (called_count called)
+  pub calls_go_on : (known : List NamedImage) → AreNamed known old.images → (call : SystemCall) (called : Called)
+      → CallComes call old new pid regs holds i j called → Continues old new (called_count called)
   calls_go_on known named system_calls.Exit called h = exit_continues old new pid regs (run (own_answers old pid) (exit_reply regs)) holds i j called caller h
   calls_go_on known named system_calls.Fork called h = counted called h.0 (fork_continues old new pid regs holds i j caller h.1.forked h.1.on)
   calls_go_on known named system_calls.Write called h =
@@ -71,7 +72,8 @@ module _ (old new : Standing) (pid : ℕ) (regs : Regs) (holds : Option (List Na
 
   -- Holders.
 
-  pub calls_keep : (known : List NamedImage) → AreNamed known old.images → (call : SystemCall) (called : Called) → CallComes call old new pid regs holds i j called → KeepsHolders old new
+  pub calls_keep : (known : List NamedImage) → AreNamed known old.images → (call : SystemCall) (called : Called)
+      → CallComes call old new pid regs holds i j called → KeepsHolders old new
   calls_keep known named system_calls.Exit called h = exit_keeps old new pid regs (run (own_answers old pid) (exit_reply regs)) holds i j called (caller_holds old pid caller) h
   calls_keep known named system_calls.Fork called h = forked_keeps old new pid regs holds i j h.1.forked
   calls_keep known named system_calls.Write called h =

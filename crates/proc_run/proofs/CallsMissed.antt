@@ -25,7 +25,8 @@ use Rattle.proc_run.specs.Calls.{own_answers, CallComes}
 
 -- Only a call whose read misses answers so.
 
-replied : (old new : Standing) (pid : ℕ) (regs : Regs) (address : ℕ) (call : SystemCall) (reply : Reply) → Replied old new pid call regs reply (calls.Miss address) → ⊥
+replied : (old new : Standing) (pid : ℕ) (regs : Regs) (address : ℕ) (call : SystemCall) (reply : Reply)
+    → Replied old new pid call regs reply (calls.Miss address) → ⊥
 replied old new pid regs address call (Fails error) h = let e = h.0 in absurd cc
 replied old new pid regs address call (Does after change) h = let e = h.0 in absurd cc
 replied old new pid regs address call (Writes bytes) h = let e = h.0 in absurd cc
@@ -76,7 +77,8 @@ module _ (old new : Standing) (pid : ℕ) (regs : Regs) (address : ℕ) where
     break_missed (Ok to) h = absurd (moves (pages_to old.kernel pid to) h)
     break_missed (Err refused) h = comes system_calls.Break (Err refused) h.0
 
-    pub call_missed : (known : List NamedImage) → AreNamed known old.images → (call : SystemCall) → CallComes call old new pid regs holds i j (calls.Miss address) → new ≡ old
+    pub call_missed : (known : List NamedImage) → AreNamed known old.images → (call : SystemCall)
+        → CallComes call old new pid regs holds i j (calls.Miss address) → new ≡ old
     call_missed known named system_calls.Exit h = exit_missed (run (own_answers old pid) (exit_reply regs)) h
     call_missed known named system_calls.Fork h = let e = h.0 in absurd cc
     call_missed known named system_calls.Write h = comes system_calls.Write (run (own_answers old pid) (write_reply regs)) h.0

@@ -55,7 +55,8 @@ module _ (old new : Standing) (pid : ℕ) (before : Regs) (number : ℤ) (after 
     | inr e ↦ subst (λ (d : Called). CallLeads A s old.kernel image x d new.kernel j) e (leads called h A s image p x r)
   ]
 
-  pub ready_goes_on : (called : Called) → (called ≡ calls.Ready) ⊎ (called ≡ calls.Gone) → CallComes call old new pid after holds i j called → Continues old new 1
+  pub ready_goes_on : (called : Called) → (called ≡ calls.Ready) ⊎ (called ≡ calls.Gone) → CallComes call old new pid after holds i j called
+      → Continues old new 1
   ready_goes_on called w h = elim w [
     | inl e ↦ subst (λ (d : Called). Continues old new (called_count d)) e (goes_on called h)
     | inr e ↦ subst (λ (d : Called). Continues old new (called_count d)) e (goes_on called h)
@@ -96,7 +97,8 @@ module _ (old new : Standing) (pid : ℕ) (before : Regs) (number : ℤ) (after 
     quiet = subst (λ (m : Standing). WritesNothing m.kernel pid before) (sym unchanged) (made_quiet old pid before number after made)
 
     module _ (last : Standing) (later : Option (List NamedFile)) (k : Option (List ℕ)) (files : later ≡ holds) where
-      pub missed_advances : (o : Result Advance Stop) → IfOk o (AdvancesWaiting new last pid now address false later j k) → IfOk o (Advances old last pid now holds i k)
+      pub missed_advances : (o : Result Advance Stop) → IfOk o (AdvancesWaiting new last pid now address false later j k)
+          → IfOk o (Advances old last pid now holds i k)
       missed_advances (Err stop) h = tt
       missed_advances (Ok advance) h = λ A s image p x r.
           let l = leads (calls.Miss address) comes A s image p x r in
@@ -104,7 +106,8 @@ module _ (old new : Standing) (pid : ℕ) (before : Regs) (number : ℤ) (after 
           let w2 = subst (λ (o : Option (List NamedFile)). AdvancesWaiting old last pid now address false o j k advance) files w in
           w2 A s image p x l.2.before (record { on = r.on; named = r.named; told = l.1 }) (inl (l.2, refl))
 
-      pub missed_stops : (o : Result Advance Stop) → IfErr o (StopsWaiting new last pid now address false later j k) → IfErr o (StopsAdvancing old last pid now holds i k)
+      pub missed_stops : (o : Result Advance Stop) → IfErr o (StopsWaiting new last pid now address false later j k)
+          → IfErr o (StopsAdvancing old last pid now holds i k)
       missed_stops (Ok advance) h = tt
       missed_stops (Err stop) h = λ A s image p x r.
           let l = leads (calls.Miss address) comes A s image p x r in
@@ -112,6 +115,7 @@ module _ (old new : Standing) (pid : ℕ) (before : Regs) (number : ℤ) (after 
           let w2 = subst (λ (o : Option (List NamedFile)). StopsWaiting old last pid now address false o j k stop) files w in
           w2 A s image p x l.2.before (record { on = r.on; named = r.named; told = l.1 }) (inl (l.2, refl))
 
-    pub missed_goes_on : (last : Standing) (o : Result Advance Stop) → IfOk o (λ advance. Continues new last (counts advance)) → IfOk o (λ advance. Continues old last (counts advance))
+    pub missed_goes_on : (last : Standing) (o : Result Advance Stop) → IfOk o (λ advance. Continues new last (counts advance))
+        → IfOk o (λ advance. Continues old last (counts advance))
     missed_goes_on last (Err stop) h = tt
     missed_goes_on last (Ok advance) h = subst (λ (m : Standing). Continues m last (counts advance)) unchanged h

@@ -28,7 +28,8 @@ abbrev steps_outline : Option Outline → Bool
 steps_outline None = false
 steps_outline (Some o) = holds_space o.life && not o.asleep
 
-kept_steps : (n : ℕ) (ps : List Proc) → steps_by (numbered (λ (p : Proc). p.pid) n ps) ≡ steps_outline (find (λ (o : Outline). o.pid == n) (map outline_kept ps))
+kept_steps : (n : ℕ) (ps : List Proc)
+    → steps_by (numbered (λ (p : Proc). p.pid) n ps) ≡ steps_outline (find (λ (o : Outline). o.pid == n) (map outline_kept ps))
 kept_steps n [] = refl
 kept_steps n (p ∷ ps) = go (p.pid == n) (kept_steps n ps)
   where
@@ -37,7 +38,8 @@ kept_steps n (p ∷ ps) = go (p.pid == n) (kept_steps n ps)
     go true e = refl
     go false e = e
 
-flat_outline : (n : ℕ) (qs : List Process) → ready_if (find (λ (q : Process). q.pid == n) qs) ≡ steps_outline (find (λ (o : Outline). o.pid == n) (map outline_of qs))
+flat_outline : (n : ℕ) (qs : List Process)
+    → ready_if (find (λ (q : Process). q.pid == n) qs) ≡ steps_outline (find (λ (o : Outline). o.pid == n) (map outline_of qs))
 flat_outline n [] = refl
 flat_outline n (q ∷ qs) = go (q.pid == n) (flat_outline n qs)
   where
@@ -58,7 +60,8 @@ held_there false (Holds x) e = (x, refl)
 held_there false (Lends sid child) e = absurd cc
 held_there false (Zombie status) e = absurd cc
 
-there : (F : FlatState) (pid : ℕ) (o : Option Process) → process_of F pid ≡ o → ready_if o ≡ true → (p : Process) × (x : Space) × (process_of F pid ≡ Some p) × (p.holding ≡ Holds x)
+there : (F : FlatState) (pid : ℕ) (o : Option Process) → process_of F pid ≡ o → ready_if o ≡ true
+    → (p : Process) × (x : Space) × (process_of F pid ≡ Some p) × (p.holding ≡ Holds x)
 there F pid None e r = absurd cc
 there F pid (Some p) e r = let h = held_there p.asleep p.holding r in (p, h.0, e, h.1)
 
@@ -76,7 +79,8 @@ none_left true false y h = refl
 none_left true true false h = refl
 none_left true true true h = absurd (h refl refl)
 
-goes_true : (A : Inputs) (s : State) (pid more until : ℕ) → until ≡ min more A.limit → s.count < until → flat_steps s.point.flat pid ≡ true → goes_on A s pid more ≡ true
+goes_true : (A : Inputs) (s : State) (pid more until : ℕ) → until ≡ min more A.limit → s.count < until → flat_steps s.point.flat pid ≡ true
+    → goes_on A s pid more ≡ true
 goes_true A s pid more until e l c =
     let below : s.count < A.limit = omega (arith, e, l) in
     let short : s.count < more = omega (arith, e, l) in
@@ -101,7 +105,8 @@ module _ (A : Inputs) (s : State) (k : Kernel) (image : List ℕ) (pid until : �
   out_same : is_out k.place pid ≡ is_out s.place pid
   out_same = ap (λ (p : Placement). is_out p pid) at.stands.place
 
-  pub runs : (now : Bool) → AsksRun A s pid now until → s.place.due ≡ [] → s.count < until → may_run k pid ≡ true → (p : Process) × (x : Space) × IsRunning A s pid now p x
+  pub runs : (now : Bool) → AsksRun A s pid now until → s.place.due ≡ [] → s.count < until → may_run k pid ≡ true
+      → (p : Process) × (x : Space) × IsRunning A s pid now p x
   runs now asks clear l m =
       let parts = and_parts (steps_by (proc_of k pid)) (not (is_out k.place pid)) m in
       let can : flat_steps s.point.flat pid ≡ true = steps ∙ parts.0 in

@@ -63,7 +63,8 @@ module _ (ps : List Record) (next : ℕ) (known : AreRecords ps next) (above : �
       (λ m y l e. shown_no m y (λ p k. one_no m p k (λ a. h.2 m p (a, l) k)) e))
       ∙ ap (λ (m : ℕ). Some m) is)
 
-pub ready_of : (k : Kernel) (ps : List Record) (above : ℕ) (o : Option ℕ) → k.processes ≡ processes_of ps k.next_pid → AreRecords ps k.next_pid → FoundReady ps above o → o ≡ next_ready k above
+pub ready_of : (k : Kernel) (ps : List Record) (above : ℕ) (o : Option ℕ) → k.processes ≡ processes_of ps k.next_pid → AreRecords ps k.next_pid
+    → FoundReady ps above o → o ≡ next_ready k above
 ready_of k ps above o e known h = ready_is ps k.next_pid known above o h ∙ ap (λ (qs : List Proc). pid_if (find (test above) qs)) (sym e)
 
 -- Of the flat machine.
@@ -95,7 +96,8 @@ ready_one false (Zombie status) = refl
 flat_test : (above : ℕ) (q : Process) → (is_ready q && nat_lt above q.pid) ≡ outlined above (outline_of q)
 flat_test above q = ap (λ (b : Bool). b && nat_lt above q.pid) (ready_one q.asleep q.holding)
 
-flat_first : (above : ℕ) (qs : List Process) → flat_pid_if (find (λ q. is_ready q && nat_lt above q.pid) qs) ≡ outline_pid (find (outlined above) (map outline_of qs))
+flat_first : (above : ℕ) (qs : List Process)
+    → flat_pid_if (find (λ q. is_ready q && nat_lt above q.pid) qs) ≡ outline_pid (find (outlined above) (map outline_of qs))
 flat_first above [] = refl
 flat_first above (q ∷ qs) = ap (λ (b : Bool). flat_pid_if (cond b (Some q) (find (λ x. is_ready x && nat_lt above x.pid) qs))) (flat_test above q) ∙ go (outlined above (outline_of q)) (flat_first above qs)
   where

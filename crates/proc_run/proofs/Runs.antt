@@ -30,7 +30,8 @@ runs_with A s m holds i image pid now p x regs e r = record {
 }
 
 -- the pages that the instruction touches before the first that isn't valid are those that the run keeps
-pub kept : (m : Standing) (holds : Option (List NamedFile)) (i : Option (List ℕ)) (pid : ℕ) (regs : Regs) (r : Result (List Page) NoMemory) (touched pages : List Page) → regs ≡ regs_of m.kernel pid
+pub kept : (m : Standing) (holds : Option (List NamedFile)) (i : Option (List ℕ)) (pid : ℕ) (regs : Regs) (r : Result (List Page) NoMemory) (touched pages : List Page)
+    → regs ≡ regs_of m.kernel pid
     → pages ≡ touched → r ≡ Ok touched
     → ((A : Inputs) (s : State) (now : Bool) → RunsWith A s now m pid regs → IfOk r (λ qs. qs ≡ locked A s)) → AreLocked m holds i pid pages
 kept m holds i pid regs r touched pages e same made before A s image p x runs =

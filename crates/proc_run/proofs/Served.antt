@@ -40,7 +40,8 @@ use Rattle.proc_run.specs.Serving.{AreLocked, ServedBy, StopsServed}
 
 -- Whatever the devices tell.
 
-pub served_on : (now : Bool) (old new : Standing) (pid address : ℕ) (write : Bool) (holds : Option (List NamedFile)) (i j : Option (List ℕ)) (answer : Served) → IsCaller old pid
+pub served_on : (now : Bool) (old new : Standing) (pid address : ℕ) (write : Bool) (holds : Option (List NamedFile)) (i j : Option (List ℕ)) (answer : Served)
+    → IsCaller old pid
     → ServedBy now old new pid address write holds i j answer → Continues old new 0
 served_on true old new pid address write holds i j answer c h = access_now_continues old new pid (access_by old.kernel pid address write) answer h.pages holds i j c h.comes
 served_on false old new pid address write holds i j answer c h = access_continues old new pid (access_by old.kernel pid address write) answer holds i j c h
@@ -106,7 +107,8 @@ module _ (A : Inputs) (s : State) (old mid : Standing) (holds : Option (List Nam
       leads_then A s e.state old.kernel mid.kernel new.kernel image image j (entries.Refused pid ∷ []) 1 e.leads e.count e.lines e.mark
       (ended A e.state mid holds image pid now p x 11 at_refusal e.running e.ends new j (subst (λ (o : Option (List ℕ)). HasEnded mid new pid 11 holds o j) t h))
 
-  pub refused_stops : (new : Standing) (j : Option (List ℕ)) (stop : Stop) → StopsAlive mid new pid holds told j stop → StopLeads A s old.kernel image stop new j
+  pub refused_stops : (new : Standing) (j : Option (List ℕ)) (stop : Stop) → StopsAlive mid new pid holds told j stop
+      → StopLeads A s old.kernel image stop new j
   refused_stops new j stop h =
       stops_then A s e.state old.kernel mid.kernel image image j (entries.Refused pid ∷ []) stop new e.leads
       (end_stops A e.state mid holds image pid now p x 11 at_refusal e.running e.ends new j stop (subst (λ (o : Option (List ℕ)). StopsAlive mid new pid holds o j stop) t h))
@@ -131,7 +133,8 @@ access_ends Touched (accesses.Growth sid pages) served.NoSpace pid old new i j f
 access_ends Touched (accesses.Growth sid pages) (served.Signal number) pid old new i j f g e h c = absurd (f (page_names.Stack sid (pages - 1)) h.between number h.behind)
 access_ends Touched (accesses.Growth sid pages) _ pid old new i j f g e h c = absurd e
 
-pub ends_there : (now : Bool) (old new : Standing) (pid address : ℕ) (write : Bool) (holds : Option (List NamedFile)) (i j : Option (List ℕ)) (answer : Served) → IsEnd answer
+pub ends_there : (now : Bool) (old new : Standing) (pid address : ℕ) (write : Bool) (holds : Option (List NamedFile)) (i j : Option (List ℕ)) (answer : Served)
+    → IsEnd answer
     → ServedBy now old new pid address write holds i j answer → CanLend old.kernel pid → CanLend new.kernel pid
 ends_there true old new pid address write holds i j answer e h c =
     access_ends (λ came q from. TouchedNow h.pages came q from new holds i j) (access_by old.kernel pid address write) answer pid old new i j (λ q m number x. x) (λ q m x. x) e h.comes c
@@ -202,7 +205,8 @@ Brought old new pid address write holds i j pages r =
     MatchResult r (λ answer. AccessComes (λ came q from. TouchedNow pages came q from new holds i j) (access_by old.kernel pid address write) answer pid old new i j)
     (AccessStops true pages (access_by old.kernel pid address write) pid old new holds i j)
 
-pub brought : (r : Result Served Stop) (old mid new : Standing) (pid address : ℕ) (write : Bool) (holds : Option (List NamedFile)) (i j : Option (List ℕ)) (pages : List Page) → mid ≡ old
+pub brought : (r : Result Served Stop) (old mid new : Standing) (pid address : ℕ) (write : Bool) (holds : Option (List NamedFile)) (i j : Option (List ℕ)) (pages : List Page)
+    → mid ≡ old
     → AreLocked old holds i pid pages → Brought mid new pid address write holds i j pages r → IfOk r (ServedBy true old new pid address write holds i j)
 brought (Err stop) old mid new pid address write holds i j pages e k h = tt
 brought (Ok answer) old mid new pid address write holds i j pages e k h = record {
@@ -211,7 +215,8 @@ brought (Ok answer) old mid new pid address write holds i j pages e k h = record
   comes = subst (λ (m : Standing). AccessComes (λ came q from. TouchedNow pages came q from new holds i j) (access_by m.kernel pid address write) answer pid m new i j) e h;
 }
 
-pub brought_stops : (r : Result Served Stop) (old mid new : Standing) (pid address : ℕ) (write : Bool) (holds : Option (List NamedFile)) (i j : Option (List ℕ)) (pages : List Page) → mid ≡ old
+pub brought_stops : (r : Result Served Stop) (old mid new : Standing) (pid address : ℕ) (write : Bool) (holds : Option (List NamedFile)) (i j : Option (List ℕ)) (pages : List Page)
+    → mid ≡ old
     → AreLocked old holds i pid pages → Brought mid new pid address write holds i j pages r → IfErr r (StopsServed true old new pid address write holds i j)
 brought_stops (Ok answer) old mid new pid address write holds i j pages e k h = tt
 brought_stops (Err stop) old mid new pid address write holds i j pages e k h = inr (record {

@@ -56,7 +56,8 @@ abbrev pub LedSoFar : Standing → Standing → ℕ → Bool → ℕ → ℕ →
 LedSoFar old m pid now counted until holds i j count waits =
     (A : Inputs) (s : State) (image : List ℕ) → UnderMark A s old holds i image pid now counted until → SoFar A s old.kernel image m holds j count waits
 
-pub none_so_far : (old : Standing) (pid : ℕ) (now : Bool) (counted until : ℕ) (holds : Option (List NamedFile)) (i : Option (List ℕ)) → LedSoFar old old pid now counted until holds i i counted 0
+pub none_so_far : (old : Standing) (pid : ℕ) (now : Bool) (counted until : ℕ) (holds : Option (List NamedFile)) (i : Option (List ℕ))
+    → LedSoFar old old pid now counted until holds i i counted 0
 none_so_far old pid now counted until holds i A s image u = record {
   units = [];
   state = s;
@@ -113,13 +114,15 @@ module _ (old m new : Standing) (pid : ℕ) (now : Bool) (counted until : ℕ) (
           waited = w;
         }
 
-    pub counted_far : new.params ≡ m.params → new.images ≡ m.images → Advances m new pid now holds j h advances.Counted → LedSoFar old new pid now counted until holds i h (count + 1) 0
+    pub counted_far : new.params ≡ m.params → new.images ≡ m.images → Advances m new pid now holds j h advances.Counted
+        → LedSoFar old new pid now counted until holds i h (count + 1) 0
     counted_far params images a A s image u =
         let f = so_far A s image u in
         let r = runs_there more can A s image u in
         step_far 1 0 A s image u (a A f.state f.behind r.0 r.1 r.2) params images (omega arith)
 
-    pub served_far : new.params ≡ m.params → new.images ≡ m.images → Advances m new pid now holds j h advances.Served → LedSoFar old new pid now counted until holds i h count (waits + 1)
+    pub served_far : new.params ≡ m.params → new.images ≡ m.images → Advances m new pid now holds j h advances.Served
+        → LedSoFar old new pid now counted until holds i h count (waits + 1)
     served_far params images a A s image u =
         let f = so_far A s image u in
         let r = runs_there more can A s image u in
@@ -129,7 +132,8 @@ module _ (old m new : Standing) (pid : ℕ) (now : Bool) (counted until : ℕ) (
         (step_far 0 (waits + 1) A s image u b.0 params images (let w = f.waited in let l = b.1 in omega arith))
 
     -- nothing more is to come
-    pub stuck_runs : new.params ≡ m.params → new.images ≡ m.images → Advances m new pid now holds j h advances.Stuck → Runs old new pid now counted until holds i h count
+    pub stuck_runs : new.params ≡ m.params → new.images ≡ m.images → Advances m new pid now holds j h advances.Stuck
+        → Runs old new pid now counted until holds i h count
     unfolding step_far
     stuck_runs params images a A s image u =
         let f = so_far A s image u in

@@ -71,7 +71,8 @@ module _ (A : Inputs) (s : State) (m : Standing) (holds : Option (List NamedFile
 
   -- Pages that it waits for.
 
-  pub waits_missed : (address : ℕ) (write : Bool) → run (own_answers m pid) (instruction before) ≡ Err (Miss address write) → (qs : List Page) × Waits A s m p x address write qs
+  pub waits_missed : (address : ℕ) (write : Bool) → run (own_answers m pid) (instruction before) ≡ Err (Miss address write)
+      → (qs : List Page) × Waits A s m p x address write qs
   waits_missed address write e =
       let w = miss_wanted A s m.kernel image pid now p x address write r.on.machine.at r.on.running (sym own ∙ e) in
       (w.before, inl (w, refl))
@@ -85,25 +86,29 @@ module _ (A : Inputs) (s : State) (m : Standing) (holds : Option (List NamedFile
 
   -- Ends.
 
-  pub signal_led : (new : Standing) (j : Option (List ℕ)) (number : ℕ) → run (own_answers m pid) (instruction before) ≡ Err (Signal number) → HasEnded m new pid number holds i j
+  pub signal_led : (new : Standing) (j : Option (List ℕ)) (number : ℕ) → run (own_answers m pid) (instruction before) ≡ Err (Signal number)
+      → HasEnded m new pid number holds i j
       → StepLeads A s m.kernel image 1 new.kernel j
   signal_led new j number e h =
       ended A s m holds image pid now p x number r.on.machine r.on.running (signal_ends A s m holds image pid now p x number r.on (sym own ∙ e)) new j
       (subst (λ (o : Option (List ℕ)). HasEnded m new pid number holds o j) r.told h)
 
-  pub signal_stops : (new : Standing) (j : Option (List ℕ)) (number : ℕ) (stop : Stop) → run (own_answers m pid) (instruction before) ≡ Err (Signal number) → StopsAlive m new pid holds i j stop
+  pub signal_stops : (new : Standing) (j : Option (List ℕ)) (number : ℕ) (stop : Stop)
+      → run (own_answers m pid) (instruction before) ≡ Err (Signal number) → StopsAlive m new pid holds i j stop
       → StopLeads A s m.kernel image stop new j
   signal_stops new j number stop e h =
       end_stops A s m holds image pid now p x number r.on.machine r.on.running (signal_ends A s m holds image pid now p x number r.on (sym own ∙ e)) new j stop
       (subst (λ (o : Option (List ℕ)). StopsAlive m new pid holds o j stop) r.told h)
 
-  pub no_call_led : (new : Standing) (j : Option (List ℕ)) (number : ℤ) (after : Regs) → MadeCall m pid before number after → call_of number ≡ None → HasEnded m new pid 12 holds i j
+  pub no_call_led : (new : Standing) (j : Option (List ℕ)) (number : ℤ) (after : Regs) → MadeCall m pid before number after → call_of number ≡ None
+      → HasEnded m new pid 12 holds i j
       → StepLeads A s m.kernel image 1 new.kernel j
   no_call_led new j number after c none h =
       ended A s m holds image pid now p x 12 r.on.machine r.on.running (no_call_ends A s m holds image pid now p x c.effect number r.on (sym own ∙ c.made) c.number_is none) new j
       (subst (λ (o : Option (List ℕ)). HasEnded m new pid 12 holds o j) r.told h)
 
-  pub no_call_stops : (new : Standing) (j : Option (List ℕ)) (number : ℤ) (after : Regs) (stop : Stop) → MadeCall m pid before number after → call_of number ≡ None
+  pub no_call_stops : (new : Standing) (j : Option (List ℕ)) (number : ℤ) (after : Regs) (stop : Stop) → MadeCall m pid before number after
+      → call_of number ≡ None
       → StopsAlive m new pid holds i j stop → StopLeads A s m.kernel image stop new j
   no_call_stops new j number after stop c none h =
       end_stops A s m holds image pid now p x 12 r.on.machine r.on.running (no_call_ends A s m holds image pid now p x c.effect number r.on (sym own ∙ c.made) c.number_is none) new j stop
@@ -111,7 +116,8 @@ module _ (A : Inputs) (s : State) (m : Standing) (holds : Option (List NamedFile
 
   -- Calls.
 
-  pub makes_call : (number : ℤ) (after : Regs) (call : SystemCall) (c : MadeCall m pid before number after) → call_of number ≡ Some call → MakesCall m p x c.effect call
+  pub makes_call : (number : ℤ) (after : Regs) (call : SystemCall) (c : MadeCall m pid before number after) → call_of number ≡ Some call
+      → MakesCall m p x c.effect call
   makes_call number after call c e = record { made = sym own ∙ c.made; names = record { number = number; is_number = c.number_is; names = e } }
 
   -- Instructions that are complete.

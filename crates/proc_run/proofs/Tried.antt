@@ -59,11 +59,13 @@ module _ (old at last : Standing) (pid : ℕ) (now : Bool) (holds : Option (List
   later_advances (Err stop) h = tt
   later_advances (Ok advance) h = room_advances advance h
 
-  pub later_stops : (result : Result Advance Stop) → IfErr result (StopsAdvancing at last pid now holds i j) → IfErr result (StopsAdvancing old last pid now holds i j)
+  pub later_stops : (result : Result Advance Stop) → IfErr result (StopsAdvancing at last pid now holds i j)
+      → IfErr result (StopsAdvancing old last pid now holds i j)
   later_stops (Ok advance) h = tt
   later_stops (Err stop) h = room_stops stop h
 
-  pub later_goes_on : (result : Result Advance Stop) → IsSteady old → IfOk result (λ advance. Continues at last (counts advance)) → IfOk result (λ advance. Continues old last (counts advance))
+  pub later_goes_on : (result : Result Advance Stop) → IsSteady old → IfOk result (λ advance. Continues at last (counts advance))
+      → IfOk result (λ advance. Continues old last (counts advance))
   later_goes_on (Err stop) s h = tt
   later_goes_on (Ok advance) s h = room_goes_on old at last (counts advance) o s h
 
@@ -82,7 +84,8 @@ module _ (old mid new : Standing) (pid : ℕ) (before : Regs) (o : RoomOnly old 
   refused_room refused e = wrote_none old mid new (space_held mid.kernel pid) (writes_of (run (own_answers mid pid) (instruction before))) o (refused_quiet (run (own_answers mid pid) (instruction before)) refused e) w
 
   -- it is refused in the machine behind it too
-  pub refused_again : (refused : Refused) → run (own_answers mid pid) (instruction before) ≡ Err refused → run (own_answers new pid) (instruction before) ≡ Err refused
+  pub refused_again : (refused : Refused) → run (own_answers mid pid) (instruction before) ≡ Err refused
+      → run (own_answers new pid) (instruction before) ≡ Err refused
   refused_again refused e = room_answers old new pid before (refused_room refused e) ∙ was (Err refused) e
 
   pub called_room : (number : ℤ) → answer_of (run (own_answers mid pid) (instruction before)) ≡ steps.Call number → RoomOnly old new
@@ -128,7 +131,8 @@ module _ (old mid new : Standing) (pid : ℕ) (before : Regs) (o : RoomOnly old 
           (ran_continues new last pid after (record { running = written.running; whole = written.whole; clear = written.clear })
           (rest ∙ ap (λ (k : Kernel). let m : Standing = record new { kernel = k; room = None } in m) step)))
 
-      pub ran_advances : (now : Bool) (holds : Option (List NamedFile)) (i : Option (List ℕ)) → before ≡ regs_of old.kernel pid → Advances old last pid now holds i i advances.Counted
+      pub ran_advances : (now : Bool) (holds : Option (List NamedFile)) (i : Option (List ℕ)) → before ≡ regs_of old.kernel pid
+          → Advances old last pid now holds i i advances.Counted
       ran_advances now holds i same A s image p x r =
           let d = did_all (run (own_answers mid pid) (instruction before)) a in
           let room : mid.kernel ≡ old.kernel = ap (λ (m : Standing). m.kernel) o.only in
@@ -150,10 +154,12 @@ module _ (old at last : Standing) (pid : ℕ) (now : Bool) (holds : Option (List
   waiting_stops (Ok advance) h = tt
   waiting_stops (Err stop) h = λ A s image p x r. let y = waits A s image p x r in h A s image p x y.0 r y.1
 
-  pub served_advances : (result : Result Advance Stop) → IfOk result (AdvancesWaiting at last pid now address write holds i j) → IfOk result (Advances old last pid now holds i j)
+  pub served_advances : (result : Result Advance Stop) → IfOk result (AdvancesWaiting at last pid now address write holds i j)
+      → IfOk result (Advances old last pid now holds i j)
   served_advances result h = later_advances old at last pid now holds i j o result (waiting_advances result h)
 
-  pub served_stops : (result : Result Advance Stop) → IfErr result (StopsWaiting at last pid now address write holds i j) → IfErr result (StopsAdvancing old last pid now holds i j)
+  pub served_stops : (result : Result Advance Stop) → IfErr result (StopsWaiting at last pid now address write holds i j)
+      → IfErr result (StopsAdvancing old last pid now holds i j)
   served_stops result h = later_stops old at last pid now holds i j o result (waiting_stops result h)
 
 -- A signal.
@@ -172,7 +178,8 @@ module _ (old at last : Standing) (pid : ℕ) (now : Bool) (holds : Option (List
 
 -- Where the run stops for want of room.
 
-pub asked_stops : (old last : Standing) (pid : ℕ) (before : Regs) (stop : Stop) (now : Bool) (holds : Option (List NamedFile)) (i : Option (List ℕ)) → before ≡ regs_of old.kernel pid → HasStopped old last
+pub asked_stops : (old last : Standing) (pid : ℕ) (before : Regs) (stop : Stop) (now : Bool) (holds : Option (List NamedFile)) (i : Option (List ℕ))
+    → before ≡ regs_of old.kernel pid → HasStopped old last
     → old.before ≡ old.kernel.holdings → (stop ≡ stops.JournalFull) ⊎ (stop ≡ stops.NoMemory)
     → (stop ≡ stops.JournalFull → (old.params.journal ≤ length old.kernel.journal) × (length old.kernel.journal < length (append old.kernel.journal (Ran pid 1))))
     → (stop ≡ stops.JournalFull → answer_of (run (own_answers old pid) (instruction before)) ≡ steps.Done)

@@ -41,7 +41,8 @@ pub record ForkComes (old new : Standing) (pid : ℕ) (regs : Regs) (holds : Opt
 abbrev pub CallComes : SystemCall → Standing → Standing → ℕ → Regs → Option (List NamedFile) → Option (List ℕ) → Option (List ℕ) → Called → Type 0
 CallComes system_calls.Exit old new pid regs holds i j called = ExitComes old new pid regs (run (own_answers old pid) (exit_reply regs)) holds i j called
 CallComes system_calls.Fork old new pid regs holds i j called = (called ≡ calls.Ready) × ForkComes old new pid regs holds i j
-CallComes system_calls.Write old new pid regs holds i j called = Comes old new pid system_calls.Write regs (run (own_answers old pid) (write_reply regs)) called × (j ≡ i)
+CallComes system_calls.Write old new pid regs holds i j called =
+    Comes old new pid system_calls.Write regs (run (own_answers old pid) (write_reply regs)) called × (j ≡ i)
 CallComes system_calls.Break old new pid regs holds i j called = BreakComes old new pid regs (run (own_answers old pid) (argument regs 1)) holds i j called
 CallComes system_calls.Getpid old new pid regs holds i j called =
     Replied old new pid system_calls.Getpid regs (Does (replied_both regs pid (parent_of old.kernel pid)) Keep) called × (j ≡ i)

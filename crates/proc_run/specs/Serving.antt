@@ -17,7 +17,8 @@ use Rattle.proc_run.specs.Runs.{RunsAt}
 
 -- at each state at which the machine stands these are the pages that the run keeps
 abbrev pub AreLocked : Standing → Option (List NamedFile) → Option (List ℕ) → ℕ → List Page → Type 0
-AreLocked old holds i pid pages = (A : Inputs) (s : State) (image : List ℕ) (p : Process) (x : Space) → RunsAt A s old holds i image pid true p x → pages ≡ locked A s
+AreLocked old holds i pid pages =
+    (A : Inputs) (s : State) (image : List ℕ) (p : Process) (x : Space) → RunsAt A s old holds i image pid true p x → pages ≡ locked A s
 
 -- it is served until its page is valid, by hands that pass over these
 pub record ServedNow (old new : Standing) (pid address : ℕ) (write : Bool) (holds : Option (List NamedFile)) (i j : Option (List ℕ)) (answer : Served) : Type 0 where
@@ -28,7 +29,8 @@ pub record ServedNow (old new : Standing) (pid address : ℕ) (write : Bool) (ho
 -- by whether it is served by waiting
 abbrev pub ServedBy : Bool → Standing → Standing → ℕ → ℕ → Bool → Option (List NamedFile) → Option (List ℕ) → Option (List ℕ) → Served → Type 0
 ServedBy true old new pid address write holds i j answer = ServedNow old new pid address write holds i j answer
-ServedBy false old new pid address write holds i j answer = AccessComes (λ came q from. TouchedAs came q from new holds i j) (access_by old.kernel pid address write) answer pid old new i j
+ServedBy false old new pid address write holds i j answer =
+    AccessComes (λ came q from. TouchedAs came q from new holds i j) (access_by old.kernel pid address write) answer pid old new i j
 
 -- Stops.
 

@@ -54,7 +54,8 @@ fn make_room(alloc: Global, m: &mut Machine, pid: u32, before: &Regs) -> Result<
     ensures room { OnOk result (answer_of (run (own_answers m.old pid) (instruction before.now)) ≡ Stepped.Done → m.new.room ≡ Some pid) }
     ensures stop { OnErr result (HasStopped m.old m.new) }
     ensures cause { OnErr result ((result ≡ Err Stop.JournalFull) ⊎ (result ≡ Err Stop.NoMemory)) }
-    ensures full { result ≡ Err Stop.JournalFull → (m.old.params.journal ≤ length m.old.kernel.journal) × (length m.old.kernel.journal < length (append m.old.kernel.journal (Ran pid 1))) }
+    ensures full { result ≡ Err Stop.JournalFull → (m.old.params.journal ≤ length m.old.kernel.journal)
+        × (length m.old.kernel.journal < length (append m.old.kernel.journal (Ran pid 1))) }
     ensures done { result ≡ Err Stop.JournalFull → answer_of (run (own_answers m.old pid) (instruction before.now)) ≡ Stepped.Done }
 {
     if !has_room(m, pid) {

@@ -49,7 +49,8 @@ found_cases pid p (r ∷ rs) found =
 abbrev pub IsAbove : ℕ → List Proc → ℕ → Type 0
 IsAbove pid ps q = (pid < q) × IsSome (find q ps)
 
-pub lowest_kept : (pid : ℕ) (p : Proc) (ps : List Proc) (lowest : Option ℕ) → p.pid ≤ pid → Lowest (IsAbove pid ps) lowest → Lowest (IsAbove pid (ps ++ p ∷ [])) lowest
+pub lowest_kept : (pid : ℕ) (p : Proc) (ps : List Proc) (lowest : Option ℕ) → p.pid ≤ pid → Lowest (IsAbove pid ps) lowest
+    → Lowest (IsAbove pid (ps ++ p ∷ [])) lowest
 lowest_kept pid p ps None low was =
     λ q above. elim (found_cases q p ps above.1) [
       | inl before ↦ was q (above.0, before)
@@ -63,7 +64,8 @@ lowest_kept pid p ps (Some n) low was = (
   ],
 )
 
-pub lowest_lowered : (pid : ℕ) (p : Proc) (ps : List Proc) (lowest : Option ℕ) → pid < p.pid → Lowest (IsAbove pid ps) lowest → Lowest (IsAbove pid (ps ++ p ∷ [])) (Some (lower_of lowest p.pid))
+pub lowest_lowered : (pid : ℕ) (p : Proc) (ps : List Proc) (lowest : Option ℕ) → pid < p.pid → Lowest (IsAbove pid ps) lowest
+    → Lowest (IsAbove pid (ps ++ p ∷ [])) (Some (lower_of lowest p.pid))
 lowest_lowered pid p ps None high was = (
   (high, found_last p ps),
   λ q above. elim (found_cases q p ps above.1) [

@@ -87,7 +87,8 @@ IsKeyed-vacant old key p vacant absent = record {
 }
 
 -- a key with a record of the pid gets another, or none
-pub IsKeyed-held : (old : Slab Proc) (key pid : ℕ) (slot : Option Proc) → AreKeysApart old → HasPid old key pid → ((p : Proc) → slot ≡ Some p → p.pid ≡ pid) → IsKeyed old key pid slot
+pub IsKeyed-held : (old : Slab Proc) (key pid : ℕ) (slot : Option Proc) → AreKeysApart old → HasPid old key pid
+    → ((p : Proc) → slot ≡ Some p → p.pid ≡ pid) → IsKeyed old key pid slot
 IsKeyed-held old key pid slot apart held now = record {
   was = λ q there. let same : held.record_there ≡ q = some_same _ _ (sym held.there ∙ there) in sym (ap (λ (x : Proc). x.pid) same) ∙ held.its;
   alone = λ k q there its. apart k key q held.record_there there held.there (its ∙ sym held.its);

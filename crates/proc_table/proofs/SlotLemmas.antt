@@ -31,7 +31,8 @@ pub seen_more : (given : List (ℕ × Bor Proc)) (key : ℕ) (p : Bor Proc) → 
 seen_more given key p = map-append (λ (e : ℕ × Bor Proc). e.1.now) given ((key, p) ∷ [])
 
 -- what was given and what is left are all, still when one more was given
-pub left_less : (given : List (ℕ × Bor Proc)) (key : ℕ) (p : Bor Proc) (left later all : List (ℕ × Proc)) → left ≡ (key, p.now) ∷ later → seen given ++ map (λ e. e.1) left ≡ map (λ e. e.1) all → seen (given ++ (key, p) ∷ []) ++ map (λ e. e.1) later ≡ map (λ e. e.1) all
+pub left_less : (given : List (ℕ × Bor Proc)) (key : ℕ) (p : Bor Proc) (left later all : List (ℕ × Proc)) → left ≡ (key, p.now) ∷ later
+    → seen given ++ map (λ e. e.1) left ≡ map (λ e. e.1) all → seen (given ++ (key, p) ∷ []) ++ map (λ e. e.1) later ≡ map (λ e. e.1) all
 left_less given key p left later all steps were =
     ap (λ ps. ps ++ map (λ e. e.1) later) (seen_more given key p)
     ∙ append_assoc (seen given) (p.now ∷ []) (map (λ e. e.1) later)

@@ -57,7 +57,8 @@ not_first n = grind (arith, nat_tests)
 first_not : (n : ℕ) → (1 + n == 0) ≡ false
 first_not n = grind (arith, nat_tests)
 
-place_apart : (a b : Page) (pages : List Page) → is_among a pages ≡ true → (position_or_len (same_page b) pages == position_or_len (same_page a) pages) ≡ same_page a b
+place_apart : (a b : Page) (pages : List Page) → is_among a pages ≡ true
+    → (position_or_len (same_page b) pages == position_or_len (same_page a) pages) ≡ same_page a b
 place_apart a b [] h = absurd (true≢false (sym h))
 place_apart a b (d ∷ ds) h = by (same_page a d) (same_page b d) refl refl (place_apart a b ds)
   where

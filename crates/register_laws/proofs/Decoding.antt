@@ -72,7 +72,8 @@ branch_long : (slot : Slot) (operand : Operand) (bs : List ℕ) → SpellsBranch
 branch_long slot (operands.Branch by) bs s = tt
 branch_long slot _ bs s = absurd s
 
-place_long : (filled branch : Bool) (slot : Slot) (operand : Operand) (bs : List ℕ) → is_branch slot.access ≡ branch → SpellsPlace filled slot operand bs → AreOctets bs → IsLongOperand operand
+place_long : (filled branch : Bool) (slot : Slot) (operand : Operand) (bs : List ℕ) → is_branch slot.access ≡ branch
+    → SpellsPlace filled slot operand bs → AreOctets bs → IsLongOperand operand
 place_long true true slot operand bs e s a = branch_long slot operand bs (subst (λ (b : Bool). SpellsOperand b slot operand bs) e s)
 place_long true false slot operand bs e s a = specifier_long slot operand bs (subst (λ (b : Bool). SpellsOperand b slot operand bs) e s) a
 place_long false branch slot operand bs e s a = subst IsLongOperand (sym s.0) (let z : 0 < 2 ^ 32 = omega arith in z)
@@ -150,5 +151,6 @@ instruction_leaves regs h =
     (λ instr k. execution_by_leaves (row_for instr.op) regs instr k.0 k.1 k.2 h)
 
 -- over bytes an instruction leaves longwords in registers, and writes bytes
-pub leaves_longwords : (memory : Answers) (regs : Regs) → ((address byte : ℕ) → memory.read address ≡ bytes.Is byte → byte < 256) → AreRegs regs → LeavesLongwords (run memory (instruction regs))
+pub leaves_longwords : (memory : Answers) (regs : Regs) → ((address byte : ℕ) → memory.read address ≡ bytes.Is byte → byte < 256) → AreRegs regs
+    → LeavesLongwords (run memory (instruction regs))
 leaves_longwords memory regs small h = run_leaves memory (instruction regs) small (instruction_leaves regs h)

@@ -45,7 +45,8 @@ AllLeave P (Refuses signal) = signal < 2 ^ 32
 AllLeave P (Reads a next) = (byte : ℕ) → byte < 256 → AllLeave P (next byte)
 AllLeave P (Tests a next) = AllLeave P next
 
-pub leave_bind : {A B : Type 0} (Q : A → Type 0) (P : B → Type 0) (p : Program A) (f : A → Program B) → AllLeave Q p → ((x : A) → Q x → AllLeave P (f x)) → AllLeave P (p >>= f)
+pub leave_bind : {A B : Type 0} (Q : A → Type 0) (P : B → Type 0) (p : Program A) (f : A → Program B) → AllLeave Q p
+    → ((x : A) → Q x → AllLeave P (f x)) → AllLeave P (p >>= f)
 leave_bind Q P (Gives x) f k h = h x k
 leave_bind Q P (Refuses signal) f k h = k
 leave_bind Q P (Reads a next) f k h = λ byte small. leave_bind Q P (next byte) f (k byte small) h
@@ -105,7 +106,9 @@ both_written : (xs ys : List ByteWrite) → AreWritten xs → AreWritten ys → 
 both_written [] ys a b = b
 both_written (x ∷ xs) ys a b = (a.0, both_written xs ys a.1 b)
 
-pub store_leaves : (regs : Regs) (size : ℕ) (place : Place) (value : ℕ) → ((x v : ℕ) → x < 2 ^ 32 → x / 256 ^ size * 256 ^ size + v % 256 ^ size < 2 ^ 32) → AreRegs regs → EffectFits (store_effect regs size place value)
+pub store_leaves : (regs : Regs) (size : ℕ) (place : Place) (value : ℕ)
+    → ((x v : ℕ) → x < 2 ^ 32 → x / 256 ^ size * 256 ^ size + v % 256 ^ size < 2 ^ 32) → AreRegs regs
+    → EffectFits (store_effect regs size place value)
 unfolding store_effect
 store_leaves regs size places.Nowhere value fits h = (h, tt)
 store_leaves regs size (places.Register reg) value fits h = (regs_set regs reg _ (fits (register regs reg) value (index_small regs.r reg h.each)) h, tt)
@@ -192,7 +195,8 @@ entered_leaves pushed ap target small h =
     let three = regs_set (with_register (with_register pushed.regs 12 ap) 13 (register pushed.regs 14)) 15 (past target 2) (omega arith) two in
     (record { count = three.count; each = three.each }, h.1)
 
-pub procedure_call_leaves : (before : Effect) (counted : Bool) (ap target : ℕ) → ap < 2 ^ 32 → EffectFits before → AllLeave EffectFits (procedure_call before counted ap target)
+pub procedure_call_leaves : (before : Effect) (counted : Bool) (ap target : ℕ) → ap < 2 ^ 32 → EffectFits before
+    → AllLeave EffectFits (procedure_call before counted ap target)
 unfolding procedure_call
 procedure_call_leaves before counted ap target small h =
     leave_bind (λ (n : ℕ). n < 256 ^ 2) EffectFits (number_at 2 target)
@@ -211,7 +215,8 @@ division_leaves regs place dividend divisor h = go (divisor == 0)
     go true = omega arith
     go false = store_leaves _ 4 place _ four_fits record { count = h.count; each = h.each }
 
-pub computation_leaves : (name : Name) (regs : Regs) (a b c : Evaluated) → a.value < 2 ^ 32 → b.value < 2 ^ 32 → c.value < 2 ^ 32 → AreRegs regs → AllLeave EffectFits (computation name regs a b c)
+pub computation_leaves : (name : Name) (regs : Regs) (a b c : Evaluated) → a.value < 2 ^ 32 → b.value < 2 ^ 32 → c.value < 2 ^ 32 → AreRegs regs
+    → AllLeave EffectFits (computation name regs a b c)
 unfolding computation
 computation_leaves names.Nop regs a b c x y z h = (h, tt)
 computation_leaves names.Ret regs a b c x y z h = procedure_return_leaves regs h
@@ -324,7 +329,8 @@ address_leaves regs size (bases.Disp reg by true) long h =
     leave_bind (λ (n : ℕ). n < 2 ^ 32) IsFound (number_at 4 (past (register regs reg) (cast_unsigned w32 by))) (λ address. Gives (regs, address)) (long_number (past (register regs reg) (cast_unsigned w32 by)))
     (λ address k. (h, k))
 
-pub at_leaves : (slot : Slot) (regs : Regs) (address : ℕ) → 256 ^ slot.size ≤ 2 ^ 32 → address < 2 ^ 32 → AreRegs regs → AllLeave IsEvaluated (evaluation_at slot regs address)
+pub at_leaves : (slot : Slot) (regs : Regs) (address : ℕ) → 256 ^ slot.size ≤ 2 ^ 32 → address < 2 ^ 32 → AreRegs regs
+    → AllLeave IsEvaluated (evaluation_at slot regs address)
 unfolding evaluation_at
 at_leaves slot regs address few small h = go slot.access
   where
@@ -345,7 +351,8 @@ at_leaves slot regs address few small h = go slot.access
     go accesses.Address = (h, small)
     go accesses.Branch = (h, small)
 
-pub through_leaves : (slot : Slot) (regs : Regs) (base : Base) → 256 ^ slot.size ≤ 2 ^ 32 → IsLongBase base → AreRegs regs → AllLeave IsEvaluated (evaluation_through slot regs base)
+pub through_leaves : (slot : Slot) (regs : Regs) (base : Base) → 256 ^ slot.size ≤ 2 ^ 32 → IsLongBase base → AreRegs regs
+    → AllLeave IsEvaluated (evaluation_through slot regs base)
 unfolding evaluation_through
 through_leaves slot regs base few long h =
     leave_bind IsFound IsEvaluated (address_of regs slot.size base) (λ found. evaluation_at slot found.0 found.1) (address_leaves regs slot.size base long h) (λ found k. at_leaves slot found.0 found.1 few k.1 k.0)
@@ -367,7 +374,8 @@ slot_small kinds.Ww = (omega arith, λ x h. omega (arith, h))
 pub row_small : (row : Row) (place : ℕ) → (256 ^ (slot_in row place).size ≤ 2 ^ 32) × ((x : ℕ) → x < 2 ^ 32 → x % 256 ^ (slot_in row place).size < 2 ^ 32)
 row_small row place = slot_small (if place == 0 then row.a else (if place == 1 then row.b else row.c))
 
-pub operand_leaves : (slot : Slot) (regs : Regs) (operand : Operand) → (256 ^ slot.size ≤ 2 ^ 32) × ((x : ℕ) → x < 2 ^ 32 → x % 256 ^ slot.size < 2 ^ 32) → IsLongOperand operand → AreRegs regs
+pub operand_leaves : (slot : Slot) (regs : Regs) (operand : Operand)
+    → (256 ^ slot.size ≤ 2 ^ 32) × ((x : ℕ) → x < 2 ^ 32 → x % 256 ^ slot.size < 2 ^ 32) → IsLongOperand operand → AreRegs regs
     → AllLeave IsEvaluated (evaluation slot regs operand)
 unfolding evaluation
 operand_leaves slot regs (operands.Literal value) few long h = (h, long)
@@ -388,7 +396,8 @@ operand_leaves slot regs (operands.Indexed index base) few long h =
 abbrev pub AreEvaluated : Regs × Evaluated × Evaluated × Evaluated → Type 0
 AreEvaluated x = AreRegs x.0 × (x.1.value < 2 ^ 32) × (x.2.value < 2 ^ 32) × (x.3.value < 2 ^ 32)
 
-pub operands_leave : (row : Row) (regs : Regs) (instr : Instr) → IsLongOperand instr.a → IsLongOperand instr.b → IsLongOperand instr.c → AreRegs regs → AllLeave AreEvaluated (evaluations row regs instr)
+pub operands_leave : (row : Row) (regs : Regs) (instr : Instr) → IsLongOperand instr.a → IsLongOperand instr.b → IsLongOperand instr.c → AreRegs regs
+    → AllLeave AreEvaluated (evaluations row regs instr)
 unfolding evaluations
 operands_leave row regs instr la lb lc h =
     leave_bind IsEvaluated AreEvaluated (evaluation (slot_in row 0) regs instr.a) (λ a. evaluation (slot_in row 1) a.0 instr.b >>= λ b. evaluation (slot_in row 2) b.0 instr.c >>= λ c. Gives (c.0, a.1, b.1, c.1))
@@ -406,19 +415,22 @@ tested_leaves : (effect : Effect) → EffectFits effect → AllLeave EffectFits 
 unfolding tested_effect
 tested_leaves effect h = leave_bind (λ (u : Unit {0}). Unit {0}) EffectFits (write_tests effect.writes) (λ _. Gives effect) (tests_leave effect.writes) (λ u k. h)
 
-pub execution_leaves : (row : Row) (regs : Regs) (instr : Instr) → IsLongOperand instr.a → IsLongOperand instr.b → IsLongOperand instr.c → AreRegs regs → AllLeave EffectFits (execution row regs instr)
+pub execution_leaves : (row : Row) (regs : Regs) (instr : Instr) → IsLongOperand instr.a → IsLongOperand instr.b → IsLongOperand instr.c
+    → AreRegs regs → AllLeave EffectFits (execution row regs instr)
 unfolding execution
 execution_leaves row regs instr la lb lc h =
     leave_bind AreEvaluated EffectFits (evaluations row regs instr) (λ all. computation row.name all.0 all.1 all.2 all.3 >>= λ effect. tested_effect effect) (operands_leave row regs instr la lb lc h)
     (λ all k. leave_bind EffectFits EffectFits (computation row.name all.0 all.1 all.2 all.3) (λ effect. tested_effect effect) (computation_leaves row.name all.0 all.1 all.2 all.3 k.1 k.2 k.3 k.0) (λ effect m. tested_leaves effect m))
 
-pub execution_by_leaves : (row : Option Row) (regs : Regs) (instr : Instr) → IsLongOperand instr.a → IsLongOperand instr.b → IsLongOperand instr.c → AreRegs regs → AllLeave EffectFits (execution_by row regs instr)
+pub execution_by_leaves : (row : Option Row) (regs : Regs) (instr : Instr) → IsLongOperand instr.a → IsLongOperand instr.b → IsLongOperand instr.c
+    → AreRegs regs → AllLeave EffectFits (execution_by row regs instr)
 unfolding execution_by
 execution_by_leaves None regs instr la lb lc h = omega arith
 execution_by_leaves (Some row) regs instr la lb lc h =
     execution_leaves row (with_register regs 15 (past (register regs 15) instr.length)) instr la lb lc (regs_set regs 15 (past (register regs 15) instr.length) (omega arith) h)
 
-pub run_leaves : (memory : Answers) (p : Program Effect) → ((a byte : ℕ) → memory.read a ≡ bytes.Is byte → byte < 256) → AllLeave EffectFits p → LeavesLongwords (run memory p)
+pub run_leaves : (memory : Answers) (p : Program Effect) → ((a byte : ℕ) → memory.read a ≡ bytes.Is byte → byte < 256) → AllLeave EffectFits p
+    → LeavesLongwords (run memory p)
 run_leaves memory (Gives x) small h = h
 run_leaves memory (Refuses signal) small h = h
 run_leaves memory (Reads a next) small h = go (λ byte low. run_leaves memory (next byte) small (h byte low)) (memory.read a) refl

@@ -86,7 +86,8 @@ found_regs test (q ∷ ps) p e h = go (λ k. found_regs test ps p k h.1) (test q
 
 -- Images.
 
-pub all_images : (images : List NamedImage) → ((number : ℕ) (named : NamedImage) → image_numbered images number ≡ Some named → ImageFits named) → AllImages images
+pub all_images : (images : List NamedImage) → ((number : ℕ) (named : NamedImage) → image_numbered images number ≡ Some named → ImageFits named)
+    → AllImages images
 all_images [] h = tt
 all_images (first ∷ images) h = (h 1 first refl, all_images images behind)
   where
@@ -106,7 +107,8 @@ left_regs : (b : Bool) (F : FlatState) (pid parent : ℕ) → AllFit F.processes
 left_regs true F pid parent h = filtered_regs (λ q. not (q.pid == pid)) F.processes h
 left_regs false F pid parent h = awake_regs parent F.processes h
 
-entered_regs : (images : List NamedImage) (F : FlatState) (p : Process) (s : Space) (image : ℕ) (top : List ℕ) → AllImages images → AreRegs p.regs → HasOctets s → AreOctets top → AllFit F.processes
+entered_regs : (images : List NamedImage) (F : FlatState) (p : Process) (s : Space) (image : ℕ) (top : List ℕ) → AllImages images → AreRegs p.regs
+    → HasOctets s → AreOctets top → AllFit F.processes
     → AllFit (entered F p s image (image_numbered images image) top).processes
 entered_regs images F p s image top all k o t h = go (image_numbered images image) refl
   where
@@ -117,14 +119,16 @@ entered_regs images F p s image top all k o t h = go (image_numbered images imag
         returned_regs p.pid s (replaced F.processes record p { holding = Holds (space_with F.next_sid image named.image top) }) o
         (replaced_regs F.processes (record p { holding = Holds (space_with F.next_sid image named.image top) }) (k, record { text = fits.text; «data» = fits.data; stack = t }) h)
 
-ended_regs : (F : FlatState) (p : Process) (s : Space) (status : ℕ) → AreRegs p.regs → HasOctets s → status < 2 ^ 32 → AllFit F.processes → AllFit (ended F p s status).processes
+ended_regs : (F : FlatState) (p : Process) (s : Space) (status : ℕ) → AreRegs p.regs → HasOctets s → status < 2 ^ 32 → AllFit F.processes
+    → AllFit (ended F p s status).processes
 ended_regs F p s status k o small h =
     let gone : Process = record p { holding = Zombie status } in
     let back = returned_regs p.pid s (replaced F.processes gone) o (replaced_regs F.processes gone (k, small) h) in
     left_regs (p.parent == 0) (orphaned (given_back (with_process F gone) p.pid s) p.pid) p.pid p.parent
     (orphans_regs p.pid (filter (λ q. not (is_zombie_child p.pid q)) (returned p.pid s (replaced F.processes gone))) (filtered_regs (λ q. not (is_zombie_child p.pid q)) (returned p.pid s (replaced F.processes gone)) back))
 
-changed_regs : (images : List NamedImage) (F : FlatState) (p : Process) (s : Space) (change : Change) → AllImages images → AreRegs p.regs → p.holding ≡ Holds s → HasOctets s → p.pid < 2 ^ 32 → ChangeFits change
+changed_regs : (images : List NamedImage) (F : FlatState) (p : Process) (s : Space) (change : Change) → AllImages images → AreRegs p.regs
+    → p.holding ≡ Holds s → HasOctets s → p.pid < 2 ^ 32 → ChangeFits change
     → AllFit F.processes → AllFit (changed images F p s change).processes
 changed_regs images F p s Keep all k e o small fits h = replaced_regs F.processes p (k, subst HeldFits (sym e) o) h
 changed_regs images F p s (Resize data_pages stack_pages) all k e o small fits h =
@@ -139,7 +143,8 @@ changed_regs images F p s (Reap child) all k e o small fits h =
 changed_regs images F p s Sleep all k e o small fits h = replaced_regs F.processes _ (k, subst HeldFits (sym e) o) h
 changed_regs images F p s (End status) all k e o small fits h = ended_regs F p s status k o fits h
 
-pub change_regs : (images : List NamedImage) (F : FlatState) (pid : ℕ) (regs : Regs) (change : Change) → AllImages images → AreRegs regs → pid < 2 ^ 32 → ChangeFits change → AllFit F.processes
+pub change_regs : (images : List NamedImage) (F : FlatState) (pid : ℕ) (regs : Regs) (change : Change) → AllImages images → AreRegs regs
+    → pid < 2 ^ 32 → ChangeFits change → AllFit F.processes
     → AllFit (apply_change images F pid regs change).processes
 unfolding apply_change
 change_regs images F pid regs change all k small fits h = go (process_of F pid) refl

@@ -49,7 +49,8 @@ ReplyKeeps (Writes bytes) = length bytes < 2 ^ 32
 ReplyKeeps Waits = Unit {0}
 ReplyKeeps (Exits status) = status < 2 ^ 32
 
-run_keeps : (memory : Answers) (p : Program Reply) → ((address byte : ℕ) → memory.read address ≡ bytes.Is byte → byte < 256) → AllLeave ReplyKeeps p → ReplyKeeps (or_fault (run memory p))
+run_keeps : (memory : Answers) (p : Program Reply) → ((address byte : ℕ) → memory.read address ≡ bytes.Is byte → byte < 256) → AllLeave ReplyKeeps p
+    → ReplyKeeps (or_fault (run memory p))
 run_keeps memory (Gives x) small h = h
 run_keeps memory (Refuses signal) small h = omega arith
 run_keeps memory (Reads a next) small h = go (λ byte low. run_keeps memory (next byte) small (h byte low)) (memory.read a) refl
@@ -102,7 +103,8 @@ unfolding string_from
 string_leaves zero address = tt
 string_leaves (suc left) address = λ byte small. after_string byte (string_from left (past address 1)) small (string_leaves left (past address 1))
 
-before_strings : (more : Program (Option (List (List ℕ)))) → AllLeave AreAll more → (string : Option (List ℕ)) → IsString string → AllLeave AreAll (string_before more string)
+before_strings : (more : Program (Option (List (List ℕ)))) → AllLeave AreAll more → (string : Option (List ℕ)) → IsString string
+    → AllLeave AreAll (string_before more string)
 before_strings more h None k = tt
 before_strings more h (Some string) k = leave_bind AreAll AreAll more (λ strings. Gives (before string strings)) h go
   where
@@ -131,7 +133,8 @@ all_arguments (suc n) = arguments_leave argument_limit (suc n)
 
 -- The calls.
 
-child_keeps : (b : Bool) (regs : Regs) (child : ℕ) (change : Change) → child < 2 ^ 32 → ChangeFits change → AreRegs regs → ReplyKeeps (child_by b regs child change)
+child_keeps : (b : Bool) (regs : Regs) (child : ℕ) (change : Change) → child < 2 ^ 32 → ChangeFits change → AreRegs regs
+    → ReplyKeeps (child_by b regs child change)
 child_keeps true regs child change small fits h = (let r = results_are regs child 0 small (omega arith) h in record { count = r.count; each = r.each }, fits)
 child_keeps false regs child change small fits h = omega arith
 
@@ -152,7 +155,8 @@ break_keeps : (b : Bool) (regs : Regs) (x y : ℕ) → AreRegs regs → ReplyKee
 break_keeps true regs x y h = (let r = regs_set regs 0 0 (omega arith) h in record { count = r.count; each = r.each }, tt)
 break_keeps false regs x y h = omega arith
 
-named_enters : (images : List NamedImage) (number : ℕ) (name : List ℕ) (found : ℕ × NamedImage) → image_named number images name ≡ Some found → AllImages images → ImageFits found.1
+named_enters : (images : List NamedImage) (number : ℕ) (name : List ℕ) (found : ℕ × NamedImage) → image_named number images name ≡ Some found
+    → AllImages images → ImageFits found.1
 unfolding image_named
 named_enters [] number name found e h = absurd cc
 named_enters (image ∷ images) number name found e h = go (λ k. named_enters images (suc number) name found k h.1) (bytes_eq image.name name) e
@@ -165,7 +169,8 @@ starts_keeps : (found : ℕ × NamedImage) (arguments : Option (List (List ℕ))
 starts_keeps found None fits a = omega arith
 starts_keeps found (Some arguments) fits a = (start_are found.1.image.facts.entry arguments fits.entry, start_page_octets arguments a)
 
-execve_keeps : (argv : ℕ) (found : Option (ℕ × NamedImage)) → ((x : ℕ × NamedImage) → found ≡ Some x → ImageFits x.1) → AllLeave ReplyKeeps (execve_of argv found)
+execve_keeps : (argv : ℕ) (found : Option (ℕ × NamedImage)) → ((x : ℕ × NamedImage) → found ≡ Some x → ImageFits x.1)
+    → AllLeave ReplyKeeps (execve_of argv found)
 execve_keeps argv None h = omega arith
 execve_keeps argv (Some found) h = leave_bind AreAll ReplyKeeps (arguments_at argv) (λ arguments. Gives (starts found arguments)) (all_arguments argv) (λ arguments k. starts_keeps found arguments (h found refl) k)
 
@@ -174,7 +179,8 @@ path_keeps images argv None h = execve_keeps argv None (λ x e. absurd cc)
 path_keeps images argv (Some name) h = execve_keeps argv (image_named 1 images name) (λ x e. named_enters images 1 name x e h)
 
 -- a process that a test finds has a number below the next one
-found_below : (test : Process → Bool) (ps : List Process) (n : ℕ) (p : Process) → find test ps ≡ Some p → AllBelow n (map (λ (q : Process). q.pid) ps) → p.pid < n
+found_below : (test : Process → Bool) (ps : List Process) (n : ℕ) (p : Process) → find test ps ≡ Some p → AllBelow n (map (λ (q : Process). q.pid) ps)
+    → p.pid < n
 found_below test [] n p e h = absurd cc
 found_below test (q ∷ ps) n p e h = go (λ k. found_below test ps n p k h.1) (test q) e
   where
@@ -214,7 +220,8 @@ pub record RepliesFit (images : List NamedImage) (F : FlatState) (p : Process) :
   pub own : p.pid < 2 ^ 32
   pub parent : p.parent < 2 ^ 32
 
-all_keep : (images : List NamedImage) (F : FlatState) (p : Process) (s : Space) (call : SystemCall) (regs : Regs) → RepliesFit images F p → AreRegs regs → AllLeave ReplyKeeps (reply_of images F p s call regs)
+all_keep : (images : List NamedImage) (F : FlatState) (p : Process) (s : Space) (call : SystemCall) (regs : Regs) → RepliesFit images F p
+    → AreRegs regs → AllLeave ReplyKeeps (reply_of images F p s call regs)
 unfolding reply_of exit_reply write_reply break_reply execve_reply
 all_keep images F p s calls.Exit regs f h = leave_bind (λ (n : ℕ). n < 2 ^ 32) ReplyKeeps (argument regs 1) (λ code. Gives (Exits (code % 256 * 256))) (argument_leaves regs 1) (λ code k. omega arith)
 all_keep images F p s calls.Fork regs f h = child_keeps (nat_lt (length F.processes) process_limit) regs F.next_pid (Fork F.next_pid) f.next tt h
@@ -269,7 +276,8 @@ below_more : (n m : ℕ) (xs : List ℕ) → n ≤ m → AllBelow n xs → AllBe
 below_more n m [] le h = tt
 below_more n m (x ∷ xs) le h = ((let k = h.0 in omega (arith, le, k)), below_more n m xs le h.1)
 
-fits_written : (images : List NamedImage) (F : FlatState) (p q : Process) (ws : List ByteWrite) → AreWritten ws → q.pid ≡ p.pid → q.parent ≡ p.parent → RepliesFit images F p → RepliesFit images (apply_writes F p.pid ws) q
+fits_written : (images : List NamedImage) (F : FlatState) (p q : Process) (ws : List ByteWrite) → AreWritten ws → q.pid ≡ p.pid → q.parent ≡ p.parent
+    → RepliesFit images F p → RepliesFit images (apply_writes F p.pid ws) q
 fits_written images F p q ws w same above f = record {
   every = f.every;
   regs = writes_regs F p.pid ws w f.regs;
@@ -279,14 +287,16 @@ fits_written images F p q ws w same above f = record {
   parent = subst (λ (n : ℕ). n < 2 ^ 32) (sym above) f.parent;
 }
 
-after_regs : (images : List NamedImage) (F : FlatState) (p : Process) (ws : List ByteWrite) (regs : Regs) (change : Change) → AreWritten ws → RepliesFit images F p → AreRegs regs → ChangeFits change
+after_regs : (images : List NamedImage) (F : FlatState) (p : Process) (ws : List ByteWrite) (regs : Regs) (change : Change) → AreWritten ws
+    → RepliesFit images F p → AreRegs regs → ChangeFits change
     → AllFit (apply_change images (apply_writes F p.pid ws) p.pid regs change).processes
 after_regs images F p ws regs change w f h fits = change_regs images (apply_writes F p.pid ws) p.pid regs change f.every h f.own fits (writes_regs F p.pid ws w f.regs)
 
 replied_are : (regs : Regs) (carry : Bool) (r0 : ℕ) → r0 < 2 ^ 32 → AreRegs regs → AreRegs (replied regs carry r0)
 replied_are regs carry r0 small h = let r = regs_set regs 0 r0 small h in record { count = r.count; each = r.each }
 
-replied_regs : (images : List NamedImage) (F : FlatState) (p : Process) (call : SystemCall) (effect : Effect) (reply : Reply) → RepliesFit images F p → AreRegs p.regs → EffectFits effect → ReplyKeeps reply
+replied_regs : (images : List NamedImage) (F : FlatState) (p : Process) (call : SystemCall) (effect : Effect) (reply : Reply) → RepliesFit images F p
+    → AreRegs p.regs → EffectFits effect → ReplyKeeps reply
     → AllFit (replied_step images F p call effect reply).after.processes
 replied_regs images F p call effect (Fails error) f was h k = after_regs images F p effect.writes _ Keep h.1 f (replied_are effect.regs true error k h.0) tt
 replied_regs images F p call effect (Does regs change) f was h k = after_regs images F p effect.writes regs change h.1 f k.0 k.1
@@ -308,7 +318,8 @@ answers_small s o address byte e = go (address_in s address) e
     go spots.Below k = absurd cc
     go spots.Outside k = absurd cc
 
-called_regs : (images : List NamedImage) (F : FlatState) (p : Process) (t : Space) (refused : Bool) (effect : Effect) (call : Option SystemCall) → HasOctets t → RepliesFit images F p → AreRegs p.regs → EffectFits effect
+called_regs : (images : List NamedImage) (F : FlatState) (p : Process) (t : Space) (refused : Bool) (effect : Effect) (call : Option SystemCall)
+    → HasOctets t → RepliesFit images F p → AreRegs p.regs → EffectFits effect
     → AllFit (called_step images F p t refused effect call).after.processes
 called_regs images F p t refused effect None o f was h = after_regs images F p effect.writes p.regs (End 12) h.1 f was (omega arith)
 called_regs images F p t refused effect (Some call) o f was h =
@@ -317,12 +328,14 @@ called_regs images F p t refused effect (Some call) o f was h =
     (answers_small (puts t effect.writes) (puts_octets effect.writes t h.1 o))
     (fits_written images F p (written_process p t effect.writes) effect.writes h.1 refl refl f) h.0)
 
-behind_regs : (images : List NamedImage) (F : FlatState) (p : Process) (t : Space) (refused : Bool) (effect : Effect) (number : Option ℤ) → HasOctets t → RepliesFit images F p → AreRegs p.regs → EffectFits effect
+behind_regs : (images : List NamedImage) (F : FlatState) (p : Process) (t : Space) (refused : Bool) (effect : Effect) (number : Option ℤ)
+    → HasOctets t → RepliesFit images F p → AreRegs p.regs → EffectFits effect
     → AllFit (step_behind images F p t refused effect number).after.processes
 behind_regs images F p t refused effect None o f was h = after_regs images F p effect.writes effect.regs Keep h.1 f h.0 tt
 behind_regs images F p t refused effect (Some number) o f was h = called_regs images F p t refused effect (call_of number) o f was h
 
-of_regs : (images : List NamedImage) (F : FlatState) (p : Process) (t : Space) (refused : Bool) (result : Result Effect Refusal) → HasOctets t → RepliesFit images F p → AreRegs p.regs → LeavesLongwords result
+of_regs : (images : List NamedImage) (F : FlatState) (p : Process) (t : Space) (refused : Bool) (result : Result Effect Refusal) → HasOctets t
+    → RepliesFit images F p → AreRegs p.regs → LeavesLongwords result
     → AllFit (step_of images F p t refused result).after.processes
 of_regs images F p t refused (Ok effect) o f was h = behind_regs images F p t refused effect effect.call o f was h
 of_regs images F p t refused (Err (Miss a w)) o f was h = f.regs
@@ -330,7 +343,8 @@ of_regs images F p t true (Err (Below a)) o f was h = after_regs images F p [] p
 of_regs images F p t false (Err (Below a)) o f was h = after_regs images F p [] p.regs _ tt f was tt
 of_regs images F p t refused (Err (Signal n)) o f was h = after_regs images F p [] p.regs (End n) tt f was h
 
-pub step_regs : (A : Inputs) (F : FlatState) (pid : ℕ) (refused : Bool) → AllImages A.images → IsNumbered F → F.next_pid < 2 ^ 32 → AllFit F.processes → AllFit (flat_step A F pid refused).after.processes
+pub step_regs : (A : Inputs) (F : FlatState) (pid : ℕ) (refused : Bool) → AllImages A.images → IsNumbered F → F.next_pid < 2 ^ 32 → AllFit F.processes
+    → AllFit (flat_step A F pid refused).after.processes
 unfolding flat_step
 step_regs A F pid refused images own small h = go (process_of F pid) refl
   where

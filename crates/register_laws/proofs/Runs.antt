@@ -40,21 +40,25 @@ where_is_so : (P : FlatState → Type 0) (b : Bool) (p q : Point) → where_so b
 where_is_so P true p q e h = let same : p ≡ q = cc in subst (λ (x : Point). P x.flat) same h
 where_is_so P false p q e h = absurd cc
 
-of_so : (P : FlatState → Type 0) (A : Inputs) (point q : Point) (pid : ℕ) (e : Entry) → ((n : ℕ) (refused : Bool) → P (flat_step A point.flat n refused).after) → flat_entry_of A point pid e ≡ Some q → P point.flat → P q.flat
+of_so : (P : FlatState → Type 0) (A : Inputs) (point q : Point) (pid : ℕ) (e : Entry)
+    → ((n : ℕ) (refused : Bool) → P (flat_step A point.flat n refused).after) → flat_entry_of A point pid e ≡ Some q → P point.flat → P q.flat
 of_so P A point q pid (Refused p) step h k = where_is_so P (can_step point.flat pid) (record point { last = Some (Refused p) }) q h k
 of_so P A point q pid e step h k =
     where_is_so P (same_as (act A point pid) e) (point_after A point pid) q h
     (behind_so P point (step_at A point pid).after (due_at A point pid) k (step pid (is_refused point.last pid)))
 
-if_so : (P : FlatState → Type 0) (b : Bool) (A : Inputs) (point q : Point) (pid : ℕ) (e : Entry) → ((n : ℕ) (refused : Bool) → P (flat_step A point.flat n refused).after) → flat_entry_if b A point pid e ≡ Some q → P point.flat → P q.flat
+if_so : (P : FlatState → Type 0) (b : Bool) (A : Inputs) (point q : Point) (pid : ℕ) (e : Entry)
+    → ((n : ℕ) (refused : Bool) → P (flat_step A point.flat n refused).after) → flat_entry_if b A point pid e ≡ Some q → P point.flat → P q.flat
 if_so P true A point q pid e step h k = of_so P A point q pid e step h k
 if_so P false A point q pid e step h k = absurd cc
 
-by_so : (P : FlatState → Type 0) (A : Inputs) (point q : Point) (o : Option ℕ) (e : Entry) → ((n : ℕ) (refused : Bool) → P (flat_step A point.flat n refused).after) → flat_entry_by A point o e ≡ Some q → P point.flat → P q.flat
+by_so : (P : FlatState → Type 0) (A : Inputs) (point q : Point) (o : Option ℕ) (e : Entry)
+    → ((n : ℕ) (refused : Bool) → P (flat_step A point.flat n refused).after) → flat_entry_by A point o e ≡ Some q → P point.flat → P q.flat
 by_so P A point q None e step h k = where_is_so P true point q h k
 by_so P A point q (Some pid) e step h k = if_so P (may_follow point.last e) A point q pid e step h k
 
-pub entry_so : (P : FlatState → Type 0) (A : Inputs) (point q : Point) (e : Entry) → ((n : ℕ) (refused : Bool) → P (flat_step A point.flat n refused).after) → flat_entry A point e ≡ Some q → P point.flat → P q.flat
+pub entry_so : (P : FlatState → Type 0) (A : Inputs) (point q : Point) (e : Entry)
+    → ((n : ℕ) (refused : Bool) → P (flat_step A point.flat n refused).after) → flat_entry A point e ≡ Some q → P point.flat → P q.flat
 unfolding flat_entry
 entry_so P A point q e step h k = by_so P A point q (process_of_entry e) e step h k
 
@@ -66,7 +70,8 @@ made (Fork child) = 1
 made (Lend child) = 1
 made _ = 0
 
-changed_next : (images : List NamedImage) (F : FlatState) (p : Process) (s : Space) (change : Change) → (changed images F p s change).next_pid ≤ F.next_pid + made change
+changed_next : (images : List NamedImage) (F : FlatState) (p : Process) (s : Space) (change : Change)
+    → (changed images F p s change).next_pid ≤ F.next_pid + made change
 changed_next images F p s Keep = omega arith
 changed_next images F p s (Resize data_pages stack_pages) = omega arith
 changed_next images F p s (Fork child) = omega arith
@@ -84,7 +89,8 @@ changed_next images F p s (End status) = go (p.parent == 0)
     go true = omega arith
     go false = omega arith
 
-change_next : (images : List NamedImage) (F : FlatState) (pid : ℕ) (regs : Regs) (change : Change) → (apply_change images F pid regs change).next_pid ≤ F.next_pid + made change
+change_next : (images : List NamedImage) (F : FlatState) (pid : ℕ) (regs : Regs) (change : Change)
+    → (apply_change images F pid regs change).next_pid ≤ F.next_pid + made change
 unfolding apply_change
 change_next images F pid regs change = go (process_of F pid)
   where
@@ -97,7 +103,8 @@ change_next images F pid regs change = go (process_of F pid)
     go None = omega arith
     go (Some p) = by p p.holding
 
-after_next : (images : List NamedImage) (F : FlatState) (p : Process) (ws : List ByteWrite) (regs : Regs) (change : Change) → (apply_change images (apply_writes F p.pid ws) p.pid regs change).next_pid ≤ F.next_pid + made change
+after_next : (images : List NamedImage) (F : FlatState) (p : Process) (ws : List ByteWrite) (regs : Regs) (change : Change)
+    → (apply_change images (apply_writes F p.pid ws) p.pid regs change).next_pid ≤ F.next_pid + made change
 after_next images F p ws regs change = let a = change_next images (apply_writes F p.pid ws) p.pid regs change in let b = next_written F p.pid ws in omega arith
 
 made_one : (change : Change) → made change ≤ 1
@@ -143,7 +150,8 @@ of_few images F p t true (Err (Below a)) = let k = after_next images F p [] p.re
 of_few images F p t false (Err (Below a)) = after_next images F p [] p.regs (Resize (data_pages_of t) (pages_down_to a))
 of_few images F p t refused (Err (Signal n)) = let k = after_next images F p [] p.regs (End n) in omega (arith, k)
 
-step_few : (A : Inputs) (F : FlatState) (pid : ℕ) (refused : Bool) → Few F.next_pid (flat_step A F pid refused).after.next_pid (flat_step A F pid refused).entries
+step_few : (A : Inputs) (F : FlatState) (pid : ℕ) (refused : Bool)
+    → Few F.next_pid (flat_step A F pid refused).after.next_pid (flat_step A F pid refused).entries
 unfolding flat_step
 step_few A F pid refused = go (process_of F pid)
   where
@@ -188,7 +196,8 @@ where_next : (b : Bool) (p q : Point) → where_so b p ≡ Some q → (b ≡ tru
 where_next true p q e = (refl, (let same : p ≡ q = cc in same))
 where_next false p q e = absurd cc
 
-next_of : (point q : Point) (after : FlatState) (e : Entry) (can : Bool) (es : List Entry) → Few point.flat.next_pid after.next_pid es → where_so (same_as (first_if can es) e) (behind point after es) ≡ Some q
+next_of : (point q : Point) (after : FlatState) (e : Entry) (can : Bool) (es : List Entry) → Few point.flat.next_pid after.next_pid es
+    → where_so (same_as (first_if can es) e) (behind point after es) ≡ Some q
     → q.flat.next_pid ≤ point.flat.next_pid + counted e
 next_of point q after e false es h k = absurd (let z = where_next false (behind point after es) q k in let y : false ≡ true = z.0 in cc)
 next_of point q after e true [] h k = absurd (let z = where_next false point q k in let y : false ≡ true = z.0 in cc)
@@ -207,7 +216,8 @@ entry_of A point q pid (Refused p) h = let z = where_next (can_step point.flat p
 entry_of A point q pid e h = next_of point q (step_at A point pid).after e (can_step point.flat pid) (due_at A point pid)
     (due_few point.flat.next_pid (step_at A point pid).after.next_pid point.last pid (step_at A point pid).entries (step_few A point.flat pid (is_refused point.last pid))) h
 
-entry_if : (b : Bool) (A : Inputs) (point q : Point) (pid : ℕ) (e : Entry) → flat_entry_if b A point pid e ≡ Some q → q.flat.next_pid ≤ point.flat.next_pid + counted e
+entry_if : (b : Bool) (A : Inputs) (point q : Point) (pid : ℕ) (e : Entry) → flat_entry_if b A point pid e ≡ Some q
+    → q.flat.next_pid ≤ point.flat.next_pid + counted e
 entry_if true A point q pid e h = entry_of A point q pid e h
 entry_if false A point q pid e h = absurd cc
 
@@ -224,7 +234,8 @@ entry_next A point q e h = entry_by A point q (process_of_entry e) e h
 abbrev Fits : FlatState → Type 0
 Fits F = IsNumbered F × AllFit F.processes
 
-units_fit : (A : Inputs) (us : List Entry) (point q : Point) → AllImages A.images → point.flat.next_pid + instructions_of us < 2 ^ 32 → flat_units A (Some point) us ≡ Some q → Fits point.flat → Fits q.flat
+units_fit : (A : Inputs) (us : List Entry) (point q : Point) → AllImages A.images → point.flat.next_pid + instructions_of us < 2 ^ 32
+    → flat_units A (Some point) us ≡ Some q → Fits point.flat → Fits q.flat
 unfolding flat_units
 units_fit A [] point q w l h k = let same : point ≡ q = cc in subst (λ (x : Point). Fits x.flat) same k
 units_fit A (u ∷ us) point q w l h k = go (λ next m. units_fit A us next q w m) (flat_entry A point u) refl h
@@ -235,5 +246,6 @@ units_fit A (u ∷ us) point q w l h k = go (λ next m. units_fit A us next q w 
         later next (let a = entry_next A point next u e in omega arith) m
         (entry_so Fits A point next u (λ pid refused. (step_numbered A point.flat pid refused k.0, step_regs A point.flat pid refused w k.0 (omega arith) k.1)) e k)
 
-pub run_fits : (A : Inputs) (journal : List Entry) (point : Point) → AllImages A.images → length A.first + 1 + instructions_of journal < 2 ^ 32 → flat_run A journal ≡ Some point → AllFit point.flat.processes
+pub run_fits : (A : Inputs) (journal : List Entry) (point : Point) → AllImages A.images → length A.first + 1 + instructions_of journal < 2 ^ 32
+    → flat_run A journal ≡ Some point → AllFit point.flat.processes
 run_fits A journal point w l h = (units_fit A (units_of journal) (start_point A) point w (let a = count_of_units journal in omega arith) h (start_numbered A, start_regs_are A w)).1

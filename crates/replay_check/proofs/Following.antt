@@ -78,7 +78,8 @@ last_of pid can es left u (Two bytes n c r0 r1 e) (inl d) ends h = absurd (out_d
 last_of pid can es left u (Two bytes n c r0 r1 e) (inr d) ends h =
     record { e = entries.Call pid n c r0 r1; only = d ∙ ap behind_first e; ends = refl; ready = can_of can left u h }
 
-if_taken : (b : Bool) (A : Inputs) (point : Point) (pid : ℕ) (u : Entry) (next : Point) → flat_entry_if b A point pid u ≡ Some next → flat_entry_of A point pid u ≡ Some next
+if_taken : (b : Bool) (A : Inputs) (point : Point) (pid : ℕ) (u : Entry) (next : Point) → flat_entry_if b A point pid u ≡ Some next
+    → flat_entry_of A point pid u ≡ Some next
 if_taken true A point pid u next h = h
 if_taken false A point pid u next h = absurd cc
 
@@ -86,7 +87,8 @@ so_taken : (b : Bool) (point next : Point) → where_so b point ≡ Some next �
 so_taken true point next h = (refl, cc)
 so_taken false point next h = absurd cc
 
-entry_taken : (A : Inputs) (point : Point) (pid : ℕ) (u : Entry) (next : Point) → IsStepEnd pid u → flat_entry A point u ≡ Some next → (same_as (act A point pid) u ≡ true) × (next ≡ point_after A point pid)
+entry_taken : (A : Inputs) (point : Point) (pid : ℕ) (u : Entry) (next : Point) → IsStepEnd pid u → flat_entry A point u ≡ Some next
+    → (same_as (act A point pid) u ≡ true) × (next ≡ point_after A point pid)
 unfolding flat_entry
 entry_taken A point pid (entries.Ran p n) next ends h =
     so_taken _ _ next (if_taken _ A point pid (entries.Ran p n) next (subst (λ (q : ℕ). flat_entry_if (may_follow point.last (entries.Ran p n)) A point q (entries.Ran p n) ≡ Some next) ends h))
@@ -128,7 +130,8 @@ beyond A point pid u next ends h =
 
 -- The point behind an `Out`.
 
-stays_by : (can : Bool) (p : ℕ) (bytes : List ℕ) (point : Point) (after : FlatState) (es left : List Entry) → Shape p es → (left ≡ es) ⊎ (left ≡ behind_first es)
+stays_by : (can : Bool) (p : ℕ) (bytes : List ℕ) (point : Point) (after : FlatState) (es left : List Entry) → Shape p es
+    → (left ≡ es) ⊎ (left ≡ behind_first es)
     → same_as (first_if can left) (entries.Out p bytes) ≡ true → ((behind point after left).flat ≡ point.flat) × ((q : ℕ) → is_refused (behind point after left).last q ≡ false)
 stays_by can p bytes point after es left (Empty e) (inl d) h = absurd (none_first can left _ (d ∙ e) h)
 stays_by can p bytes point after es left (Empty e) (inr d) h = absurd (none_first can left _ (d ∙ ap behind_first e) h)
@@ -180,7 +183,8 @@ moved A F G refused behind pages more u us whole h goes is =
     }
 
 -- by an entry that completes a step of a process
-pub step_on : (A : Inputs) (F G : FlatState) (refused : Option ℕ) (pages more : List Page) (u : Entry) (us : List Entry) (whole : List Page) (pid : ℕ) → IsStepEnd pid u
+pub step_on : (A : Inputs) (F G : FlatState) (refused : Option ℕ) (pages more : List Page) (u : Entry) (us : List Entry) (whole : List Page) (pid : ℕ)
+    → IsStepEnd pid u
     → IsOnWay A F refused pages (u ∷ us) whole → G ≡ state_if (can_step F pid) F (flat_step A F pid (is_this refused pid))
     → ((point : Point) → point.flat ≡ F → more ≡ pages ++ touched_by_unit A point u) → IsOnWay A G None more us whole
 step_on A F G refused pages more u us whole pid ends h is list =
@@ -305,7 +309,8 @@ run_of A journal h =
     (sym (ap (λ (es : List Entry). not (is_run A es)) whole) ∙ all)
 
 -- at the start of a run all is still to come
-pub start_on : (A : Inputs) (F : FlatState) (refused : Option ℕ) (pages : List Page) (journal : List Entry) → first_bad A journal ≡ None → F ≡ start_state A → refused ≡ None → pages ≡ []
+pub start_on : (A : Inputs) (F : FlatState) (refused : Option ℕ) (pages : List Page) (journal : List Entry) → first_bad A journal ≡ None
+    → F ≡ start_state A → refused ≡ None → pages ≡ []
     → IsOnWay A F refused pages (units_of journal) (references_of A journal)
 start_on A F refused pages journal h state none empty = record {
   point = start_point A;
@@ -315,7 +320,8 @@ start_on A F refused pages journal h state none empty = record {
   listed = ap (λ (l : List Page). l ++ references_of A journal) empty;
 }
 
-pub end_on : (A : Inputs) (F : FlatState) (refused : Option ℕ) (pages : List Page) (units : List Entry) (whole : List Page) → units ≡ [] → IsOnWay A F refused pages units whole → pages ≡ whole
+pub end_on : (A : Inputs) (F : FlatState) (refused : Option ℕ) (pages : List Page) (units : List Entry) (whole : List Page) → units ≡ []
+    → IsOnWay A F refused pages units whole → pages ≡ whole
 unfolding references_from
 end_on A F refused pages units whole e h =
     sym (append-nil pages) ∙ sym (ap (λ (us : List Entry). pages ++ references_from A (Some h.point) us) e) ∙ h.listed

@@ -69,7 +69,8 @@ free_at A F (lasts.Refused q) pid e point other at = absurd cc
 free_at A F (lasts.Wrote q call regs) pid e point other at = absurd cc
 
 -- where its pieces found no place too, the outcome of a process may follow
-pub open_at : (A : Inputs) (F : FlatState) (last : Last) (pid : ℕ) (refused : Bool) (e : Entry) (point : Point) → refused_in pid last ≡ Some refused → IsAt A F last point
+pub open_at : (A : Inputs) (F : FlatState) (last : Last) (pid : ℕ) (refused : Bool) (e : Entry) (point : Point) → refused_in pid last ≡ Some refused
+    → IsAt A F last point
     → is_outcome_of pid e ≡ true → Opens F pid refused point × (may_follow point.last e ≡ true)
 open_at A F lasts.Other pid refused e point taken at outcome =
     let is : false ≡ refused = cc in
@@ -142,7 +143,8 @@ if_made point F true step e = refl
 if_made point F false step e = refl
 
 -- what a process did begins with an entry, where that entry follows
-pub entry_of : (A : Inputs) (point : Point) (F G : FlatState) (pid : ℕ) (refused : Bool) (e : Entry) (did : Did) → Opens F pid refused point × (may_follow point.last e ≡ true) → IsOf pid e
+pub entry_of : (A : Inputs) (point : Point) (F G : FlatState) (pid : ℕ) (refused : Bool) (e : Entry) (did : Did)
+    → Opens F pid refused point × (may_follow point.last e ≡ true) → IsOf pid e
     → entries_of pid did ≡ entries_if (can_step F pid) (flat_step A F pid refused) → G ≡ state_if (can_step F pid) F (flat_step A F pid refused)
     → flat_entry A point e ≡ where_so (begins pid did e) (behind point G (entries_of pid did))
 entry_of A point F G pid refused e did opens of es after =
@@ -151,14 +153,16 @@ entry_of A point F G pid refused e did opens of es after =
     ∙ sym (ap (λ (xs : List Entry). where_so (same_as (first_if true xs) e) (behind point G xs)) es)
 
 -- the verdict on the last entry of a step
-pub last_verdict : (A : Inputs) (F : FlatState) (x : Entry) (b c : Bool) → IsFree (Some x) → b ≡ c → IsVerdict A b F lasts.Other (where_so c (record { flat = F; last = Some x }))
+pub last_verdict : (A : Inputs) (F : FlatState) (x : Entry) (b c : Bool) → IsFree (Some x) → b ≡ c
+    → IsVerdict A b F lasts.Other (where_so c (record { flat = F; last = Some x }))
 last_verdict A F x true true free k = (refl, free)
 last_verdict A F x false false free k = tt
 last_verdict A F x true false free k = absurd cc
 last_verdict A F x false true free k = absurd cc
 
 -- the verdict on an entry that isn't bytes, by what the process did
-sole_verdict : (A : Inputs) (point : Point) (pid : ℕ) (e : Entry) (did : Did) (F : FlatState) (b : Bool) → ((bytes : List ℕ) → same_entry (entries.Out pid bytes) e ≡ false) → b ≡ begins pid did e
+sole_verdict : (A : Inputs) (point : Point) (pid : ℕ) (e : Entry) (did : Did) (F : FlatState) (b : Bool)
+    → ((bytes : List ℕ) → same_entry (entries.Out pid bytes) e ≡ false) → b ≡ begins pid did e
     → IsVerdict A b F lasts.Other (where_so (begins pid did e) (behind point F (entries_of pid did)))
 sole_verdict A point pid e deeds.Nothing F b sole is = rw is tt
 sole_verdict A point pid e deeds.Ran F b sole is = last_verdict A F (entries.Ran pid 1) b (begins pid deeds.Ran e) tt is
@@ -169,7 +173,8 @@ sole_verdict A point pid e (deeds.Wrote call (x ∷ xs) regs) F b sole is = rw (
 sole_verdict A point pid e deeds.Slept F b sole is = last_verdict A F (entries.Sleeps pid) b (begins pid deeds.Slept e) tt is
 sole_verdict A point pid e (deeds.Ended status) F b sole is = last_verdict A F (entries.Ended pid status) b (begins pid (deeds.Ended status) e) tt is
 
-pub sole_at : (A : Inputs) (point : Point) (F G : FlatState) (new : Last) (pid : ℕ) (refused : Bool) (e : Entry) (did : Did) (b : Bool) → Opens F pid refused point × (may_follow point.last e ≡ true) → IsOf pid e
+pub sole_at : (A : Inputs) (point : Point) (F G : FlatState) (new : Last) (pid : ℕ) (refused : Bool) (e : Entry) (did : Did) (b : Bool)
+    → Opens F pid refused point × (may_follow point.last e ≡ true) → IsOf pid e
     → ((bytes : List ℕ) → same_entry (entries.Out pid bytes) e ≡ false) → new ≡ lasts.Other
     → entries_of pid did ≡ entries_if (can_step F pid) (flat_step A F pid refused) → G ≡ state_if (can_step F pid) F (flat_step A F pid refused) → b ≡ begins pid did e
     → IsVerdict A b G new (flat_entry A point e)

@@ -21,7 +21,8 @@ other_last (lasts.Wrote q call regs) is = absurd cc
 pub grown_begins : (pid grown pages : ℕ) → (grown == pages) ≡ begins pid (deeds.Grew grown) (entries.Grew pid pages)
 grown_begins pid grown pages = sym (ap (λ (b : Bool). b && grown == pages) (eq_self pid))
 
-pub grown_at : (A : Inputs) (point : Point) (F G : FlatState) (last new : Last) (pid pages : ℕ) (did : Did) (b : Bool) → is_other last ≡ true → new ≡ last → IsAt A F last point
+pub grown_at : (A : Inputs) (point : Point) (F G : FlatState) (last new : Last) (pid pages : ℕ) (did : Did) (b : Bool) → is_other last ≡ true
+    → new ≡ last → IsAt A F last point
     → entries_of pid did ≡ entries_if (can_step F pid) (flat_step A F pid false) → G ≡ state_if (can_step F pid) F (flat_step A F pid false)
     → b ≡ begins pid did (entries.Grew pid pages)
     → IsVerdict A b G new (flat_entry A point (entries.Grew pid pages))
@@ -37,7 +38,8 @@ grown_busy A point F G last new pid pages other at =
 pub slept_begins : (pid : ℕ) → true ≡ begins pid deeds.Slept (entries.Sleeps pid)
 slept_begins pid = sym (eq_self pid)
 
-pub slept_at : (A : Inputs) (point : Point) (F G : FlatState) (last new : Last) (pid : ℕ) (did : Did) (b : Bool) → is_other last ≡ true → new ≡ last → IsAt A F last point
+pub slept_at : (A : Inputs) (point : Point) (F G : FlatState) (last new : Last) (pid : ℕ) (did : Did) (b : Bool) → is_other last ≡ true → new ≡ last
+    → IsAt A F last point
     → entries_of pid did ≡ entries_if (can_step F pid) (flat_step A F pid false) → G ≡ state_if (can_step F pid) F (flat_step A F pid false)
     → b ≡ begins pid did (entries.Sleeps pid)
     → IsVerdict A b G new (flat_entry A point (entries.Sleeps pid))
@@ -50,7 +52,8 @@ pub slept_busy : (A : Inputs) (point : Point) (F G : FlatState) (last new : Last
 slept_busy A point F G last new pid other at =
     blocked A point G new pid (entries.Sleeps pid) refl (busy_at A F last (entries.Sleeps pid) point other at (λ q. refl) (λ q. refl))
 
-pub refused_at : (A : Inputs) (point : Point) (F : FlatState) (last : Last) (pid : ℕ) (b : Bool) → is_other last ≡ true → IsAt A F last point → b ≡ can_step F pid
+pub refused_at : (A : Inputs) (point : Point) (F : FlatState) (last : Last) (pid : ℕ) (b : Bool) → is_other last ≡ true → IsAt A F last point
+    → b ≡ can_step F pid
     → IsVerdict A b F (lasts.Refused pid) (flat_entry A point (entries.Refused pid))
 refused_at A point F last pid b other at is =
     let opens = free_at A F last pid (entries.Refused pid) point other at in

@@ -20,7 +20,8 @@ use Rattle.vm_facts.proofs.Tests.{eq_self}
 pub ended_begins : (pid ended status : ℕ) → (ended == status) ≡ begins pid (deeds.Ended ended) (entries.Ended pid status)
 ended_begins pid ended status = sym (ap (λ (b : Bool). b && ended == status) (eq_self pid))
 
-pub ended_at : (A : Inputs) (point : Point) (F G : FlatState) (last new : Last) (pid status : ℕ) (refused : Bool) (did : Did) (b : Bool) → refused_in pid last ≡ Some refused → new ≡ lasts.Other → IsAt A F last point
+pub ended_at : (A : Inputs) (point : Point) (F G : FlatState) (last new : Last) (pid status : ℕ) (refused : Bool) (did : Did) (b : Bool)
+    → refused_in pid last ≡ Some refused → new ≡ lasts.Other → IsAt A F last point
     → entries_of pid did ≡ entries_if (can_step F pid) (flat_step A F pid refused) → G ≡ state_if (can_step F pid) F (flat_step A F pid refused)
     → b ≡ begins pid did (entries.Ended pid status)
     → IsVerdict A b G new (flat_entry A point (entries.Ended pid status))
@@ -39,7 +40,8 @@ pub answer_same : (pid number r0 r1 : ℕ) (carry : Bool) (call : SystemCall) (r
 answer_same pid number r0 r1 carry call regs =
     sym (ap (λ (b : Bool). b && (number_of call == number && (same_carry regs.c carry && (register regs 0 == r0 && register regs 1 == r1)))) (eq_self pid))
 
-pub called_at : (A : Inputs) (point : Point) (F G : FlatState) (last new : Last) (pid number r0 r1 : ℕ) (carry refused : Bool) (did : Did) (b : Bool) → refused_in pid last ≡ Some refused → new ≡ lasts.Other → IsAt A F last point
+pub called_at : (A : Inputs) (point : Point) (F G : FlatState) (last new : Last) (pid number r0 r1 : ℕ) (carry refused : Bool) (did : Did) (b : Bool)
+    → refused_in pid last ≡ Some refused → new ≡ lasts.Other → IsAt A F last point
     → entries_of pid did ≡ entries_if (can_step F pid) (flat_step A F pid refused) → G ≡ state_if (can_step F pid) F (flat_step A F pid refused)
     → b ≡ begins pid did (entries.Call pid number carry r0 r1)
     → IsVerdict A b G new (flat_entry A point (entries.Call pid number carry r0 r1))

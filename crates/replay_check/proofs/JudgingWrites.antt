@@ -54,7 +54,8 @@ wrote_verdict A point F G pid bytes (deeds.Wrote call (x ∷ xs) regs) b flat es
 wrote_verdict A point F G pid bytes deeds.Slept b flat es after is = rw is tt
 wrote_verdict A point F G pid bytes (deeds.Ended status) b flat es after is = rw is tt
 
-pub wrote_at : (A : Inputs) (point : Point) (F G : FlatState) (last new : Last) (pid : ℕ) (bytes : List ℕ) (did : Did) (b : Bool) → is_other last ≡ true → new ≡ last_behind pid did → IsAt A F last point
+pub wrote_at : (A : Inputs) (point : Point) (F G : FlatState) (last new : Last) (pid : ℕ) (bytes : List ℕ) (did : Did) (b : Bool)
+    → is_other last ≡ true → new ≡ last_behind pid did → IsAt A F last point
     → entries_of pid did ≡ entries_if (can_step F pid) (flat_step A F pid false) → G ≡ state_if (can_step F pid) F (flat_step A F pid false)
     → b ≡ begins pid did (entries.Out pid bytes)
     → IsVerdict A b G new (flat_entry A point (entries.Out pid bytes))
@@ -84,7 +85,8 @@ replied A point F pid reply e at =
     ∙ ap (λ (c : Bool). where_so (same_as (first_if c (reply ∷ [])) e) (record { flat = (step_at A point pid).after; last = Some reply })) at.can
     ∙ ap (λ (G : FlatState). where_so (same_entry reply e) (record { flat = G; last = Some reply })) left
 
-pub answered_at : (A : Inputs) (point : Point) (F : FlatState) (last new : Last) (of pid number r0 r1 : ℕ) (carry b : Bool) (call : SystemCall) (regs : Regs) → last ≡ lasts.Wrote of call regs → new ≡ lasts.Other → IsAt A F last point
+pub answered_at : (A : Inputs) (point : Point) (F : FlatState) (last new : Last) (of pid number r0 r1 : ℕ) (carry b : Bool) (call : SystemCall) (regs : Regs)
+    → last ≡ lasts.Wrote of call regs → new ≡ lasts.Other → IsAt A F last point
     → b ≡ (of == pid && same_entry (call_entry pid call regs) (entries.Call pid number carry r0 r1))
     → IsVerdict A b F new (flat_entry A point (entries.Call pid number carry r0 r1))
 answered_at A point F last new of pid number r0 r1 carry b call regs was other at is =

@@ -30,7 +30,8 @@ use Rattle.replay_check.proofs.Verdicts.{taken_none, taken_run, next_front, bad_
 use Rattle.flat_state.proofs.Joins.{count-append}
 use Rattle.flat_model.proofs.Folds.{run_more}
 
-pub there : (F : FlatState) (pid place : ℕ) → position (λ (q : Process). q.pid == pid) F.processes ≡ Some place → CannotStep pid ≡ missing pid (process_of F pid)
+pub there : (F : FlatState) (pid place : ℕ) → position (λ (q : Process). q.pid == pid) F.processes ≡ Some place
+    → CannotStep pid ≡ missing pid (process_of F pid)
 there F pid place found = sym (ap (missing pid) (found_at F.processes place pid (is_first (λ (q : Process). q.pid == pid) F.processes place found)))
 
 pub not_there : (F : FlatState) (pid : ℕ) → position (λ (q : Process). q.pid == pid) F.processes ≡ None → NoProcess pid ≡ missing pid (process_of F pid)
@@ -51,10 +52,12 @@ act_of A point F pid refused did opens es =
     ap (λ (G : FlatState). first_if (can_step G pid) (due_at A point pid)) opens.flat ∙ ap (first_if (can_step F pid)) all
     ∙ if_first (can_step F pid) (flat_step A F pid refused) ∙ sym (ap (first_if true) es)
 
-opened : (A : Inputs) (F : FlatState) (last : Last) (pid : ℕ) (refused : Bool) (point : Point) → refused_in pid last ≡ Some refused → IsAt A F last point → Opens F pid refused point
+opened : (A : Inputs) (F : FlatState) (last : Last) (pid : ℕ) (refused : Bool) (point : Point) → refused_in pid last ≡ Some refused
+    → IsAt A F last point → Opens F pid refused point
 opened A F last pid refused point taken at = (open_at A F last pid refused (entries.Ended pid 0) point taken at (eq_self pid)).0
 
-follows : (A : Inputs) (F : FlatState) (last : Last) (pid : ℕ) (refused : Bool) (e : Entry) (point : Point) → refused_in pid last ≡ Some refused → IsAt A F last point
+follows : (A : Inputs) (F : FlatState) (last : Last) (pid : ℕ) (refused : Bool) (e : Entry) (point : Point) → refused_in pid last ≡ Some refused
+    → IsAt A F last point
     → follows_if refused pid e ≡ may_follow point.last e
 follows A F lasts.Other pid refused e point taken at =
     let is : refused ≡ false = cc in
@@ -69,7 +72,8 @@ follows A F (lasts.Refused q) pid refused e point taken at = go (q == pid) refl 
         ap (λ (b : Bool). follows_if b pid e) is ∙ ap (λ (n : ℕ). is_outcome_of n e) same ∙ sym (ap (λ (o : Option Entry). may_follow o e) at.1)
 follows A F (lasts.Wrote q call regs) pid refused e point taken at = absurd cc
 
-pub next_expected : (A : Inputs) (point : Point) (F : FlatState) (last : Last) (pid : ℕ) (refused : Bool) (did : Did) → refused_in pid last ≡ Some refused → IsAt A F last point
+pub next_expected : (A : Inputs) (point : Point) (F : FlatState) (last : Last) (pid : ℕ) (refused : Bool) (did : Did)
+    → refused_in pid last ≡ Some refused → IsAt A F last point
     → entries_of pid did ≡ entries_if (can_step F pid) (flat_step A F pid refused)
     → comes_or refused pid (first_if true (entries_of pid did)) (missing pid (process_of F pid)) ≡ expected_of A point pid
 next_expected A point F last pid refused did taken at es =
@@ -84,7 +88,8 @@ missing_one : (pid : ℕ) (o : Option Process) → is_one (missing pid o) ≡ fa
 missing_one pid None = refl
 missing_one pid (Some p) = refl
 
-one_begins : (pid : ℕ) (o : Option Process) (did : Did) → is_one (comes_or false pid (first_if true (entries_of pid did)) (missing pid o)) ≡ begins pid did (entries.Ran pid 1)
+one_begins : (pid : ℕ) (o : Option Process) (did : Did)
+    → is_one (comes_or false pid (first_if true (entries_of pid did)) (missing pid o)) ≡ begins pid did (entries.Ran pid 1)
 one_begins pid o deeds.Nothing = missing_one pid o
 one_begins pid o deeds.Ran = ran_begins pid
 one_begins pid o (deeds.Grew pages) = refl
@@ -94,7 +99,8 @@ one_begins pid o (deeds.Wrote call (x ∷ xs) regs) = refl
 one_begins pid o deeds.Slept = refl
 one_begins pid o (deeds.Ended status) = refl
 
-pub one_verdict : (A : Inputs) (point : Point) (F G : FlatState) (last new : Last) (pid : ℕ) (refused : Bool) (did : Did) → refused_in pid last ≡ Some refused → last ≡ lasts.Other → new ≡ last → IsAt A F last point
+pub one_verdict : (A : Inputs) (point : Point) (F G : FlatState) (last new : Last) (pid : ℕ) (refused : Bool) (did : Did)
+    → refused_in pid last ≡ Some refused → last ≡ lasts.Other → new ≡ last → IsAt A F last point
     → entries_of pid did ≡ entries_if (can_step F pid) (flat_step A F pid refused) → G ≡ state_if (can_step F pid) F (flat_step A F pid refused)
     → IsVerdict A (is_one (comes_or refused pid (first_if true (entries_of pid did)) (missing pid (process_of F pid)))) G new (flat_entry A point (entries.Ran pid 1))
 one_verdict A point F G last new pid refused did taken other same at es after =
@@ -117,11 +123,13 @@ verdict_some : (A : Inputs) (F : FlatState) (last : Last) (o : Option Point) →
 verdict_some A F last None h = absurd h
 verdict_some A F last (Some point) h = refl
 
-pub runs_all : (A : Inputs) (F : FlatState) (last : Last) (point : Point) (pid count ran : ℕ) → ran ≡ count → IsVerdict A true F last (flat_units A (Some point) (units_with (entries.Ran pid ran) []))
+pub runs_all : (A : Inputs) (F : FlatState) (last : Last) (point : Point) (pid count ran : ℕ) → ran ≡ count
+    → IsVerdict A true F last (flat_units A (Some point) (units_with (entries.Ran pid ran) []))
     → RunsOnly A point pid count ran
 runs_all A F last point pid count ran all h = record { few = omega arith; runs = verdict_some A F last (flat_units A (Some point) (units_with (entries.Ran pid ran) [])) h; stops = λ less. absurd (omega arith) }
 
-pub runs_some : (A : Inputs) (F G : FlatState) (last new : Last) (point : Point) (pid count ran : ℕ) → ran ≤ count → IsVerdict A true F last (flat_units A (Some point) (units_with (entries.Ran pid ran) []))
+pub runs_some : (A : Inputs) (F G : FlatState) (last new : Last) (point : Point) (pid count ran : ℕ) → ran ≤ count
+    → IsVerdict A true F last (flat_units A (Some point) (units_with (entries.Ran pid ran) []))
     → IsVerdict A false G new (flat_units A (Some point) (units_with (entries.Ran pid (ran + 1)) [])) → RunsOnly A point pid count ran
 runs_some A F G last new point pid count ran few h stop = record {
   few = few;
@@ -134,14 +142,16 @@ unfolding flat_units
 runs_zero A point pid = refl
 
 -- no instruction runs, of none or where the first doesn't
-pub expected_none : (A : Inputs) (point : Point) (pid count : ℕ) (expected : Expected) → count ≡ 0 → expected ≡ expected_of A point pid → IsExpected A point pid count expected
+pub expected_none : (A : Inputs) (point : Point) (pid count : ℕ) (expected : Expected) → count ≡ 0 → expected ≡ expected_of A point pid
+    → IsExpected A point pid count expected
 expected_none A point pid count expected none is = record {
   ran = 0;
   most = record { few = omega arith; runs = runs_zero A point pid; stops = λ less. absurd (omega arith) };
   told = is;
 }
 
-pub expected_stopped : (A : Inputs) (point : Point) (G : FlatState) (new : Last) (pid count : ℕ) (expected : Expected) → IsVerdict A false G new (flat_entry A point (entries.Ran pid 1)) → expected ≡ expected_of A point pid
+pub expected_stopped : (A : Inputs) (point : Point) (G : FlatState) (new : Last) (pid count : ℕ) (expected : Expected)
+    → IsVerdict A false G new (flat_entry A point (entries.Ran pid 1)) → expected ≡ expected_of A point pid
     → IsExpected A point pid count expected
 expected_stopped A point G new pid count expected stop is = record {
   ran = 0;
@@ -153,7 +163,8 @@ expected_stopped A point G new pid count expected stop is = record {
   told = is;
 }
 
-first_runs : (A : Inputs) (point next : Point) (u : Entry) (n : ℕ) → flat_entry A point u ≡ Some next → flat_units A (Some point) (repeated u (n + 1) []) ≡ flat_units A (Some next) (repeated u n [])
+first_runs : (A : Inputs) (point next : Point) (u : Entry) (n : ℕ) → flat_entry A point u ≡ Some next
+    → flat_units A (Some point) (repeated u (n + 1) []) ≡ flat_units A (Some next) (repeated u n [])
 unfolding flat_units
 first_runs A point next u n first =
     let e : n + 1 ≡ suc n = omega arith in
@@ -164,7 +175,8 @@ ran_more pid n expected =
     let e : suc n ≡ n + 1 = omega arith in
     subst (λ (k : ℕ). Comes (entries.Ran pid k) ≡ ran_or pid k expected) e refl
 
-pub expected_more : (A : Inputs) (point : Point) (G : FlatState) (new : Last) (pid count rest more : ℕ) → count ≡ rest + 1 → IsVerdict A true G new (flat_entry A point (entries.Ran pid 1))
+pub expected_more : (A : Inputs) (point : Point) (G : FlatState) (new : Last) (pid count rest more : ℕ) → count ≡ rest + 1
+    → IsVerdict A true G new (flat_entry A point (entries.Ran pid 1))
     → ((next : Point) → IsAt A G new next → RunsOnly A next pid rest more) → IsExpected A point pid count (Comes (entries.Ran pid (more + 1)))
 expected_more A point G new pid count rest more all verdict runs = go (flat_entry A point (entries.Ran pid 1)) refl verdict
   where
@@ -207,23 +219,27 @@ free_begun (Some (entries.SwapOut x0)) free = refl
 free_begun (Some (entries.SwapIn x0)) free = refl
 free_begun (Some (entries.Owners x0 x1 x2 x3)) free = refl
 
-pub free_due : (A : Inputs) (F : FlatState) (last : Last) (point : Point) (e : Entry) → last ≡ lasts.Other → IsAt A F last point → due_process point.last e ≡ process_of_entry e
+pub free_due : (A : Inputs) (F : FlatState) (last : Last) (point : Point) (e : Entry) → last ≡ lasts.Other → IsAt A F last point
+    → due_process point.last e ≡ process_of_entry e
 free_due A F last point e other at =
     let here : IsAt A F lasts.Other point = subst (λ (l : Last). IsAt A F l point) other at in
     ap (λ (o : Option ℕ). or_else o (process_of_entry e)) (free_begun point.last here.1)
 
-pub refused_due : (A : Inputs) (F : FlatState) (last : Last) (pid : ℕ) (point : Point) (e : Entry) → last ≡ lasts.Refused pid → IsAt A F last point → due_process point.last e ≡ Some pid
+pub refused_due : (A : Inputs) (F : FlatState) (last : Last) (pid : ℕ) (point : Point) (e : Entry) → last ≡ lasts.Refused pid → IsAt A F last point
+    → due_process point.last e ≡ Some pid
 refused_due A F last pid point e is at =
     let here : IsAt A F (lasts.Refused pid) point = subst (λ (l : Last). IsAt A F l point) is at in
     ap (λ (o : Option Entry). due_process o e) here.1
 
-pub wrote_due : (A : Inputs) (F : FlatState) (last : Last) (pid : ℕ) (call : SystemCall) (regs : Regs) (point : Point) (e : Entry) → last ≡ lasts.Wrote pid call regs → IsAt A F last point → due_process point.last e ≡ Some pid
+pub wrote_due : (A : Inputs) (F : FlatState) (last : Last) (pid : ℕ) (call : SystemCall) (regs : Regs) (point : Point) (e : Entry)
+    → last ≡ lasts.Wrote pid call regs → IsAt A F last point → due_process point.last e ≡ Some pid
 wrote_due A F last pid call regs point e is at =
     let here : IsAt A F (lasts.Wrote pid call regs) point = subst (λ (l : Last). IsAt A F l point) is at in
     ap (λ (o : Option Entry). due_process o e) here.out
 
 -- the reply behind bytes
-reply_next : (A : Inputs) (point : Point) (F : FlatState) (pid : ℕ) (call : SystemCall) (regs : Regs) → IsWriting A F pid (call_entry pid call regs) point → Comes (call_entry pid call regs) ≡ expected_of A point pid
+reply_next : (A : Inputs) (point : Point) (F : FlatState) (pid : ℕ) (call : SystemCall) (regs : Regs)
+    → IsWriting A F pid (call_entry pid call regs) point → Comes (call_entry pid call regs) ≡ expected_of A point pid
 reply_next A point F pid call regs at =
     let reply : Entry = call_entry pid call regs in
     let step : step_at A point pid ≡ flat_step A point.flat pid false = ap (λ (o : Option Entry). flat_step A point.flat pid (is_refused o pid)) at.out in
@@ -234,13 +250,15 @@ reply_next A point F pid call regs at =
     let next : act A point pid ≡ Some reply = ap (first_if (can_step point.flat pid)) rest ∙ ap (λ (c : Bool). first_if c (reply ∷ [])) at.can in
     sym (ap (expected_by point pid) next ∙ ap (λ (o : Option Entry). comes_if (may_follow o reply) reply) at.out ∙ ap (λ (b : Bool). comes_if b reply) (eq_self pid))
 
-pub wrote_expected : (A : Inputs) (point : Point) (F : FlatState) (last : Last) (pid count : ℕ) (call : SystemCall) (regs : Regs) → last ≡ lasts.Wrote pid call regs → IsAt A F last point
+pub wrote_expected : (A : Inputs) (point : Point) (F : FlatState) (last : Last) (pid count : ℕ) (call : SystemCall) (regs : Regs)
+    → last ≡ lasts.Wrote pid call regs → IsAt A F last point
     → IsExpected A point pid count (Comes (call_entry pid call regs))
 wrote_expected A point F last pid count call regs is at =
     expected_stopped A point F last pid count (Comes (call_entry pid call regs)) (ran_busy A point F F last last pid (ap is_other is) at)
     (reply_next A point F pid call regs (subst (λ (l : Last). IsAt A F l point) is at))
 
-pub refused_expected : (A : Inputs) (point : Point) (F : FlatState) (last : Last) (pid count : ℕ) (expected : Expected) → last ≡ lasts.Refused pid → IsAt A F last point → expected ≡ expected_of A point pid
+pub refused_expected : (A : Inputs) (point : Point) (F : FlatState) (last : Last) (pid count : ℕ) (expected : Expected) → last ≡ lasts.Refused pid
+    → IsAt A F last point → expected ≡ expected_of A point pid
     → IsExpected A point pid count expected
 refused_expected A point F last pid count expected is at told =
     expected_stopped A point F last pid count expected (ran_busy A point F F last last pid (ap is_other is) at) told
@@ -250,7 +268,8 @@ refused_self pid last is = ap (refused_in pid) is ∙ ap (λ (b : Bool). if b th
 
 -- What is expected behind good entries.
 
-pub behind_few : (A : Inputs) (F : FlatState) (last : Last) (count : ℕ) (good : List Entry) (bad : Entry) (expected : Option Expected) → HasTaken A F last count good
+pub behind_few : (A : Inputs) (F : FlatState) (last : Last) (count : ℕ) (good : List Entry) (bad : Entry) (expected : Option Expected)
+    → HasTaken A F last count good
     → count + counted bad ≤ instruction_limit → ((point : Point) → IsAt A F last point → IsExpectedAt A point bad expected) → IsExpectedBehind A good bad expected
 behind_few A F last count good bad expected h few told = record {
   point = h.point;
@@ -307,10 +326,12 @@ empty_run A = taken_run A (start_state A) lasts.Other 0 [] (taken_none A (start_
 pub number_some : (A : Inputs) (entries : List Entry) (number : ℕ) → first_bad A entries ≡ Some number → (0 < number) × (number ≤ length entries)
 number_some A entries number first = let bad = bad_at A entries number (empty_run A) first in (bad.some, bad.within)
 
-pub good_first : (A : Inputs) (entries : List Entry) (number index : ℕ) → first_bad A entries ≡ Some number → number ≡ index + 1 → first_bad A (take index entries) ≡ None
+pub good_first : (A : Inputs) (entries : List Entry) (number index : ℕ) → first_bad A entries ≡ Some number → number ≡ index + 1
+    → first_bad A (take index entries) ≡ None
 good_first A entries number index first is = good_before A entries number index (bad_at A entries number (empty_run A) first) (omega arith)
 
-pub misfit_is : (A : Inputs) (entries : List Entry) (number index : ℕ) (e : Entry) (expected : Expected) → first_bad A entries ≡ Some number → number ≡ index + 1 → index < length entries
+pub misfit_is : (A : Inputs) (entries : List Entry) (number index : ℕ) (e : Entry) (expected : Expected) → first_bad A entries ≡ Some number
+    → number ≡ index + 1 → index < length entries
     → e ≡ get_or entries index e → IsExpectedBehind A (take index entries) e (Some expected) → IsMisfit A entries (record { number = number; expected = expected })
 misfit_is A entries number index e expected first is below here told = record {
   good = take index entries;
@@ -324,7 +345,8 @@ misfit_is A entries number index e expected first is below here told = record {
   expected = told;
 }
 
-pub never_none : (A : Inputs) (entries : List Entry) (number index : ℕ) (e : Entry) → first_bad A entries ≡ Some number → number ≡ index + 1 → index < length entries
+pub never_none : (A : Inputs) (entries : List Entry) (number index : ℕ) (e : Entry) → first_bad A entries ≡ Some number → number ≡ index + 1
+    → index < length entries
     → e ≡ get_or entries index e → IsExpectedBehind A (take index entries) e None → first_bad A entries ≡ None
 never_none A entries number index e first is below here told =
     let bad = bad_at A entries number (empty_run A) first in

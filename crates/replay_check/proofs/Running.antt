@@ -18,7 +18,8 @@ use Rattle.replay_check.proofs.JudgingGrowth.{other_last}
 pub ran_begins : (pid : ℕ) → true ≡ begins pid deeds.Ran (entries.Ran pid 1)
 ran_begins pid = sym (ap (λ (b : Bool). b && 1 == 1) (eq_self pid))
 
-pub ran_at : (A : Inputs) (point : Point) (F G : FlatState) (last new : Last) (pid : ℕ) (did : Did) (b : Bool) → is_other last ≡ true → new ≡ last → IsAt A F last point
+pub ran_at : (A : Inputs) (point : Point) (F G : FlatState) (last new : Last) (pid : ℕ) (did : Did) (b : Bool) → is_other last ≡ true → new ≡ last
+    → IsAt A F last point
     → entries_of pid did ≡ entries_if (can_step F pid) (flat_step A F pid false) → G ≡ state_if (can_step F pid) F (flat_step A F pid false)
     → b ≡ begins pid did (entries.Ran pid 1)
     → IsVerdict A b G new (flat_entry A point (entries.Ran pid 1))
@@ -47,13 +48,15 @@ pub unit_of : (A : Inputs) (point : Point) (e u : Entry) → e ≡ u → units_w
 unit_of A point e u is one = ap (λ (x : Entry). flat_units A (Some point) (units_with x [])) is ∙ ap (flat_units A (Some point)) one ∙ units_one A point u
 
 -- one unit more of those that are all the same
-pub repeated_more : (A : Inputs) (o : Option Point) (u : Entry) (n : ℕ) → flat_units A o (repeated u (suc n) []) ≡ flat_units A (flat_units A o (repeated u n [])) (u ∷ [])
+pub repeated_more : (A : Inputs) (o : Option Point) (u : Entry) (n : ℕ)
+    → flat_units A o (repeated u (suc n) []) ≡ flat_units A (flat_units A o (repeated u n [])) (u ∷ [])
 unfolding flat_units
 repeated_more A None u n = refl
 repeated_more A (Some point) u zero = refl
 repeated_more A (Some point) u (suc n) = repeated_more A (flat_entry A point u) u n
 
-repeated_fails : (A : Inputs) (o : Option Point) (u : Entry) (n more : ℕ) → flat_units A o (repeated u n []) ≡ None → flat_units A o (repeated u (more + n) []) ≡ None
+repeated_fails : (A : Inputs) (o : Option Point) (u : Entry) (n more : ℕ) → flat_units A o (repeated u n []) ≡ None
+    → flat_units A o (repeated u (more + n) []) ≡ None
 unfolding flat_units
 repeated_fails A o u n zero h = subst (λ (k : ℕ). flat_units A o (repeated u k []) ≡ None) (let e : n ≡ zero + n = omega arith in e) h
 repeated_fails A o u n (suc more) h =
@@ -61,11 +64,13 @@ repeated_fails A o u n (suc more) h =
     (repeated_more A o u (more + n) ∙ ap (λ (p : Option Point). flat_units A p (u ∷ [])) (repeated_fails A o u n more h))
 
 -- no instruction leaves the point as it is
-pub ran_none : (A : Inputs) (F : FlatState) (last : Last) (point : Point) (pid : ℕ) → IsAt A F last point → IsVerdict A true F last (flat_units A (Some point) (units_with (entries.Ran pid 0) []))
+pub ran_none : (A : Inputs) (F : FlatState) (last : Last) (point : Point) (pid : ℕ) → IsAt A F last point
+    → IsVerdict A true F last (flat_units A (Some point) (units_with (entries.Ran pid 0) []))
 ran_none A F last point pid at = subst (λ (o : Option Point). IsVerdict A true F last o) (sym (units_none A (Some point))) at
 
 -- one more instruction is judged
-pub ran_next : (A : Inputs) (o : Option Point) (F G : FlatState) (last new : Last) (pid n : ℕ) (b : Bool) → IsVerdict A true F last (flat_units A o (units_with (entries.Ran pid n) []))
+pub ran_next : (A : Inputs) (o : Option Point) (F G : FlatState) (last new : Last) (pid n : ℕ) (b : Bool)
+    → IsVerdict A true F last (flat_units A o (units_with (entries.Ran pid n) []))
     → ((point : Point) → IsAt A F last point → IsVerdict A b G new (flat_entry A point (entries.Ran pid 1)))
     → IsVerdict A b G new (flat_units A o (units_with (entries.Ran pid (n + 1)) []))
 ran_next A o F G last new pid n b so next =
@@ -82,7 +87,8 @@ failed A F last None h = refl
 failed A F last (Some point) h = absurd h
 
 -- an instruction that doesn't run leaves the others none
-pub ran_fails : (A : Inputs) (o : Option Point) (F G : FlatState) (last new : Last) (pid n count : ℕ) → n ≤ count → IsVerdict A false F last (flat_units A o (units_with (entries.Ran pid n) []))
+pub ran_fails : (A : Inputs) (o : Option Point) (F G : FlatState) (last new : Last) (pid n count : ℕ) → n ≤ count
+    → IsVerdict A false F last (flat_units A o (units_with (entries.Ran pid n) []))
     → IsVerdict A false G new (flat_units A o (units_with (entries.Ran pid count) []))
 ran_fails A o F G last new pid n count few h =
     subst (λ (p : Option Point). IsVerdict A false G new p)

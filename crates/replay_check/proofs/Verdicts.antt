@@ -65,7 +65,8 @@ find_none test from (suc n) h =
     ap (λ (b : Bool). cond b (Some from) (find test (range_with_len (from + 1) n))) (h from (omega arith) (omega arith))
     ∙ find_none test (from + 1) n (λ k low high. h k (omega arith) (omega arith))
 
-find_first : (test : ℕ → Bool) (from n i : ℕ) → i < n → test (from + i) ≡ true → ((k : ℕ) → from ≤ k → k < from + i → test k ≡ false) → find test (range_with_len from n) ≡ Some (from + i)
+find_first : (test : ℕ → Bool) (from n i : ℕ) → i < n → test (from + i) ≡ true → ((k : ℕ) → from ≤ k → k < from + i → test k ≡ false)
+    → find test (range_with_len from n) ≡ Some (from + i)
 find_first test from zero i below this earlier = absurd (omega arith)
 find_first test from (suc n) zero below this earlier =
     let e : from + zero ≡ from = omega arith in
@@ -83,7 +84,8 @@ pub none_bad : (A : Inputs) (entries : List Entry) (n : ℕ) → length entries 
 none_bad A entries n all runs =
     find_none (λ (k : ℕ). not (is_run A (take k entries))) 0 (length entries + 1) (λ k low high. ap not (runs k (omega arith)))
 
-pub first_one_bad : (A : Inputs) (entries : List Entry) (n : ℕ) → n < length entries → AreRuns A entries n → is_run A (take (n + 1) entries) ≡ false → first_bad A entries ≡ Some (n + 1)
+pub first_one_bad : (A : Inputs) (entries : List Entry) (n : ℕ) → n < length entries → AreRuns A entries n → is_run A (take (n + 1) entries) ≡ false
+    → first_bad A entries ≡ Some (n + 1)
 first_one_bad A entries n below runs bad =
     let e : 0 + (n + 1) ≡ n + 1 = omega arith in
     find_first (λ (k : ℕ). not (is_run A (take k entries))) 0 (length entries + 1) (n + 1) (omega arith)
@@ -197,6 +199,7 @@ good_before A entries n i bad below =
     (λ k few. subst (λ (es : List Entry). is_run A es ≡ true) (sym (take_less entries k i few)) (bad.earlier k (omega arith)))
 
 -- entries that are a run and were judged are taken
-pub taken_as_run : (A : Inputs) (F : FlatState) (last : Last) (count : ℕ) (journal : List Entry) (b : Bool) → is_run A journal ≡ true → HasJudged A b F last count journal → HasTaken A F last count journal
+pub taken_as_run : (A : Inputs) (F : FlatState) (last : Last) (count : ℕ) (journal : List Entry) (b : Bool) → is_run A journal ≡ true
+    → HasJudged A b F last count journal → HasTaken A F last count journal
 taken_as_run A F last count journal true run h = h
 taken_as_run A F last count journal false run h = let e : true ≡ false = sym run ∙ h in absurd cc

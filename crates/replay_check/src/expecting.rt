@@ -168,7 +168,8 @@ impl<'a> Judge<'a> {
 
     // The next entry of a process, whose pieces found no place or not, or why it has none.
     fn next_of(&mut self, pid: u32, refused: bool) -> Result<Expected, NoMemory>
-        ensures expected { (A : Inputs) (point : Point) → A.images ≡ self.old.programs.now → refused_in pid self.old.last ≡ Some refused → IsAt A self.old.machine self.old.last point → IfOk result (λ expected. expected ≡ expected_of A point pid) }
+        ensures expected { (A : Inputs) (point : Point) → A.images ≡ self.old.programs.now → refused_in pid self.old.last ≡ Some refused
+            → IsAt A self.old.machine self.old.last point → IfOk result (λ expected. expected ≡ expected_of A point pid) }
         ensures verdict { (A : Inputs) (point : Point) → A.images ≡ self.old.programs.now → refused_in pid self.old.last ≡ Some refused → self.old.last ≡ Last.Other
             → IsAt A self.old.machine self.old.last point → IfOk result (λ expected. IsVerdict A (is_one expected) self.new.machine self.new.last (flat_entry A point (Ran pid 1))) }
         ensures programs { self.new.programs ≡ self.old.programs }
@@ -180,7 +181,8 @@ impl<'a> Judge<'a> {
 
     // How many of so many instructions of a process run.
     fn runs(&mut self, pid: u32, count: u32) -> Result<u32, NoMemory>
-        ensures runs { (A : Inputs) (point : Point) → A.images ≡ self.old.programs.now → IsAt A self.old.machine self.old.last point → IfOk result (RunsOnly A point pid count) }
+        ensures runs { (A : Inputs) (point : Point) → A.images ≡ self.old.programs.now → IsAt A self.old.machine self.old.last point
+            → IfOk result (RunsOnly A point pid count) }
         ensures few { IfOk result (λ ran. ran ≤ count) }
     {
         for ran in 0..count {
@@ -193,7 +195,8 @@ impl<'a> Judge<'a> {
 
     // The instructions that run of so many, and else the next entry of the process, where no step has begun.
     fn expected_free(&mut self, pid: u32, count: u32) -> Result<Expected, NoMemory>
-        ensures { (A : Inputs) (point : Point) → A.images ≡ self.old.programs.now → self.old.last ≡ Last.Other → IsAt A self.old.machine self.old.last point → IfOk result (IsExpected A point pid count) }
+        ensures { (A : Inputs) (point : Point) → A.images ≡ self.old.programs.now → self.old.last ≡ Last.Other
+            → IsAt A self.old.machine self.old.last point → IfOk result (IsExpected A point pid count) }
     {
         let expected = self.next_of(pid, false)?;
         if count == 0 {
@@ -211,7 +214,8 @@ impl<'a> Judge<'a> {
 
     // What the process that is due gives in place of an entry.
     fn expected(&mut self, entry: &Entry) -> Result<Option<Expected>, NoMemory>
-        ensures { (A : Inputs) (point : Point) → A.images ≡ self.old.programs.now → IsAt A self.old.machine self.old.last point → IfOk result (IsExpectedAt A point entry.now) }
+        ensures { (A : Inputs) (point : Point) → A.images ≡ self.old.programs.now → IsAt A self.old.machine self.old.last point
+            → IfOk result (IsExpectedAt A point entry.now) }
     {
         match self.last {
             Last::Other => match process_of_entry(entry) {
@@ -237,7 +241,8 @@ impl<'a> Judge<'a> {
 
     // What is expected in place of an entry behind these, which are the first and a run.
     fn expected_behind(&mut self, good: &[Entry], bad: &Entry) -> Result<Option<Expected>, NoMemory>
-        ensures { (A : Inputs) → A.images ≡ self.old.programs.now → HasTaken A self.old.machine self.old.last self.old.count [] → first_bad A good.now ≡ None → IfOk result (IsExpectedBehind A good.now bad.now) }
+        ensures { (A : Inputs) → A.images ≡ self.old.programs.now → HasTaken A self.old.machine self.old.last self.old.count []
+            → first_bad A good.now ≡ None → IfOk result (IsExpectedBehind A good.now bad.now) }
     {
         self.follow(good)?;
         match self.counted(bad) {
@@ -257,7 +262,8 @@ fn misfit_at(
 ) -> Result<Option<Misfit>, NoMemory>
     requires images { AreImageFiles images.now }
     requires first { AreNumbers (length images.now) first.now }
-    ensures { (A : Inputs) → A.images ≡ images_of images.now → A.first ≡ first.now → first_bad A entries.now ≡ Some number → IfOk result (IsExplained A entries.now) }
+    ensures { (A : Inputs) → A.images ≡ images_of images.now → A.first ≡ first.now → first_bad A entries.now ≡ Some number
+        → IfOk result (IsExplained A entries.now) }
 {
     let Some(index) = number.checked_sub(1) else {
         return Ok(None);

@@ -154,8 +154,10 @@ fn last_behind(pid: u32, did: Did) -> Last
 impl<'a> Judge<'a> {
     // One step of a process; nothing where it can't step.
     pub fn step(&mut self, pid: u32, refused: bool) -> Result<Did, NoMemory>
-        ensures after { (A : Inputs) → A.images ≡ self.old.programs.now → OnOk result (self.new.machine ≡ state_if (can_step self.old.machine pid) self.old.machine (flat_step A self.old.machine pid refused)) }
-        ensures entries { (A : Inputs) → A.images ≡ self.old.programs.now → IfOk result (λ did. entries_of pid did ≡ entries_if (can_step self.old.machine pid) (flat_step A self.old.machine pid refused)) }
+        ensures after { (A : Inputs) → A.images ≡ self.old.programs.now
+            → OnOk result (self.new.machine ≡ state_if (can_step self.old.machine pid) self.old.machine (flat_step A self.old.machine pid refused)) }
+        ensures entries { (A : Inputs) → A.images ≡ self.old.programs.now
+            → IfOk result (λ did. entries_of pid did ≡ entries_if (can_step self.old.machine pid) (flat_step A self.old.machine pid refused)) }
         ensures programs { self.new.programs ≡ self.old.programs }
         ensures last { self.new.last ≡ self.old.last }
     {
@@ -165,7 +167,8 @@ impl<'a> Judge<'a> {
     // Whether one instruction of a process is the next of a run.
     #[tactic(auto, using(crate::proofs::Running::ran_busy))]
     pub fn ran_once(&mut self, pid: u32) -> Result<bool, NoMemory>
-        ensures verdict { (A : Inputs) (point : Point) → A.images ≡ self.old.programs.now → IsAt A self.old.machine self.old.last point → IfOk result (λ ok. IsVerdict A ok self.new.machine self.new.last (flat_entry A point (Ran pid 1))) }
+        ensures verdict { (A : Inputs) (point : Point) → A.images ≡ self.old.programs.now → IsAt A self.old.machine self.old.last point
+            → IfOk result (λ ok. IsVerdict A ok self.new.machine self.new.last (flat_entry A point (Ran pid 1))) }
         ensures programs { self.new.programs ≡ self.old.programs }
     {
         if !self.is_free() {
@@ -201,7 +204,8 @@ impl<'a> Judge<'a> {
 
     #[tactic(auto, using(crate::proofs::JudgingGrowth::grown_busy))]
     fn grew(&mut self, pid: u32, pages: u32) -> Result<bool, NoMemory>
-        ensures verdict { (A : Inputs) (point : Point) → A.images ≡ self.old.programs.now → IsAt A self.old.machine self.old.last point → IfOk result (λ ok. IsVerdict A ok self.new.machine self.new.last (flat_entry A point (Grew pid pages))) }
+        ensures verdict { (A : Inputs) (point : Point) → A.images ≡ self.old.programs.now → IsAt A self.old.machine self.old.last point
+            → IfOk result (λ ok. IsVerdict A ok self.new.machine self.new.last (flat_entry A point (Grew pid pages))) }
         ensures programs { self.new.programs ≡ self.old.programs }
     {
         if !self.is_free() {
@@ -213,7 +217,8 @@ impl<'a> Judge<'a> {
 
     #[tactic(auto, using(crate::proofs::JudgingGrowth::slept_busy))]
     fn slept(&mut self, pid: u32) -> Result<bool, NoMemory>
-        ensures verdict { (A : Inputs) (point : Point) → A.images ≡ self.old.programs.now → IsAt A self.old.machine self.old.last point → IfOk result (λ ok. IsVerdict A ok self.new.machine self.new.last (flat_entry A point (Sleeps pid))) }
+        ensures verdict { (A : Inputs) (point : Point) → A.images ≡ self.old.programs.now → IsAt A self.old.machine self.old.last point
+            → IfOk result (λ ok. IsVerdict A ok self.new.machine self.new.last (flat_entry A point (Sleeps pid))) }
         ensures programs { self.new.programs ≡ self.old.programs }
     {
         if !self.is_free() {
@@ -225,7 +230,8 @@ impl<'a> Judge<'a> {
 
     #[tactic(auto, using(crate::proofs::JudgingWrites::wrote_busy))]
     fn wrote(&mut self, pid: u32, bytes: &[u8]) -> Result<bool, NoMemory>
-        ensures verdict { (A : Inputs) (point : Point) → A.images ≡ self.old.programs.now → IsAt A self.old.machine self.old.last point → IfOk result (λ ok. IsVerdict A ok self.new.machine self.new.last (flat_entry A point (Out pid bytes.now))) }
+        ensures verdict { (A : Inputs) (point : Point) → A.images ≡ self.old.programs.now → IsAt A self.old.machine self.old.last point
+            → IfOk result (λ ok. IsVerdict A ok self.new.machine self.new.last (flat_entry A point (Out pid bytes.now))) }
         ensures programs { self.new.programs ≡ self.old.programs }
     {
         if !self.is_free() {
@@ -239,7 +245,8 @@ impl<'a> Judge<'a> {
 
     #[tactic(auto, using(crate::proofs::JudgingGrowth::refused_at, crate::proofs::JudgingGrowth::refused_busy))]
     fn refused(&mut self, pid: u32) -> bool
-        ensures verdict { (A : Inputs) (point : Point) → IsAt A self.old.machine self.old.last point → IsVerdict A result self.new.machine self.new.last (flat_entry A point (Refused pid)) }
+        ensures verdict { (A : Inputs) (point : Point) → IsAt A self.old.machine self.old.last point
+            → IsVerdict A result self.new.machine self.new.last (flat_entry A point (Refused pid)) }
         ensures programs { self.new.programs ≡ self.old.programs }
     {
         if !self.is_free() {
@@ -268,7 +275,8 @@ impl<'a> Judge<'a> {
 
     #[tactic(auto, using(crate::proofs::JudgingOutcomes::ended_shut))]
     fn ended(&mut self, pid: u32, status: u32) -> Result<bool, NoMemory>
-        ensures verdict { (A : Inputs) (point : Point) → A.images ≡ self.old.programs.now → IsAt A self.old.machine self.old.last point → IfOk result (λ ok. IsVerdict A ok self.new.machine self.new.last (flat_entry A point (Ended pid status))) }
+        ensures verdict { (A : Inputs) (point : Point) → A.images ≡ self.old.programs.now → IsAt A self.old.machine self.old.last point
+            → IfOk result (λ ok. IsVerdict A ok self.new.machine self.new.last (flat_entry A point (Ended pid status))) }
         ensures programs { self.new.programs ≡ self.old.programs }
     {
         let Some(refused) = self.take_refused(pid) else {
@@ -353,7 +361,8 @@ impl<'a> Judge<'a> {
     // The verdict on these entries, which are the first.
     fn judge_all(&mut self, entries: &[Entry]) -> Result<Verdict, NoMemory>
         requires few { length entries.now < 2 ^ 32 }
-        ensures { (A : Inputs) → A.images ≡ self.old.programs.now → HasTaken A self.old.machine self.old.last self.old.count [] → IfOk result (λ verdict. verdict ≡ verdict_of (first_bad A entries.now)) }
+        ensures { (A : Inputs) → A.images ≡ self.old.programs.now → HasTaken A self.old.machine self.old.last self.old.count []
+            → IfOk result (λ verdict. verdict ≡ verdict_of (first_bad A entries.now)) }
     {
         for index in 0..entries.len() {
             if !self.accepts(&entries[index])? {

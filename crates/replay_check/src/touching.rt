@@ -71,7 +71,8 @@ impl<'a> Follower<'a> {
     // A step of a process whose instruction counts.
     fn count(&mut self, pid: u32) -> Result<(), NoMemory>
         ensures after { (A : Inputs) → A.images ≡ self.old.programs.now → OnOk result (self.new.machine ≡ state_if (can_step self.old.machine pid) self.old.machine (flat_step A self.old.machine pid (is_this self.old.refused pid))) }
-        ensures pages { (A : Inputs) → A.images ≡ self.old.programs.now → OnOk result (self.new.pages.items ≡ self.old.pages.items ++ touched A self.old.machine pid) }
+        ensures pages { (A : Inputs) → A.images ≡ self.old.programs.now
+            → OnOk result (self.new.pages.items ≡ self.old.pages.items ++ touched A self.old.machine pid) }
         ensures refused { self.new.refused ≡ None }
         ensures programs { self.new.programs ≡ self.old.programs }
     {
@@ -141,7 +142,8 @@ pub fn references(
 ) -> Result<Vec<Page>, NoMemory>
     requires images { AreImageFiles images.now }
     requires first { AreNumbers (length images.now) first.now }
-    ensures { (A : Inputs) → A.images ≡ images_of images.now → A.first ≡ first.now → first_bad A entries.now ≡ None → IfOk result (λ pages. pages.items ≡ references_of A entries.now) }
+    ensures { (A : Inputs) → A.images ≡ images_of images.now → A.first ≡ first.now → first_bad A entries.now ≡ None
+        → IfOk result (λ pages. pages.items ≡ references_of A entries.now) }
 {
     let programs = load_all(alloc, images)?;
     let machine = Machine::started(alloc, programs.as_slice(), first)?;

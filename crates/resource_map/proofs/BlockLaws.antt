@@ -13,7 +13,8 @@ length-marked free start n to h =
     length-append (take start free ++ replicate n to) (drop (start + n) free) ∙
     omega (arith, length-append (take start free) (replicate n to), length-take-le start free (omega arith), length-replicate n to, length-drop (start + n) free)
 
-pub is_free-marked_in : (free : List Bool) (start n : ℕ) (to : Bool) (b : ℕ) → start + n ≤ length free → start ≤ b → b < start + n → is_free (marked free start n to) b ≡ to
+pub is_free-marked_in : (free : List Bool) (start n : ℕ) (to : Bool) (b : ℕ) → start + n ≤ length free → start ≤ b → b < start + n
+    → is_free (marked free start n to) b ≡ to
 unfolding marked
 is_free-marked_in free start n to b h low high =
     let front = length-take-le start free (omega arith) in
@@ -23,7 +24,8 @@ is_free-marked_in free start n to b h low high =
     get_or-append_right (take start free) (replicate n to) start b false front low ∙
     get_or-replicate n (b - start) to false (omega arith)
 
-pub is_free-marked_out : (free : List Bool) (start n : ℕ) (to : Bool) (b : ℕ) → start + n ≤ length free → (b < start) ⊎ (start + n ≤ b) → is_free (marked free start n to) b ≡ is_free free b
+pub is_free-marked_out : (free : List Bool) (start n : ℕ) (to : Bool) (b : ℕ) → start + n ≤ length free → (b < start) ⊎ (start + n ≤ b)
+    → is_free (marked free start n to) b ≡ is_free free b
 unfolding marked
 is_free-marked_out free start n to b h (inl below) =
     let front = length-take-le start free (omega arith) in

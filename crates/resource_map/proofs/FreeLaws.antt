@@ -98,7 +98,8 @@ begins_at m [] size (suc at) d le b = le
 begins_at m (e ∷ es) size zero d le b = b (omega arith)
 begins_at m (e ∷ es) size (suc at) d le b = begins_at m es size at d le (λ lt. b (omega arith))
 
-pub end_of-take : (from : ℕ) (es : List Extent) (k : ℕ) (d : Extent) → k < length es → end_of from (take (suc k) es) ≡ (get_or es k d).start + (get_or es k d).length
+pub end_of-take : (from : ℕ) (es : List Extent) (k : ℕ) (d : Extent) → k < length es
+    → end_of from (take (suc k) es) ≡ (get_or es k d).start + (get_or es k d).length
 unfolding end_of
 end_of-take from [] k d lt = absurd (omega arith)
 end_of-take from (e ∷ es) zero d lt = refl

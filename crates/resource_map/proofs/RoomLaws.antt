@@ -91,7 +91,8 @@ has_room_gives free size n start e =
       free = λ b low high. all_pass_at free start n b rest.1 low high;
     }
 
-pub lowest_room_is : (free : ℕ → Bool) (size n s : ℕ) → 0 < n → HasRoom free size n s → ((t : ℕ) → HasRoom free size n t → s ≤ t) → lowest_room free size n ≡ Some s
+pub lowest_room_is : (free : ℕ → Bool) (size n s : ℕ) → 0 < n → HasRoom free size n s → ((t : ℕ) → HasRoom free size n t → s ≤ t)
+    → lowest_room free size n ≡ Some s
 unfolding lowest_room
 lowest_room_is free size n s some room least =
     lowest_is (has_room free size n) size s (let w = room.within in omega arith) (has_room_from free size n s room)

@@ -24,7 +24,8 @@ take_least bytes most = go (cases_lt (length bytes) most)
     go (inr long) = let k : min (length bytes) most ≡ most = omega arith in ap (λ (m : ℕ). take m bytes) k
 
 -- so many bytes of the front, as they were read
-pub front_of : (holds : Option (List NamedFile)) (list : List NamedFile) (id len most : ℕ) (front : List ℕ) → holds ≡ Some list → len ≡ length (bytes_at list id)
+pub front_of : (holds : Option (List NamedFile)) (list : List NamedFile) (id len most : ℕ) (front : List ℕ) → holds ≡ Some list
+    → len ≡ length (bytes_at list id)
     → length front ≡ min len most → HoldsRange holds id 0 front → front ≡ take most (bytes_at list id)
 front_of holds list id len most front told size count held =
     let here : front ≡ file_range (bytes_at list id) 0 (length front) = subst (λ (h : Option (List NamedFile)). HoldsRange h id 0 front) told held in
@@ -43,7 +44,8 @@ front_answers view (Err FileFault) holds list name id len most told place size h
 front_answers view (Err NoMemory) holds list name id len most told place size held count failure = tt
 
 -- a header and the rest behind it make the front of the file
-pub joined : (holds : Option (List NamedFile)) (list : List NamedFile) (id len : ℕ) (head bytes : List ℕ) → holds ≡ Some list → take 32 (bytes_at list id) ≡ head → take 32 bytes ≡ head
+pub joined : (holds : Option (List NamedFile)) (list : List NamedFile) (id len : ℕ) (head bytes : List ℕ) → holds ≡ Some list
+    → take 32 (bytes_at list id) ≡ head → take 32 bytes ≡ head
     → length bytes ≡ len → 32 ≤ len → HoldsRange holds id 32 (drop 32 bytes) → bytes ≡ take len (bytes_at list id)
 joined holds list id len head bytes told file front size above held =
     let whole = bytes_at list id in
@@ -71,7 +73,8 @@ not_told bytes (Ok image) reason e = absurd cc
 not_told bytes (Err other) reason e = let same : other ≡ reason = cc in ap (λ (x : ℕ). Err (NotImage x)) same
 
 -- a header that isn't read, or refuses the file, decides
-pub header_decides : (A C : Type 0) (view : A → Image) (whole : C → Image × List ℕ) (bytes : List ℕ) (r : Result Loaded ℕ) (unread : Unread) → IsOfFoundFile unread
+pub header_decides : (A C : Type 0) (view : A → Image) (whole : C → Image × List ℕ) (bytes : List ℕ) (r : Result Loaded ℕ) (unread : Unread)
+    → IsOfFoundFile unread
     → Answers view (facts_in r) (Err unread) → Answers whole (image_in bytes r) (Err unread)
 header_decides A C view whole bytes r Absent found answers = absurd found
 header_decides A C view whole bytes r (NotImage reason) found answers = not_told bytes r reason answers
@@ -92,7 +95,8 @@ header_counts A C (NotImage reason) open_old open_new page_old page_new same cou
 header_counts A C FileFault open_old open_new page_old page_new same counts = inl (counts, same)
 header_counts A C NoMemory open_old open_new page_old page_new same counts = (counts, same)
 
-pub judged_is : (bytes front : List ℕ) (r : Result Loaded ℕ) (facts : Image) → Is facts ≡ judged_of r → front ≡ take (file_length_of facts) bytes → image_in bytes r ≡ Ok (facts, front)
+pub judged_is : (bytes front : List ℕ) (r : Result Loaded ℕ) (facts : Image) → Is facts ≡ judged_of r → front ≡ take (file_length_of facts) bytes
+    → image_in bytes r ≡ Ok (facts, front)
 judged_is bytes front (Ok image) facts e same =
     let is : image.facts ≡ facts = let other : facts ≡ image.facts = cc in sym other in
     ap (λ (i : Image). Ok (i, take (file_length_of i) bytes)) is ∙ ap (λ (xs : List ℕ). Ok (facts, xs)) (sym same)
@@ -104,7 +108,8 @@ told_image bytes (Ok image) facts e = refl
 told_image bytes (Err reason) facts e = absurd cc
 
 -- what is read behind the header of an image fails in order
-pub rest_fails : (A C : Type 0) {B : Type 0} (told : Result B Unread) (unread : Unread) (open_old open_new page_old page_between page_new : ℕ) → IsTrue (is_ok told) → open_new ≡ open_old → page_between ≡ page_old
+pub rest_fails : (A C : Type 0) {B : Type 0} (told : Result B Unread) (unread : Unread) (open_old open_new page_old page_between page_new : ℕ)
+    → IsTrue (is_ok told) → open_new ≡ open_old → page_between ≡ page_old
     → CountsFault {A = A} (Err unread) page_between page_new → FailsInOrder {A = C} told (Err unread) open_old open_new page_old page_new
 rest_fails A C told Absent open_old open_new page_old page_between page_new ok open_same page_same counts = tt
 rest_fails A C told (NotImage reason) open_old open_new page_old page_between page_new ok open_same page_same counts = tt
@@ -146,25 +151,29 @@ holds_behind (Err e) holds id xs ys above long held = tt
 holds_behind (Ok x) holds id xs ys above long held = subst (λ (zs : List ℕ). HoldsRange holds id 32 zs) (sym (behind_mid 32 (length xs) xs ys refl above long)) held
 
 -- the header stands in front of the zeros
-resized_head : {A E : Type 0} (r : Result A E) (v : A) (n : ℕ) (head zeros items : List ℕ) → r ≡ Ok v → items ≡ (if is_ok r then take n head ++ zeros else head) → length head ≡ 32 → 32 ≤ n → take 32 items ≡ head
+resized_head : {A E : Type 0} (r : Result A E) (v : A) (n : ℕ) (head zeros items : List ℕ) → r ≡ Ok v
+    → items ≡ (if is_ok r then take n head ++ zeros else head) → length head ≡ 32 → 32 ≤ n → take 32 items ≡ head
 resized_head (Ok x) v n head zeros items good same size above =
     ap (take 32) (same ∙ ap (λ (xs : List ℕ). xs ++ zeros) (take_all n head (omega (arith, size, above))))
     ∙ take-append-le 32 head zeros (omega (arith, size)) ∙ take_all 32 head (omega (arith, size))
 resized_head (Err e) v n head zeros items good same size above = absurd cc
 
 -- and in front of what was read behind it
-pub head_kept : {A E : Type 0} (r : Result A E) (v : A) (n m : ℕ) (head zeros items old new more : List ℕ) → r ≡ Ok v → items ≡ (if is_ok r then take n head ++ zeros else head) → length head ≡ 32 → 32 ≤ n
+pub head_kept : {A E : Type 0} (r : Result A E) (v : A) (n m : ℕ) (head zeros items old new more : List ℕ) → r ≡ Ok v
+    → items ≡ (if is_ok r then take n head ++ zeros else head) → length head ≡ 32 → 32 ≤ n
     → old ≡ items → take 32 new ≡ take 32 old → 32 ≤ m → 32 ≤ length new → take 32 (take m (new ++ more)) ≡ head
 head_kept r v n m head zeros items old new more good same size above is kept within long =
     take-take 32 m (new ++ more) within ∙ take-append-le 32 new more long ∙ kept ∙ ap (take 32) is ∙ resized_head r v n head zeros items good same size above
 
 -- the header that was read is the file's
-pub header_of_file : (holds : Option (List NamedFile)) (list : List NamedFile) (id len : ℕ) (head : List ℕ) → holds ≡ Some list → len ≡ length (bytes_at list id)
+pub header_of_file : (holds : Option (List NamedFile)) (list : List NamedFile) (id len : ℕ) (head : List ℕ) → holds ≡ Some list
+    → len ≡ length (bytes_at list id)
     → length head ≡ min len 32 → HoldsRange holds id 0 head → take 32 (bytes_at list id) ≡ head
 header_of_file holds list id len head told size count held = sym (front_of holds list id len 32 head told size count held)
 
 -- and where it is whole, so many bytes of the file
-pub front_of_header : (holds : Option (List NamedFile)) (list : List NamedFile) (id : ℕ) (head : List ℕ) → holds ≡ Some list → length head ≡ 32 → HoldsRange holds id 0 head → take 32 (bytes_at list id) ≡ head
+pub front_of_header : (holds : Option (List NamedFile)) (list : List NamedFile) (id : ℕ) (head : List ℕ) → holds ≡ Some list → length head ≡ 32
+    → HoldsRange holds id 0 head → take 32 (bytes_at list id) ≡ head
 front_of_header holds list id head told size held =
     let here : head ≡ file_range (bytes_at list id) 0 (length head) = subst (λ (h : Option (List NamedFile)). HoldsRange h id 0 head) told held in
     ap (λ (n : ℕ). take n (bytes_at list id)) (sym size) ∙ sym here

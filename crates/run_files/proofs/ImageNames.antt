@@ -67,7 +67,8 @@ among_others first name (x ∷ xs) differs =
 abbrev distinct_with : Bool → List (List ℕ) → List ℕ → List (List ℕ)
 distinct_with there names name = if there then names else names ++ name ∷ []
 
-distinct_step : (first name : List ℕ) (names : List (List ℕ)) (like there : Bool) → bytes_eq first name ≡ like → list_any (λ other. bytes_eq other name) names ≡ there
+distinct_step : (first name : List ℕ) (names : List (List ℕ)) (like there : Bool) → bytes_eq first name ≡ like
+    → list_any (λ other. bytes_eq other name) names ≡ there
     → first ∷ filter (λ other. not (bytes_eq other first)) (distinct_with there names name)
     ≡ distinct_with (like || list_any (λ other. bytes_eq other name) (filter (λ other. not (bytes_eq other first)) names)) (first ∷ filter (λ other. not (bytes_eq other first)) names) name
 distinct_step first name names true true e has = refl
@@ -80,14 +81,16 @@ distinct_step first name names false false e has =
     rw (among_others first name names e, has)
     (ap (λ (xs : List (List ℕ)). first ∷ xs) (filter-append (λ (other : List ℕ). not (bytes_eq other first)) names (name ∷ []) ∙ rw (unlike first name e) refl))
 
-distinct_more : (names : List (List ℕ)) (name : List ℕ) → distinct (names ++ name ∷ []) ≡ distinct_with (list_any (λ other. bytes_eq other name) (distinct names)) (distinct names) name
+distinct_more : (names : List (List ℕ)) (name : List ℕ)
+    → distinct (names ++ name ∷ []) ≡ distinct_with (list_any (λ other. bytes_eq other name) (distinct names)) (distinct names) name
 distinct_more [] name = refl
 distinct_more (first ∷ names) name =
     ap (λ (xs : List (List ℕ)). first ∷ filter (λ other. not (bytes_eq other first)) xs) (distinct_more names name)
     ∙ distinct_step first name (distinct names) (bytes_eq first name) (list_any (λ other. bytes_eq other name) (distinct names)) refl refl
 
 -- the names of the words so far, and of one more
-pub names_grow : (names names' words : List (Bor (List ℕ))) (i : ℕ) (d name : Bor (List ℕ)) (there : Bool) → i < length words → name.now ≡ name_in (get_or words i d).now
+pub names_grow : (names names' words : List (Bor (List ℕ))) (i : ℕ) (d name : Bor (List ℕ)) (there : Bool) → i < length words
+    → name.now ≡ name_in (get_or words i d).now
     → there ≡ list_any (λ (other : Bor (List ℕ)). bytes_eq other.now name.now) names → names' ≡ (if there then names else names ++ name ∷ [])
     → map (λ (other : Bor (List ℕ)). other.now) names ≡ image_names (map (λ (word : Bor (List ℕ)). word.now) (take i words))
     → map (λ (other : Bor (List ℕ)). other.now) names' ≡ image_names (map (λ (word : Bor (List ℕ)). word.now) (take (i + 1) words))

@@ -39,7 +39,8 @@ fn is_among(names: &[&str], name: &str) -> bool
 /// which they first appear. A word is a name, or one behind a `=`.
 pub fn image_names<'a>(alloc: Global, words: &[&'a str]) -> Result<Vec<&'a str>, AllocError>
     ensures few { IfOk result (λ names. length names.items ≤ length words.now) }
-    ensures short { (most : ℕ) → All (λ word. length (name_in word.now) < most) words.now → IfOk result (λ names. All (λ name. length name.now < most) names.items) }
+    ensures short { (most : ℕ) → All (λ word. length (name_in word.now) < most) words.now
+        → IfOk result (λ names. All (λ name. length name.now < most) names.items) }
     ensures exact { IfOk result (λ names. map (λ name. name.now) names.items ≡ image_names (map (λ word. word.now) words.now)) }
 {
     let mut names = Vec::new(alloc);

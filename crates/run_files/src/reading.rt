@@ -57,7 +57,8 @@ pub fn read_whole<F: Files>(
     name: &str,
     most: u64,
 ) -> Result<Option<Vec<u8>>, Unread>
-    ensures answers { (list : List NamedFile) → F.holds files.old ≡ Some list → Answers (option_map (λ bytes. bytes.items)) (whole_told list name.now most) result }
+    ensures answers { (list : List NamedFile) → F.holds files.old ≡ Some list
+        → Answers (option_map (λ bytes. bytes.items)) (whole_told list name.now most) result }
     ensures size { IfOk result (λ read. IfSome read (λ bytes. length bytes.items ≤ most)) }
     ensures error { IfErr result IsOfAnyFile }
     ensures holds { F.holds files.new ≡ F.holds files.old }

@@ -145,7 +145,8 @@ unfolding place_all
 none_found A hs found ws e h = ok_same hs found (ap (place_all A.swap_blocks hs) (sym e) ∙ h)
 
 -- what is held behind the entry
-pub held_is : (A : Inputs) (s : State) (pid : ℕ) (u : Entry) (q : Process) (t : Space) (found : Holdings) → Ends u → process_of_entry u ≡ Some pid → process_of s.point.flat pid ≡ Some q
+pub held_is : (A : Inputs) (s : State) (pid : ℕ) (u : Entry) (q : Process) (t : Space) (found : Holdings) → Ends u → process_of_entry u ≡ Some pid
+    → process_of s.point.flat pid ≡ Some q
     → q.holding ≡ Holds t → Suits (u ∷ []) (step_at A s.point pid).change
     → place_all A.swap_blocks s.holdings (change_wanted A.images s.point.flat t (step_at A s.point pid).change) ≡ Ok found
     → held_entry A s.point u s.holdings ≡ given_up s.point.flat (step_at A s.point pid).after pid t (step_at A s.point pid).change found
@@ -187,7 +188,8 @@ held_is A s pid u q t found e o f h suits pieces = go u e o suits
     go (entries.Owners a b c d) e o k = absurd cc
 
 -- the pieces of a step that isn't refused are found
-pub found_pieces : (A : Inputs) (s : State) (pid : ℕ) (q : Process) (t : Space) → can_step s.point.flat pid ≡ true → process_of s.point.flat pid ≡ Some q → q.holding ≡ Holds t → must_refuse A s pid ≡ false
+pub found_pieces : (A : Inputs) (s : State) (pid : ℕ) (q : Process) (t : Space) → can_step s.point.flat pid ≡ true
+    → process_of s.point.flat pid ≡ Some q → q.holding ≡ Holds t → must_refuse A s pid ≡ false
     → (is_refused s.point.last pid ≡ true → change_wanted A.images s.point.flat t (step_at A s.point pid).change ≡ [])
     → (found : Holdings) × (place_all A.swap_blocks s.holdings (change_wanted A.images s.point.flat t (step_at A s.point pid).change) ≡ Ok found)
 unfolding asks place_all
@@ -216,7 +218,8 @@ found_pieces A s pid q t c f h refuse none = go (is_refused s.point.last pid) re
         let x = got (place_all A.swap_blocks s.holdings (asks A s.point.flat pid)) (fit false e refl) in
         (x.0, ap (λ (b : Bool). place_all A.swap_blocks s.holdings (change_wanted A.images s.point.flat t (change_at b))) e ∙ ap (place_all A.swap_blocks s.holdings) (sym asked_is) ∙ x.1)
 
-pub settled_when : (A : Inputs) (s : State) (pid : ℕ) (q : Process) (t : Space) → process_of s.point.flat pid ≡ Some q → q.holding ≡ Holds t → must_settle A s pid ≡ false
+pub settled_when : (A : Inputs) (s : State) (pid : ℕ) (q : Process) (t : Space) → process_of s.point.flat pid ≡ Some q → q.holding ≡ Holds t
+    → must_settle A s pid ≡ false
     → loses_pages t (is_borrower s.point.flat.processes pid) (step_at A s.point pid).change ≡ true → is_settled s.place t.sid ≡ true
 settled_when A s pid q t f h settle l = got (settled s.point.flat s.place pid) refl
   where
@@ -263,7 +266,8 @@ stepped_form A s u h x n = go (step_form A s.point.flat h.pid (is_refused s.poin
     go (Missed e) = absurd (c.some e)
     go (Came f) = f
 
-pub stepped_placed : (A : Inputs) (s : State) (u : Entry) → ImagesFit A.images → ExecsFit A → IsNumbered s.point.flat → LendsStand s.point.flat → (h : Stepped A s u)
+pub stepped_placed : (A : Inputs) (s : State) (u : Entry) → ImagesFit A.images → ExecsFit A → IsNumbered s.point.flat → LendsStand s.point.flat
+    → (h : Stepped A s u)
     → Placed A s.point.flat s.place s.holdings → Placed A (after A s u).point.flat (after A s u).place (after A s u).holdings
 stepped_placed A s u images execs numbers lenders h st =
     subst (λ (x : FlatState). Placed A x (after A s u).place (after A s u).holdings) (sym (stepped_flat A s u h))

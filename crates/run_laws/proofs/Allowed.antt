@@ -68,13 +68,15 @@ pub forced_allowed : (p : Placement) (ts : List Transfer) → p.transfers ≡ ts
 forced_allowed p [] e = record { can = tt; shared = tt; begins = tt; leaves = tt; finds = tt }
 forced_allowed p (t ∷ ts) e = done_allowed p (some_length p.transfers t ts e)
 
-pub forced_few : (locked : List Page) (at : ℕ) (p : Placement) (ts : List Transfer) → p.transfers ≡ ts → length p.transfers ≤ 16 → length (place_entry locked at p (force_entry ts)).transfers ≤ 16
+pub forced_few : (locked : List Page) (at : ℕ) (p : Placement) (ts : List Transfer) → p.transfers ≡ ts → length p.transfers ≤ 16
+    → length (place_entry locked at p (force_entry ts)).transfers ≤ 16
 forced_few locked at p [] e l = let n = entry_count locked at p (entries.Hands 1) in let k = ap length e in omega arith
 forced_few locked at p (t ∷ ts) e l = let n = done_count p in omega arith
 
 -- Serving a page.
 
-pub served_allowed : (p : Placement) (q : Page) → OwnsFrames p → DueStand p → IsThere p q → IsShared p q → NotDue p.due q → is_valid (state_of p q) ≡ false → IsAllowed p (serve_entry p q)
+pub served_allowed : (p : Placement) (q : Page) → OwnsFrames p → DueStand p → IsThere p q → IsShared p q → NotDue p.due q
+    → is_valid (state_of p q) ≡ false → IsAllowed p (serve_entry p q)
 served_allowed p q o d there shared n v = state (state_of p q) refl v
   where
     read : (full : Bool) → is_full p ≡ full → 0 < length p.free → CanEnter p q → IsAllowed p (read_entry_if p q full)
@@ -108,7 +110,8 @@ served_allowed p q o d there shared n v = state (state_of p q) refl v
     state Unfilled e v = feed Unfilled p.free e refl refl
     state OnSwap e v = feed OnSwap p.free e refl refl
 
-pub served_few : (locked : List Page) (at : ℕ) (p : Placement) (q : Page) → length p.transfers ≤ 16 → length (place_entry locked at p (serve_entry p q)).transfers ≤ 16
+pub served_few : (locked : List Page) (at : ℕ) (p : Placement) (q : Page) → length p.transfers ≤ 16
+    → length (place_entry locked at p (serve_entry p q)).transfers ≤ 16
 served_few locked at p q l = state (state_of p q)
   where
     finish : length (done p).transfers ≤ 16
@@ -167,10 +170,12 @@ fill_allowed p d ds e h s once make = go p.free refl
 pub start_allowed : (p : Placement) (q : Page) (ds : List Due) → p.due ≡ Start q ∷ ds → DueStand p → EachOnce p.due → IsAllowed p (fill_unit p (entries.Zero q))
 start_allowed p q ds h s once = fill_allowed p (Start q) ds (entries.Zero q) h s once (λ u i l c sh n st x. subst (IsAllowed p) (sym i) (record { can = c; shared = sh; begins = tt; leaves = n; finds = (l, st, x) }))
 
-pub copy_allowed : (p : Placement) (q parent : Page) (ds : List Due) → p.due ≡ CopyOf q parent ∷ ds → DueStand p → EachOnce p.due → IsAllowed p (fill_unit p (entries.Copy q))
+pub copy_allowed : (p : Placement) (q parent : Page) (ds : List Due) → p.due ≡ CopyOf q parent ∷ ds → DueStand p → EachOnce p.due
+    → IsAllowed p (fill_unit p (entries.Copy q))
 copy_allowed p q parent ds h s once = fill_allowed p (CopyOf q parent) ds (entries.Copy q) h s once (λ u i l c sh n st x. subst (IsAllowed p) (sym i) (record { can = c; shared = sh; begins = tt; leaves = n; finds = (l, st) }))
 
-pub fill_few : (locked : List Page) (at : ℕ) (p : Placement) (e : Entry) → length p.transfers ≤ 16 → length (place_entry locked at p e).transfers ≤ 16 → length (place_entry locked at p (fill_unit p e)).transfers ≤ 16
+pub fill_few : (locked : List Page) (at : ℕ) (p : Placement) (e : Entry) → length p.transfers ≤ 16 → length (place_entry locked at p e).transfers ≤ 16
+    → length (place_entry locked at p (fill_unit p e)).transfers ≤ 16
 fill_few locked at p e l k = go p.free
   where
     go : (fr : List ℕ) → length (place_entry locked at p (fill_by p e fr)).transfers ≤ 16

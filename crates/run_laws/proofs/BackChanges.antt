@@ -52,7 +52,8 @@ pub record Told (A : Inputs) (l : Kernel) (after : FlatState) : Type 0 where
   pub tables : SameTables l after
   pub stands : Stands A.images l after
 
-pub back_told : (A : Inputs) (k : Kernel) (flat : FlatState) (pid : ℕ) (regs : Regs) (e : Entry) (q m : Process) (s : Space) (change : Change) → GivesBack change → ImagesFit A.images → IsNumbered flat
+pub back_told : (A : Inputs) (k : Kernel) (flat : FlatState) (pid : ℕ) (regs : Regs) (e : Entry) (q m : Process) (s : Space) (change : Change)
+    → GivesBack change → ImagesFit A.images → IsNumbered flat
     → process_of flat pid ≡ Some q → q.holding ≡ Holds s → IsLender flat pid s.sid m
     → is_out k.place pid ≡ false → k.place.due ≡ [] → EntersImage A.images change → SameTables k flat → Stands A.images k flat
     → Told A (change_step (facts_of A.images) (pass_step k pid m.pid) pid regs e change) (apply_change A.images flat pid regs change)
@@ -68,12 +69,14 @@ pub record Lands (A : Inputs) (k : Kernel) (pid sid : ℕ) (e : Entry) (change :
   pub holdings : l.holdings ≡ holdings_after k.holdings k.place l.place pid sid true change
   pub journal : l.journal ≡ append k.journal e
 
-pub lands_any : (A : Inputs) (k : Kernel) (pid : ℕ) (sid : ℕ) (e : Entry) (change : Change) (l : Kernel) → GivesBack change → Lands A k pid 0 e change l → Lands A k pid sid e change l
+pub lands_any : (A : Inputs) (k : Kernel) (pid : ℕ) (sid : ℕ) (e : Entry) (change : Change) (l : Kernel) → GivesBack change
+    → Lands A k pid 0 e change l → Lands A k pid sid e change l
 lands_any A k pid sid e (Exec image top) l gb x = record { place = x.place; holdings = x.holdings; journal = x.journal }
 lands_any A k pid sid e (End status) l gb x = record { place = x.place; holdings = x.holdings; journal = x.journal }
 lands_any A k pid sid e _ l gb x = absurd gb
 
-pub back_lands : (A : Inputs) (k : Kernel) (flat : FlatState) (pid : ℕ) (regs : Regs) (e : Entry) (q m : Process) (s : Space) (change : Change) (a : Borrowing k flat pid q m s) → GivesBack change
+pub back_lands : (A : Inputs) (k : Kernel) (flat : FlatState) (pid : ℕ) (regs : Regs) (e : Entry) (q m : Process) (s : Space) (change : Change) (a : Borrowing k flat pid q m s)
+    → GivesBack change
     → Lands A k pid s.sid e change (change_step (facts_of A.images) (pass_step k pid m.pid) pid regs e change)
 back_lands A k flat pid regs e q m s change a gb =
     let g : Stepping k flat pid q s = a.step in
@@ -83,7 +86,8 @@ back_lands A k flat pid regs e q m s change a gb =
     (subst (Lands A k pid 0 e change) (sym (step_is (facts_of A.images) k1 pid regs e change (record g.proc { life = New }) New (back_proc k flat pid q m s a) refl))
     (subst (λ (n : ℕ). Lands A k n 0 e change (by_life (facts_of A.images) k1 (record g.proc { regs = regs; life = New }) New e change)) g.pid_is (record { place = refl; holdings = refl; journal = refl }))))
 
-pub asks_same : (images : List Image) (k l : Kernel) (pid : ℕ) (change : Change) → GivesBack change → l.place ≡ k.place → l.next_sid ≡ k.next_sid → asked images l pid change ≡ asked images k pid change
+pub asks_same : (images : List Image) (k l : Kernel) (pid : ℕ) (change : Change) → GivesBack change → l.place ≡ k.place → l.next_sid ≡ k.next_sid
+    → asked images l pid change ≡ asked images k pid change
 asks_same images k l pid (Exec image top) gb p n = ap (λ (x : Placement). Rattle.kernel_model.specs.Asks.image_asked x l.next_sid image (facts_numbered images image)) p ∙ ap (λ (m : ℕ). Rattle.kernel_model.specs.Asks.image_asked k.place m image (facts_numbered images image)) n
 asks_same images k l pid (End status) gb p n = refl
 asks_same images k l pid _ gb p n = absurd gb

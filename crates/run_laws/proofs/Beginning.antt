@@ -65,7 +65,8 @@ assoc [] ys zs = refl
 assoc (x ∷ xs) ys zs = ap (λ (l : List Wanted). x ∷ l) (assoc xs ys zs)
 
 -- one process's pieces, as the flat state and as the placement has them
-first_same : (images : List NamedImage) (p : Placement) (earlier : List ℕ) (pid n : ℕ) (named : NamedImage) (rest : List Wanted) → image_numbered images n ≡ Some named
+first_same : (images : List NamedImage) (p : Placement) (earlier : List ℕ) (pid n : ℕ) (named : NamedImage) (rest : List Wanted)
+    → image_numbered images n ≡ Some named
     → 2 * length (slots_of p (pages.Text n 0)) ≡ 2 * text_pages_of named.image.facts
     → first_wanted images (contains earlier n) pid n ++ rest
     ≡ text_asked (times n earlier) n (2 * length (slots_of p (pages.Text n 0))) ++ (wanted (owners.Data pid) (pieces (2 * data_pages_of named.image.facts)) ++ (wanted (owners.Stack pid) (pieces 2) ++ (wanted (owners.U pid) (u_pieces 2) ++ rest)))
@@ -110,7 +111,8 @@ first_joined A p earlier pid (n ∷ ns) hs found there sizes h =
 
 -- Who lives.
 
-pub started_lives : (images : List NamedImage) (ns : List ℕ) (pid n : ℕ) → FirstThere images ns → lives (map kept_of (start_processes images pid ns)) n ≡ is_started pid (starting images ns) n
+pub started_lives : (images : List NamedImage) (ns : List ℕ) (pid n : ℕ) → FirstThere images ns
+    → lives (map kept_of (start_processes images pid ns)) n ≡ is_started pid (starting images ns) n
 started_lives images [] pid n h = refl
 started_lives images (m ∷ ns) pid n h =
     ap (λ (o : Option NamedImage). lives (map kept_of (start_if pid m o ++ start_processes images (pid + 1) ns)) n) h.0.1

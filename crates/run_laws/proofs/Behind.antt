@@ -89,7 +89,8 @@ pub record Whole (A : Inputs) (s : State) (k : Kernel) (u : Entry) (image : List
   pub written : Mid A (apply_writes s.point.flat h.pid (step_at A s.point h.pid).writes) (written_step A s k h.pid) image
   pub taken : Coupled (taken_step A s k h.pid) A.images image (apply_writes s.point.flat h.pid (step_at A s.point h.pid).writes)
 
-pub step_reaches : (A : Inputs) (s : State) (k : Kernel) (image : List ℕ) (u : Entry) → ImagesFit A.images → ExecsFit A → IsNumbered s.point.flat → LendsStand s.point.flat → StandsAt A s k image
+pub step_reaches : (A : Inputs) (s : State) (k : Kernel) (image : List ℕ) (u : Entry) → ImagesFit A.images → ExecsFit A → IsNumbered s.point.flat
+    → LendsStand s.point.flat → StandsAt A s k image
     → (h : Stepped A s u) → AllValid s.place (touched A s.point.flat h.pid)
     → Whole A s k u image h
 step_reaches A s k image u images execs numbers lenders at h valid = record {

@@ -41,7 +41,8 @@ kept_numbers [] = refl
 kept_numbers (p ∷ ps) = ap (λ (l : List ℕ). p.pid ∷ l) (kept_numbers ps)
 
 -- a machine with the tables of a flat state
-pub from_machine : (A : Inputs) (flat : FlatState) (k : Kernel) → Sound A.swap_blocks k → Numbered k → SameTables k flat → Stands A.images k flat → DueStand k.place → EachOnce k.place.due
+pub from_machine : (A : Inputs) (flat : FlatState) (k : Kernel) → Sound A.swap_blocks k → Numbered k → SameTables k flat → Stands A.images k flat
+    → DueStand k.place → EachOnce k.place.due
     → HaveParts k.place.transfers → length k.place.holds ≡ A.frames → Placed A flat k.place k.holdings
 from_machine A flat k so n t st d o h f =
     let w : OneOwner A.swap_blocks (lives k.processes) k.place k.holdings = so.owner in

@@ -33,7 +33,8 @@ byte_there bytes i =
     let whole : 1024 * (i / 1024) + i % 1024 ≡ i = omega arith in
     sym (get_or-take 1024 (drop (1024 * (i / 1024)) bytes) (i % 1024) 0 (omega arith) ∙ get_or-drop (1024 * (i / 1024)) bytes (i % 1024) 0 ∙ ap (λ n. get_or bytes n 0) whole)
 
-pub byte_read : (A : Inputs) (s : State) (k : Kernel) (image : List ℕ) (pid : ℕ) (q : Process) (x : Space) (spot : Spot) (v : Page) (f : ℕ) → IsRun A s → StandsAt A s k image
+pub byte_read : (A : Inputs) (s : State) (k : Kernel) (image : List ℕ) (pid : ℕ) (q : Process) (x : Space) (spot : Spot) (v : Page) (f : ℕ)
+    → IsRun A s → StandsAt A s k image
     → process_of s.point.flat pid ≡ Some q → q.holding ≡ Holds x → page_read x spot ≡ Some v → state_of k.place v ≡ Valid f
     → byte_at x spot ≡ reads.Is (slice_index (frame_bytes k f) (place_in spot))
 byte_read A s k image pid q x spot v f run at here holds named valid = go spot named

@@ -42,19 +42,22 @@ kept_twice a b (h ∷ hs) = go (same_owner h.owner a) (same_owner h.owner b) ref
     go false true e f ih = ih ∙ sym (ap (λ (z : Bool). cond z (kept b 0 (kept a 0 hs)) (h ∷ kept b 0 (kept a 0 hs))) f)
     go false false e f ih = ap (λ (z : Bool). cond z (kept a 0 (kept b 0 hs)) (h ∷ kept a 0 (kept b 0 hs))) e ∙ ap (λ (l : List Held). h ∷ l) ih ∙ sym (ap (λ (z : Bool). cond z (kept b 0 (kept a 0 hs)) (h ∷ kept b 0 (kept a 0 hs))) f)
 
-text_back : (shared : Bool) (left image : ℕ) (hs : Holdings) → (left ≡ 0 → shared ≡ false) → ((m : ℕ) → left ≡ suc m → shared ≡ true) → without_text shared image hs ≡ text_given_back left hs image
+text_back : (shared : Bool) (left image : ℕ) (hs : Holdings) → (left ≡ 0 → shared ≡ false) → ((m : ℕ) → left ≡ suc m → shared ≡ true)
+    → without_text shared image hs ≡ text_given_back left hs image
 text_back shared zero image hs a b = ap (λ (x : Bool). without_text x image hs) (a refl)
 text_back shared (suc m) image hs a b = ap (λ (x : Bool). without_text x image hs) (b m refl)
 
 -- what a space gives back, by the flat state and by the placement
-own_back : (borrowed : Bool) (after : FlatState) (s : Space) (hs : Holdings) (image left : ℕ) → s.image ≡ image → (borrowed ≡ false → (left ≡ 0 → is_shared after s.image ≡ false) × ((m : ℕ) → left ≡ suc m → is_shared after s.image ≡ true))
+own_back : (borrowed : Bool) (after : FlatState) (s : Space) (hs : Holdings) (image left : ℕ) → s.image ≡ image
+    → (borrowed ≡ false → (left ≡ 0 → is_shared after s.image ≡ false) × ((m : ℕ) → left ≡ suc m → is_shared after s.image ≡ true))
     → without_own borrowed after s hs ≡ given_back_unless borrowed hs s.sid image left
 own_back true after s hs image left i h = refl
 own_back false after s hs image left i h =
     text_back (is_shared after s.image) left s.image (without_owner (owners.Stack s.sid) (without_owner (owners.Data s.sid) hs)) (h refl).0 (h refl).1
     ∙ ap (text_given_back left (kept (owners.Stack s.sid) 0 (kept (owners.Data s.sid) 0 hs))) i
 
-u_back : (borrowed : Bool) (hs : Holdings) (sid image left pid : ℕ) → given_back_unless borrowed (kept (owners.U pid) 0 hs) sid image left ≡ kept (owners.U pid) 0 (given_back_unless borrowed hs sid image left)
+u_back : (borrowed : Bool) (hs : Holdings) (sid image left pid : ℕ)
+    → given_back_unless borrowed (kept (owners.U pid) 0 hs) sid image left ≡ kept (owners.U pid) 0 (given_back_unless borrowed hs sid image left)
 u_back true hs sid image left pid = refl
 u_back false hs sid image left pid = text left
   where
@@ -69,7 +72,8 @@ map_count : {A : Type 0} {B : Type 0} (f : A → B) (xs : List A) → length (ma
 map_count f [] = refl
 map_count f (x ∷ xs) = ap suc (map_count f xs)
 
-pub given_same : (flat after : FlatState) (pid : ℕ) (s : Space) (change : Change) (hs : Holdings) (p q : Placement) (borrowed : Bool) → is_borrower flat.processes pid ≡ borrowed → image_of p s.sid ≡ s.image
+pub given_same : (flat after : FlatState) (pid : ℕ) (s : Space) (change : Change) (hs : Holdings) (p q : Placement) (borrowed : Bool)
+    → is_borrower flat.processes pid ≡ borrowed → image_of p s.sid ≡ s.image
     → (borrowed ≡ false → (sharers q (image_of p s.sid) ≡ 0 → is_shared after s.image ≡ false) × ((m : ℕ) → sharers q (image_of p s.sid) ≡ suc m → is_shared after s.image ≡ true))
     → given_up flat after pid s change hs ≡ holdings_after hs p q pid s.sid borrowed change
 given_same flat after pid s Keep hs p q borrowed b i h = refl
@@ -87,7 +91,8 @@ given_same flat after pid s (End status) hs p q borrowed b i h =
 
 -- No page is due twice.
 
-absent_copies : (child parent : ℕ → Page) (r : Page) (v : ℕ) (xs : List Slot) → ((w : ℕ) → v ≤ w → same_page (child w) r ≡ false) → NotDue (copies_from child parent v xs) r
+absent_copies : (child parent : ℕ → Page) (r : Page) (v : ℕ) (xs : List Slot) → ((w : ℕ) → v ≤ w → same_page (child w) r ≡ false)
+    → NotDue (copies_from child parent v xs) r
 absent_copies child parent r v [] h = refl
 absent_copies child parent r v (x ∷ xs) h = go x.state (absent_copies child parent r (v + 1) xs (λ w l. h w (omega arith)))
   where
@@ -127,7 +132,8 @@ append_once (d ∷ xs) ys a b h = (
         go true e = absurd cc
         go false e = e
 
-copies_once : (child parent : ℕ → Page) (v : ℕ) (xs : List Slot) → ((u w : ℕ) → u < w → same_page (child w) (child u) ≡ false) → EachOnce (copies_from child parent v xs)
+copies_once : (child parent : ℕ → Page) (v : ℕ) (xs : List Slot) → ((u w : ℕ) → u < w → same_page (child w) (child u) ≡ false)
+    → EachOnce (copies_from child parent v xs)
 copies_once child parent v [] h = tt
 copies_once child parent v (x ∷ xs) h = go x.state (copies_once child parent (v + 1) xs h) (absent_copies child parent (child v) (v + 1) xs (λ w l. h v w (omega arith)))
   where
@@ -139,7 +145,8 @@ copies_once child parent v (x ∷ xs) h = go x.state (copies_once child parent (
     go (Going f) ih n = (n, ih)
     go OnSwap ih n = (n, ih)
 
-stack_absent : (child parent : ℕ) (xs ys : List Slot) (r : Page) → (due_at (copies_from (pages.Data child) (pages.Data parent) 0 xs) r ≡ None → ⊥) → NotDue (copies_from (pages.Stack child) (pages.Stack parent) 0 ys) r
+stack_absent : (child parent : ℕ) (xs ys : List Slot) (r : Page) → (due_at (copies_from (pages.Data child) (pages.Data parent) 0 xs) r ≡ None → ⊥)
+    → NotDue (copies_from (pages.Stack child) (pages.Stack parent) 0 ys) r
 stack_absent child parent xs ys (pages.Data sid n) h = absent_copies (pages.Stack child) (pages.Stack parent) (pages.Data sid n) 0 ys (λ w l. refl)
 stack_absent child parent xs ys (pages.Stack sid n) h = absurd (h (absent_copies (pages.Data child) (pages.Data parent) (pages.Stack sid n) 0 xs (λ w l. refl)))
 stack_absent child parent xs ys (pages.Text sid n) h = absent_copies (pages.Stack child) (pages.Stack parent) (pages.Text sid n) 0 ys (λ w l. refl)
@@ -147,7 +154,8 @@ stack_absent child parent xs ys (pages.Text sid n) h = absent_copies (pages.Stac
 none_once : (p : Placement) → p.due ≡ [] → EachOnce p.due
 none_once p e = subst EachOnce (sym e) tt
 
-pub change_once : (images : List Image) (p : Placement) (pid sid : ℕ) (borrowed : Bool) (next at : ℕ) (change : Change) → p.due ≡ [] → EachOnce (place_change images p pid sid borrowed next at change).due
+pub change_once : (images : List Image) (p : Placement) (pid sid : ℕ) (borrowed : Bool) (next at : ℕ) (change : Change) → p.due ≡ []
+    → EachOnce (place_change images p pid sid borrowed next at change).due
 change_once images p pid sid borrowed next at Keep e = none_once p e
 change_once images p pid sid borrowed next at (Resize d s) e = none_once (place_change images p pid sid borrowed next at (Resize d s)) ((Rattle.page_laws.proofs.Bytes.Changes.drop_all_rest (Rattle.page_laws.proofs.Ownership.Changes.dropped_pages p sid d s) p).1 ∙ e)
 change_once images p pid sid borrowed next at (Fork child) e =

@@ -22,7 +22,8 @@ runner_holds F q (Lends sid child) r e = absurd cc
 runner_holds F q (Zombie status) r e = absurd cc
 
 -- one of the processes has the runner's number, and holds a space
-held_in : (F : FlatState) (ps : List Process) (r : Runner) → AllDistinct (map (λ (q : Process). q.pid) ps) → OneOf r (filter_map (λ q. runner_by F q q.holding) ps) → holds_some (find (λ q. q.pid == r.pid) ps) ≡ true
+held_in : (F : FlatState) (ps : List Process) (r : Runner) → AllDistinct (map (λ (q : Process). q.pid) ps)
+    → OneOf r (filter_map (λ q. runner_by F q q.holding) ps) → holds_some (find (λ q. q.pid == r.pid) ps) ≡ true
 held_in F [] r d o = absurd o
 held_in F (q ∷ ps) r d o = go (runner_by F q q.holding) refl (held_in F ps r d.1) o
   where

@@ -69,18 +69,21 @@ served_none p q h = go (state_of p q) refl h
 finish : (A : Inputs) (s : State) (k : Kernel) (image : List ℕ) (read : List (List ℕ)) → StandsAt A s k image read → Couples A s k image read entries.Done
 finish A s k image read x = goes_done A.swap_blocks k A.images image s.point.flat (locked A s) read x.machine
 
-forced : (A : Inputs) (s : State) (k : Kernel) (image : List ℕ) (read : List (List ℕ)) → StandsAt A s k image read → (ts : List Transfer) → Couples A s k image read (force_entry ts)
+forced : (A : Inputs) (s : State) (k : Kernel) (image : List ℕ) (read : List (List ℕ)) → StandsAt A s k image read → (ts : List Transfer)
+    → Couples A s k image read (force_entry ts)
 forced A s k image read x [] = goes_hand A.swap_blocks k A.images image s.point.flat (locked A s) read x.machine
 forced A s k image read x (t ∷ ts) = finish A s k image read x
 
-filled : (A : Inputs) (s : State) (k : Kernel) (image : List ℕ) (read : List (List ℕ)) (e : Entry) → StandsAt A s k image read → (0 < length k.place.free → Couples A s k image read e) → Couples A s k image read (fill_unit s.place e)
+filled : (A : Inputs) (s : State) (k : Kernel) (image : List ℕ) (read : List (List ℕ)) (e : Entry) → StandsAt A s k image read
+    → (0 < length k.place.free → Couples A s k image read e) → Couples A s k image read (fill_unit s.place e)
 filled A s k image read e x make = subst (λ (p : Placement). Couples A s k image read (fill_unit p e)) x.same (go k.place.free refl)
   where
     go : (fr : List ℕ) → k.place.free ≡ fr → Couples A s k image read (fill_by k.place e fr)
     go [] l = forced A s k image read x k.place.transfers
     go (f ∷ fs) l = make (subst (λ (fr : List ℕ). 0 < length fr) (sym l) (omega arith))
 
-served : (A : Inputs) (s : State) (k : Kernel) (image : List ℕ) (read : List (List ℕ)) (u : Entry) (q : Page) (now : Bool) → StandsAt A s k image read → IsThere s.place q → NotDue s.place.due q
+served : (A : Inputs) (s : State) (k : Kernel) (image : List ℕ) (read : List (List ℕ)) (u : Entry) (q : Page) (now : Bool) → StandsAt A s k image read
+    → IsThere s.place q → NotDue s.place.due q
     → serve_unit s.place q now ≡ Some u → Couples A s k image read u
 served A s k image read u q now x there n h =
     let e = unit_is s.place q now u h in
@@ -90,10 +93,12 @@ served A s k image read u q now x there n h =
     (subst (λ (p : Placement). IsThere p q) (sym x.same) there) (subst (λ (p : Placement). NotDue p.due q) (sym x.same) n) (ap (λ (p : Placement). is_valid (state_of p q)) x.same ∙ e.0)))
 
 -- what is due at the machine
-due_here : (A : Inputs) (s : State) (k : Kernel) (q : Page) (d : Due) (ds : List Due) → k.place ≡ s.place → Rattle.page_model.specs.Placement.due_page d ≡ q → s.place.due ≡ d ∷ ds → due_at k.place.due q ≡ Some d
+due_here : (A : Inputs) (s : State) (k : Kernel) (q : Page) (d : Due) (ds : List Due) → k.place ≡ s.place
+    → Rattle.page_model.specs.Placement.due_page d ≡ q → s.place.due ≡ d ∷ ds → due_at k.place.due q ≡ Some d
 due_here A s k q d ds same i e = ap (λ (p : Placement). due_at p.due q) same ∙ ap (λ (l : List Due). due_at l q) e ∙ ap (due_at (d ∷ ds)) (sym i) ∙ first_due d ds
 
-pub kind_goes : (A : Inputs) (s : State) (k : Kernel) (image : List ℕ) (read : List (List ℕ)) (u : Entry) → StandsAt A s k image read → Stood A s → IsNumbered s.point.flat
+pub kind_goes : (A : Inputs) (s : State) (k : Kernel) (image : List ℕ) (read : List (List ℕ)) (u : Entry) → StandsAt A s k image read → Stood A s
+    → IsNumbered s.point.flat
     → TextsHeld A.images s.point.flat → Kind A s u → process_of_entry u ≡ None → Stays u → Couples A s k image read u
 kind_goes A s k image read u x st nums texts (Fills q due e i) n y = subst (Couples A s k image read) (sym i) (filled A s k image read (entries.Zero q) x make)
   where

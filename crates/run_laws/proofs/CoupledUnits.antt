@@ -53,14 +53,16 @@ pub record Goes (k : Kernel) (images : List NamedImage) (image : List ℕ) (flat
   pub stands : Stands images (page_step k locked read e) flat
   pub tokens : length (Kernel.frames (page_step k locked read e)) ≡ length k.frames
 
-pub goes_done : (size : ℕ) (k : Kernel) (images : List NamedImage) (image : List ℕ) (flat : FlatState) (locked : List Page) (read : List (List ℕ)) → Machine size k images image flat read → Goes k images image flat locked read entries.Done
+pub goes_done : (size : ℕ) (k : Kernel) (images : List NamedImage) (image : List ℕ) (flat : FlatState) (locked : List Page) (read : List (List ℕ))
+    → Machine size k images image flat read → Goes k images image flat locked read entries.Done
 goes_done size k images image flat locked read x = let t = x.stands in record {
   coupled = done_coupled_step size k images image flat read x.sound t.texts x.room x.are x.coupled;
   stands = done_stands size images k flat read x.sound x.stands;
   tokens = landed_length k.place.transfers read k.frames;
 }
 
-pub goes_hand : (size : ℕ) (k : Kernel) (images : List NamedImage) (image : List ℕ) (flat : FlatState) (locked : List Page) (read : List (List ℕ)) → Machine size k images image flat read
+pub goes_hand : (size : ℕ) (k : Kernel) (images : List NamedImage) (image : List ℕ) (flat : FlatState) (locked : List Page) (read : List (List ℕ))
+    → Machine size k images image flat read
     → Goes k images image flat locked read (entries.Hands 1)
 goes_hand size k images image flat locked read x = record {
   coupled = hand_coupled_step size k images image flat locked x.sound x.coupled;
@@ -77,7 +79,8 @@ goes_put size k images image flat locked read q n x h hs = record {
   tokens = refl;
 }
 
-pub goes_start : (size : ℕ) (k : Kernel) (images : List NamedImage) (image : List ℕ) (flat : FlatState) (locked : List Page) (read : List (List ℕ)) (q r : Page) → Machine size k images image flat read
+pub goes_start : (size : ℕ) (k : Kernel) (images : List NamedImage) (image : List ℕ) (flat : FlatState) (locked : List Page) (read : List (List ℕ)) (q r : Page)
+    → Machine size k images image flat read
     → CanEnter k.place q → IsWritable q → 0 < length k.place.free
     → state_of k.place q ≡ Unfilled → due_at k.place.due q ≡ Some (Start r) → Goes k images image flat locked read (entries.Zero q)
 goes_start size k images image flat locked read q r x c w some e d = record {
@@ -95,7 +98,8 @@ goes_copy size k images image flat locked read q r parent f x c w some e d v = r
   tokens = first_length k.place.free k.frames (Rattle.kernel_model.specs.Kernel.copied_bytes k (due_at k.place.due q));
 }
 
-pub serve_goes : (size : ℕ) (k : Kernel) (images : List NamedImage) (image : List ℕ) (flat : FlatState) (locked : List Page) (read : List (List ℕ)) (q : Page) → Machine size k images image flat read
+pub serve_goes : (size : ℕ) (k : Kernel) (images : List NamedImage) (image : List ℕ) (flat : FlatState) (locked : List Page) (read : List (List ℕ)) (q : Page)
+    → Machine size k images image flat read
     → IsThere k.place q → NotDue k.place.due q → is_valid (state_of k.place q) ≡ false
     → Goes k images image flat locked read (serve_entry k.place q)
 serve_goes size k images image flat locked read q y there due nv = state (state_of k.place q) refl nv

@@ -36,7 +36,8 @@ AllGives P (Refuses signal) = Unit {0}
 AllGives P (Reads a next) = (byte : ℕ) → AllGives P (next byte)
 AllGives P (Tests a next) = AllGives P next
 
-pub gives_bind : {A B : Type 0} (P : A → Type 0) (Q : B → Type 0) (p : Program A) (f : A → Program B) → AllGives P p → ((x : A) → P x → AllGives Q (f x)) → AllGives Q (p >>= f)
+pub gives_bind : {A B : Type 0} (P : A → Type 0) (Q : B → Type 0) (p : Program A) (f : A → Program B) → AllGives P p
+    → ((x : A) → P x → AllGives Q (f x)) → AllGives Q (p >>= f)
 gives_bind P Q (Gives x) f h k = k x h
 gives_bind P Q (Refuses signal) f h k = tt
 gives_bind P Q (Reads a next) f h k = λ byte. gives_bind P Q (next byte) f (h byte) k
@@ -125,7 +126,8 @@ page_whole arguments h =
 pair_is : (a b : ℕ × NamedImage) → Some a ≡ Some b → a ≡ b
 pair_is a b e = cc
 
-image_found : (images : List NamedImage) (k : ℕ) (name : List ℕ) (found : ℕ × NamedImage) → image_named (suc k) images name ≡ Some found → (j : ℕ) × (found.0 ≡ suc (k + j)) × (slice_get images j ≡ Some found.1)
+image_found : (images : List NamedImage) (k : ℕ) (name : List ℕ) (found : ℕ × NamedImage) → image_named (suc k) images name ≡ Some found
+    → (j : ℕ) × (found.0 ≡ suc (k + j)) × (slice_get images j ≡ Some found.1)
 unfolding image_named
 image_found [] k name found e = absurd cc
 image_found (x ∷ images) k name found e = go (bytes_eq x.name name) (image_found images (suc k) name found) e
@@ -135,7 +137,8 @@ image_found (x ∷ images) k name found e = go (bytes_eq x.name name) (image_fou
     go true ih e = (0, (let n : found.0 ≡ suc k = ap (λ (y : ℕ × NamedImage). y.0) (sym (pair_is (suc k, x) found e)) in let z : found.0 ≡ suc (k + 0) = omega (arith, n) in z), ap (λ (y : ℕ × NamedImage). Some y.1) (pair_is (suc k, x) found e))
     go false ih e = let r = ih e in (suc r.0, (let n = r.1 in let z : found.0 ≡ suc (k + suc r.0) = omega (arith, n) in z), r.2)
 
-pub found_image : (images : List NamedImage) (path : Option (List ℕ)) (found : ℕ × NamedImage) → path_image images path ≡ Some found → image_numbered images found.0 ≡ Some found.1
+pub found_image : (images : List NamedImage) (path : Option (List ℕ)) (found : ℕ × NamedImage) → path_image images path ≡ Some found
+    → image_numbered images found.0 ≡ Some found.1
 found_image images None found e = absurd cc
 found_image images (Some name) found e =
     let r = image_found images 0 name found e in
@@ -150,15 +153,18 @@ ReplyExecs images (Writes bytes) = Unit {0}
 ReplyExecs images Waits = Unit {0}
 ReplyExecs images (Exits status) = Unit {0}
 
-starts_execs : (images : List NamedImage) (found : ℕ × NamedImage) (arguments : Option (List (List ℕ))) → image_numbered images found.0 ≡ Some found.1 → ListFits 8 arguments → ReplyExecs images (starts found arguments)
+starts_execs : (images : List NamedImage) (found : ℕ × NamedImage) (arguments : Option (List (List ℕ))) → image_numbered images found.0 ≡ Some found.1
+    → ListFits 8 arguments → ReplyExecs images (starts found arguments)
 starts_execs images found None e h = tt
 starts_execs images found (Some arguments) e h = (found.1, e, page_whole arguments h)
 
-execve_execs : (images : List NamedImage) (argv : ℕ) (found : Option (ℕ × NamedImage)) → ((x : ℕ × NamedImage) → found ≡ Some x → image_numbered images x.0 ≡ Some x.1) → AllGives (ReplyExecs images) (execve_of argv found)
+execve_execs : (images : List NamedImage) (argv : ℕ) (found : Option (ℕ × NamedImage))
+    → ((x : ℕ × NamedImage) → found ≡ Some x → image_numbered images x.0 ≡ Some x.1) → AllGives (ReplyExecs images) (execve_of argv found)
 execve_execs images argv None h = tt
 execve_execs images argv (Some found) h = gives_bind (ListFits 8) (ReplyExecs images) (arguments_at argv) (λ arguments. Gives (starts found arguments)) (at_fits argv) (λ arguments k. starts_execs images found arguments (h found refl) k)
 
-child_execs : (images : List NamedImage) (b : Bool) (regs : Regs) (child : ℕ) → ReplyExecs images (child_by b regs child (Fork child)) × ReplyExecs images (child_by b regs child (Lend child))
+child_execs : (images : List NamedImage) (b : Bool) (regs : Regs) (child : ℕ)
+    → ReplyExecs images (child_by b regs child (Fork child)) × ReplyExecs images (child_by b regs child (Lend child))
 child_execs images true regs child = (tt, tt)
 child_execs images false regs child = (tt, tt)
 
@@ -176,7 +182,8 @@ wait_execs images None zombie regs = tt
 wait_execs images (Some child) None regs = tt
 wait_execs images (Some child) (Some z) regs = tt
 
-all_execs : (images : List NamedImage) (F : FlatState) (p : Process) (s : Space) (call : SystemCall) (regs : Regs) → AllGives (ReplyExecs images) (reply_of images F p s call regs)
+all_execs : (images : List NamedImage) (F : FlatState) (p : Process) (s : Space) (call : SystemCall) (regs : Regs)
+    → AllGives (ReplyExecs images) (reply_of images F p s call regs)
 unfolding reply_of exit_reply write_reply break_reply execve_reply
 all_execs images F p s calls.Exit regs = gives_any (ReplyExecs images) (argument regs 1) (λ code. Gives (Exits (code % 256 * 256))) (λ code. tt)
 all_execs images F p s calls.Fork regs = (child_execs images (nat_lt (length F.processes) process_limit) regs F.next_pid).0
@@ -222,25 +229,29 @@ refused_execs images true (Exits status) h = tt
 
 -- Steps.
 
-replied_execs : (images : List NamedImage) (F : FlatState) (p : Process) (call : SystemCall) (effect : Effect) (reply : Reply) → ReplyExecs images reply → EntersImage images (replied_step images F p call effect reply).change
+replied_execs : (images : List NamedImage) (F : FlatState) (p : Process) (call : SystemCall) (effect : Effect) (reply : Reply)
+    → ReplyExecs images reply → EntersImage images (replied_step images F p call effect reply).change
 replied_execs images F p call effect (Fails error) h = tt
 replied_execs images F p call effect (Does regs change) h = h
 replied_execs images F p call effect (Writes bytes) h = tt
 replied_execs images F p call effect Waits h = tt
 replied_execs images F p call effect (Exits status) h = tt
 
-called_execs : (images : List NamedImage) (F : FlatState) (p : Process) (s : Space) (refused : Bool) (effect : Effect) (o : Option SystemCall) → EntersImage images (called_step images F p s refused effect o).change
+called_execs : (images : List NamedImage) (F : FlatState) (p : Process) (s : Space) (refused : Bool) (effect : Effect) (o : Option SystemCall)
+    → EntersImage images (called_step images F p s refused effect o).change
 called_execs images F p s refused effect None = tt
 called_execs images F p s refused effect (Some call) = replied_execs images F p call effect (reply_behind images F p s refused call effect)
     (refused_execs images refused (or_fault (run (answers_of (puts s effect.writes)) (reply_of images (apply_writes F p.pid effect.writes) (written_process p s effect.writes) (puts s effect.writes) call effect.regs)))
     (run_execs images (answers_of (puts s effect.writes)) (reply_of images (apply_writes F p.pid effect.writes) (written_process p s effect.writes) (puts s effect.writes) call effect.regs)
     (all_execs images (apply_writes F p.pid effect.writes) (written_process p s effect.writes) (puts s effect.writes) call effect.regs)))
 
-behind_execs : (images : List NamedImage) (F : FlatState) (p : Process) (s : Space) (refused : Bool) (effect : Effect) (o : Option ℤ) → EntersImage images (step_behind images F p s refused effect o).change
+behind_execs : (images : List NamedImage) (F : FlatState) (p : Process) (s : Space) (refused : Bool) (effect : Effect) (o : Option ℤ)
+    → EntersImage images (step_behind images F p s refused effect o).change
 behind_execs images F p s refused effect None = tt
 behind_execs images F p s refused effect (Some number) = called_execs images F p s refused effect (call_of number)
 
-of_execs : (images : List NamedImage) (F : FlatState) (p : Process) (s : Space) (refused : Bool) (r : Result Effect Refused) → EntersImage images (step_of images F p s refused r).change
+of_execs : (images : List NamedImage) (F : FlatState) (p : Process) (s : Space) (refused : Bool) (r : Result Effect Refused)
+    → EntersImage images (step_of images F p s refused r).change
 of_execs images F p s refused (Ok effect) = behind_execs images F p s refused effect effect.call
 of_execs images F p s refused (Err (Miss address write)) = tt
 of_execs images F p s true (Err (Below address)) = tt

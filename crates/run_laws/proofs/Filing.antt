@@ -37,7 +37,8 @@ given_sum image = go (has_text_segment image.kind)
     go false = omega arith
 
 -- what a file's image is
-loaded_fits : (image : Image) (bytes : List ℕ) → file_length_of image ≤ length bytes → (length (loaded image bytes).text ≡ 1024 * text_pages_of image) × DataFits (loaded image bytes)
+loaded_fits : (image : Image) (bytes : List ℕ) → file_length_of image ≤ length bytes
+    → (length (loaded image bytes).text ≡ 1024 * text_pages_of image) × DataFits (loaded image bytes)
 unfolding loaded zeros
 loaded_fits image bytes whole = (
   in_pages_length (text_pages_of image) (take (text_given image) (drop (text_offset image) bytes)) (let a = taken (text_given image) (text_offset image) bytes in let b = pages_hold (text_given image) in omega arith),

@@ -120,7 +120,8 @@ never_misses s (Tests b next) a w e = go (address_in s b) (never_misses s next a
 
 -- So each step of a process that can step has an entry.
 
-replied_some : (images : List NamedImage) (F : FlatState) (p : Process) (call : SystemCall) (effect : Effect) (reply : Reply) → HasEntry (replied_step images F p call effect reply).entries
+replied_some : (images : List NamedImage) (F : FlatState) (p : Process) (call : SystemCall) (effect : Effect) (reply : Reply)
+    → HasEntry (replied_step images F p call effect reply).entries
 replied_some images F p call effect (Fails error) = tt
 replied_some images F p call effect (Does regs change) = tt
 replied_some images F p call effect (Writes []) = tt
@@ -128,15 +129,18 @@ replied_some images F p call effect (Writes (byte ∷ bytes)) = tt
 replied_some images F p call effect Waits = tt
 replied_some images F p call effect (Exits status) = tt
 
-called_some : (images : List NamedImage) (F : FlatState) (p : Process) (s : Space) (refused : Bool) (effect : Effect) (o : Option SystemCall) → HasEntry (called_step images F p s refused effect o).entries
+called_some : (images : List NamedImage) (F : FlatState) (p : Process) (s : Space) (refused : Bool) (effect : Effect) (o : Option SystemCall)
+    → HasEntry (called_step images F p s refused effect o).entries
 called_some images F p s refused effect None = tt
 called_some images F p s refused effect (Some call) = replied_some images F p call effect (reply_behind images F p s refused call effect)
 
-behind_some : (images : List NamedImage) (F : FlatState) (p : Process) (s : Space) (refused : Bool) (effect : Effect) (o : Option ℤ) → HasEntry (step_behind images F p s refused effect o).entries
+behind_some : (images : List NamedImage) (F : FlatState) (p : Process) (s : Space) (refused : Bool) (effect : Effect) (o : Option ℤ)
+    → HasEntry (step_behind images F p s refused effect o).entries
 behind_some images F p s refused effect None = tt
 behind_some images F p s refused effect (Some number) = called_some images F p s refused effect (call_of number)
 
-of_some : (images : List NamedImage) (F : FlatState) (p : Process) (s : Space) (refused : Bool) (r : Result Effect Refused) → ((a : ℕ) (w : Bool) → r ≡ Err (Miss a w) → ⊥) → HasEntry (step_of images F p s refused r).entries
+of_some : (images : List NamedImage) (F : FlatState) (p : Process) (s : Space) (refused : Bool) (r : Result Effect Refused)
+    → ((a : ℕ) (w : Bool) → r ≡ Err (Miss a w) → ⊥) → HasEntry (step_of images F p s refused r).entries
 of_some images F p s refused (Ok effect) n = behind_some images F p s refused effect effect.call
 of_some images F p s refused (Err (Miss a w)) n = absurd (n a w refl)
 of_some images F p s true (Err (Below address)) n = tt
@@ -195,7 +199,8 @@ runs_some A s pid now r x w = (a.0, runs_next A s pid now a.0 x w a.1)
 
 -- The limit.
 
-counted_flat : (u : Entry) → IsUnit u → process_of_entry u ≡ None ⊎ ((pid : ℕ) × (process_of_entry u ≡ Some pid)) → (counted u ≡ 0) ⊎ ((pid : ℕ) × (process_of_entry u ≡ Some pid) × (counted u ≤ 1))
+counted_flat : (u : Entry) → IsUnit u → process_of_entry u ≡ None ⊎ ((pid : ℕ) × (process_of_entry u ≡ Some pid))
+    → (counted u ≡ 0) ⊎ ((pid : ℕ) × (process_of_entry u ≡ Some pid) × (counted u ≤ 1))
 counted_flat u k (inr p) = inr (p.0, p.1, one u k)
   where
     one : (x : Entry) → IsUnit x → counted x ≤ 1

@@ -21,21 +21,24 @@ use Rattle.run_laws.proofs.Finishing.{units_below}
 use Rattle.run_laws.proofs.Wholes.{reached_lawful}
 use Rattle.run_laws.proofs.SwapImages.{OutFits, OutsFit, given_at, run_swaps}
 
-pub reached_fits : (A : Inputs) (hs : Holdings) (journal : List Entry) (s : State) → CanRun A hs → AllImages A.images → length A.first + 1 + A.limit < 2 ^ 32 → Reaches A journal s → AllFit s.point.flat.processes
+pub reached_fits : (A : Inputs) (hs : Holdings) (journal : List Entry) (s : State) → CanRun A hs → AllImages A.images
+    → length A.first + 1 + A.limit < 2 ^ 32 → Reaches A journal s → AllFit s.point.flat.processes
 reached_fits A hs journal s c w l r =
     let k : IsLawful A journal s = reached_lawful A hs journal s c r in
     let n = units_below A r.units (start A r.holdings) s r.follows (omega arith) in
     let m = k.count in
     run_fits A journal s.point w (omega arith) k.flat
 
-follows_fit : (A : Inputs) (hs : Holdings) (us : List Entry) (t : State) → CanRun A hs → AllImages A.images → length A.first + 1 + A.limit < 2 ^ 32 → Follows A (start A hs) us t → AllFit t.point.flat.processes
+follows_fit : (A : Inputs) (hs : Holdings) (us : List Entry) (t : State) → CanRun A hs → AllImages A.images → length A.first + 1 + A.limit < 2 ^ 32
+    → Follows A (start A hs) us t → AllFit t.point.flat.processes
 follows_fit A hs us t c w l f = reached_fits A hs (appended [] us) t c w l (record { holdings = hs; found = c.pieces; units = us; follows = f; joined = refl })
 
 out_fits : (s : State) (u : Entry) → AllFit s.point.flat.processes → OutFits s u
 out_fits s (entries.SwapOut pid) h = λ q e. (found_regs (λ (x : Process). x.pid == pid) s.point.flat.processes q e h).0
 out_fits s _ h = tt
 
-outs_from : (A : Inputs) (hs : Holdings) (vs us : List Entry) (s t : State) → CanRun A hs → AllImages A.images → length A.first + 1 + A.limit < 2 ^ 32 → Follows A (start A hs) vs s → Follows A s us t → OutsFit A s us
+outs_from : (A : Inputs) (hs : Holdings) (vs us : List Entry) (s t : State) → CanRun A hs → AllImages A.images → length A.first + 1 + A.limit < 2 ^ 32
+    → Follows A (start A hs) vs s → Follows A s us t → OutsFit A s us
 outs_from A hs vs [] s t c w l f g = tt
 outs_from A hs vs (u ∷ us) s t c w l f g = (
   out_fits s u (follows_fit A hs vs s c w l f),
@@ -43,9 +46,11 @@ outs_from A hs vs (u ∷ us) s t c w l f g = (
 )
 
 -- what a machine is told of a process that goes out
-pub given_out : (A : Inputs) (s : State) (k : Kernel) (image : List ℕ) (read : List (List ℕ)) (pid : ℕ) → Next A s k image (entries.SwapOut pid) → AllFit s.point.flat.processes → IsGiven A s k image read (entries.SwapOut pid)
+pub given_out : (A : Inputs) (s : State) (k : Kernel) (image : List ℕ) (read : List (List ℕ)) (pid : ℕ) → Next A s k image (entries.SwapOut pid)
+    → AllFit s.point.flat.processes → IsGiven A s k image read (entries.SwapOut pid)
 given_out A s k image read pid x h = given_at A s k image (entries.SwapOut pid) x (out_fits s (entries.SwapOut pid) h)
 
-pub run_swapped : (A : Inputs) (hs : Holdings) (us journal : List Entry) (t : State) (image : List ℕ) → CanRun A hs → AllImages A.images → length A.first + 1 + A.limit < 2 ^ 32 → Follows A (start A hs) us t → appended [] us ≡ journal
+pub run_swapped : (A : Inputs) (hs : Holdings) (us journal : List Entry) (t : State) (image : List ℕ) → CanRun A hs → AllImages A.images
+    → length A.first + 1 + A.limit < 2 ^ 32 → Follows A (start A hs) us t → appended [] us ≡ journal
     → 512 * A.swap_blocks ≤ length image → HasSwapped A t (swapped A journal image)
 run_swapped A hs us journal t image c w l f j room = run_swaps A hs us journal t image c f j (outs_from A hs [] us (start A hs) t c w l refl f) room

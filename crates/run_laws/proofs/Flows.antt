@@ -69,7 +69,8 @@ runs_work A s pid now r = go s.mark now r.on
     go _ now g = absurd g
 
 -- where all its pages are valid, it acts
-pub runs_next : (A : Inputs) (s : State) (pid : ℕ) (now : Bool) (u : Entry) → Runs A s pid now → wanted A s ≡ None → act A s pid ≡ Some u → next_unit A s ≡ Some u
+pub runs_next : (A : Inputs) (s : State) (pid : ℕ) (now : Bool) (u : Entry) → Runs A s pid now → wanted A s ≡ None → act A s pid ≡ Some u
+    → next_unit A s ≡ Some u
 unfolding next_unit
 runs_next A s pid now u r w a =
     ap (λ (ds : List Due). or_else (Rattle.run_model.specs.Next.due_unit s.place ds) (or_else (under A s s.mark) (next_mark A s))) r.clear
@@ -200,7 +201,8 @@ out_of A point pid p bytes h = due (is_writing point.last pid) refl
         plain (Some (entries.Out q l)) e = ap (λ (b : Bool). if b then behind_first entries_at else entries_at) e
         plain _ e = refl
 
-out_point : (A : Inputs) (s : State) (pid p : ℕ) (bytes : List ℕ) → IsOut A s.point pid p bytes → (after A s (entries.Out p bytes)).point ≡ (let x : Point = record s.point { last = Some (entries.Out p bytes) } in x)
+out_point : (A : Inputs) (s : State) (pid p : ℕ) (bytes : List ℕ) → IsOut A s.point pid p bytes
+    → (after A s (entries.Out p bytes)).point ≡ (let x : Point = record s.point { last = Some (entries.Out p bytes) } in x)
 unfolding after
 out_point A s pid p bytes o =
     ap (λ (x : ℕ). Rattle.flat_model.specs.Run.point_after A s.point x) o.own ∙ ap (Rattle.flat_model.specs.Run.behind s.point (step_at A s.point pid).after) o.due
@@ -210,7 +212,8 @@ out_point A s pid p bytes o =
 abbrev pub noted : State → Entry → State
 noted s u = record s { point = record s.point { last = Some u }; journal = append s.journal u }
 
-pub out_after : (A : Inputs) (s : State) (pid p : ℕ) (bytes : List ℕ) → IsOut A s.point pid p bytes → after A s (entries.Out p bytes) ≡ noted s (entries.Out p bytes)
+pub out_after : (A : Inputs) (s : State) (pid p : ℕ) (bytes : List ℕ) → IsOut A s.point pid p bytes
+    → after A s (entries.Out p bytes) ≡ noted s (entries.Out p bytes)
 unfolding after
 out_after A s pid p bytes o = ap (λ (x : Point). let y : State = record s { point = x; journal = append s.journal (entries.Out p bytes) } in y) (out_point A s pid p bytes o)
 
@@ -223,7 +226,8 @@ noted_on A s u (marks.Dispatch p count since) pid false g = g
 noted_on A s u (marks.Turn p since) pid true g = g
 noted_on A s u _ pid now g = absurd g
 
-noted_awaits : (A : Inputs) (s : State) (u : Entry) (pid : ℕ) (now : Bool) → Runs A s pid now → wanted A s ≡ None → (due_at A (noted s u).point pid ≡ [] → ⊥) → Awaits A (noted s u) pid
+noted_awaits : (A : Inputs) (s : State) (u : Entry) (pid : ℕ) (now : Bool) → Runs A s pid now → wanted A s ≡ None
+    → (due_at A (noted s u).point pid ≡ [] → ⊥) → Awaits A (noted s u) pid
 noted_awaits A s u pid now r w n = record {
   now = now;
   runs = record { clear = r.clear; on = noted_on A s u s.mark pid now r.on; resident = r.resident };
@@ -249,7 +253,8 @@ valid_among p (t ∷ ts) q a e = go (valid_among p ts q a.1) (same_page q t) ref
     go ih false k e = ih e
 
 -- pages that a step spares are valid still
-pub spared : (p r : Placement) (rs : List Page) → AllValid p rs → Spares p r rs → (ts : List Page) → ((q : Page) → is_among q ts ≡ true → is_among q rs ≡ true) → AllValid r ts
+pub spared : (p r : Placement) (rs : List Page) → AllValid p rs → Spares p r rs → (ts : List Page)
+    → ((q : Page) → is_among q ts ≡ true → is_among q rs ≡ true) → AllValid r ts
 spared p r rs v s [] k = tt
 spared p r rs v s (t ∷ ts) k = (s t (k t (among_first t ts)) (valid_among p rs t v (k t (among_first t ts))), spared p r rs v s ts (λ q e. k q (among_later q t ts e)))
 
@@ -357,7 +362,8 @@ acted A s pid u h = can (can_step s.point.flat pid) h
     can false e = absurd cc
 
 -- the last flat entry is then the one that came
-head_last : (A : Inputs) (point : Point) (pid : ℕ) (u : Entry) → next_of_step A point pid ≡ Some u → (Rattle.flat_model.specs.Run.point_after A point pid).last ≡ Some u
+head_last : (A : Inputs) (point : Point) (pid : ℕ) (u : Entry) → next_of_step A point pid ≡ Some u
+    → (Rattle.flat_model.specs.Run.point_after A point pid).last ≡ Some u
 head_last A point pid u h = go (due_at A point pid) (can_step point.flat pid) h
   where
     go : (es : List Entry) (b : Bool) → first_if b es ≡ Some u → (Rattle.flat_model.specs.Run.behind point (step_at A point pid).after es).last ≡ Some u
@@ -418,7 +424,8 @@ Ends (entries.Out p bytes) = ⊥
 Ends e = Unit {0}
 
 -- it completes the step, or is an `Out`
-pub steps_shape : (A : Inputs) (point : Point) (pid : ℕ) (u : Entry) → next_of_step A point pid ≡ Some u → Ends u ⊎ ((bytes : List ℕ) × (u ≡ entries.Out pid bytes))
+pub steps_shape : (A : Inputs) (point : Point) (pid : ℕ) (u : Entry) → next_of_step A point pid ≡ Some u
+    → Ends u ⊎ ((bytes : List ℕ) × (u ≡ entries.Out pid bytes))
 steps_shape A point pid u h = step point.last h
   where
     entries_at : List Entry
@@ -512,7 +519,8 @@ unfolding flat_entry
 plain_point A s u h = after_point A s u s.point (ap (λ (o : Option ℕ). Rattle.flat_model.specs.Run.flat_entry_by A s.point o u) h)
 
 -- a unit that is no flat entry
-plain_waits : (A : Inputs) (s : State) (u : Entry) → OwnsFrames s.place → next_unit A s ≡ Some u → process_of_entry u ≡ None → WaitsBy A s s.point.last → WaitsBy A (after A s u) (after A s u).point.last
+plain_waits : (A : Inputs) (s : State) (u : Entry) → OwnsFrames s.place → next_unit A s ≡ Some u → process_of_entry u ≡ None
+    → WaitsBy A s s.point.last → WaitsBy A (after A s u) (after A s u).point.last
 plain_waits A s u o h n w = subst (λ (x : Point). WaitsBy A (after A s u) x.last) (sym (plain_point A s u n)) (go s.point.last w)
   where
     one : (p : ℕ) → Awaits A s p → Awaits A (after A s u) p

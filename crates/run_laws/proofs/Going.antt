@@ -48,14 +48,16 @@ by_goes k (Some q) ws = go q.holding
     go (Lends sid child) = refl
     go (Zombie status) = refl
 
-flat_goes : (images : List NamedImage) (k : Kernel) (pid : ℕ) (regs : Regs) (e : Entry) (change : Change) → (change_step (facts_of images) k pid regs e change).stopped ≡ k.stopped
+flat_goes : (images : List NamedImage) (k : Kernel) (pid : ℕ) (regs : Regs) (e : Entry) (change : Change)
+    → (change_step (facts_of images) k pid regs e change).stopped ≡ k.stopped
 flat_goes images k pid regs e change = go (numbered (λ (p : Proc). p.pid) pid k.processes)
   where
     go : (o : Option Proc) → (change_if (facts_of images) k regs e change o).stopped ≡ k.stopped
     go None = refl
     go (Some p) = refl
 
-keeps_goes : (images : List NamedImage) (k : Kernel) (pid : ℕ) (regs : Regs) (e : Entry) (change : Change) → (keeps_step (facts_of images) k pid regs e change).stopped ≡ k.stopped
+keeps_goes : (images : List NamedImage) (k : Kernel) (pid : ℕ) (regs : Regs) (e : Entry) (change : Change)
+    → (keeps_step (facts_of images) k pid regs e change).stopped ≡ k.stopped
 keeps_goes images k pid regs e Keep = flat_goes images k pid regs e Keep
 keeps_goes images k pid regs e (Resize d s) = flat_goes images k pid regs e (Resize d s)
 keeps_goes images k pid regs e (Fork child) = flat_goes images k pid regs e (Fork child)
@@ -65,7 +67,8 @@ keeps_goes images k pid regs e (Reap child) = flat_goes images k pid regs e (Rea
 keeps_goes images k pid regs e Sleep = flat_goes images k pid regs e Sleep
 keeps_goes images k pid regs e (End status) = flat_goes images k pid regs e (End status)
 
-back_goes : (images : List NamedImage) (k : Kernel) (pid : ℕ) (regs : Regs) (e : Entry) (change : Change) → (back_step (facts_of images) k pid regs e change).stopped ≡ k.stopped
+back_goes : (images : List NamedImage) (k : Kernel) (pid : ℕ) (regs : Regs) (e : Entry) (change : Change)
+    → (back_step (facts_of images) k pid regs e change).stopped ≡ k.stopped
 back_goes images k pid regs e Keep = flat_goes images k pid regs e Keep
 back_goes images k pid regs e (Resize d s) = flat_goes images k pid regs e (Resize d s)
 back_goes images k pid regs e (Fork child) = flat_goes images k pid regs e (Fork child)

@@ -35,7 +35,8 @@ Now m k flat = record { kernel = k; found = m.found; image = m.image; flat = fla
 abbrev Leads : List NamedImage → KernelState → List KernelUnit → Kernel → Type 0
 Leads images m us k = (flat : FlatState) × ((vs : List KernelUnit) → states_after images m (us ++ vs) ≡ states_after images (Now m k flat) vs)
 
-writes_lead : (images : List NamedImage) (pid : ℕ) (s : Space) (ws : List ByteWrite) (m : KernelState) → Leads images m (write_units pid m.kernel s ws) (write_bytes m.kernel s ws)
+writes_lead : (images : List NamedImage) (pid : ℕ) (s : Space) (ws : List ByteWrite) (m : KernelState)
+    → Leads images m (write_units pid m.kernel s ws) (write_bytes m.kernel s ws)
 writes_lead images pid s [] m = (m.flat, λ vs. refl)
 writes_lead images pid s (w ∷ ws) m = go (page_tested s (address_in s w.address)) (writes_lead images pid s ws)
   where
@@ -56,7 +57,8 @@ writes_lead images pid s (w ∷ ws) m = go (page_tested s (address_in s w.addres
     go None ih = ih m
     go (Some q) ih = by q (state_of m.kernel.place q) ih
 
-process_leads : (images : List NamedImage) (pid : ℕ) (ws : List ByteWrite) (o : Option Process) (m : KernelState) → Leads images m (process_units pid m.kernel ws o) (write_by m.kernel o ws)
+process_leads : (images : List NamedImage) (pid : ℕ) (ws : List ByteWrite) (o : Option Process) (m : KernelState)
+    → Leads images m (process_units pid m.kernel ws o) (write_by m.kernel o ws)
 process_leads images pid ws None m = (m.flat, λ vs. refl)
 process_leads images pid ws (Some q) m = go q.holding
   where

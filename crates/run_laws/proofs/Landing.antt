@@ -69,7 +69,8 @@ pub record Found (A : Inputs) (flat : FlatState) (k : Kernel) (image : List ℕ)
   pub stands : Stands A.images k flat
 
 -- with no pieces it is as sound as it was
-found_none : (A : Inputs) (flat : FlatState) (k : Kernel) (image : List ℕ) (before : Holdings) → Found A flat k image before → place_all A.swap_blocks before [] ≡ Ok k.holdings → Sound A.swap_blocks k
+found_none : (A : Inputs) (flat : FlatState) (k : Kernel) (image : List ℕ) (before : Holdings) → Found A flat k image before
+    → place_all A.swap_blocks before [] ≡ Ok k.holdings → Sound A.swap_blocks k
 found_none A flat k image before x e = subst (λ (hs : Holdings). Sound A.swap_blocks (record k { holdings = hs })) (none_found A before k.holdings [] refl e) x.sound
 
 -- Who keeps its space, or has one of its own.

@@ -47,7 +47,8 @@ use Rattle.run_laws.proofs.Running.{run_on}
 
 -- Each next unit is a unit.
 
-replied_units : (images : List NamedImage) (F : FlatState) (p : Process) (call : SystemCall) (effect : Effect) (reply : Reply) → AllUnits (replied_step images F p call effect reply).entries
+replied_units : (images : List NamedImage) (F : FlatState) (p : Process) (call : SystemCall) (effect : Effect) (reply : Reply)
+    → AllUnits (replied_step images F p call effect reply).entries
 replied_units images F p call effect (Fails error) = (tt, tt)
 replied_units images F p call effect (Does regs change) = (tt, tt)
 replied_units images F p call effect (Writes []) = (tt, tt)
@@ -55,15 +56,18 @@ replied_units images F p call effect (Writes (byte ∷ bytes)) = (tt, (tt, tt))
 replied_units images F p call effect Waits = (tt, tt)
 replied_units images F p call effect (Exits status) = (tt, tt)
 
-called_units : (images : List NamedImage) (F : FlatState) (p : Process) (s : Space) (refused : Bool) (effect : Effect) (o : Option SystemCall) → AllUnits (called_step images F p s refused effect o).entries
+called_units : (images : List NamedImage) (F : FlatState) (p : Process) (s : Space) (refused : Bool) (effect : Effect) (o : Option SystemCall)
+    → AllUnits (called_step images F p s refused effect o).entries
 called_units images F p s refused effect None = (tt, tt)
 called_units images F p s refused effect (Some call) = replied_units images F p call effect (reply_behind images F p s refused call effect)
 
-behind_units : (images : List NamedImage) (F : FlatState) (p : Process) (s : Space) (refused : Bool) (effect : Effect) (o : Option ℤ) → AllUnits (step_behind images F p s refused effect o).entries
+behind_units : (images : List NamedImage) (F : FlatState) (p : Process) (s : Space) (refused : Bool) (effect : Effect) (o : Option ℤ)
+    → AllUnits (step_behind images F p s refused effect o).entries
 behind_units images F p s refused effect None = (refl, tt)
 behind_units images F p s refused effect (Some number) = called_units images F p s refused effect (call_of number)
 
-of_units : (images : List NamedImage) (F : FlatState) (p : Process) (s : Space) (refused : Bool) (r : Result Effect Refused) → AllUnits (step_of images F p s refused r).entries
+of_units : (images : List NamedImage) (F : FlatState) (p : Process) (s : Space) (refused : Bool) (r : Result Effect Refused)
+    → AllUnits (step_of images F p s refused r).entries
 of_units images F p s refused (Ok effect) = behind_units images F p s refused effect effect.call
 of_units images F p s refused (Err (Miss address write)) = tt
 of_units images F p s true (Err (Below address)) = (tt, tt)
@@ -187,7 +191,8 @@ follows_state A [] s t f = f
 follows_state A (u ∷ us) s t f = follows_state A us (after A s u) t f.1
 
 -- A journal that next units make is lawful: a run of the flat machine, with its count and its holdings.
-pub reaches_lawful : (A : Inputs) (journal : List Entry) (s : State) → ImagesFit A.images → ExecsFit A → ((hs : Holdings) → start_held A ≡ Ok hs → IsRun A (start A hs)) → Reaches A journal s → IsLawful A journal s
+pub reaches_lawful : (A : Inputs) (journal : List Entry) (s : State) → ImagesFit A.images → ExecsFit A
+    → ((hs : Holdings) → start_held A ≡ Ok hs → IsRun A (start A hs)) → Reaches A journal s → IsLawful A journal s
 reaches_lawful A journal s images execs begin r = record { reaches = r; flat = flat; count = count; holdings = holdings }
   where
     hs : Holdings

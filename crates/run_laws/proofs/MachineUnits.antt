@@ -68,7 +68,8 @@ use Rattle.run_laws.proofs.Outs.{out_holder}
 
 -- What stands of the state stands of a machine with its tables.
 
-pub sound_of : (A : Inputs) (flat : FlatState) (k : Kernel) → Placed A flat k.place k.holdings → SameTables k flat → length k.frames ≡ A.frames → Sound A.swap_blocks k
+pub sound_of : (A : Inputs) (flat : FlatState) (k : Kernel) → Placed A flat k.place k.holdings → SameTables k flat → length k.frames ≡ A.frames
+    → Sound A.swap_blocks k
 sound_of A flat k st t f =
     let so : Sound A.swap_blocks (machine_of flat k.place k.holdings) = st.sound in
     record {
@@ -101,7 +102,8 @@ pub record Behind (A : Inputs) (t : State) (k : Kernel) (image : List ℕ) : Typ
   pub room : 512 * A.swap_blocks ≤ length image
   pub out_regs : OutRegs k.place t.point.flat
 
-pub stands_behind : (A : Inputs) (t : State) (k : Kernel) (image : List ℕ) → Placed A t.point.flat t.place t.holdings → Behind A t k image → StandsAt A t k image
+pub stands_behind : (A : Inputs) (t : State) (k : Kernel) (image : List ℕ) → Placed A t.point.flat t.place t.holdings → Behind A t k image
+    → StandsAt A t k image
 stands_behind A t k image st b =
     let c : Coupled k A.images image t.point.flat = b.coupled in
     let here : Placed A t.point.flat k.place k.holdings = subst (λ (p : Placement). Placed A t.point.flat p k.holdings) (sym b.place) (subst (λ (hs : Holdings). Placed A t.point.flat t.place hs) (sym b.holdings) st) in
@@ -112,7 +114,8 @@ stands_behind A t k image st b =
       keeps = record { sound = sound_of A t.point.flat k here c.tables b.frames; numbered = numbered_of A t.point.flat k here c.tables; coupled = b.coupled; stands = b.stands; room = b.room; out_regs = b.out_regs };
     }
 
-frames_at : (A : Inputs) (s : State) (k : Kernel) (image : List ℕ) → Placed A s.point.flat s.place s.holdings → StandsAt A s k image → length k.frames ≡ A.frames
+frames_at : (A : Inputs) (s : State) (k : Kernel) (image : List ℕ) → Placed A s.point.flat s.place s.holdings → StandsAt A s k image
+    → length k.frames ≡ A.frames
 frames_at A s k image st at =
     let kp : Keeps A s.point.flat k image = at.keeps in
     let so : Sound A.swap_blocks k = kp.sound in
@@ -138,7 +141,8 @@ are_brought b (t ∷ ts) = go t.errand
 
 -- Paging entries, and notes.
 
-page_is : (A : Inputs) (s : State) (k : Kernel) (image : List ℕ) (read : List (List ℕ)) (u : Entry) → process_of_entry u ≡ None → Stays u → page_step k (locked A s) read u ≡ unit_step A s k image read u
+page_is : (A : Inputs) (s : State) (k : Kernel) (image : List ℕ) (read : List (List ℕ)) (u : Entry) → process_of_entry u ≡ None → Stays u
+    → page_step k (locked A s) read u ≡ unit_step A s k image read u
 page_is A s k image read (entries.Event line) n y = refl
 page_is A s k image read (entries.Turn p) n y = refl
 page_is A s k image read (entries.Zero q) n y = refl
@@ -179,7 +183,8 @@ record Lands (k l : Kernel) (locked : List Page) (at : ℕ) (u : Entry) : Type 0
   pub holdings : l.holdings ≡ k.holdings
   pub journal : l.journal ≡ append k.journal u
 
-page_lands : (k : Kernel) (locked : List Page) (at : ℕ) (read : List (List ℕ)) (u : Entry) → process_of_entry u ≡ None → Stays u → Lands k (page_step k locked read u) locked at u
+page_lands : (k : Kernel) (locked : List Page) (at : ℕ) (read : List (List ℕ)) (u : Entry) → process_of_entry u ≡ None → Stays u
+    → Lands k (page_step k locked read u) locked at u
 page_lands k locked at read (entries.Event line) n y = record { place = refl; holdings = refl; journal = refl }
 page_lands k locked at read (entries.Turn p) n y = record { place = refl; holdings = refl; journal = refl }
 page_lands k locked at read (entries.Zero q) n y = record { place = refl; holdings = refl; journal = refl }
@@ -202,7 +207,8 @@ no_leaver _ n y l = absurd l
 outs_kept : (p r : Placement) (flat : FlatState) → ((n : ℕ) → is_out r n ≡ true → is_out p n ≡ true) → OutRegs p flat → OutRegs r flat
 outs_kept p r flat h o n q e f = o n q (h n e) f
 
-page_room : (A : Inputs) (flat : FlatState) (k : Kernel) (image : List ℕ) (u : Entry) → Keeps A flat k image → 512 * A.swap_blocks ≤ length (page_image k image u)
+page_room : (A : Inputs) (flat : FlatState) (k : Kernel) (image : List ℕ) (u : Entry) → Keeps A flat k image
+    → 512 * A.swap_blocks ≤ length (page_image k image u)
 page_room A flat k image u kp = go u
   where
     st : Stands A.images k flat
@@ -260,7 +266,8 @@ paged_behind A s k image read u r at are kind n y = record {
 
 -- Notes of a process.
 
-said_behind : (A : Inputs) (s : State) (k : Kernel) (image : List ℕ) (u : Entry) → IsRun A s → StandsAt A s k image → after A s u ≡ noted s u → Behind A (after A s u) (note_step k u) image
+said_behind : (A : Inputs) (s : State) (k : Kernel) (image : List ℕ) (u : Entry) → IsRun A s → StandsAt A s k image → after A s u ≡ noted s u
+    → Behind A (after A s u) (note_step k u) image
 said_behind A s k image u r at e =
     let kp : Keeps A s.point.flat k image = at.keeps in
     subst (λ (t : State). Behind A t (note_step k u) image) (sym e) (record {
@@ -274,7 +281,8 @@ said_behind A s k image u r at e =
       out_regs = kp.out_regs;
     })
 
-said_is : (A : Inputs) (s : State) (k : Kernel) (image : List ℕ) (read : List (List ℕ)) (u : Entry) → IsSaying u → (note_step k u ≡ unit_step A s k image read u) × (image ≡ unit_image k image u)
+said_is : (A : Inputs) (s : State) (k : Kernel) (image : List ℕ) (read : List (List ℕ)) (u : Entry) → IsSaying u
+    → (note_step k u ≡ unit_step A s k image read u) × (image ≡ unit_image k image u)
 said_is A s k image read (entries.Out p bytes) y = (refl, refl)
 said_is A s k image read (entries.Refused p) y = (refl, refl)
 said_is A s k image read _ y = absurd y
@@ -346,7 +354,8 @@ leaves k flat pid t h = go (process_of flat pid) refl h
     go None e z = absurd cc
     go (Some q) e z = holding q e q.holding refl z
 
-out_length : (size : ℕ) (k : Kernel) (image : List ℕ) (pid : ℕ) (p : Proc) (d t : ℕ) → Sound size k → 512 * size ≤ length image → AreRegs p.regs → lives k.processes pid ≡ true
+out_length : (size : ℕ) (k : Kernel) (image : List ℕ) (pid : ℕ) (p : Proc) (d t : ℕ) → Sound size k → 512 * size ≤ length image → AreRegs p.regs
+    → lives k.processes pid ≡ true
     → length (store_at image (block_in k.holdings (owners.U pid) 0) (u_page p.regs d t)) ≡ length image
 out_length size k image pid p d t so li are alive =
     let o : OneOwner size (lives k.processes) k.place k.holdings = so.owner in
@@ -357,7 +366,8 @@ out_length size k image pid p d t so li are alive =
     let i = w.within in
     ap (λ (y : Option ℕ). length (store_at image y (u_page p.regs d t))) x.1 ∙ length-put_blocks image (u_page p.regs d t) x.0 (omega arith) (u_length p.regs d t are)
 
-off_behind : (A : Inputs) (s : State) (k : Kernel) (image : List ℕ) (pid : ℕ) → IsRun A s → StandsAt A s k image → ((p : Proc) → proc_of k pid ≡ Some p → AreRegs p.regs) → is_out s.place pid ≡ false
+off_behind : (A : Inputs) (s : State) (k : Kernel) (image : List ℕ) (pid : ℕ) → IsRun A s → StandsAt A s k image
+    → ((p : Proc) → proc_of k pid ≡ Some p → AreRegs p.regs) → is_out s.place pid ≡ false
     → holds_some (process_of s.point.flat pid) ≡ true
     → Behind A (after A s (entries.SwapOut pid)) (out_step k pid) (store_at image (block_in k.holdings (owners.U pid) 0) (u_bytes k (proc_of k pid)))
 off_behind A s k image pid r at given out h = subst (λ (o : Option Proc). Behind A (after A s (entries.SwapOut pid)) (out_step k pid) (store_at image (block_in k.holdings (owners.U pid) 0) (u_bytes k o))) (sym x.kept) (record {
@@ -406,7 +416,8 @@ off_behind A s k image pid r at given out h = subst (λ (o : Option Proc). Behin
 
 -- A process's step.
 
-stepped_is : (A : Inputs) (s : State) (k : Kernel) (image : List ℕ) (read : List (List ℕ)) (u : Entry) (pid : ℕ) (P : Kernel → List ℕ → Type 0) → Ends u → process_of_entry u ≡ Some pid
+stepped_is : (A : Inputs) (s : State) (k : Kernel) (image : List ℕ) (read : List (List ℕ)) (u : Entry) (pid : ℕ) (P : Kernel → List ℕ → Type 0)
+    → Ends u → process_of_entry u ≡ Some pid
     → P (process_step A s k pid u) image → ((n : ℕ) → u ≡ entries.Ran pid n → P (ran_step A s k pid n) image)
     → P (unit_step A s k image read u) (unit_image k image u)
 stepped_is A s k image read (entries.Ran p n) pid P e o a b = subst (λ (x : ℕ). P (ran_step A s k x n) image) (sym (same_Some p pid o)) (b n (ap (λ (x : ℕ). entries.Ran x n) (same_Some p pid o)))
@@ -418,7 +429,8 @@ stepped_is A s k image read (entries.Out p bytes) pid P e o a b = absurd e
 stepped_is A s k image read (entries.Refused p) pid P e o a b = absurd e
 stepped_is A s k image read _ pid P e o a b = absurd cc
 
-reach_behind : (A : Inputs) (s : State) (u : Entry) (l : Kernel) (image : List ℕ) → 512 * A.swap_blocks ≤ length image → Placed A (after A s u).point.flat (after A s u).place (after A s u).holdings
+reach_behind : (A : Inputs) (s : State) (u : Entry) (l : Kernel) (image : List ℕ) → 512 * A.swap_blocks ≤ length image
+    → Placed A (after A s u).point.flat (after A s u).place (after A s u).holdings
     → OutRegs (after A s u).place (after A s u).point.flat → Reaches A s u l image
     → StandsAt A (after A s u) l image
 reach_behind A s u l image room st outs x =
@@ -455,7 +467,8 @@ given_read A s k image read (entries.SwapIn p) g = inl (λ e. cc)
 given_read A s k image read (entries.Owners a b c d) g = inl (λ e. cc)
 
 -- what was read stands nowhere but at `Done`
-read_unused : (A : Inputs) (s : State) (k : Kernel) (read other : List (List ℕ)) (u : Entry) → (u ≡ entries.Done → ⊥) → page_step k (locked A s) other u ≡ page_step k (locked A s) read u
+read_unused : (A : Inputs) (s : State) (k : Kernel) (read other : List (List ℕ)) (u : Entry) → (u ≡ entries.Done → ⊥)
+    → page_step k (locked A s) other u ≡ page_step k (locked A s) read u
 read_unused A s k read other entries.Done n = absurd (n refl)
 read_unused A s k read other (entries.Event line) n = refl
 read_unused A s k read other (entries.Turn p) n = refl
@@ -476,7 +489,8 @@ read_unused A s k read other (entries.SwapOut p) n = refl
 read_unused A s k read other (entries.SwapIn p) n = refl
 read_unused A s k read other (entries.Owners a b c d) n = refl
 
-pub unit_stands : (A : Inputs) (s : State) (k : Kernel) (image : List ℕ) (read : List (List ℕ)) (u : Entry) → ImagesFit A.images → ExecsFit A → IsRun A s → StandsAt A s k image → next_unit A s ≡ Some u → IsGiven A s k image read u
+pub unit_stands : (A : Inputs) (s : State) (k : Kernel) (image : List ℕ) (read : List (List ℕ)) (u : Entry) → ImagesFit A.images → ExecsFit A
+    → IsRun A s → StandsAt A s k image → next_unit A s ≡ Some u → IsGiven A s k image read u
     → StandsAt A (after A s u) (unit_step A s k image read u) (unit_image k image u)
 unit_stands A s k image read u images execs r at h g = go (sort_of A s u r.mark kind)
   where
@@ -520,7 +534,8 @@ unit_stands A s k image read u images execs r at h g = go (sort_of A s u r.mark 
         (λ n i. reach_behind A s u (ran_step A s k x.pid n) image kp.room run.placed z.out_regs (z.runs n i))
 
 -- In the middle of a process's step.
-pub mid_stands : (A : Inputs) (s : State) (k : Kernel) (image : List ℕ) (u : Entry) (pid : ℕ) → ImagesFit A.images → ExecsFit A → IsRun A s → StandsAt A s k image → next_unit A s ≡ Some u → Ends u → process_of_entry u ≡ Some pid
+pub mid_stands : (A : Inputs) (s : State) (k : Kernel) (image : List ℕ) (u : Entry) (pid : ℕ) → ImagesFit A.images → ExecsFit A → IsRun A s
+    → StandsAt A s k image → next_unit A s ≡ Some u → Ends u → process_of_entry u ≡ Some pid
     → Mid A (apply_writes s.point.flat pid (step_at A s.point pid).writes) (written_step A s k pid) image × Coupled (taken_step A s k pid) A.images image (apply_writes s.point.flat pid (step_at A s.point pid).writes)
 mid_stands A s k image u pid images execs r at h ends own = go (sort_of A s u r.mark (kind_of A s u h))
   where

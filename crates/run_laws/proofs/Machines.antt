@@ -30,10 +30,12 @@ use Rattle.run_laws.proofs.Execs.{execs_fit}
 use Rattle.run_laws.proofs.Beginning.{are_starting, run_start}
 use Rattle.run_laws.proofs.Wholes.{unit_run}
 
-pub unit_keeps : (A : Inputs) (s : State) (k : Kernel) (image : List ℕ) (read : List (List ℕ)) (u : Entry) → Next A s k image u → IsGiven A s k image read u → StandsAt A (after A s u) (unit_step A s k image read u) (unit_image k image u)
+pub unit_keeps : (A : Inputs) (s : State) (k : Kernel) (image : List ℕ) (read : List (List ℕ)) (u : Entry) → Next A s k image u
+    → IsGiven A s k image read u → StandsAt A (after A s u) (unit_step A s k image read u) (unit_image k image u)
 unit_keeps A s k image read u x g = unit_stands A s k image read u x.images (execs_fit A) x.run x.at x.next g
 
-pub units_keep : (A : Inputs) (us : List Entry) (s t : State) (k l : Kernel) (image behind : List ℕ) → ImagesFit A.images → IsRun A s → StandsAt A s k image → Makes A s k image us t l behind → StandsAt A t l behind
+pub units_keep : (A : Inputs) (us : List Entry) (s t : State) (k l : Kernel) (image behind : List ℕ) → ImagesFit A.images → IsRun A s
+    → StandsAt A s k image → Makes A s k image us t l behind → StandsAt A t l behind
 units_keep A [] s t k l image behind images r at m = subst (λ (x : State). StandsAt A x l behind) m.0 (subst (λ (x : Kernel). StandsAt A s x behind) m.1 (subst (StandsAt A s k) m.2 at))
 units_keep A (u ∷ us) s t k l image behind images r at m =
     units_keep A us (after A s u) t (unit_step A s k image m.1.0 u) l (unit_image k image u) behind images (unit_run A s u images r m.0)
@@ -43,7 +45,8 @@ pub makes_follows : (A : Inputs) (us : List Entry) (s t : State) (k l : Kernel) 
 makes_follows A [] s t k l image behind m = m.0
 makes_follows A (u ∷ us) s t k l image behind m = (m.0, makes_follows A us (after A s u) t (unit_step A s k image m.1.0 u) l (unit_image k image u) behind m.1.2)
 
-pub start_keeps : (A : Inputs) (hs : Holdings) (frames : List (List ℕ)) (image : List ℕ) → CanRun A hs → length frames ≡ A.frames → 512 * A.swap_blocks ≤ length image
+pub start_keeps : (A : Inputs) (hs : Holdings) (frames : List (List ℕ)) (image : List ℕ) → CanRun A hs → length frames ≡ A.frames
+    → 512 * A.swap_blocks ≤ length image
     → StandsAt A (start A hs) (start_kernel A (starting A.images A.first) hs frames) image
 start_keeps A hs frames image c f room = stands_behind A (start A hs) (start_kernel A first hs frames) image r.placed (record {
   place = refl;
@@ -67,29 +70,36 @@ start_keeps A hs frames image c f room = stands_behind A (start A hs) (start_ker
 
 -- Each kind of unit by itself.
 
-pub zero_keeps : (A : Inputs) (s : State) (k : Kernel) (image : List ℕ) (q : Page) → Next A s k image (entries.Zero q) → StandsAt A (after A s (entries.Zero q)) (zero_step k q) image
+pub zero_keeps : (A : Inputs) (s : State) (k : Kernel) (image : List ℕ) (q : Page) → Next A s k image (entries.Zero q)
+    → StandsAt A (after A s (entries.Zero q)) (zero_step k q) image
 zero_keeps A s k image q x = unit_keeps A s k image [] (entries.Zero q) x tt
 
-pub copy_keeps : (A : Inputs) (s : State) (k : Kernel) (image : List ℕ) (q : Page) → Next A s k image (entries.Copy q) → StandsAt A (after A s (entries.Copy q)) (copy_step k q) image
+pub copy_keeps : (A : Inputs) (s : State) (k : Kernel) (image : List ℕ) (q : Page) → Next A s k image (entries.Copy q)
+    → StandsAt A (after A s (entries.Copy q)) (copy_step k q) image
 copy_keeps A s k image q x = unit_keeps A s k image [] (entries.Copy q) x tt
 
-pub get_keeps : (A : Inputs) (s : State) (k : Kernel) (image : List ℕ) (q : Page) (lo n : ℕ) → Next A s k image (entries.Get q lo n) → StandsAt A (after A s (entries.Get q lo n)) (get_step k q lo n) image
+pub get_keeps : (A : Inputs) (s : State) (k : Kernel) (image : List ℕ) (q : Page) (lo n : ℕ) → Next A s k image (entries.Get q lo n)
+    → StandsAt A (after A s (entries.Get q lo n)) (get_step k q lo n) image
 get_keeps A s k image q lo n x = unit_keeps A s k image [] (entries.Get q lo n) x tt
 
-pub reclaim_keeps : (A : Inputs) (s : State) (k : Kernel) (image : List ℕ) (q : Page) → Next A s k image (entries.Reclaim q) → StandsAt A (after A s (entries.Reclaim q)) (reclaim_step k q) image
+pub reclaim_keeps : (A : Inputs) (s : State) (k : Kernel) (image : List ℕ) (q : Page) → Next A s k image (entries.Reclaim q)
+    → StandsAt A (after A s (entries.Reclaim q)) (reclaim_step k q) image
 reclaim_keeps A s k image q x = unit_keeps A s k image [] (entries.Reclaim q) x tt
 
-pub hands_keep : (A : Inputs) (s : State) (k : Kernel) (image : List ℕ) (n : ℕ) → Next A s k image (entries.Hands n) → StandsAt A (after A s (entries.Hands n)) (plain_step k (locked A s) (entries.Hands n)) image
+pub hands_keep : (A : Inputs) (s : State) (k : Kernel) (image : List ℕ) (n : ℕ) → Next A s k image (entries.Hands n)
+    → StandsAt A (after A s (entries.Hands n)) (plain_step k (locked A s) (entries.Hands n)) image
 hands_keep A s k image n x = unit_keeps A s k image [] (entries.Hands n) x tt
 
-pub put_keeps : (A : Inputs) (s : State) (k : Kernel) (image : List ℕ) (q : Page) (n : ℕ) → Next A s k image (entries.Put q n) → StandsAt A (after A s (entries.Put q n)) (push_step k q n) image
+pub put_keeps : (A : Inputs) (s : State) (k : Kernel) (image : List ℕ) (q : Page) (n : ℕ) → Next A s k image (entries.Put q n)
+    → StandsAt A (after A s (entries.Put q n)) (push_step k q n) image
 put_keeps A s k image q n x = unit_keeps A s k image [] (entries.Put q n) x tt
 
 pub done_keeps : (A : Inputs) (s : State) (k : Kernel) (image : List ℕ) (read : List (List ℕ)) → Next A s k image entries.Done
     → AreRead (beside_kernel k A.images image s.point.flat) k.place.transfers read → StandsAt A (after A s entries.Done) (done_step k read) (image_after k image)
 done_keeps A s k image read x g = unit_keeps A s k image read entries.Done x g
 
-pub out_keeps : (A : Inputs) (s : State) (k : Kernel) (image : List ℕ) (pid : ℕ) (p : Proc) → Next A s k image (entries.SwapOut pid) → proc_of k pid ≡ Some p → AreRegs p.regs
+pub out_keeps : (A : Inputs) (s : State) (k : Kernel) (image : List ℕ) (pid : ℕ) (p : Proc) → Next A s k image (entries.SwapOut pid)
+    → proc_of k pid ≡ Some p → AreRegs p.regs
     → StandsAt A (after A s (entries.SwapOut pid)) (out_step k pid) (store_at image (block_in k.holdings (owners.U pid) 0) (u_bytes k (Some p)))
 out_keeps A s k image pid p x e are = subst (λ (o : Option Proc). StandsAt A (after A s (entries.SwapOut pid)) (out_step k pid) (store_at image (block_in k.holdings (owners.U pid) 0) (u_bytes k o))) e
     (unit_keeps A s k image [] (entries.SwapOut pid) x (λ q f. subst (λ (y : Proc). AreRegs y.regs) (same_Some p q (sym e ∙ f)) are))
@@ -98,7 +108,8 @@ pub in_keeps : (A : Inputs) (s : State) (k : Kernel) (image : List ℕ) (pid : �
     → StandsAt A (after A s (entries.SwapIn pid)) (in_step k pid (regs_in (stored_at image (block_in k.holdings (owners.U pid) 0)))) image
 in_keeps A s k image pid x = unit_keeps A s k image [] (entries.SwapIn pid) x tt
 
-pub note_keeps : (A : Inputs) (s : State) (k : Kernel) (image : List ℕ) (u : Entry) → Next A s k image u → IsNote u → StandsAt A (after A s u) (note_step k u) image
+pub note_keeps : (A : Inputs) (s : State) (k : Kernel) (image : List ℕ) (u : Entry) → Next A s k image u → IsNote u
+    → StandsAt A (after A s u) (note_step k u) image
 note_keeps A s k image (entries.Event line) x n = unit_keeps A s k image [] (entries.Event line) x tt
 note_keeps A s k image (entries.Turn pid) x n = unit_keeps A s k image [] (entries.Turn pid) x tt
 note_keeps A s k image (entries.Out pid bytes) x n = unit_keeps A s k image [] (entries.Out pid bytes) x tt
@@ -106,10 +117,12 @@ note_keeps A s k image (entries.Refused pid) x n = unit_keeps A s k image [] (en
 note_keeps A s k image (entries.Owners a b c d) x n = unit_keeps A s k image [] (entries.Owners a b c d) x tt
 note_keeps A s k image _ x n = absurd n
 
-pub ran_keeps : (A : Inputs) (s : State) (k : Kernel) (image : List ℕ) (pid n : ℕ) → Next A s k image (entries.Ran pid n) → StandsAt A (after A s (entries.Ran pid n)) (ran_step A s k pid n) image
+pub ran_keeps : (A : Inputs) (s : State) (k : Kernel) (image : List ℕ) (pid n : ℕ) → Next A s k image (entries.Ran pid n)
+    → StandsAt A (after A s (entries.Ran pid n)) (ran_step A s k pid n) image
 ran_keeps A s k image pid n x = unit_keeps A s k image [] (entries.Ran pid n) x tt
 
-pub step_keeps : (A : Inputs) (s : State) (k : Kernel) (image : List ℕ) (pid : ℕ) (u : Entry) → Next A s k image u → Completes pid u → StandsAt A (after A s u) (process_step A s k pid u) image
+pub step_keeps : (A : Inputs) (s : State) (k : Kernel) (image : List ℕ) (pid : ℕ) (u : Entry) → Next A s k image u → Completes pid u
+    → StandsAt A (after A s u) (process_step A s k pid u) image
 step_keeps A s k image pid (entries.Grew p n) x c = subst (λ (y : ℕ). StandsAt A (after A s (entries.Grew p n)) (process_step A s k y (entries.Grew p n)) image) c (unit_keeps A s k image [] (entries.Grew p n) x tt)
 step_keeps A s k image pid (entries.Call p n r r0 r1) x c = subst (λ (y : ℕ). StandsAt A (after A s (entries.Call p n r r0 r1)) (process_step A s k y (entries.Call p n r r0 r1)) image) c (unit_keeps A s k image [] (entries.Call p n r r0 r1) x tt)
 step_keeps A s k image pid (entries.Sleeps p) x c = subst (λ (y : ℕ). StandsAt A (after A s (entries.Sleeps p)) (process_step A s k y (entries.Sleeps p)) image) c (unit_keeps A s k image [] (entries.Sleeps p) x tt)

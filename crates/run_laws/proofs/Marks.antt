@@ -138,12 +138,14 @@ pub noted_free : (A : Inputs) (s : State) (a b c d : ℕ) → s.mark ≡ marks.A
 unfolding after
 noted_free A s a b c d e = subst (λ (x : Mark). IsFree (Rattle.run_model.specs.After.audited x)) (sym e) tt
 
-pub hands_stand : (A : Inputs) (s : State) (count : ℕ) (b : Bool) → OwnsFrames s.place → s.place.due ≡ [] → s.mark ≡ marks.Hands count → MarkStands (after A s (move_by b)) (after A s (move_by b)).mark
+pub hands_stand : (A : Inputs) (s : State) (count : ℕ) (b : Bool) → OwnsFrames s.place → s.place.due ≡ [] → s.mark ≡ marks.Hands count
+    → MarkStands (after A s (move_by b)) (after A s (move_by b)).mark
 unfolding after
 hands_stand A s count true o d e = subst (λ (x : Mark). MarkStands (after A s entries.Done) (Rattle.run_model.specs.After.completed x)) (sym e) (let t : Steady s.place (done s.place) = done_steady s.place o in t.due ∙ d)
 hands_stand A s count false o d e = subst (λ (x : Mark). MarkStands (after A s (entries.Hands 1)) (Rattle.run_model.specs.After.moved_on 1 x)) (sym e) (let t : Stays s.place (hand_move s.place (locked A s)) = move_stays s.place (locked A s) in t.due ∙ d)
 
-pub put_stands : (A : Inputs) (s : State) (pid sid : ℕ) → OwnsFrames s.place → s.place.due ≡ [] → s.mark ≡ marks.PutOut pid → holds_some (process_of s.point.flat pid) ≡ true
+pub put_stands : (A : Inputs) (s : State) (pid sid : ℕ) → OwnsFrames s.place → s.place.due ≡ [] → s.mark ≡ marks.PutOut pid
+    → holds_some (process_of s.point.flat pid) ≡ true
     → is_out s.place pid ≡ false → MarkStands (after A s (put_out_unit s.place pid sid)) (after A s (put_out_unit s.place pid sid)).mark
 unfolding after
 put_stands A s pid sid o d e h r = unit_case (λ (u : Entry). MarkStands (after A s u) (after A s u).mark) s.place pid sid
@@ -154,7 +156,8 @@ put_stands A s pid sid o d e h r = unit_case (λ (u : Entry). MarkStands (after 
 
 -- A line of the schedule.
 
-pub line_stands : (A : Inputs) (s : State) (line : ℕ) → IsNumbered s.point.flat → s.place.due ≡ [] → MarkStands (after A s (entries.Event line)) (after A s (entries.Event line)).mark
+pub line_stands : (A : Inputs) (s : State) (line : ℕ) → IsNumbered s.point.flat → s.place.due ≡ []
+    → MarkStands (after A s (entries.Event line)) (after A s (entries.Event line)).mark
 unfolding after
 line_stands A s line n d = go (slice_get A.lines s.lines)
   where

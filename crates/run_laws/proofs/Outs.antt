@@ -28,7 +28,8 @@ entered_residents p next image None = refl
 entered_residents p next image (Some facts) = refl
 
 -- nobody goes out by a change of a process
-pub change_out : (images : List Image) (p : Placement) (pid sid : ℕ) (b : Bool) (next at : ℕ) (change : Change) (n : ℕ) → is_out (place_change images p pid sid b next at change) n ≡ true → is_out p n ≡ true
+pub change_out : (images : List Image) (p : Placement) (pid sid : ℕ) (b : Bool) (next at : ℕ) (change : Change) (n : ℕ)
+    → is_out (place_change images p pid sid b next at change) n ≡ true → is_out p n ≡ true
 change_out images p pid sid b next at Keep n e = e
 change_out images p pid sid b next at (Resize d s) n e = let sh : Shaped p (drop_all p (dropped_pages p sid d s)) = drop_all_shaped (dropped_pages p sid d s) p in ap (λ (rs : List Residence). (residence_of rs n).out) (sym sh.residents) ∙ e
 change_out images p pid sid b next at (Fork child) n e = sym (out_begun p.residents child at n) ∙ e
@@ -47,7 +48,8 @@ change_out images p pid sid b next at (End status) n e =
     ]
 
 -- who is out holds a space
-pub out_holder : (p : Placement) (flat : FlatState) (n : ℕ) → OutHold p flat → is_out p n ≡ true → (x : Process) × (t : Space) × (process_of flat n ≡ Some x) × (x.holding ≡ Holds t)
+pub out_holder : (p : Placement) (flat : FlatState) (n : ℕ) → OutHold p flat → is_out p n ≡ true
+    → (x : Process) × (t : Space) × (process_of flat n ≡ Some x) × (x.holding ≡ Holds t)
 out_holder p flat n o e = go (process_of flat n) refl (o n e)
   where
     holding : (x : Process) → process_of flat n ≡ Some x → (h : Holding) → x.holding ≡ h → Rattle.flat_state.specs.Flat.holds_space h ≡ true → (x : Process) × (t : Space) × (process_of flat n ≡ Some x) × (x.holding ≡ Holds t)
@@ -60,7 +62,8 @@ out_holder p flat n o e = go (process_of flat n) refl (o n e)
     go (Some x) f z = holding x f x.holding refl z
 
 -- their registers stay
-pub regs_stay : (images : List NamedImage) (flat : FlatState) (p r : Placement) (pid : ℕ) (ws : List ByteWrite) (regs : Regs) (change : Change) → is_out p pid ≡ false → OutHold p flat
+pub regs_stay : (images : List NamedImage) (flat : FlatState) (p r : Placement) (pid : ℕ) (ws : List ByteWrite) (regs : Regs) (change : Change)
+    → is_out p pid ≡ false → OutHold p flat
     → NamesChild (apply_writes flat pid ws) change → ((n : ℕ) → is_out r n ≡ true → is_out p n ≡ true) → OutRegs p flat
     → OutRegs r (apply_change images (apply_writes flat pid ws) pid regs change)
 regs_stay images flat p r pid ws regs change inside o may was old n a e f =

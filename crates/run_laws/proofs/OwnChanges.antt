@@ -49,7 +49,8 @@ use Rattle.aout_image.specs.declared.Image.{Image}
 
 -- Who keeps a space does with it what the owner does.
 
-pub keeps_place : (images : List Image) (p : Placement) (pid sid : ℕ) (b : Bool) (next at : ℕ) (change : Change) → Own b change → place_change images p pid sid false next at change ≡ place_change images p pid sid b next at change
+pub keeps_place : (images : List Image) (p : Placement) (pid sid : ℕ) (b : Bool) (next at : ℕ) (change : Change) → Own b change
+    → place_change images p pid sid false next at change ≡ place_change images p pid sid b next at change
 keeps_place images p pid sid false next at change o = refl
 keeps_place images p pid sid true next at Keep o = refl
 keeps_place images p pid sid true next at (Resize d s) o = refl
@@ -60,7 +61,8 @@ keeps_place images p pid sid true next at (Reap child) o = refl
 keeps_place images p pid sid true next at Sleep o = refl
 keeps_place images p pid sid true next at (End status) o = absurd o
 
-pub keeps_holdings : (hs : Holdings) (p q : Placement) (pid sid : ℕ) (b : Bool) (change : Change) → Own b change → holdings_after hs p q pid sid b change ≡ holdings_after hs p q pid sid false change
+pub keeps_holdings : (hs : Holdings) (p q : Placement) (pid sid : ℕ) (b : Bool) (change : Change) → Own b change
+    → holdings_after hs p q pid sid b change ≡ holdings_after hs p q pid sid false change
 keeps_holdings hs p q pid sid false change o = refl
 keeps_holdings hs p q pid sid true Keep o = refl
 keeps_holdings hs p q pid sid true (Resize d s) o = refl
@@ -84,7 +86,8 @@ pub end_false : (b : Bool) (status : ℕ) → Own b (End status) → b ≡ false
 end_false true status o = absurd o
 end_false false status o = refl
 
-pub own_told : (A : Inputs) (k : Kernel) (flat : FlatState) (pid : ℕ) (regs : Regs) (e : Entry) (q : Process) (s : Space) (b : Bool) (change : Change) → ImagesFit A.images → IsNumbered flat
+pub own_told : (A : Inputs) (k : Kernel) (flat : FlatState) (pid : ℕ) (regs : Regs) (e : Entry) (q : Process) (s : Space) (b : Bool) (change : Change)
+    → ImagesFit A.images → IsNumbered flat
     → process_of flat pid ≡ Some q → q.holding ≡ Holds s → is_borrower flat.processes pid ≡ b → Own b change
     → is_out k.place pid ≡ false → k.place.due ≡ [] → NamesChild flat change → EntersImage A.images change → SameTables k flat → Stands A.images k flat
     → Told A (next_of (facts_of A.images) k pid regs e change) (apply_change A.images flat pid regs change)
@@ -108,7 +111,8 @@ pub record Kept (A : Inputs) (l : Kernel) : Type 0 where
   pub sound : Sound A.swap_blocks l
   pub numbered : Numbered l
 
-pub own_kept : (A : Inputs) (k : Kernel) (flat : FlatState) (pid : ℕ) (regs : Regs) (e : Entry) (q : Process) (s : Space) (change : Change) → IsNumbered flat → process_of flat pid ≡ Some q
+pub own_kept : (A : Inputs) (k : Kernel) (flat : FlatState) (pid : ℕ) (regs : Regs) (e : Entry) (q : Process) (s : Space) (change : Change)
+    → IsNumbered flat → process_of flat pid ≡ Some q
     → q.holding ≡ Holds s → SameTables k flat → NamesChild flat change
     → Sound A.swap_blocks (change_step (facts_of A.images) k pid regs e change) → Numbered (change_step (facts_of A.images) k pid regs e change) → Kept A (next_of (facts_of A.images) k pid regs e change)
 own_kept A k flat pid regs e q s Keep nums f h t m so n = record { sound = so; numbered = n }
@@ -128,7 +132,8 @@ pub record Lands (A : Inputs) (k : Kernel) (pid sid : ℕ) (e : Entry) (change :
   pub holdings : l.holdings ≡ holdings_after k.holdings k.place l.place pid sid false change
   pub journal : l.journal ≡ append k.journal e
 
-pub next_lands : (A : Inputs) (k : Kernel) (pid sid : ℕ) (regs : Regs) (e : Entry) (change : Change) → Lands A k pid sid e change (change_step (facts_of A.images) k pid regs e change)
+pub next_lands : (A : Inputs) (k : Kernel) (pid sid : ℕ) (regs : Regs) (e : Entry) (change : Change)
+    → Lands A k pid sid e change (change_step (facts_of A.images) k pid regs e change)
     → Lands A k pid sid e change (next_of (facts_of A.images) k pid regs e change)
 next_lands A k pid sid regs e Keep l = l
 next_lands A k pid sid regs e (Resize d r) l = l
@@ -139,7 +144,8 @@ next_lands A k pid sid regs e (Reap child) l = l
 next_lands A k pid sid regs e Sleep l = l
 next_lands A k pid sid regs e (End status) l = l
 
-pub own_lands : (A : Inputs) (k : Kernel) (flat : FlatState) (pid : ℕ) (regs : Regs) (e : Entry) (q : Process) (s : Space) (change : Change) → process_of flat pid ≡ Some q → q.holding ≡ Holds s
+pub own_lands : (A : Inputs) (k : Kernel) (flat : FlatState) (pid : ℕ) (regs : Regs) (e : Entry) (q : Process) (s : Space) (change : Change)
+    → process_of flat pid ≡ Some q → q.holding ≡ Holds s
     → SameTables k flat → Lands A k pid s.sid e change (next_of (facts_of A.images) k pid regs e change)
 own_lands A k flat pid regs e q s change f h t =
     let g : Stepping k flat pid q s = stepping k flat pid q s t f h in

@@ -68,7 +68,8 @@ entry_sizes locked at p (entries.Ended pid status) = of_shape p p (shaped_self p
 entry_sizes locked at p (entries.Owners a b m h) = of_shape p p (shaped_self p)
 
 -- who is out behind a move of a residence was out before, or goes out by it
-moved_or : (b : Bool) (rs : List Residence) (pid at n : ℕ) → (residence_of (changed (λ (r : Residence). r.pid) pid (λ (r : Residence). record r { out = b; since = at }) rs) n).out ≡ true
+moved_or : (b : Bool) (rs : List Residence) (pid at n : ℕ)
+    → (residence_of (changed (λ (r : Residence). r.pid) pid (λ (r : Residence). record r { out = b; since = at }) rs) n).out ≡ true
     → ((residence_of rs n).out ≡ true) ⊎ ((pid ≡ n) × (b ≡ true))
 moved_or b [] pid at n h = inl h
 moved_or b (r ∷ rs) pid at n h = go (moved_or b rs pid at n) (r.pid == pid) refl (r.pid == n) refl h
@@ -94,7 +95,8 @@ Leaver e n = ⊥
 still_out : (p q : Placement) (n : ℕ) → q.residents ≡ p.residents → is_out q n ≡ true → is_out p n ≡ true
 still_out p q n e h = sym (ap (λ (rs : List Residence). (residence_of rs n).out) e) ∙ h
 
-pub entry_out : (locked : List Page) (at : ℕ) (p : Placement) (e : Entry) (n : ℕ) → is_out (place_entry locked at p e) n ≡ true → (is_out p n ≡ true) ⊎ Leaver e n
+pub entry_out : (locked : List Page) (at : ℕ) (p : Placement) (e : Entry) (n : ℕ) → is_out (place_entry locked at p e) n ≡ true
+    → (is_out p n ≡ true) ⊎ Leaver e n
 entry_out locked at p (entries.Zero q) n h = inl (still_out p (filled p q) n (filled_shaped p q).residents h)
 entry_out locked at p (entries.Get q lo m) n h = inl (still_out p (get_run p (read_errand p q) (pages_from q lo m)) n (get_run_shaped p (read_errand p q) (pages_from q lo m)).residents h)
 entry_out locked at p (entries.Copy q) n h = inl (still_out p (filled p q) n (filled_shaped p q).residents h)
@@ -157,7 +159,8 @@ entry_once locked at p (entries.Owners a b m k) o h = h
 
 -- All of it.
 
-pub bare_sound : (size : ℕ) (flat : FlatState) (p : Placement) (hs : Holdings) → OneOwner size (lives (machine_of flat p hs).processes) p hs → HandsStand p → length p.transfers ≤ 16 → Sound size (machine_of flat p hs)
+pub bare_sound : (size : ℕ) (flat : FlatState) (p : Placement) (hs : Holdings) → OneOwner size (lives (machine_of flat p hs).processes) p hs
+    → HandsStand p → length p.transfers ≤ 16 → Sound size (machine_of flat p hs)
 bare_sound size flat p hs o h l = record { owner = o; tokens = length-replicate (length p.holds) []; hands = h; few_transfers = l }
 
 -- who leaves holds a space
@@ -165,7 +168,8 @@ abbrev pub LeaverHolds : FlatState → Entry → Type 0
 LeaverHolds flat e = (n : ℕ) → Leaver e n → holds_some (process_of flat n) ≡ true
 
 -- a paging entry that may be made, behind which at most 16 transfers are in flight, leaves what stands
-pub entry_placed : (A : Inputs) (flat : FlatState) (locked : List Page) (at : ℕ) (p : Placement) (hs : Holdings) (e : Entry) → IsAllowed p e → length (place_entry locked at p e).transfers ≤ 16
+pub entry_placed : (A : Inputs) (flat : FlatState) (locked : List Page) (at : ℕ) (p : Placement) (hs : Holdings) (e : Entry) → IsAllowed p e
+    → length (place_entry locked at p e).transfers ≤ 16
     → LeaverHolds flat e → Placed A flat p hs → Placed A flat (place_entry locked at p e) hs
 entry_placed A flat locked at p hs e a l leaves s =
     let so : Sound A.swap_blocks (machine_of flat p hs) = s.sound in

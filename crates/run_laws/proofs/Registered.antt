@@ -31,7 +31,8 @@ first_of q qs pid s g h = go (q.pid == pid) refl h.here
     go true e k = let same : q ≡ h.process = cc in Here e (ap (λ (r : Process). r.holding) same ∙ h.holds) (ap (λ (r : Process). r.regs) same ∙ h.regs)
     go false e k = Behind e record { process = h.process; here = k; holds = h.holds; regs = h.regs }
 
-found_here : (q : Process) (qs : List Process) (pid : ℕ) (s : Space) (g : Regs) → (q.pid == pid) ≡ true → q.holding ≡ Holds s → q.regs ≡ g → FoundRegs (q ∷ qs) pid s g
+found_here : (q : Process) (qs : List Process) (pid : ℕ) (s : Space) (g : Regs) → (q.pid == pid) ≡ true → q.holding ≡ Holds s → q.regs ≡ g
+    → FoundRegs (q ∷ qs) pid s g
 found_here q qs pid s g e h x = record { process = q; here = ap (λ (b : Bool). cond b (Some q) (find (λ r. r.pid == pid) qs)) e; holds = h; regs = x }
 
 found_behind : (q : Process) (qs : List Process) (pid : ℕ) (s : Space) (g : Regs) → (q.pid == pid) ≡ false → FoundRegs qs pid s g → FoundRegs (q ∷ qs) pid s g
@@ -50,7 +51,8 @@ found_replaced (q ∷ qs) p pid s g other h = go (λ k. found_replaced qs p pid 
     go later false e (Behind k found) = found_behind q (replaced qs p) pid s g k (later found)
 
 -- a space that goes back to its lender
-pub found_returned : (of : ℕ) (given : Space) (qs : List Process) (pid : ℕ) (s : Space) (g : Regs) → FoundRegs qs pid s g → FoundRegs (returned of given qs) pid s g
+pub found_returned : (of : ℕ) (given : Space) (qs : List Process) (pid : ℕ) (s : Space) (g : Regs) → FoundRegs qs pid s g
+    → FoundRegs (returned of given qs) pid s g
 unfolding returned
 found_returned of given [] pid s g h = absurd (let k = h.here in cc)
 found_returned of given (q ∷ qs) pid s g h = go (λ k. found_returned of given qs pid s g k) (lends_to of q.holding) refl (first_of q qs pid s g h)
@@ -62,7 +64,8 @@ found_returned of given (q ∷ qs) pid s g h = go (λ k. found_returned of given
     go later false e (Behind k found) = found_behind q (returned of given qs) pid s g k (later found)
 
 -- processes that a test leaves out, of which this one is none
-pub found_filtered : (test : Process → Bool) (qs : List Process) (pid : ℕ) (s : Space) (g : Regs) → ((q : Process) → q.holding ≡ Holds s → (q.pid == pid) ≡ true → test q ≡ true) → FoundRegs qs pid s g → FoundRegs (filter test qs) pid s g
+pub found_filtered : (test : Process → Bool) (qs : List Process) (pid : ℕ) (s : Space) (g : Regs)
+    → ((q : Process) → q.holding ≡ Holds s → (q.pid == pid) ≡ true → test q ≡ true) → FoundRegs qs pid s g → FoundRegs (filter test qs) pid s g
 found_filtered test [] pid s g stays h = absurd (let k = h.here in cc)
 found_filtered test (q ∷ qs) pid s g stays h = go (λ k. found_filtered test qs pid s g stays k) (test q) refl (first_of q qs pid s g h)
   where
@@ -73,7 +76,8 @@ found_filtered test (q ∷ qs) pid s g stays h = go (λ k. found_filtered test q
     go later false e (Behind k found) = later found
 
 -- what each process has, but its number and what it holds
-pub found_mapped : (f : Process → Process) (qs : List Process) (pid : ℕ) (s : Space) (g : Regs) → ((q : Process) → (f q).pid ≡ q.pid) → ((q : Process) → (f q).holding ≡ q.holding)
+pub found_mapped : (f : Process → Process) (qs : List Process) (pid : ℕ) (s : Space) (g : Regs) → ((q : Process) → (f q).pid ≡ q.pid)
+    → ((q : Process) → (f q).holding ≡ q.holding)
     → ((q : Process) → (f q).regs ≡ q.regs) → FoundRegs qs pid s g → FoundRegs (map f qs) pid s g
 found_mapped f [] pid s g number holding same h = absurd (let k = h.here in cc)
 found_mapped f (q ∷ qs) pid s g number holding same h = go (λ k. found_mapped f qs pid s g number holding same k) (first_of q qs pid s g h)
@@ -91,7 +95,8 @@ found_front (q ∷ qs) p pid s g h = go (λ k. found_front qs p pid s g k) (firs
     go later (Behind k found) = found_behind q (qs ++ p ∷ []) pid s g k (later found)
 
 -- all but the processes of another number
-pub without_stays : (qs : List Process) (of pid : ℕ) (s : Space) (g : Regs) → of ≢ pid → FoundRegs qs pid s g → FoundRegs (Rattle.std.specs.Prelude.filter (λ q. not (q.pid == of)) qs) pid s g
+pub without_stays : (qs : List Process) (of pid : ℕ) (s : Space) (g : Regs) → of ≢ pid → FoundRegs qs pid s g
+    → FoundRegs (Rattle.std.specs.Prelude.filter (λ q. not (q.pid == of)) qs) pid s g
 without_stays qs of pid s g other h =
     found_filtered (λ q. not (q.pid == of)) qs pid s g (λ q holds k. let apart : (q.pid == of) ≡ false = (let is : q.pid ≡ pid = eqb-true q.pid pid k in grind (arith, nat_tests)) in ap not apart) h
 
@@ -105,7 +110,8 @@ zombie_apart F child pid s g may found = λ same.
     let held : Zombie may.1 ≡ Holds s = sym may.3 ∙ ap (λ (r : Process). r.holding) it ∙ found.holds in
     absurd cc
 
-left_stays : (b : Bool) (F : FlatState) (of parent pid : ℕ) (s : Space) (g : Regs) → of ≢ pid → FoundRegs F.processes pid s g → FoundRegs (left b F of parent).processes pid s g
+left_stays : (b : Bool) (F : FlatState) (of parent pid : ℕ) (s : Space) (g : Regs) → of ≢ pid → FoundRegs F.processes pid s g
+    → FoundRegs (left b F of parent).processes pid s g
 left_stays true F of parent pid s g other h = without_stays F.processes of pid s g other h
 left_stays false F of parent pid s g other h = found_mapped (awake parent) F.processes pid s g (λ q. refl) (λ q. refl) (λ q. refl) h
 
@@ -114,14 +120,16 @@ orphaned_stays F of pid s g h =
     found_mapped (without_parent of) (Rattle.std.specs.Prelude.filter (λ q. not (is_zombie_child of q)) F.processes) pid s g (λ q. refl) (λ q. refl) (λ q. refl)
     (found_filtered (λ q. not (is_zombie_child of q)) F.processes pid s g (λ q holds k. ap not (holder_is_none of q s holds)) h)
 
-entered_stays : (F : FlatState) (p : Process) (t : Space) (image : ℕ) (named : Option NamedImage) (top : List ℕ) (pid : ℕ) (s : Space) (g : Regs) → p.pid ≢ pid → FoundRegs F.processes pid s g
+entered_stays : (F : FlatState) (p : Process) (t : Space) (image : ℕ) (named : Option NamedImage) (top : List ℕ) (pid : ℕ) (s : Space) (g : Regs)
+    → p.pid ≢ pid → FoundRegs F.processes pid s g
     → FoundRegs (entered F p t image named top).processes pid s g
 entered_stays F p t image None top pid s g other h = h
 entered_stays F p t image (Some named) top pid s g other h =
     found_returned p.pid t (with_process F record p { holding = Holds (space_with F.next_sid image named.image top) }).processes pid s g
     (found_replaced F.processes (record p { holding = Holds (space_with F.next_sid image named.image top) }) pid s g other h)
 
-changed_stays : (images : List NamedImage) (F : FlatState) (p : Process) (t : Space) (change : Change) (pid : ℕ) (s : Space) (g : Regs) → NamesChild F change → p.pid ≢ pid
+changed_stays : (images : List NamedImage) (F : FlatState) (p : Process) (t : Space) (change : Change) (pid : ℕ) (s : Space) (g : Regs)
+    → NamesChild F change → p.pid ≢ pid
     → FoundRegs F.processes pid s g → FoundRegs (changed images F p t change).processes pid s g
 changed_stays images F p t Keep pid s g fits other h = found_replaced F.processes p pid s g other h
 changed_stays images F p t (Resize a b) pid s g fits other h = found_replaced F.processes (record p { holding = Holds (resized t a b) }) pid s g other h
@@ -140,7 +148,8 @@ changed_stays images F p t (End status) pid s g fits other h =
     (orphaned_stays (given_back (with_process F dead) p.pid t) p.pid pid s g
     (found_returned p.pid t (with_process F dead).processes pid s g (found_replaced F.processes dead pid s g other h)))
 
-pub change_stays : (images : List NamedImage) (F : FlatState) (of : ℕ) (regs : Regs) (change : Change) (pid : ℕ) (s : Space) (g : Regs) → NamesChild F change → of ≢ pid → FoundRegs F.processes pid s g
+pub change_stays : (images : List NamedImage) (F : FlatState) (of : ℕ) (regs : Regs) (change : Change) (pid : ℕ) (s : Space) (g : Regs)
+    → NamesChild F change → of ≢ pid → FoundRegs F.processes pid s g
     → FoundRegs (apply_change images F of regs change).processes pid s g
 unfolding apply_change
 change_stays images F of regs change pid s g fits other h = go (process_of F of) refl
@@ -156,7 +165,8 @@ change_stays images F of regs change pid s g fits other h = go (process_of F of)
 
 -- Writes.
 
-pub writes_stay : (F : FlatState) (of : ℕ) (ws : List ByteWrite) (pid : ℕ) (s : Space) (g : Regs) → of ≢ pid → FoundRegs F.processes pid s g → FoundRegs (apply_writes F of ws).processes pid s g
+pub writes_stay : (F : FlatState) (of : ℕ) (ws : List ByteWrite) (pid : ℕ) (s : Space) (g : Regs) → of ≢ pid → FoundRegs F.processes pid s g
+    → FoundRegs (apply_writes F of ws).processes pid s g
 unfolding apply_writes
 writes_stay F of ws pid s g other h = go (process_of F of) refl
   where

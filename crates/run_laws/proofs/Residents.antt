@@ -55,7 +55,8 @@ puts_it A s pid r e =
     let m : (s.place.due ≡ []) × (holds_some (process_of s.point.flat pid) ≡ true) × (is_out s.place pid ≡ false) = subst (MarkStands s) e r.mark in
     record { clear = m.0; holds = m.1; inside = m.2; resident = reside A s pid r (holder_lives s.point.flat pid m.1) }
 
-pub put_unit : (A : Inputs) (s : State) (pid : ℕ) → s.place.due ≡ [] → s.mark ≡ marks.PutOut pid → next_unit A s ≡ Some (put_out_unit s.place pid (space_of_process (process_of s.point.flat pid)))
+pub put_unit : (A : Inputs) (s : State) (pid : ℕ) → s.place.due ≡ [] → s.mark ≡ marks.PutOut pid
+    → next_unit A s ≡ Some (put_out_unit s.place pid (space_of_process (process_of s.point.flat pid)))
 unfolding next_unit
 put_unit A s pid d e =
     ap (λ (ds : List Rattle.page_model.specs.Placement.Due). or_else (due_unit s.place ds) (or_else (under A s s.mark) (next_mark A s))) d
@@ -74,7 +75,8 @@ put_falls A s u pid r e h =
     same : (a b : Entry) → Some a ≡ Some b → a ≡ b
     same a b e = cc
 
-pub put_ends : (A : Inputs) (s : State) (pid at : ℕ) → IsRun A s → s.mark ≡ marks.PutOut pid → EndsPuttingOut at s.place pid (space_of_process (process_of s.point.flat pid))
+pub put_ends : (A : Inputs) (s : State) (pid at : ℕ) → IsRun A s → s.mark ≡ marks.PutOut pid
+    → EndsPuttingOut at s.place pid (space_of_process (process_of s.point.flat pid))
 put_ends A s pid at r e =
     let x : PutsIt A s pid = puts_it A s pid r e in
     put_out at s.place pid (space_of_process (process_of s.point.flat pid)) (owns A s r.placed) (sixteen A s r.placed) x.resident x.inside

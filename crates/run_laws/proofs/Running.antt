@@ -51,7 +51,8 @@ record FlatKept (A : Inputs) (flat : FlatState) : Type 0 where
   pub texts : TextsHeld A.images flat
   pub sized : AllSized flat.processes
 
-step_kept : (A : Inputs) (s : State) (u : Entry) → ImagesFit A.images → ExecsFit A → Stepped A s u → FlatKept A s.point.flat → FlatKept A (after A s u).point.flat
+step_kept : (A : Inputs) (s : State) (u : Entry) → ImagesFit A.images → ExecsFit A → Stepped A s u → FlatKept A s.point.flat
+    → FlatKept A (after A s u).point.flat
 step_kept A s u images execs h k = subst (FlatKept A) (sym (stepped_flat A s u h)) (record {
   numbers = step_numbered A flat pid (is_refused s.point.last pid) k.numbers;
   lenders = subst LendsStand (sym form_after) (changes_lent A.images flat1 pid step.regs step.change q1 z here refl may numbers1 (writes_lent flat pid step.writes x.process x.space x.here x.holds k.lenders));
@@ -148,7 +149,8 @@ flat_no_mark (entries.SwapOut p) pid e = tt
 flat_no_mark (entries.SwapIn p) pid e = tt
 flat_no_mark (entries.Owners a b c d) pid e = tt
 
-mark_on : (A : Inputs) (s : State) (u : Entry) → Rattle.page_model.specs.Ownership.OwnsFrames s.place → IsNumbered s.point.flat → MarkStands s s.mark → Kind A s u → MarkStands (after A s u) (after A s u).mark
+mark_on : (A : Inputs) (s : State) (u : Entry) → Rattle.page_model.specs.Ownership.OwnsFrames s.place → IsNumbered s.point.flat → MarkStands s s.mark
+    → Kind A s u → MarkStands (after A s u) (after A s u).mark
 mark_on A s u o n m k = go k
   where
     free : NoMark u → IsFree s.mark → MarkStands (after A s u) (after A s u).mark
@@ -192,7 +194,8 @@ record Core (A : Inputs) (s : State) : Type 0 where
   pub placed : Placed A s.point.flat s.place s.holdings
   pub flat : FlatKept A s.point.flat
 
-core_same : (A : Inputs) (s : State) (u : Entry) → (after A s u).point.flat ≡ s.point.flat → Placed A (after A s u).point.flat (after A s u).place (after A s u).holdings → FlatKept A s.point.flat → Core A (after A s u)
+core_same : (A : Inputs) (s : State) (u : Entry) → (after A s u).point.flat ≡ s.point.flat
+    → Placed A (after A s u).point.flat (after A s u).place (after A s u).holdings → FlatKept A s.point.flat → Core A (after A s u)
 core_same A s u e p k = record { placed = p; flat = subst (FlatKept A) (sym e) k }
 
 core_on : (A : Inputs) (s : State) (u : Entry) → ImagesFit A.images → ExecsFit A → IsRun A s → Kind A s u → Core A (after A s u)

@@ -87,17 +87,20 @@ left_sized : (b : Bool) (F : FlatState) (pid parent : ℕ) → FlatSized F → F
 left_sized true F pid parent h = record { spaces = each_left Sized (λ q. not (q.pid == pid)) F.processes h.spaces; count = let l = left_count (λ q. not (q.pid == pid)) F.processes in let c = h.count in omega arith }
 left_sized false F pid parent h = record { spaces = each_mapped Sized (awake parent) F.processes (λ q k. k) h.spaces; count = let e = map_count (awake parent) F.processes in let c = h.count in omega arith }
 
-more_sized : (F : FlatState) (ps : List Process) (p : Process) (n m : ℕ) → EachProcess Sized ps → length ps ≡ length F.processes → length F.processes < 64 → Sized p
+more_sized : (F : FlatState) (ps : List Process) (p : Process) (n m : ℕ) → EachProcess Sized ps → length ps ≡ length F.processes
+    → length F.processes < 64 → Sized p
     → FlatSized (record F { processes = ps ++ p ∷ []; next_pid = n; next_sid = m })
 more_sized F ps p n m h e l s = record { spaces = each_last Sized ps p h s; count = let a = length-append ps (p ∷ []) in omega arith }
 
-images_sized : (A : Inputs) → InputsSized A → ImagesFit A.images → (number : ℕ) (named : NamedImage) → image_numbered A.images number ≡ Some named → length named.image.data ≤ 1024 * 4096
+images_sized : (A : Inputs) → InputsSized A → ImagesFit A.images → (number : ℕ) (named : NamedImage) → image_numbered A.images number ≡ Some named
+    → length named.image.data ≤ 1024 * 4096
 images_sized A sz fit number named e =
     let i : ImageFits named = fit number named e in
     let d : DataFits named.image = i.«data» in
     let l = d.size in let m = sz.images number named e in omega arith
 
-changed_sized : (A : Inputs) (F : FlatState) (p : Process) (s : Space) (change : Change) → InputsSized A → ImagesFit A.images → EntersImage A.images change → ChangeSized F change → p.holding ≡ Holds s
+changed_sized : (A : Inputs) (F : FlatState) (p : Process) (s : Space) (change : Change) → InputsSized A → ImagesFit A.images
+    → EntersImage A.images change → ChangeSized F change → p.holding ≡ Holds s
     → SpaceSized s → FlatSized F → FlatSized (changed A.images F p s change)
 changed_sized A F p s Keep sz fit x c h t e = with_sized F p e (subst HoldingSized (sym h) t)
 changed_sized A F p s (Resize d r) sz fit x c h t e = with_sized F (record p { holding = Holds (resized s d r) }) e (record {
@@ -132,12 +135,14 @@ changed_sized A F p s (End status) sz fit x c h t e = left_sized (p.parent == 0)
 
 -- Who writes.
 
-written_sized : (F : FlatState) (p : Process) (s : Space) (ws : List ByteWrite) → SpaceSized s → FlatSized F → FlatSized (with_process F (record p { holding = Holds (puts s ws) }))
+written_sized : (F : FlatState) (p : Process) (s : Space) (ws : List ByteWrite) → SpaceSized s → FlatSized F
+    → FlatSized (with_process F (record p { holding = Holds (puts s ws) }))
 written_sized F p s ws t h = let z : SameSpace s (puts s ws) = puts_same ws s in
     with_sized F (record p { holding = Holds (puts s ws) }) h (record { data_size = let a = z.data_size in let b = t.data_size in omega arith; stack_size = let a = z.stack_size in let b = t.stack_size in omega arith })
 
 -- a change of a process, whichever it is
-change_sized : (A : Inputs) (F : FlatState) (pid : ℕ) (regs : Regs) (change : Change) → InputsSized A → ImagesFit A.images → EntersImage A.images change → ChangeSized F change → FlatSized F
+change_sized : (A : Inputs) (F : FlatState) (pid : ℕ) (regs : Regs) (change : Change) → InputsSized A → ImagesFit A.images
+    → EntersImage A.images change → ChangeSized F change → FlatSized F
     → FlatSized (apply_change A.images F pid regs change)
 unfolding apply_change
 change_sized A F pid regs change sz fit x c h = go (process_of F pid) refl
@@ -173,7 +178,8 @@ ReplySized F (Writes bytes) = Unit {0}
 ReplySized F Waits = Unit {0}
 ReplySized F (Exits status) = Unit {0}
 
-child_sized : (F : FlatState) (b : Bool) (regs : Regs) (child : ℕ) → nat_lt (length F.processes) process_limit ≡ b → ReplySized F (child_by b regs child (Fork child)) × ReplySized F (child_by b regs child (Lend child))
+child_sized : (F : FlatState) (b : Bool) (regs : Regs) (child : ℕ) → nat_lt (length F.processes) process_limit ≡ b
+    → ReplySized F (child_by b regs child (Fork child)) × ReplySized F (child_by b regs child (Lend child))
 child_sized F true regs child e = (ltb-true (length F.processes) 64 e, ltb-true (length F.processes) 64 e)
 child_sized F false regs child e = (tt, tt)
 
@@ -205,7 +211,8 @@ stack_few s t = let l = t.stack_size in omega arith
 data_few : (s : Space) → SpaceSized s → data_pages_in s ≤ 4096
 data_few s t = let l = t.data_size in omega arith
 
-all_sized : (images : List NamedImage) (F : FlatState) (p : Process) (s : Space) (call : SystemCall) (regs : Regs) → SpaceSized s → AllGives (ReplySized F) (reply_of images F p s call regs)
+all_sized : (images : List NamedImage) (F : FlatState) (p : Process) (s : Space) (call : SystemCall) (regs : Regs) → SpaceSized s
+    → AllGives (ReplySized F) (reply_of images F p s call regs)
 unfolding reply_of exit_reply write_reply break_reply execve_reply
 all_sized images F p s calls.Exit regs t = gives_any (ReplySized F) (argument regs 1) (λ code. Gives (Exits (code % 256 * 256))) (λ code. tt)
 all_sized images F p s calls.Fork regs t = (child_sized F (nat_lt (length F.processes) process_limit) regs F.next_pid refl).0
@@ -251,7 +258,8 @@ refused_sized F true (Exits status) h = tt
 
 -- An access below the stack is within its reach.
 
-below_or : {B : Type 0} (memory : Answers) (p : Program B) (a : ℕ) → run memory p ≡ Err (Below a) → (memory.read a ≡ bytes.Below) ⊎ (memory.may_write a ≡ tests.Below)
+below_or : {B : Type 0} (memory : Answers) (p : Program B) (a : ℕ) → run memory p ≡ Err (Below a)
+    → (memory.read a ≡ bytes.Below) ⊎ (memory.may_write a ≡ tests.Below)
 below_or memory (Gives x) a e = absurd cc
 below_or memory (Refuses signal) a e = absurd cc
 below_or memory (Reads b next) a e = go (λ byte k. below_or memory (next byte) a k) (memory.read b) refl e
@@ -313,7 +321,8 @@ grown_few s regs a e =
 
 -- Steps.
 
-with_step : (A : Inputs) (F : FlatState) (pid : ℕ) (ws : List ByteWrite) (regs : Regs) (change : Change) → InputsSized A → ImagesFit A.images → EntersImage A.images change
+with_step : (A : Inputs) (F : FlatState) (pid : ℕ) (ws : List ByteWrite) (regs : Regs) (change : Change) → InputsSized A → ImagesFit A.images
+    → EntersImage A.images change
     → ChangeSized (apply_writes F pid ws) change → FlatSized F → FlatSized (apply_change A.images (apply_writes F pid ws) pid regs change)
 with_step A F pid ws regs change sz fit x c h = change_sized A (apply_writes F pid ws) pid regs change sz fit x c (writes_sized F pid ws h)
 
@@ -325,7 +334,8 @@ replied_sized A F p call effect (Writes bytes) sz fit x c h = with_step A F p.pi
 replied_sized A F p call effect Waits sz fit x c h = with_step A F p.pid effect.writes p.regs Sleep sz fit tt tt h
 replied_sized A F p call effect (Exits status) sz fit x c h = with_step A F p.pid effect.writes p.regs (End status) sz fit tt tt h
 
-called_sized : (A : Inputs) (F : FlatState) (p : Process) (s : Space) (refused : Bool) (effect : Effect) (o : Option SystemCall) → InputsSized A → ImagesFit A.images → SpaceSized s
+called_sized : (A : Inputs) (F : FlatState) (p : Process) (s : Space) (refused : Bool) (effect : Effect) (o : Option SystemCall) → InputsSized A
+    → ImagesFit A.images → SpaceSized s
     → EntersImage A.images (called_step A.images F p s refused effect o).change → FlatSized F → FlatSized (called_step A.images F p s refused effect o).after
 called_sized A F p s refused effect None sz fit t x h = with_step A F p.pid effect.writes p.regs (End 12) sz fit tt tt h
 called_sized A F p s refused effect (Some call) sz fit t x h =
@@ -336,12 +346,14 @@ called_sized A F p s refused effect (Some call) sz fit t x h =
     (run_sized (apply_writes F p.pid effect.writes) (answers_of (puts s effect.writes)) (reply_of A.images (apply_writes F p.pid effect.writes) (written_process p s effect.writes) (puts s effect.writes) call effect.regs)
     (all_sized A.images (apply_writes F p.pid effect.writes) (written_process p s effect.writes) (puts s effect.writes) call effect.regs t1))) h
 
-behind_sized : (A : Inputs) (F : FlatState) (p : Process) (s : Space) (refused : Bool) (effect : Effect) (o : Option ℤ) → InputsSized A → ImagesFit A.images → SpaceSized s
+behind_sized : (A : Inputs) (F : FlatState) (p : Process) (s : Space) (refused : Bool) (effect : Effect) (o : Option ℤ) → InputsSized A
+    → ImagesFit A.images → SpaceSized s
     → EntersImage A.images (step_behind A.images F p s refused effect o).change → FlatSized F → FlatSized (step_behind A.images F p s refused effect o).after
 behind_sized A F p s refused effect None sz fit t x h = with_step A F p.pid effect.writes effect.regs Keep sz fit tt tt h
 behind_sized A F p s refused effect (Some number) sz fit t x h = called_sized A F p s refused effect (call_of number) sz fit t x h
 
-of_sized : (A : Inputs) (F : FlatState) (p : Process) (s : Space) (refused : Bool) (r : Result Effect Refused) → instruction_in s p.regs ≡ r → InputsSized A → ImagesFit A.images → SpaceSized s
+of_sized : (A : Inputs) (F : FlatState) (p : Process) (s : Space) (refused : Bool) (r : Result Effect Refused) → instruction_in s p.regs ≡ r
+    → InputsSized A → ImagesFit A.images → SpaceSized s
     → EntersImage A.images (step_of A.images F p s refused r).change → FlatSized F → FlatSized (step_of A.images F p s refused r).after
 of_sized A F p s refused (Ok effect) e sz fit t x h = behind_sized A F p s refused effect effect.call sz fit t x h
 of_sized A F p s refused (Err (Miss address write)) e sz fit t x h = h
@@ -349,7 +361,8 @@ of_sized A F p s true (Err (Below address)) e sz fit t x h = with_step A F p.pid
 of_sized A F p s false (Err (Below address)) e sz fit t x h = with_step A F p.pid [] p.regs (Resize (data_pages_in s) (pages_down_to address)) sz fit tt (data_few s t, grown_few s p.regs address e) h
 of_sized A F p s refused (Err (Signal number)) e sz fit t x h = with_step A F p.pid [] p.regs (End number) sz fit tt tt h
 
-pub step_sized : (A : Inputs) (F : FlatState) (pid : ℕ) (refused : Bool) → InputsSized A → ImagesFit A.images → FlatSized F → FlatSized (flat_step A F pid refused).after
+pub step_sized : (A : Inputs) (F : FlatState) (pid : ℕ) (refused : Bool) → InputsSized A → ImagesFit A.images → FlatSized F
+    → FlatSized (flat_step A F pid refused).after
 unfolding flat_step
 step_sized A F pid refused sz fit h = go (process_of F pid) refl (execs_fit A F pid refused)
   where
@@ -397,25 +410,30 @@ where_sized : (b : Bool) (p q : Point) → where_so b p ≡ Some q → FlatSized
 where_sized true p q e h = let same : p ≡ q = cc in subst (λ (x : Point). FlatSized x.flat) same h
 where_sized false p q e h = absurd cc
 
-of_entry : (A : Inputs) (point q : Point) (pid : ℕ) (e : Entry) → InputsSized A → ImagesFit A.images → flat_entry_of A point pid e ≡ Some q → FlatSized point.flat → FlatSized q.flat
+of_entry : (A : Inputs) (point q : Point) (pid : ℕ) (e : Entry) → InputsSized A → ImagesFit A.images → flat_entry_of A point pid e ≡ Some q
+    → FlatSized point.flat → FlatSized q.flat
 of_entry A point q pid (IsRefused p) sz fit h k = where_sized (can_step point.flat pid) (record point { last = Some (IsRefused p) }) q h k
 of_entry A point q pid e sz fit h k =
     where_sized (same_as (act A point pid) e) (point_after A point pid) q h
     (behind_point point (step_at A point pid).after (due_at A point pid) k (step_sized A point.flat pid (Rattle.flat_model.specs.Run.is_refused point.last pid) sz fit k))
 
-if_entry : (b : Bool) (A : Inputs) (point q : Point) (pid : ℕ) (e : Entry) → InputsSized A → ImagesFit A.images → flat_entry_if b A point pid e ≡ Some q → FlatSized point.flat → FlatSized q.flat
+if_entry : (b : Bool) (A : Inputs) (point q : Point) (pid : ℕ) (e : Entry) → InputsSized A → ImagesFit A.images
+    → flat_entry_if b A point pid e ≡ Some q → FlatSized point.flat → FlatSized q.flat
 if_entry true A point q pid e sz fit h k = of_entry A point q pid e sz fit h k
 if_entry false A point q pid e sz fit h k = absurd cc
 
-by_entry : (A : Inputs) (point q : Point) (o : Option ℕ) (e : Entry) → InputsSized A → ImagesFit A.images → flat_entry_by A point o e ≡ Some q → FlatSized point.flat → FlatSized q.flat
+by_entry : (A : Inputs) (point q : Point) (o : Option ℕ) (e : Entry) → InputsSized A → ImagesFit A.images → flat_entry_by A point o e ≡ Some q
+    → FlatSized point.flat → FlatSized q.flat
 by_entry A point q None e sz fit h k = where_sized true point q h k
 by_entry A point q (Some pid) e sz fit h k = if_entry (may_follow point.last e) A point q pid e sz fit h k
 
-entry_sized : (A : Inputs) (point q : Point) (e : Entry) → InputsSized A → ImagesFit A.images → flat_entry A point e ≡ Some q → FlatSized point.flat → FlatSized q.flat
+entry_sized : (A : Inputs) (point q : Point) (e : Entry) → InputsSized A → ImagesFit A.images → flat_entry A point e ≡ Some q → FlatSized point.flat
+    → FlatSized q.flat
 unfolding flat_entry
 entry_sized A point q e sz fit h k = by_entry A point q (process_of_entry e) e sz fit h k
 
-units_sized : (A : Inputs) (us : List Entry) (point q : Point) → InputsSized A → ImagesFit A.images → flat_units A (Some point) us ≡ Some q → FlatSized point.flat → FlatSized q.flat
+units_sized : (A : Inputs) (us : List Entry) (point q : Point) → InputsSized A → ImagesFit A.images → flat_units A (Some point) us ≡ Some q
+    → FlatSized point.flat → FlatSized q.flat
 unfolding flat_units
 units_sized A [] point q sz fit h k = where_sized true point q h k
 units_sized A (u ∷ us) point q sz fit h k = go (λ next l m. units_sized A us next q sz fit l m) (flat_entry A point u) refl h
@@ -424,7 +442,8 @@ units_sized A (u ∷ us) point q sz fit h k = go (λ next l m. units_sized A us 
     go later None e l = absurd cc
     go later (Some next) e l = later next l (entry_sized A point next u sz fit e k)
 
-pub run_is_sized : (A : Inputs) (journal : List Entry) (point : Point) → InputsSized A → ImagesFit A.images → flat_run A journal ≡ Some point → FlatSized point.flat
+pub run_is_sized : (A : Inputs) (journal : List Entry) (point : Point) → InputsSized A → ImagesFit A.images → flat_run A journal ≡ Some point
+    → FlatSized point.flat
 run_is_sized A journal point sz fit h = units_sized A (units_of journal) (start_point A) point sz fit h (start_sized A sz fit)
 
 -- Placements.
@@ -459,7 +478,8 @@ place_sized A s r h sid = go (numbered sid_of sid (spaces_of s.point.flat)) (num
     go None (Some x) e i f = absurd f
     go (Some z) None e i f = absurd f
 
-pub reached_sized : (A : Inputs) (hs : Rattle.swap_book.specs.Holdings.Holdings) (journal : List Entry) (s : State) → CanRun A hs → InputsSized A → Reaches A journal s → FlatSized s.point.flat × PlaceSized s.place
+pub reached_sized : (A : Inputs) (hs : Rattle.swap_book.specs.Holdings.Holdings) (journal : List Entry) (s : State) → CanRun A hs → InputsSized A
+    → Reaches A journal s → FlatSized s.point.flat × PlaceSized s.place
 reached_sized A hs journal s c sz r =
     let l : IsLawful A journal s = reached_lawful A hs journal s c r in
     let h : FlatSized s.point.flat = run_is_sized A journal s.point sz c.images l.flat in

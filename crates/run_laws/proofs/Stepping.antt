@@ -54,11 +54,13 @@ pub record Wrote (flat after : FlatState) (pid : ℕ) (q : Process) (s z : Space
   pub is : after ≡ with_process flat (record q { holding = Holds z })
   pub same : SameSpace s z
 
-pub wrote : (flat : FlatState) (pid : ℕ) (ws : List ByteWrite) (q : Process) (s : Space) → process_of flat pid ≡ Some q → q.holding ≡ Holds s → Wrote flat (apply_writes flat pid ws) pid q s (puts s ws)
+pub wrote : (flat : FlatState) (pid : ℕ) (ws : List ByteWrite) (q : Process) (s : Space) → process_of flat pid ≡ Some q → q.holding ≡ Holds s
+    → Wrote flat (apply_writes flat pid ws) pid q s (puts s ws)
 unfolding apply_writes
 wrote flat pid ws q s f h = record { is = ap (wrote_if flat ws) f ∙ ap (wrote_by flat q ws) h; same = puts_same ws s }
 
-pub wrote_process : (flat : FlatState) (pid : ℕ) (q : Process) (z : Space) → process_of flat pid ≡ Some q → process_of (with_process flat (record q { holding = Holds z })) pid ≡ Some (record q { holding = Holds z })
+pub wrote_process : (flat : FlatState) (pid : ℕ) (q : Process) (z : Space) → process_of flat pid ≡ Some q
+    → process_of (with_process flat (record q { holding = Holds z })) pid ≡ Some (record q { holding = Holds z })
 wrote_process flat pid q z f =
     found_is (replaced flat.processes (record q { holding = Holds z })) pid
     ∙ ap (λ (n : ℕ). numbered (λ (x : Process). x.pid) n (replaced flat.processes (record q { holding = Holds z }))) (sym (found_at flat pid q f).0)
@@ -85,12 +87,14 @@ borrows_is (q ∷ ps) pid = ap (λ (b : Bool). b || is_borrower ps pid) (one q.h
 pub borrows_same : (ps qs : List Process) (pid : ℕ) → map outline_of ps ≡ map outline_of qs → is_borrower ps pid ≡ is_borrower qs pid
 borrows_same ps qs pid e = borrows_is ps pid ∙ ap (λ (os : List Outline). borrows_by os pid) e ∙ sym (borrows_is qs pid)
 
-own_written : (x : Bool) (after : FlatState) (s z : Space) (hs : Holdings) → z.sid ≡ s.sid → z.image ≡ s.image → without_own x after z hs ≡ without_own x after s hs
+own_written : (x : Bool) (after : FlatState) (s z : Space) (hs : Holdings) → z.sid ≡ s.sid → z.image ≡ s.image
+    → without_own x after z hs ≡ without_own x after s hs
 own_written true after s z hs a i = refl
 own_written false after s z hs a i = ap₂ (λ (n m : ℕ). without_text (is_shared after m) m (without_owner (owners.Stack n) (without_owner (owners.Data n) hs))) a i
 
 -- what is given back, by the flat states before and after the bytes
-pub given_written : (F G after : FlatState) (pid : ℕ) (s z : Space) (change : Change) (hs : Holdings) → z.sid ≡ s.sid → z.image ≡ s.image → is_borrower G.processes pid ≡ is_borrower F.processes pid
+pub given_written : (F G after : FlatState) (pid : ℕ) (s z : Space) (change : Change) (hs : Holdings) → z.sid ≡ s.sid → z.image ≡ s.image
+    → is_borrower G.processes pid ≡ is_borrower F.processes pid
     → given_up G after pid z change hs ≡ given_up F after pid s change hs
 given_written F G after pid s z Keep hs a i b = refl
 given_written F G after pid s z (Resize d t) hs a i b = ap (λ (n : ℕ). with_pages (owners.Stack n) t (with_pages (owners.Data n) d hs)) a
@@ -133,7 +137,8 @@ lt_or a b c d e (inr l) = absurd (let k : nat_lt c d ≡ true = grind (arith, na
     or_true false = refl
 
 -- a space that goes or loses pages is settled, where the flat state says that it has to be
-pub settles_for : (p : Placement) (s : Space) (b : Bool) (change : Change) → Own b change → Fits (Some s) (numbered space_number s.sid p.spaces) → (loses_pages s b change ≡ true → is_settled p s.sid ≡ true) → SettlesFor p s.sid change
+pub settles_for : (p : Placement) (s : Space) (b : Bool) (change : Change) → Own b change → Fits (Some s) (numbered space_number s.sid p.spaces)
+    → (loses_pages s b change ≡ true → is_settled p s.sid ≡ true) → SettlesFor p s.sid change
 settles_for p s b Keep o f h = tt
 settles_for p s b (Resize d t) o f h = λ l. go l (nat_lt d (data_pages_of s) || nat_lt t (stack_pages_of s)) refl
   where

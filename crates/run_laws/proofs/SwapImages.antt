@@ -52,7 +52,8 @@ use Rattle.run_laws.proofs.Machines.{unit_keeps, units_keep, start_keeps}
 
 -- What is in flight to swap.
 
-parts_flat : (A : Inputs) (s : State) (k : Kernel) (image : List ℕ) (xs : List Part) → Coupled k A.images image s.point.flat → Each (IsMoving k.place) (map (moving Writes) xs) → AreFlat A s k xs
+parts_flat : (A : Inputs) (s : State) (k : Kernel) (image : List ℕ) (xs : List Part) → Coupled k A.images image s.point.flat
+    → Each (IsMoving k.place) (map (moving Writes) xs) → AreFlat A s k xs
 parts_flat A s k image [] c m = tt
 parts_flat A s k image (x ∷ xs) c m =
     let here : (bytes_in (beside_kernel k A.images image s.point.flat) x.frame ≡ memory_of A.images s.point.flat x.page) × IfSaved (beside_kernel k A.images image s.point.flat) x.page (mark_of k.place x.page) =
@@ -63,7 +64,8 @@ each_back : (P : Moving → Type 0) (xs ys : List Moving) → Each P (xs ++ ys) 
 each_back P [] ys e = e
 each_back P (x ∷ xs) ys e = each_back P xs ys e.1
 
-transfers_flat : (A : Inputs) (s : State) (k : Kernel) (image : List ℕ) (ts : List Transfer) → Coupled k A.images image s.point.flat → Each (IsMoving k.place) (parts_of ts) → AllFlat A s k ts
+transfers_flat : (A : Inputs) (s : State) (k : Kernel) (image : List ℕ) (ts : List Transfer) → Coupled k A.images image s.point.flat
+    → Each (IsMoving k.place) (parts_of ts) → AllFlat A s k ts
 transfers_flat A s k image [] c m = tt
 transfers_flat A s k image (t ∷ ts) c m = (by t.errand (each_front (IsMoving k.place) (map (moving t.errand) t.parts) (parts_of ts) m), transfers_flat A s k image ts c (each_back (IsMoving k.place) (map (moving t.errand) t.parts) (parts_of ts) m))
   where
@@ -86,14 +88,16 @@ writes_flat A s k image at =
 
 -- The image behind `Done`.
 
-store_same : (A : Inputs) (s : State) (k : Kernel) (image : List ℕ) (xs : List Part) → k.holdings ≡ s.holdings → AreFlat A s k xs → store_all k image xs ≡ pages_stored A s xs image
+store_same : (A : Inputs) (s : State) (k : Kernel) (image : List ℕ) (xs : List Part) → k.holdings ≡ s.holdings → AreFlat A s k xs
+    → store_all k image xs ≡ pages_stored A s xs image
 store_same A s k image [] h a = refl
 store_same A s k image (x ∷ xs) h a =
     ap (λ (bytes : List ℕ). store_all k (store_at image (block_of k.holdings x.page) bytes) xs) a.0
     ∙ ap (λ (hs : Holdings). store_all k (store_at image (block_of hs x.page) (memory_of A.images s.point.flat x.page)) xs) h
     ∙ store_same A s k (store_at image (block_of s.holdings x.page) (memory_of A.images s.point.flat x.page)) xs h a.1
 
-done_same : (A : Inputs) (s : State) (k : Kernel) (image : List ℕ) (ts : List Transfer) → k.holdings ≡ s.holdings → AllFlat A s k ts → image_after_of k image ts ≡ oldest_stored A s ts image
+done_same : (A : Inputs) (s : State) (k : Kernel) (image : List ℕ) (ts : List Transfer) → k.holdings ≡ s.holdings → AllFlat A s k ts
+    → image_after_of k image ts ≡ oldest_stored A s ts image
 done_same A s k image [] h a = refl
 done_same A s k image (t ∷ ts) h a = go t.errand a.0
   where
@@ -108,7 +112,8 @@ pub record SameOut (A : Inputs) (s : State) (k : Kernel) (image : List ℕ) (pid
   pub regs : there.proc.regs ≡ there.process.regs
   pub space : space_of_life there.proc.life ≡ space_of_holding there.process.holding
 
-pub same_out : (A : Inputs) (s : State) (k : Kernel) (image : List ℕ) (pid : ℕ) → StandsAt A s k image → is_out s.place pid ≡ false → holds_some (process_of s.point.flat pid) ≡ true → SameOut A s k image pid
+pub same_out : (A : Inputs) (s : State) (k : Kernel) (image : List ℕ) (pid : ℕ) → StandsAt A s k image → is_out s.place pid ≡ false
+    → holds_some (process_of s.point.flat pid) ≡ true → SameOut A s k image pid
 same_out A s k image pid at out h = record {
   there = x;
   regs = subst (λ (z : Bool). KeepsRegs k image z x.process x.proc.regs (space_of_holding x.process.holding)) (ap (λ (p : Placement). is_out p pid) at.place ∙ out) (regs_at k A.images image s.point.flat c pid x.process x.proc f.1 x.kept);
@@ -130,7 +135,8 @@ same_out A s k image pid at out h = record {
     f : (x.process.pid ≡ pid) × (Rattle.page_model.specs.Pages.numbered (λ (y : Process). y.pid) pid s.point.flat.processes ≡ Some x.process)
     f = found_at s.point.flat pid x.process x.here
 
-off_same : (A : Inputs) (s : State) (k : Kernel) (image : List ℕ) (pid : ℕ) → StandsAt A s k image → SameOut A s k image pid → unit_image k image (entries.SwapOut pid) ≡ image_behind A s (entries.SwapOut pid) image
+off_same : (A : Inputs) (s : State) (k : Kernel) (image : List ℕ) (pid : ℕ) → StandsAt A s k image → SameOut A s k image pid
+    → unit_image k image (entries.SwapOut pid) ≡ image_behind A s (entries.SwapOut pid) image
 off_same A s k image pid at y =
     let x : Leaves k s.point.flat pid = y.there in
     ap (λ (o : Option Proc). store_at image (block_in k.holdings (owners.U pid) 0) (u_bytes k o)) x.kept
@@ -142,7 +148,8 @@ off_same A s k image pid at y =
 
 -- Each unit.
 
-plain_same : (A : Inputs) (s : State) (k : Kernel) (image : List ℕ) (u : Entry) → (u ≡ entries.Done → ⊥) → ((pid : ℕ) → u ≡ entries.SwapOut pid → ⊥) → unit_image k image u ≡ image_behind A s u image
+plain_same : (A : Inputs) (s : State) (k : Kernel) (image : List ℕ) (u : Entry) → (u ≡ entries.Done → ⊥) → ((pid : ℕ) → u ≡ entries.SwapOut pid → ⊥)
+    → unit_image k image u ≡ image_behind A s u image
 plain_same A s k image entries.Done n o = absurd (n refl)
 plain_same A s k image (entries.SwapOut p) n o = absurd (o p refl)
 plain_same A s k image (entries.Event line) n o = refl
@@ -185,7 +192,8 @@ done_or (entries.SwapIn p) = inr (inr ((λ e. cc), (λ p e. cc)))
 done_or (entries.Owners a b c d) = inr (inr ((λ e. cc), (λ p e. cc)))
 
 -- who goes out is in, and holds a space
-pub goes_off : (A : Inputs) (s : State) (k : Kernel) (image : List ℕ) (u : Entry) (pid : ℕ) → Next A s k image u → u ≡ entries.SwapOut pid → SameOut A s k image pid
+pub goes_off : (A : Inputs) (s : State) (k : Kernel) (image : List ℕ) (u : Entry) (pid : ℕ) → Next A s k image u → u ≡ entries.SwapOut pid
+    → SameOut A s k image pid
 goes_off A s k image u pid x i = go (let r : IsRun A s = x.run in sort_of A s u r.mark (kind_of A s u x.next))
   where
     go : Sort A s u → SameOut A s k image pid
@@ -207,7 +215,8 @@ image_same A s k image u x = let at : StandsAt A s k image = x.at in elim (done_
 
 -- All units.
 
-pub images_same : (A : Inputs) (us : List Entry) (s t : State) (k l : Kernel) (image behind : List ℕ) → ImagesFit A.images → IsRun A s → StandsAt A s k image → Makes A s k image us t l behind → behind ≡ swapped_from A s us image
+pub images_same : (A : Inputs) (us : List Entry) (s t : State) (k l : Kernel) (image behind : List ℕ) → ImagesFit A.images → IsRun A s
+    → StandsAt A s k image → Makes A s k image us t l behind → behind ≡ swapped_from A s us image
 unfolding swapped_from
 images_same A [] s t k l image behind images r at m = sym m.2
 images_same A (u ∷ us) s t k l image behind images r at m =
@@ -232,7 +241,8 @@ pub record Made (A : Inputs) (s : State) (k : Kernel) (image : List ℕ) (us : L
   pub behind : List ℕ
   pub makes : Makes A s k image us t machine behind
 
-pub given_at : (A : Inputs) (s : State) (k : Kernel) (image : List ℕ) (u : Entry) → Next A s k image u → OutFits s u → IsGiven A s k image (brought (beside_kernel k A.images image s.point.flat) k.place.transfers) u
+pub given_at : (A : Inputs) (s : State) (k : Kernel) (image : List ℕ) (u : Entry) → Next A s k image u → OutFits s u
+    → IsGiven A s k image (brought (beside_kernel k A.images image s.point.flat) k.place.transfers) u
 given_at A s k image entries.Done x f = are_brought (beside_kernel k A.images image s.point.flat) k.place.transfers
 given_at A s k image (entries.SwapOut pid) x f = λ p e.
     let y : SameOut A s k image pid = goes_off A s k image (entries.SwapOut pid) pid x refl in
@@ -256,7 +266,8 @@ given_at A s k image (entries.Put q m) x f = tt
 given_at A s k image (entries.SwapIn p) x f = tt
 given_at A s k image (entries.Owners a b c d) x f = tt
 
-pub made : (A : Inputs) (us : List Entry) (s t : State) (k : Kernel) (image : List ℕ) → ImagesFit A.images → IsRun A s → StandsAt A s k image → Follows A s us t → OutsFit A s us → Made A s k image us t
+pub made : (A : Inputs) (us : List Entry) (s t : State) (k : Kernel) (image : List ℕ) → ImagesFit A.images → IsRun A s → StandsAt A s k image
+    → Follows A s us t → OutsFit A s us → Made A s k image us t
 made A [] s t k image images r at f o = record { machine = k; behind = image; makes = (f, refl, refl) }
 made A (u ∷ us) s t k image images r at f o =
     let x : Next A s k image u = record { images = images; run = r; at = at; next = f.0 } in
@@ -279,12 +290,14 @@ on_swap A s k image at q e =
 
 -- A whole run, by its journal.
 
-pub swapped_same : (A : Inputs) (hs : Holdings) (us journal : List Entry) (t : State) (image : List ℕ) → CanRun A hs → Follows A (start A hs) us t → appended [] us ≡ journal → swapped_from A (start A hs) us image ≡ swapped A journal image
+pub swapped_same : (A : Inputs) (hs : Holdings) (us journal : List Entry) (t : State) (image : List ℕ) → CanRun A hs → Follows A (start A hs) us t
+    → appended [] us ≡ journal → swapped_from A (start A hs) us image ≡ swapped A journal image
 swapped_same A hs us journal t image c f j =
     sym (ap (λ (h : Holdings). swapped_from A (start A h) (units_of journal) image) (ap (or_before []) c.pieces)
     ∙ ap (λ (vs : List Entry). swapped_from A (start A hs) vs image) (ap units_of (sym j) ∙ appended_units [] us (all_units A us (start A hs) t f)))
 
-pub run_swaps : (A : Inputs) (hs : Holdings) (us journal : List Entry) (t : State) (image : List ℕ) → CanRun A hs → Follows A (start A hs) us t → appended [] us ≡ journal → OutsFit A (start A hs) us
+pub run_swaps : (A : Inputs) (hs : Holdings) (us journal : List Entry) (t : State) (image : List ℕ) → CanRun A hs → Follows A (start A hs) us t
+    → appended [] us ≡ journal → OutsFit A (start A hs) us
     → 512 * A.swap_blocks ≤ length image → HasSwapped A t (swapped A journal image)
 run_swaps A hs us journal t image c f j o room = subst (HasSwapped A t) (same ∙ swapped_same A hs us journal t image c f j) (on_swap A t m.machine m.behind (units_keep A us (start A hs) t k m.machine image m.behind c.images r at m.makes))
   where

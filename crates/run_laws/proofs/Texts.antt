@@ -32,7 +32,8 @@ each_left P test (q ∷ ps) h = go (test q) (each_left P test ps h.1)
     go true ih = (h.0, ih)
     go false ih = ih
 
-pub each_mapped : (P : Process → Type 0) (f : Process → Process) (ps : List Process) → ((q : Process) → P q → P (f q)) → EachProcess P ps → EachProcess P (map f ps)
+pub each_mapped : (P : Process → Type 0) (f : Process → Process) (ps : List Process) → ((q : Process) → P q → P (f q)) → EachProcess P ps
+    → EachProcess P (map f ps)
 each_mapped P f [] k h = tt
 each_mapped P f (q ∷ ps) k h = (k q h.0, each_mapped P f ps k h.1)
 
@@ -45,7 +46,8 @@ each_last P (q ∷ ps) p h k = (h.0, each_last P ps p h.1 k)
 abbrev Text : List NamedImage → Process → Type 0
 Text images q = HasText images q.holding
 
-text_returned : (images : List NamedImage) (pid : ℕ) (s : Space) (ps : List Process) → IsText images s → EachProcess (Text images) ps → EachProcess (Text images) (returned pid s ps)
+text_returned : (images : List NamedImage) (pid : ℕ) (s : Space) (ps : List Process) → IsText images s → EachProcess (Text images) ps
+    → EachProcess (Text images) (returned pid s ps)
 unfolding returned
 text_returned images pid s [] t h = tt
 text_returned images pid s (q ∷ ps) t h = go (lends_to pid q.holding) (text_returned images pid s ps t h.1)
@@ -54,11 +56,13 @@ text_returned images pid s (q ∷ ps) t h = go (lends_to pid q.holding) (text_re
     go true ih = (t, h.1)
     go false ih = (h.0, ih)
 
-left_texts : (images : List NamedImage) (b : Bool) (F : FlatState) (pid parent : ℕ) → EachProcess (Text images) F.processes → EachProcess (Text images) (left b F pid parent).processes
+left_texts : (images : List NamedImage) (b : Bool) (F : FlatState) (pid parent : ℕ) → EachProcess (Text images) F.processes
+    → EachProcess (Text images) (left b F pid parent).processes
 left_texts images true F pid parent h = each_left (Text images) (λ q. not (q.pid == pid)) F.processes h
 left_texts images false F pid parent h = each_mapped (Text images) (awake parent) F.processes (λ q k. k) h
 
-changed_texts : (images : List NamedImage) (F : FlatState) (p : Process) (s : Space) (change : Change) → EntersImage images change → p.holding ≡ Holds s → IsText images s → TextsHeld images F → TextsHeld images (changed images F p s change)
+changed_texts : (images : List NamedImage) (F : FlatState) (p : Process) (s : Space) (change : Change) → EntersImage images change
+    → p.holding ≡ Holds s → IsText images s → TextsHeld images F → TextsHeld images (changed images F p s change)
 changed_texts images F p s Keep x h t e = each_replaced (Text images) F.processes p e (subst (HasText images) (sym h) t)
 changed_texts images F p s (Resize d r) x h t e = each_replaced (Text images) F.processes (record p { holding = Holds (Rattle.flat_state.specs.Change.resized s d r) }) e (record { named = t.named; image = t.image; same = t.same })
 changed_texts images F p s (Fork child) x h t e =
@@ -76,14 +80,17 @@ changed_texts images F p s (End status) x h t e =
     (each_left (Text images) (λ q. not (is_zombie_child p.pid q)) (returned p.pid s (replaced F.processes (record p { holding = Zombie status })))
     (text_returned images p.pid s (replaced F.processes (record p { holding = Zombie status })) t (each_replaced (Text images) F.processes (record p { holding = Zombie status }) e tt))))
 
-own_text : (images : List NamedImage) (F : FlatState) (pid : ℕ) (q : Process) (s : Space) → process_of F pid ≡ Some q → q.holding ≡ Holds s → TextsHeld images F → IsText images s
+own_text : (images : List NamedImage) (F : FlatState) (pid : ℕ) (q : Process) (s : Space) → process_of F pid ≡ Some q → q.holding ≡ Holds s
+    → TextsHeld images F → IsText images s
 own_text images F pid q s f h e = subst (HasText images) h (found_process (Text images) F.processes pid q e f)
 
-pub change_texts : (images : List NamedImage) (F : FlatState) (pid : ℕ) (regs : Regs) (change : Change) (q : Process) (s : Space) → process_of F pid ≡ Some q → q.holding ≡ Holds s
+pub change_texts : (images : List NamedImage) (F : FlatState) (pid : ℕ) (regs : Regs) (change : Change) (q : Process) (s : Space)
+    → process_of F pid ≡ Some q → q.holding ≡ Holds s
     → EntersImage images change → TextsHeld images F → TextsHeld images (apply_change images F pid regs change)
 change_texts images F pid regs change q s f h x e = subst (TextsHeld images) (sym (applied images F pid regs change q s f h)) (changed_texts images F (record q { regs = regs }) s change x h (own_text images F pid q s f h e) e)
 
-pub write_texts : (images : List NamedImage) (F : FlatState) (pid : ℕ) (ws : List ByteWrite) (q : Process) (s : Space) → process_of F pid ≡ Some q → q.holding ≡ Holds s → TextsHeld images F → TextsHeld images (apply_writes F pid ws)
+pub write_texts : (images : List NamedImage) (F : FlatState) (pid : ℕ) (ws : List ByteWrite) (q : Process) (s : Space) → process_of F pid ≡ Some q
+    → q.holding ≡ Holds s → TextsHeld images F → TextsHeld images (apply_writes F pid ws)
 unfolding apply_writes
 write_texts images F pid ws q s f h e =
     subst (λ (o : Option Process). TextsHeld images (wrote_if F ws o)) (sym f)

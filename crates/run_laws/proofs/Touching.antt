@@ -79,7 +79,8 @@ pub record Present (p : Placement) (q : Page) : Type 0 where
   pub there : IsThere p q
   pub shared : IsShared p q
 
-page_present : (images : List NamedImage) (p : Placement) (s : Space) (x : SpacePages) → numbered space_number s.sid p.spaces ≡ Some x → IsSized s x → IsText images s
+page_present : (images : List NamedImage) (p : Placement) (s : Space) (x : SpacePages) → numbered space_number s.sid p.spaces ≡ Some x → IsSized s x
+    → IsText images s
     → ((i : ℕ) → length (text_of (image_numbered images i)) ≡ 1024 * length (slots_of p (pages.Text i 0))) → (spot : Spot) → IsWithin s spot → (q : Page) → page_read s spot ≡ Some q → Present p q
 page_present images p s x e z t fits (Text i) w q h = subst (Present p) (let k : pages.Text s.image (i / 1024) ≡ q = cc in k) (record {
   there = let f = fits s.image in let l = ap (λ (o : Option NamedImage). length (text_of o)) t.image in let m = ap length t.same in omega (arith, w);
@@ -104,7 +105,8 @@ tested_read s Below q h = absurd cc
 tested_read s Outside q h = absurd cc
 
 -- all that a process touches
-pub touched_present : (A : Inputs) (flat : FlatState) (p : Placement) (hs : Holdings) (pid : ℕ) → IsNumbered flat → TextsHeld A.images flat → Placed A flat p hs → EachPage (Present p) (touched A flat pid)
+pub touched_present : (A : Inputs) (flat : FlatState) (p : Placement) (hs : Holdings) (pid : ℕ) → IsNumbered flat → TextsHeld A.images flat
+    → Placed A flat p hs → EachPage (Present p) (touched A flat pid)
 unfolding touched
 touched_present A flat p hs pid nums texts s = go (process_of flat pid) refl
   where

@@ -97,12 +97,14 @@ owns A s st =
     let o : OneOwner A.swap_blocks (lives (machine_of s.point.flat s.place s.holdings).processes) s.place s.holdings = so.owner in
     o.frames
 
-paged : (A : Inputs) (s : State) (u e : Entry) → u ≡ e → IsPaging e → IsAllowed s.place e → length (place_entry (locked A s) (place_at s e) s.place e).transfers ≤ 16 → Good A s u
+paged : (A : Inputs) (s : State) (u e : Entry) → u ≡ e → IsPaging e → IsAllowed s.place e
+    → length (place_entry (locked A s) (place_at s e) s.place e).transfers ≤ 16 → Good A s u
 paged A s u e i k a l = subst (Good A s) (sym i) (record { plain = paging_plain e k; allowed = a; few = l; leaves = λ n x. absurd (paging_stays e n k x) })
 
 -- Serving a page that is there, and not due.
 
-served : (A : Inputs) (s : State) (u : Entry) (q : Page) (now : Bool) → Stood A s → Present s.place q → NotDue s.place.due q → serve_unit s.place q now ≡ Some u → Good A s u
+served : (A : Inputs) (s : State) (u : Entry) (q : Page) (now : Bool) → Stood A s → Present s.place q → NotDue s.place.due q
+    → serve_unit s.place q now ≡ Some u → Good A s u
 served A s u q now st here n h =
     let e = unit_is s.place q now u h in
     paged A s u (serve_entry s.place q) e.1 (serve_paging s.place q) (served_allowed s.place q (owns A s st) st.dues here.there here.shared n e.0)
@@ -125,7 +127,8 @@ not_due p r s n = go (due_at p.due r) refl
     go (Some d) e = absurd (let was : IsDue p r d = s r d e in n was.unfilled)
 
 -- Each kind of unit but a process's own step.
-pub kind_good : (A : Inputs) (s : State) (u : Entry) → Stood A s → IsNumbered s.point.flat → TextsHeld A.images s.point.flat → MarkStands s s.mark → Kind A s u → (process_of_entry u ≡ None) → Good A s u
+pub kind_good : (A : Inputs) (s : State) (u : Entry) → Stood A s → IsNumbered s.point.flat → TextsHeld A.images s.point.flat → MarkStands s s.mark
+    → Kind A s u → (process_of_entry u ≡ None) → Good A s u
 kind_good A s u st nums texts m (Fills q due e i) n =
     paged A s u (fill_unit s.place (entries.Zero q)) i (zero_paging s.place q) (start_allowed s.place q due e st.dues st.once)
     (fill_few (locked A s) (place_at s (fill_unit s.place (entries.Zero q))) s.place (entries.Zero q) (sixteen A s st) (let l = sixteen A s st in let k = entry_count (locked A s) (place_at s (fill_unit s.place (entries.Zero q))) s.place (entries.Zero q) in omega arith))

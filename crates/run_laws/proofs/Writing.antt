@@ -84,7 +84,8 @@ puts_same (w ∷ ws) s =
     record { sid = b.sid ∙ a.sid; image = b.image ∙ a.image; text = b.text ∙ a.text; data_size = b.data_size ∙ a.data_size; stack_size = b.stack_size ∙ a.stack_size }
 
 -- a process whose space has other bytes
-pub space_tables : (k : Kernel) (flat : FlatState) (q : Process) (s z : Space) → IsNumbered flat → numbered pid_of q.pid flat.processes ≡ Some q → q.holding ≡ Holds s → SameSpace s z → SameTables k flat
+pub space_tables : (k : Kernel) (flat : FlatState) (q : Process) (s z : Space) → IsNumbered flat → numbered pid_of q.pid flat.processes ≡ Some q
+    → q.holding ≡ Holds s → SameSpace s z → SameTables k flat
     → SameTables k (with_process flat (record q { holding = Holds z }))
 space_tables k flat q s z nums f h same t = tables_of k (with_process flat fp) (t.processes ∙ sym (replaced_outlines flat.processes q fp f outline)) t.next_pid t.next_sid fits
   where
@@ -127,7 +128,8 @@ out_same_holders p flat after e o n h = holders (process_of flat n) (process_of 
     holders (Some x) None z k = absurd cc
     holders (Some x) (Some y) z k = holding x.holding y.holding (ap (λ (o : Outline). o.life) (same_Some (outline_of x) (outline_of y) k)) z
 
-pub writes_placed : (A : Inputs) (flat : FlatState) (p : Placement) (hs : Holdings) (pid : ℕ) (ws : List ByteWrite) (q : Process) (s : Space) → IsNumbered flat → process_of flat pid ≡ Some q
+pub writes_placed : (A : Inputs) (flat : FlatState) (p : Placement) (hs : Holdings) (pid : ℕ) (ws : List ByteWrite) (q : Process) (s : Space)
+    → IsNumbered flat → process_of flat pid ≡ Some q
     → q.holding ≡ Holds s → Placed A flat p hs → Placed A (apply_writes flat pid ws) p hs
 unfolding apply_writes
 writes_placed A flat p hs pid ws q s nums f h st =

@@ -55,7 +55,8 @@ pub record Rest (k l : Kernel) : Type 0 where
 
 -- Touched pages.
 
-touch_case : (p : Placement) (v : Page) → (touch p v ≡ p) ⊎ ((f : ℕ) × (state_of p v ≡ Valid f) × (touch p v ≡ Rattle.page_model.specs.Moves.turn p v (Valid f) true p.free p.transfers))
+touch_case : (p : Placement) (v : Page)
+    → (touch p v ≡ p) ⊎ ((f : ℕ) × (state_of p v ≡ Valid f) × (touch p v ≡ Rattle.page_model.specs.Moves.turn p v (Valid f) true p.free p.transfers))
 touch_case p v = go v (state_of p v) refl
   where
     go : (v : Page) (s : PageState) → state_of p v ≡ s → (touch_to p v s ≡ p) ⊎ ((f : ℕ) × (state_of p v ≡ Valid f) × (touch_to p v s ≡ Rattle.page_model.specs.Moves.turn p v (Valid f) true p.free p.transfers))
@@ -117,7 +118,8 @@ same_spot s t address h =
     ∙ ap (λ (n : ℕ). spot_at (length s.text_bytes) n (length t.stack_bytes) address) h.data_size
     ∙ ap (λ (n : ℕ). spot_at (length s.text_bytes) (length s.data_bytes) n address) h.stack_size
 
-pub write_one : (A : Inputs) (flat : FlatState) (k : Kernel) (image : List ℕ) (pid : ℕ) (q : Process) (t s : Space) (w : ByteWrite) → Mid A flat k image → k.place.due ≡ [] → IsNumbered flat
+pub write_one : (A : Inputs) (flat : FlatState) (k : Kernel) (image : List ℕ) (pid : ℕ) (q : Process) (t s : Space) (w : ByteWrite)
+    → Mid A flat k image → k.place.due ≡ [] → IsNumbered flat
     → process_of flat pid ≡ Some q → q.holding ≡ Holds t → SameSpace s t
     → IsValidAt k.place (page_tested s (address_in s w.address)) → WroteOne A (apply_writes flat pid (w ∷ [])) k (write_byte k s w) image (page_tested s (address_in s w.address))
 write_one A flat k image pid q t s w m due nums f h same valid = go (address_in s w.address) refl valid
@@ -198,7 +200,8 @@ touched_states p (Some x) v = touch_states p x v
 same_both : (s t z : Space) → SameSpace s t → SameSpace t z → SameSpace s z
 same_both s t z a b = record { sid = b.sid ∙ a.sid; image = b.image ∙ a.image; text = b.text ∙ a.text; data_size = b.data_size ∙ a.data_size; stack_size = b.stack_size ∙ a.stack_size }
 
-pub write_all : (ws : List ByteWrite) (A : Inputs) (flat : FlatState) (k : Kernel) (image : List ℕ) (pid : ℕ) (q : Process) (t s : Space) → Mid A flat k image → k.place.due ≡ [] → IsNumbered flat
+pub write_all : (ws : List ByteWrite) (A : Inputs) (flat : FlatState) (k : Kernel) (image : List ℕ) (pid : ℕ) (q : Process) (t s : Space)
+    → Mid A flat k image → k.place.due ≡ [] → IsNumbered flat
     → process_of flat pid ≡ Some q → q.holding ≡ Holds t → SameSpace s t
     → AllWritable k.place s ws → WroteAll A (apply_writes flat pid ws) k (write_bytes k s ws) image (filter_map (λ (w : ByteWrite). page_tested s (address_in s w.address)) ws)
 write_all [] A flat k image pid q t s m due nums f h same a = record {

@@ -46,7 +46,8 @@ led : (A : Inputs) (point : Point) (o : Option Entry) (e : Entry) (q : Point) �
 led A point o e q h k = ap (λ (x : Option Entry). where_so (same_as x e) q) h ∙ ap (λ (b : Bool). where_so b q) k
 
 -- by cases on what the entry is
-end_led : (A : Inputs) (point : Point) (pid : ℕ) (e : Entry) → IsStepEnd pid e → may_follow point.last e ≡ true → next_of_step A point pid ≡ Some e → flat_entry A point e ≡ Some (point_after A point pid)
+end_led : (A : Inputs) (point : Point) (pid : ℕ) (e : Entry) → IsStepEnd pid e → may_follow point.last e ≡ true → next_of_step A point pid ≡ Some e
+    → flat_entry A point e ≡ Some (point_after A point pid)
 unfolding flat_entry
 end_led A point pid (Ran p n) h m k =
     ap (λ (b : Bool). flat_entry_if b A point p (Ran p n)) m
@@ -70,7 +71,8 @@ end_led A point pid (Ended p n) h m k =
     (led A point (next_of_step A point p) (Ended p n) (point_after A point p) (subst (λ (x : ℕ). next_of_step A point x ≡ Some (Ended p n)) (sym h) k) (end_self pid (Ended p n) h))
 end_led A point pid _ h m k = absurd h
 
-out_led : (A : Inputs) (point : Point) (pid : ℕ) (bytes : List ℕ) → may_follow point.last (Out pid bytes) ≡ true → next_of_step A point pid ≡ Some (Out pid bytes) → flat_entry A point (Out pid bytes) ≡ Some (point_after A point pid)
+out_led : (A : Inputs) (point : Point) (pid : ℕ) (bytes : List ℕ) → may_follow point.last (Out pid bytes) ≡ true
+    → next_of_step A point pid ≡ Some (Out pid bytes) → flat_entry A point (Out pid bytes) ≡ Some (point_after A point pid)
 unfolding flat_entry
 out_led A point pid bytes m k =
     ap (λ (b : Bool). flat_entry_if b A point pid (Out pid bytes)) m
@@ -86,7 +88,8 @@ data Ready (A : Inputs) (F : FlatState) (last : Option Entry) (pid : ℕ) (es : 
 abbrev at : FlatState → Option Entry → Point
 at F last = record { flat = F; last = last }
 
-plain_ready : (A : Inputs) (F : FlatState) (last : Option Entry) (pid : ℕ) → ((e : Entry) → may_follow last e ≡ true) → Ready A F last pid (flat_step A F pid false).entries
+plain_ready : (A : Inputs) (F : FlatState) (last : Option Entry) (pid : ℕ) → ((e : Entry) → may_follow last e ≡ true)
+    → Ready A F last pid (flat_step A F pid false).entries
 plain_ready A F last pid free = go (flat_step A F pid false).entries refl (step_shape A F pid false)
   where
     go : (es : List Entry) → (flat_step A F pid false).entries ≡ es → Shape pid es → Ready A F last pid es
@@ -94,7 +97,8 @@ plain_ready A F last pid free = go (flat_step A F pid false).entries refl (step_
     go es same (One e k h) = Ends e k (free e) h
     go es same (Two bytes n c r0 r1 h) = Begins bytes (Call pid n c r0 r1) (free (Out pid bytes)) (same ∙ h) h
 
-refused_ready : (A : Inputs) (F : FlatState) (p pid : ℕ) → p ≡ pid → (asks A F p ≡ [] → ⊥) → Ready A F (Some (Refused p)) pid (due_at A (at F (Some (Refused p))) pid)
+refused_ready : (A : Inputs) (F : FlatState) (p pid : ℕ) → p ≡ pid → (asks A F p ≡ [] → ⊥)
+    → Ready A F (Some (Refused p)) pid (due_at A (at F (Some (Refused p))) pid)
 refused_ready A F p pid same n =
     subst (λ (x : ℕ). Ready A F (Some (Refused p)) x (due_at A (at F (Some (Refused p))) x)) same
     (subst (λ (b : Bool). Ready A F (Some (Refused p)) p (flat_step A F p b).entries) (sym (eq_self p)) (go (flat_step A F p true).entries (refused_outcome A F p n)))
@@ -122,7 +126,8 @@ out_ready A F p pid bytes rest same h =
         Ends (Call p n c r0 r1) refl (eq_self p)
         (ap (λ (b : Bool). if b then behind_first (flat_step A F p false).entries else (flat_step A F p false).entries) (eq_self p) ∙ ap behind_first h ∙ k)
 
-ready : (A : Inputs) (F : FlatState) (last : Option Entry) (pid : ℕ) → LastSays A F last → awaits last pid ≡ true → Ready A F last pid (due_at A (at F last) pid)
+ready : (A : Inputs) (F : FlatState) (last : Option Entry) (pid : ℕ) → LastSays A F last → awaits last pid ≡ true
+    → Ready A F last pid (due_at A (at F last) pid)
 ready A F None pid says w = plain_ready A F None pid (λ e. refl)
 ready A F (Some (Refused p)) pid says w = refused_ready A F p pid (eqb-true p pid w) says
 ready A F (Some (Out p bytes)) pid says w = out_ready A F p pid bytes says.0 (eqb-true p pid w) says.1
@@ -147,7 +152,8 @@ end_says A F pid (Out p bytes) h = absurd h
 end_says A F pid (Refused p) h = absurd h
 end_says A F pid _ h = tt
 
-step_leads : (A : Inputs) (F : FlatState) (last : Option Entry) (pid : ℕ) (u : Entry) → LastSays A F last → awaits last pid ≡ true → next_of_step A (at F last) pid ≡ Some u → Leads A (at F last) u
+step_leads : (A : Inputs) (F : FlatState) (last : Option Entry) (pid : ℕ) (u : Entry) → LastSays A F last → awaits last pid ≡ true
+    → next_of_step A (at F last) pid ≡ Some u → Leads A (at F last) u
 step_leads A F last pid u says w h = go (due_at A (at F last) pid) refl (ready A F last pid says w)
   where
     go : (es : List Entry) → due_at A (at F last) pid ≡ es → Ready A F last pid es → Leads A (at F last) u
@@ -184,14 +190,16 @@ asks_some : (A : Inputs) (hs : Holdings) (F : FlatState) (pid : ℕ) → fits A.
 unfolding place_all
 asks_some A hs F pid h k = absurd (let bad : true ≡ false = sym (ap (fits A.swap_blocks hs) k) ∙ h in cc)
 
-may_refuse : (A : Inputs) (F : FlatState) (last : Option Entry) (pid : ℕ) → LastSays A F last → awaits last pid ≡ true → is_refused last pid ≡ false → (asks A F pid ≡ [] → ⊥) → may_follow last (Refused pid) ≡ true
+may_refuse : (A : Inputs) (F : FlatState) (last : Option Entry) (pid : ℕ) → LastSays A F last → awaits last pid ≡ true → is_refused last pid ≡ false
+    → (asks A F pid ≡ [] → ⊥) → may_follow last (Refused pid) ≡ true
 may_refuse A F None pid says w r n = refl
 may_refuse A F (Some (Refused p)) pid says w r n = absurd (let bad : true ≡ false = sym w ∙ r in cc)
 may_refuse A F (Some (Out p bytes)) pid says w r n =
     absurd (n (subst (λ (x : ℕ). asks A F x ≡ []) (eqb-true p pid w) (writes_asks A F p bytes says.0 says.1)))
 may_refuse A F (Some last) pid says w r n = refl
 
-refused_leads : (A : Inputs) (F : FlatState) (last : Option Entry) (pid : ℕ) → can_step F pid ≡ true → may_follow last (Refused pid) ≡ true → (asks A F pid ≡ [] → ⊥) → Leads A (at F last) (Refused pid)
+refused_leads : (A : Inputs) (F : FlatState) (last : Option Entry) (pid : ℕ) → can_step F pid ≡ true → may_follow last (Refused pid) ≡ true
+    → (asks A F pid ≡ [] → ⊥) → Leads A (at F last) (Refused pid)
 unfolding flat_entry
 refused_leads A F last pid c m n = record {
   to = at F (Some (Refused pid));
@@ -243,7 +251,8 @@ unit_leads A s u says (inr n) = leads_on A s u (act_leads A s u says n)
 pub next_flat : (A : Inputs) (s : State) (u : Entry) → LastSays A s.point.flat s.point.last → IsNext A s u → flat_entry A s.point u ≡ Some (after A s u).point
 next_flat A s u says n = (unit_leads A s u says (inr n)).flat
 
-pub next_says : (A : Inputs) (s : State) (u : Entry) → LastSays A s.point.flat s.point.last → (process_of_entry u ≡ None) ⊎ IsNext A s u → LastSays A (after A s u).point.flat (after A s u).point.last
+pub next_says : (A : Inputs) (s : State) (u : Entry) → LastSays A s.point.flat s.point.last → (process_of_entry u ≡ None) ⊎ IsNext A s u
+    → LastSays A (after A s u).point.flat (after A s u).point.last
 next_says A s u says n = (unit_leads A s u says n).says
 
 all_flat : (A : Inputs) (s : State) (us : List Entry) → LastSays A s.point.flat s.point.last → AllNext A s us → AllFlat A s us
@@ -256,6 +265,7 @@ pub next_all_flat : (A : Inputs) (hs : Holdings) (us : List Entry) → AllNext A
 next_all_flat A hs us n = all_flat A (start A hs) us tt n
 
 -- the journal that units make, each what a process does next or no flat entry, is a run of the flat machine to the state's point
-pub next_run : (A : Inputs) (hs : Holdings) (us : List Entry) → AllUnits us → AllNext A (start A hs) us → flat_run A (appended [] us) ≡ Some (state_after A (start A hs) us).point
+pub next_run : (A : Inputs) (hs : Holdings) (us : List Entry) → AllUnits us → AllNext A (start A hs) us
+    → flat_run A (appended [] us) ≡ Some (state_after A (start A hs) us).point
 next_run A hs us k n =
     ap (flat_units A (Some (start_point A))) (appended_units [] us k) ∙ flat_is A (start A hs) us (next_all_flat A hs us n)

@@ -18,7 +18,8 @@ where_is : (b : Bool) (x y : Point) → where_so b x ≡ Some y → x ≡ y
 where_is true x y h = same_Some x y h
 where_is false x y h = absurd cc
 
-if_is : (b : Bool) (A : Inputs) (point : Point) (pid : ℕ) (e : Entry) (q : Point) → flat_entry_if b A point pid e ≡ Some q → flat_entry_of A point pid e ≡ Some q
+if_is : (b : Bool) (A : Inputs) (point : Point) (pid : ℕ) (e : Entry) (q : Point) → flat_entry_if b A point pid e ≡ Some q
+    → flat_entry_of A point pid e ≡ Some q
 if_is true A point pid e q h = h
 if_is false A point pid e q h = absurd cc
 
@@ -85,7 +86,8 @@ run_flat A hs j q h = units_flat A (start A hs) (units_of j) q h
 pub run_point : (A : Inputs) (hs : Holdings) (j : List Entry) → AllFlat A (start A hs) (units_of j) → flat_run A j ≡ Some (state_at A hs j).point
 run_point A hs j h = flat_is A (start A hs) (units_of j) h
 
-pub run_held : (A : Inputs) (hs : Holdings) (j : List Entry) → start_held A ≡ Ok hs → AllFlat A (start A hs) (units_of j) → held A j ≡ Ok (state_at A hs j).holdings
+pub run_held : (A : Inputs) (hs : Holdings) (j : List Entry) → start_held A ≡ Ok hs → AllFlat A (start A hs) (units_of j)
+    → held A j ≡ Ok (state_at A hs j).holdings
 run_held A hs j e h =
     ap (held_from A j) e ∙ ap (λ (x : Holdings). Ok x) (held_is A (start A hs) (units_of j) h)
 

@@ -20,7 +20,8 @@ use Rattle.run_model.specs.Kinds.{GoesOn, Runs, Comes, Kind, Fills, Brings, Copi
 some_entry : (x y : Entry) → Some x ≡ Some y → y ≡ x
 some_entry x y e = cc
 
-works : (A : Inputs) (s : State) (u : Entry) (pid : ℕ) (now : Bool) → Runs A s pid now → (o : Option Page) → wanted A s ≡ o → work_by A s pid now o ≡ Some u → Kind A s u
+works : (A : Inputs) (s : State) (u : Entry) (pid : ℕ) (now : Bool) → Runs A s pid now → (o : Option Page) → wanted A s ≡ o
+    → work_by A s pid now o ≡ Some u → Kind A s u
 works A s u pid now r None e h = Acts pid now r e h
 works A s u pid now r (Some q) e h = Serves pid now q r e h
 
@@ -58,7 +59,8 @@ of_mark A s u clear (marks.Turn pid since) e h = go (goes_on A s pid (since + tu
     go true k h = out (is_out s.place pid) k refl h
     go false k h = absurd cc
 
-of_due : (A : Inputs) (s : State) (u : Entry) (ds : List Due) → s.place.due ≡ ds → or_else (due_unit s.place ds) (or_else (under A s s.mark) (next_mark A s)) ≡ Some u → Kind A s u
+of_due : (A : Inputs) (s : State) (u : Entry) (ds : List Due) → s.place.due ≡ ds
+    → or_else (due_unit s.place ds) (or_else (under A s s.mark) (next_mark A s)) ≡ Some u → Kind A s u
 of_due A s u [] e h = go (under A s s.mark) refl h
   where
     go : (o : Option Entry) → under A s s.mark ≡ o → or_else o (next_mark A s) ≡ Some u → Kind A s u

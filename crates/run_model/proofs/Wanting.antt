@@ -96,10 +96,12 @@ locked_all A s d h = locked_plain A s d ∙ all_before s.place (touched_next A s
 pub locked_valid : (A : Inputs) (s : State) → s.place.due ≡ [] → AllValid s.place (locked A s)
 locked_valid A s d = subst (AllValid s.place) (sym (locked_plain A s d)) (before_valid s.place (touched_next A s))
 
-pub splits_wanted : (A : Inputs) (s : State) (before : List Page) (q : Page) → s.place.due ≡ [] → Splits s.place (touched_next A s) before q → wanted A s ≡ Some q
+pub splits_wanted : (A : Inputs) (s : State) (before : List Page) (q : Page) → s.place.due ≡ [] → Splits s.place (touched_next A s) before q
+    → wanted A s ≡ Some q
 splits_wanted A s before q d h = wanted_plain A s d ∙ split_first s.place (touched_next A s) before q h
 
-pub splits_locked : (A : Inputs) (s : State) (before : List Page) (q : Page) → s.place.due ≡ [] → Splits s.place (touched_next A s) before q → locked A s ≡ before
+pub splits_locked : (A : Inputs) (s : State) (before : List Page) (q : Page) → s.place.due ≡ [] → Splits s.place (touched_next A s) before q
+    → locked A s ≡ before
 splits_locked A s before q d h = locked_plain A s d ∙ split_before s.place (touched_next A s) before q h
 
 pub all_unwanted : (A : Inputs) (s : State) → s.place.due ≡ [] → AllValid s.place (touched_next A s) → wanted A s ≡ None

@@ -35,7 +35,8 @@ pub fn state_is_flat()
     ensures holdings { (A : Inputs) (s : State) (u : Entry) → (after A s u).holdings ≡ held_entry A s.point u s.holdings }
     ensures flat { (A : Inputs) (hs : Holdings) (j : List Entry) (q : Point) → flat_run A j ≡ Some q → AllFlat A (start A hs) (units_of j) }
     ensures run { (A : Inputs) (hs : Holdings) (j : List Entry) → AllFlat A (start A hs) (units_of j) → flat_run A j ≡ Some (state_at A hs j).point }
-    ensures held { (A : Inputs) (hs : Holdings) (j : List Entry) → start_held A ≡ Ok hs → AllFlat A (start A hs) (units_of j) → held A j ≡ Ok (state_at A hs j).holdings }
+    ensures held { (A : Inputs) (hs : Holdings) (j : List Entry) → start_held A ≡ Ok hs → AllFlat A (start A hs) (units_of j)
+        → held A j ≡ Ok (state_at A hs j).holdings }
     ensures more { (A : Inputs) (j : List Entry) (u : Entry) (q : Point) → IsUnit u → flat_run A j ≡ Some q → flat_run A (append j u) ≡ flat_entry A q u }
 {}
 
@@ -43,8 +44,10 @@ pub fn state_is_flat()
 /// all touched pages are valid and locked.
 pub fn wanted_splits()
     ensures splits { (A : Inputs) (s : State) (q : Page) → s.place.due ≡ [] → wanted A s ≡ Some q → Splits s.place (touched_next A s) (locked A s) q }
-    ensures wanted { (A : Inputs) (s : State) (before : List Page) (q : Page) → s.place.due ≡ [] → Splits s.place (touched_next A s) before q → wanted A s ≡ Some q }
-    ensures locked { (A : Inputs) (s : State) (before : List Page) (q : Page) → s.place.due ≡ [] → Splits s.place (touched_next A s) before q → locked A s ≡ before }
+    ensures wanted { (A : Inputs) (s : State) (before : List Page) (q : Page) → s.place.due ≡ [] → Splits s.place (touched_next A s) before q
+        → wanted A s ≡ Some q }
+    ensures locked { (A : Inputs) (s : State) (before : List Page) (q : Page) → s.place.due ≡ [] → Splits s.place (touched_next A s) before q
+        → locked A s ≡ before }
     ensures valid { (A : Inputs) (s : State) → s.place.due ≡ [] → AllValid s.place (locked A s) }
     ensures none { (A : Inputs) (s : State) → s.place.due ≡ [] → wanted A s ≡ None → AllValid s.place (touched_next A s) }
     ensures all { (A : Inputs) (s : State) → s.place.due ≡ [] → wanted A s ≡ None → locked A s ≡ touched_next A s }
@@ -62,8 +65,11 @@ pub fn idle_does_nothing()
 /// What a process does next is an entry of the flat machine's run that leads where the state goes. So a journal of
 /// units, each of them that or no flat entry, is such a run.
 pub fn next_is_flat()
-    ensures unit { (A : Inputs) (s : State) (u : Entry) → LastSays A s.point.flat s.point.last → IsNext A s u → flat_entry A s.point u ≡ Some (after A s u).point }
-    ensures says { (A : Inputs) (s : State) (u : Entry) → LastSays A s.point.flat s.point.last → ((process_of_entry u ≡ None) ⊎ IsNext A s u) → LastSays A (after A s u).point.flat (after A s u).point.last }
+    ensures unit { (A : Inputs) (s : State) (u : Entry) → LastSays A s.point.flat s.point.last → IsNext A s u
+        → flat_entry A s.point u ≡ Some (after A s u).point }
+    ensures says { (A : Inputs) (s : State) (u : Entry) → LastSays A s.point.flat s.point.last → ((process_of_entry u ≡ None) ⊎ IsNext A s u)
+        → LastSays A (after A s u).point.flat (after A s u).point.last }
     ensures units { (A : Inputs) (hs : Holdings) (us : List Entry) → AllNext A (start A hs) us → AllFlat A (start A hs) us }
-    ensures run { (A : Inputs) (hs : Holdings) (us : List Entry) → AllUnits us → AllNext A (start A hs) us → flat_run A (appended [] us) ≡ Some (state_after A (start A hs) us).point }
+    ensures run { (A : Inputs) (hs : Holdings) (us : List Entry) → AllUnits us → AllNext A (start A hs) us
+        → flat_run A (appended [] us) ≡ Some (state_after A (start A hs) us).point }
 {}

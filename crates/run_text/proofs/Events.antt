@@ -32,7 +32,8 @@ no_space rest h Audit e = cc
 pub two_words : (rest a b p n : List ℕ) (pid : ℕ) → rest ≡ a ++ 32 ∷ b → HasNo 32 a → Writes 99999999 p pid → rest ≡ p ++ 32 ∷ n → (a ≡ p) × (b ≡ n)
 two_words rest a b p n pid e h w k = cut_once 32 a p b n h (digits_no 32 p (lit< tt) w.0.1) (sym e ∙ k)
 
-pub bad_pid : (rest a b : List ℕ) → rest ≡ a ++ 32 ∷ b → HasNo 32 a → ((n : ℕ) → n < 2 ^ 32 → Writes 99999999 a n → ⊥) → (e : Event) → IsEvent e (codes "d " ++ rest) → ⊥
+pub bad_pid : (rest a b : List ℕ) → rest ≡ a ++ 32 ∷ b → HasNo 32 a → ((n : ℕ) → n < 2 ^ 32 → Writes 99999999 a n → ⊥) → (e : Event)
+    → IsEvent e (codes "d " ++ rest) → ⊥
 bad_pid rest a b cut h none (Dispatch pid count) (p, n, wp, wn, e) =
     let same : (a ≡ p) × (b ≡ n) = two_words rest a b p n pid cut h wp (cc) in
     none pid (omega (arith, wp.4)) (subst (λ (ds : List ℕ). Writes 99999999 ds pid) (sym same.0) wp)
@@ -41,7 +42,8 @@ bad_pid rest a b cut h none (Hands count) (n, wn, e) = d_not_h rest n e
 bad_pid rest a b cut h none Swapper e = cc
 bad_pid rest a b cut h none Audit e = cc
 
-pub bad_count : (rest a b : List ℕ) → rest ≡ a ++ 32 ∷ b → HasNo 32 a → ((n : ℕ) → n < 2 ^ 32 → Writes 1000000 b n → ⊥) → (e : Event) → IsEvent e (codes "d " ++ rest) → ⊥
+pub bad_count : (rest a b : List ℕ) → rest ≡ a ++ 32 ∷ b → HasNo 32 a → ((n : ℕ) → n < 2 ^ 32 → Writes 1000000 b n → ⊥) → (e : Event)
+    → IsEvent e (codes "d " ++ rest) → ⊥
 bad_count rest a b cut h none (Dispatch pid count) (p, n, wp, wn, e) =
     let same : (a ≡ p) × (b ≡ n) = two_words rest a b p n pid cut h wp (cc) in
     none count (omega (arith, wn.4)) (subst (λ (ds : List ℕ). Writes 1000000 ds count) (sym same.1) wn)
@@ -60,7 +62,8 @@ bad_hands rest none Swapper e = cc
 bad_hands rest none Audit e = cc
 
 -- a text that is none of the three letters and has neither beginning
-pub no_event : (text : List ℕ) → text ≢ codes "i" → text ≢ codes "w" → text ≢ codes "m" → ((rest : List ℕ) → text ≢ codes "d " ++ rest) → ((rest : List ℕ) → text ≢ codes "h " ++ rest) → (e : Event) → IsEvent e text → ⊥
+pub no_event : (text : List ℕ) → text ≢ codes "i" → text ≢ codes "w" → text ≢ codes "m" → ((rest : List ℕ) → text ≢ codes "d " ++ rest)
+    → ((rest : List ℕ) → text ≢ codes "h " ++ rest) → (e : Event) → IsEvent e text → ⊥
 no_event text i w m d h (Dispatch pid count) (p, n, wp, wn, e) = d (p ++ (codes " " ++ n)) e
 no_event text i w m d h Interrupt e = i e
 no_event text i w m d h (Hands count) (n, wn, e) = h n e

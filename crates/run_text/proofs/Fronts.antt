@@ -63,7 +63,8 @@ stands_first bad (k ∷ ls) [] e = absurd e
 stands_first bad [] (m ∷ ms) e = record { line = m; behind = ms; split = refl; same = inr (refl, e) }
 stands_first bad (k ∷ ls) (m ∷ ms) e = record { line = m; behind = ms; split = refl; same = inl e.0 }
 
-stands_behind : (x : List ℕ) (before after ms : List (List ℕ)) (bad m : List ℕ) → m ≡ x → Standing before after bad ms → Standing (x ∷ before) after bad (m ∷ ms)
+stands_behind : (x : List ℕ) (before after ms : List (List ℕ)) (bad m : List ℕ) → m ≡ x → Standing before after bad ms
+    → Standing (x ∷ before) after bad (m ∷ ms)
 stands_behind x before after ms bad m e s = record {
   line = s.line;
   behind = s.behind;
@@ -118,7 +119,8 @@ front_not_good front es len are few =
     absurd (omega (arith, total_lines front, len, short.0, short.1, few))
 
 -- a bad last line of such a front has more bytes than an event's
-last_is_long : (front bad : List ℕ) (es : List Event) (before after : List (List ℕ)) (n : ℕ) → length front ≡ 1310741 → lines_in front ≡ before ++ bad ∷ after → after ≡ []
+last_is_long : (front bad : List ℕ) (es : List Event) (before after : List (List ℕ)) (n : ℕ) → length front ≡ 1310741
+    → lines_in front ≡ before ++ bad ∷ after → after ≡ []
     → AreLines IsEventLine es before → n ≡ length before + 1 → n ≤ 65537 → 21 ≤ length bad
 last_is_long front bad es before after n len split none are number within =
     let short = lines_short es before are in
@@ -127,7 +129,8 @@ last_is_long front bad es before after n len split none are number within =
     let last : total after ≡ 0 = ap total none in
     omega (arith, total_lines front, len, all, parts, last, short.0, number, within)
 
-bad_still : (front more : List ℕ) (n : ℕ) → length front ≡ 1310741 → IsFirstBad IsEventLine 65536 n (lines_in front) → IsFirstBad IsEventLine 65536 n (lines_in (front ++ more))
+bad_still : (front more : List ℕ) (n : ℕ) → length front ≡ 1310741 → IsFirstBad IsEventLine 65536 n (lines_in front)
+    → IsFirstBad IsEventLine 65536 n (lines_in (front ++ more))
 bad_still front more n len b = record {
   items = b.items;
   before = b.before;
@@ -154,7 +157,8 @@ front_reads front more (Is events) len is = absurd (front_not_good front events.
 front_reads front more (BadLine n) len is = bad_still front more n len is
 
 -- the same of a front of so many bytes at most
-pub schedule_by_front : (bytes : List ℕ) (count : ℕ) (schedule : Schedule) → (count ≡ length bytes) ⊎ ((count ≡ 1310741) × (count ≤ length bytes)) → IsReadSchedule (take count bytes) schedule → IsReadSchedule bytes schedule
+pub schedule_by_front : (bytes : List ℕ) (count : ℕ) (schedule : Schedule) → (count ≡ length bytes) ⊎ ((count ≡ 1310741) × (count ≤ length bytes))
+    → IsReadSchedule (take count bytes) schedule → IsReadSchedule bytes schedule
 schedule_by_front bytes count schedule (inl all) is = subst (λ (b : List ℕ). IsReadSchedule b schedule) (subst (λ (n : ℕ). take n bytes ≡ bytes) (sym all) (take_all bytes)) is
   where
     take_all : (b : List ℕ) → take (length b) b ≡ b

@@ -24,7 +24,8 @@ hex_text_push : (bs : List ℕ) (b : ℕ) (rest : List ℕ) → hex_text (bs ++ 
 hex_text_push bs b rest =
     ap (λ (z : List ℕ). z ++ rest) (flat_map-append hex_pair bs (b ∷ []) ∙ ap (λ (z : List ℕ). hex_text bs ++ z) (append-nil (hex_pair b))) ∙ append_assoc (hex_text bs) (hex_pair b) rest
 
-further_step : (bytes rest more : List ℕ) (b : ℕ) → b < 256 → rest ≡ hex_pair b ++ more → (bs cs : List ℕ) → bs ≡ bytes ++ cs → AllBelow 256 cs → rest ≡ hex_text cs → (ds : List ℕ) × (bs ≡ (bytes ++ b ∷ []) ++ ds) × AllBelow 256 ds × (more ≡ hex_text ds)
+further_step : (bytes rest more : List ℕ) (b : ℕ) → b < 256 → rest ≡ hex_pair b ++ more → (bs cs : List ℕ) → bs ≡ bytes ++ cs → AllBelow 256 cs
+    → rest ≡ hex_text cs → (ds : List ℕ) × (bs ≡ (bytes ++ b ∷ []) ++ ds) × AllBelow 256 ds × (more ≡ hex_text ds)
 further_step bytes rest more b small cut bs [] is below e = absurd (no_pair b more (sym cut ∙ e))
   where
     no_pair : (b : ℕ) (more : List ℕ) → hex_pair b ++ more ≡ [] → ⊥
@@ -33,7 +34,8 @@ further_step bytes rest more b small cut bs (c ∷ cs) is below e =
     let same : (b ≡ c) × (more ≡ hex_text cs) = hex_pair_once b c more (hex_text cs) small below.0 (sym cut ∙ e) in
     (cs, is ∙ ap (λ (z : ℕ). bytes ++ z ∷ cs) (sym same.0) ∙ sym (append_assoc bytes (b ∷ []) cs), below.1, same.1)
 
-pub hex_push : (text bytes bytes' rest more : List ℕ) (b : ℕ) → bytes' ≡ bytes ++ b ∷ [] → b < 256 → rest ≡ hex_pair b ++ more → HexSoFar text bytes rest → HexSoFar text bytes' more
+pub hex_push : (text bytes bytes' rest more : List ℕ) (b : ℕ) → bytes' ≡ bytes ++ b ∷ [] → b < 256 → rest ≡ hex_pair b ++ more
+    → HexSoFar text bytes rest → HexSoFar text bytes' more
 hex_push text bytes bytes' rest more b pushed small cut so_far =
     subst (λ (bs : List ℕ). HexSoFar text bs more) (sym pushed) (record {
       split = so_far.split ∙ ap (λ (z : List ℕ). hex_text bytes ++ z) cut ∙ sym (hex_text_push bytes b more);
@@ -42,7 +44,8 @@ hex_push text bytes bytes' rest more b pushed small cut so_far =
           further_step bytes rest more b small cut bs f.0 f.1 f.2 f.3);
     })
 
-pub hex_none : (text bytes rest : List ℕ) → 0 < length rest → ((b : ℕ) (more : List ℕ) → b < 256 → rest ≡ hex_pair b ++ more → ⊥) → HexSoFar text bytes rest → (bs : List ℕ) → AllBelow 256 bs → text ≡ hex_text bs → ⊥
+pub hex_none : (text bytes rest : List ℕ) → 0 < length rest → ((b : ℕ) (more : List ℕ) → b < 256 → rest ≡ hex_pair b ++ more → ⊥)
+    → HexSoFar text bytes rest → (bs : List ℕ) → AllBelow 256 bs → text ≡ hex_text bs → ⊥
 hex_none text bytes rest some none so_far bs h e = by_further rest some none (so_far.further bs h e).0 (so_far.further bs h e).2 (so_far.further bs h e).3
   where
     by_further : (rest : List ℕ) → 0 < length rest → ((b : ℕ) (more : List ℕ) → b < 256 → rest ≡ hex_pair b ++ more → ⊥) → (cs : List ℕ) → AllBelow 256 cs → rest ≡ hex_text cs → ⊥

@@ -44,7 +44,8 @@ join_other a m p n (Ran q k ∷ es) h = join_other_by a m p n q k es (p == q) h
 join_other a m p n (e ∷ es) h = ap (λ (t : Bool). join_ran t a m p n (e ∷ es)) h
 
 -- where a `Ran` comes
-step_ran : (r : Run) (p n : ℕ) (xs : List Entry) (b : Bool) → (r.pid == p) ≡ b → lines_of (join (Ran r.pid r.count) (join (Ran p n) xs)) ≡ text_unless_same b r ++ lines_of (join (Ran (lengthened b r p n).pid (lengthened b r p n).count) xs)
+step_ran : (r : Run) (p n : ℕ) (xs : List Entry) (b : Bool) → (r.pid == p) ≡ b
+    → lines_of (join (Ran r.pid r.count) (join (Ran p n) xs)) ≡ text_unless_same b r ++ lines_of (join (Ran (lengthened b r p n).pid (lengthened b r p n).count) xs)
 step_ran r p n xs true h =
     let e : r.pid ≡ p = grind (arith, nat_tests) in
     ap (λ (es : List Entry). lines_of es)
@@ -52,7 +53,8 @@ step_ran r p n xs true h =
 step_ran r p n xs false h = ap (λ (es : List Entry). lines_of es) (join_other r.pid r.count p n xs h)
 
 -- where an entry comes
-pub step : (run : Option Run) (e : Entry) (es : List Entry) → lines_of (joined (waiting run ++ unless (is_paging e) e es)) ≡ text_at run e ++ lines_of (joined (waiting (run_after run e) ++ es))
+pub step : (run : Option Run) (e : Entry) (es : List Entry)
+    → lines_of (joined (waiting run ++ unless (is_paging e) e es)) ≡ text_at run e ++ lines_of (joined (waiting (run_after run e) ++ es))
 step None (Ran p n) es = refl
 step (Some r) (Ran p n) es = step_ran r p n (joined es) (r.pid == p) refl
 step run (Zero page) es = refl
@@ -69,20 +71,25 @@ step None e es = refl
 step (Some r) e es = sym (append_assoc (line_of (Ran r.pid r.count)) (line_of e) (lines_of (joined es)))
 
 -- the entries that are left, at an entry
-left_at : (es : List Entry) (i : ℕ) (e : Entry) → i < length es → get_or es i e ≡ e → without_paging (drop i es) ≡ unless (is_paging e) e (without_paging (drop (i + 1) es))
+left_at : (es : List Entry) (i : ℕ) (e : Entry) → i < length es → get_or es i e ≡ e
+    → without_paging (drop i es) ≡ unless (is_paging e) e (without_paging (drop (i + 1) es))
 left_at es i e h is =
     let split : drop i es ≡ e ∷ drop (i + 1) es = subst (λ (k : ℕ). drop i es ≡ get_or es i e ∷ drop k es) (sym (add-one i)) (drop-cons es i e h) ∙ ap (λ (x : Entry). x ∷ drop (i + 1) es) is in
     ap (λ (xs : List Entry). without_paging xs) split
 
 -- the whole text at an entry
-whole_at : (front : List ℕ) (run : Option Run) (es whole : List Entry) (i : ℕ) (e : Entry) → i < length es → get_or es i e ≡ e → front ++ lines_of (joined (waiting run ++ without_paging (drop i es))) ≡ lines_of (joined (without_paging whole)) → (front ++ text_at run e) ++ lines_of (joined (waiting (run_after run e) ++ without_paging (drop (i + 1) es))) ≡ lines_of (joined (without_paging whole))
+whole_at : (front : List ℕ) (run : Option Run) (es whole : List Entry) (i : ℕ) (e : Entry) → i < length es → get_or es i e ≡ e
+    → front ++ lines_of (joined (waiting run ++ without_paging (drop i es))) ≡ lines_of (joined (without_paging whole))
+    → (front ++ text_at run e) ++ lines_of (joined (waiting (run_after run e) ++ without_paging (drop (i + 1) es))) ≡ lines_of (joined (without_paging whole))
 whole_at front run es whole i e h is rest =
     let here : lines_of (joined (waiting run ++ without_paging (drop i es))) ≡ text_at run e ++ lines_of (joined (waiting (run_after run e) ++ without_paging (drop (i + 1) es))) =
     ap (λ (xs : List Entry). lines_of (joined (waiting run ++ xs))) (left_at es i e h is) ∙ step run e (without_paging (drop (i + 1) es)) in
     append_assoc front (text_at run e) (lines_of (joined (waiting (run_after run e) ++ without_paging (drop (i + 1) es)))) ∙ ap (λ (z : List ℕ). front ++ z) (sym here) ∙ rest
 
 -- an entry passes
-pub progress_step : (w : Option (List ℕ)) (p : List ℕ) (w' : Option (List ℕ)) (p' : List ℕ) (w'' : Option (List ℕ)) (p'' : List ℕ) (run run' : Option Run) (es : List Entry) (i : ℕ) (e : Entry) → i < length es → get_or es i e ≡ e → Progress w p w' p' run (drop i es) es → Passes w' p' (text_at run e) w'' p'' → run' ≡ run_after run e → Progress w p w'' p'' run' (drop (i + 1) es) es
+pub progress_step : (w : Option (List ℕ)) (p : List ℕ) (w' : Option (List ℕ)) (p' : List ℕ) (w'' : Option (List ℕ)) (p'' : List ℕ) (run run' : Option Run) (es : List Entry) (i : ℕ) (e : Entry)
+    → i < length es → get_or es i e ≡ e → Progress w p w' p' run (drop i es) es → Passes w' p' (text_at run e) w'' p'' → run' ≡ run_after run e
+    → Progress w p w'' p'' run' (drop (i + 1) es) es
 progress_step w p w' p' w'' p'' run run' es i e h is so_far b after =
     subst (λ (r : Option Run). Progress w p w'' p'' r (drop (i + 1) es) es) (sym after) (record {
       front = so_far.front ++ text_at run e;
@@ -104,7 +111,9 @@ waiting_lines None = refl
 waiting_lines (Some r) = append-nil (line_of (Ran r.pid r.count))
 
 -- at the end what waits is written
-pub progress_end : {T E : Type 0} (r : Result T E) (w : Option (List ℕ)) (p : List ℕ) (w' : Option (List ℕ)) (p' : List ℕ) (w'' : Option (List ℕ)) (p'' : List ℕ) (run : Option Run) (es : List Entry) (left : List Entry) → left ≡ [] → Progress w p w' p' run left es → Puts r w' p' (waiting_text run) w'' p'' → Puts r w p (lines_of (joined (without_paging es))) w'' p''
+pub progress_end : {T E : Type 0} (r : Result T E) (w : Option (List ℕ)) (p : List ℕ) (w' : Option (List ℕ)) (p' : List ℕ) (w'' : Option (List ℕ)) (p'' : List ℕ) (run : Option Run) (es : List Entry) (left : List Entry)
+    → left ≡ [] → Progress w p w' p' run left es → Puts r w' p' (waiting_text run) w'' p''
+    → Puts r w p (lines_of (joined (without_paging es))) w'' p''
 progress_end r w p w' p' w'' p'' run es left none so_far b =
     let last : lines_of (joined (waiting run ++ without_paging left)) ≡ waiting_text run =
     ap (λ (xs : List Entry). lines_of (joined (waiting run ++ without_paging xs))) none ∙ waiting_lines run in
@@ -114,10 +123,12 @@ progress_end r w p w' p' w'' p'' run es left none so_far b =
     (puts_then r w p so_far.front w' p' (waiting_text run) w'' p'' so_far.passes b)
 
 -- where an entry is no paging entry, and the waiting one fails, or passes and the entry follows it
-pub other_failed : {T E : Type 0} (b : Bool) (r : Result T E) (f : E) (w : Option (List ℕ)) (p : List ℕ) (run : Option Run) (e : Entry) (w' : Option (List ℕ)) (p' : List ℕ) → b ≡ false → r ≡ Err f → Fails w p (waiting_text run) w' p' → Puts r w p (other_text b run e) w' p'
+pub other_failed : {T E : Type 0} (b : Bool) (r : Result T E) (f : E) (w : Option (List ℕ)) (p : List ℕ) (run : Option Run) (e : Entry) (w' : Option (List ℕ)) (p' : List ℕ)
+    → b ≡ false → r ≡ Err f → Fails w p (waiting_text run) w' p' → Puts r w p (other_text b run e) w' p'
 other_failed b r f w p run e w' p' not failed h =
     subst (λ (t : Bool). Puts r w p (other_text t run e) w' p') (sym not) (puts_failed r f w p (waiting_text run) (line_of e) w' p' failed h)
 
-pub other_passed : {T E : Type 0} (b : Bool) (r : Result T E) (w : Option (List ℕ)) (p : List ℕ) (run : Option Run) (e : Entry) (w' : Option (List ℕ)) (p' : List ℕ) (w'' : Option (List ℕ)) (p'' : List ℕ) → b ≡ false → Passes w p (waiting_text run) w' p' → Puts r w' p' (line_of e) w'' p'' → Puts r w p (other_text b run e) w'' p''
+pub other_passed : {T E : Type 0} (b : Bool) (r : Result T E) (w : Option (List ℕ)) (p : List ℕ) (run : Option Run) (e : Entry) (w' : Option (List ℕ)) (p' : List ℕ) (w'' : Option (List ℕ)) (p'' : List ℕ)
+    → b ≡ false → Passes w p (waiting_text run) w' p' → Puts r w' p' (line_of e) w'' p'' → Puts r w p (other_text b run e) w'' p''
 other_passed b r w p run e w' p' w'' p'' not h more =
     subst (λ (t : Bool). Puts r w p (other_text t run e) w'' p'') (sym not) (puts_then r w p (waiting_text run) w' p' (line_of e) w'' p'' h more)

@@ -27,7 +27,9 @@ line_goes_on xs i h n =
     ap line_len (at_index xs i h) ∙ ap (λ (t : Bool). if t then 1 else suc (line_len (drop (i + 1) xs))) (is_other (get_or xs i 0) 10 n)
 
 -- the first line and the others
-begin_step : (b : ℕ) (bs : List ℕ) (t : Bool) → (b == 10) ≡ t → (0 < length bs → lines_in bs ≡ take (line_len bs) bs ∷ lines_in (drop (line_len bs) bs)) → begin_line t b (lines_in bs) ≡ take (if t then 1 else suc (line_len bs)) (b ∷ bs) ∷ lines_in (drop (if t then 1 else suc (line_len bs)) (b ∷ bs))
+begin_step : (b : ℕ) (bs : List ℕ) (t : Bool) → (b == 10) ≡ t
+    → (0 < length bs → lines_in bs ≡ take (line_len bs) bs ∷ lines_in (drop (line_len bs) bs))
+    → begin_line t b (lines_in bs) ≡ take (if t then 1 else suc (line_len bs)) (b ∷ bs) ∷ lines_in (drop (if t then 1 else suc (line_len bs)) (b ∷ bs))
 unfolding lines_in
 begin_step b bs true e more = refl
 begin_step b [] false e more = refl

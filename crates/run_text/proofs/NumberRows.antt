@@ -26,7 +26,8 @@ parts_push ns n rest =
     ap (λ (z : List ℕ). z ++ rest) (flat_map-append part ns (n ∷ []) ∙ ap (λ (z : List ℕ). parts ns ++ z) (append-nil (part n))) ∙ append_assoc (parts ns) (part n) rest
 
 -- one more number
-further_step : (numbers rest more : List ℕ) (n : ℕ) → n < 4294967296 → rest ≡ part n ++ more → AtSpace more → (ns ms : List ℕ) → ns ≡ numbers ++ ms → AllBelow 4294967296 ms → rest ≡ parts ms → (ks : List ℕ) × (ns ≡ (numbers ++ n ∷ []) ++ ks) × AllBelow 4294967296 ks × (more ≡ parts ks)
+further_step : (numbers rest more : List ℕ) (n : ℕ) → n < 4294967296 → rest ≡ part n ++ more → AtSpace more → (ns ms : List ℕ) → ns ≡ numbers ++ ms
+    → AllBelow 4294967296 ms → rest ≡ parts ms → (ks : List ℕ) × (ns ≡ (numbers ++ n ∷ []) ++ ks) × AllBelow 4294967296 ks × (more ≡ parts ks)
 further_step numbers rest more n small cut at ns [] is below e = absurd (no_part n more (sym cut ∙ e))
   where
     no_part : (n : ℕ) (more : List ℕ) → part n ++ more ≡ [] → ⊥
@@ -35,7 +36,8 @@ further_step numbers rest more n small cut at ns (m ∷ ms) is below e =
     let same : (n ≡ m) × (more ≡ parts ms) = cut_part n m more (parts ms) small below.0 at (parts_at_space ms) (sym cut ∙ e) in
     (ms, is ∙ ap (λ (z : ℕ). numbers ++ z ∷ ms) (sym same.0) ∙ sym (append_assoc numbers (n ∷ []) ms), below.1, same.1)
 
-pub row_step : (text numbers rest more : List ℕ) (n : ℕ) → n < 4294967296 → rest ≡ part n ++ more → AtSpace more → RowSoFar text numbers rest → RowSoFar text (numbers ++ n ∷ []) more
+pub row_step : (text numbers rest more : List ℕ) (n : ℕ) → n < 4294967296 → rest ≡ part n ++ more → AtSpace more → RowSoFar text numbers rest
+    → RowSoFar text (numbers ++ n ∷ []) more
 row_step text numbers rest more n small cut at so_far = record {
   split = so_far.split ∙ ap (λ (z : List ℕ). parts numbers ++ z) cut ∙ sym (parts_push numbers n more);
   below = below_push numbers n so_far.below small;
@@ -44,7 +46,8 @@ row_step text numbers rest more n small cut at so_far = record {
 }
 
 -- no number stands there, so the text is no row
-pub row_none : (text numbers rest : List ℕ) → 0 < length rest → ((n : ℕ) (more : List ℕ) → n < 2 ^ 32 → AtSpace more → rest ≡ part n ++ more → ⊥) → RowSoFar text numbers rest → (ns : List ℕ) → AllBelow 4294967296 ns → text ≡ parts ns → ⊥
+pub row_none : (text numbers rest : List ℕ) → 0 < length rest → ((n : ℕ) (more : List ℕ) → n < 2 ^ 32 → AtSpace more → rest ≡ part n ++ more → ⊥)
+    → RowSoFar text numbers rest → (ns : List ℕ) → AllBelow 4294967296 ns → text ≡ parts ns → ⊥
 row_none text numbers rest some none so_far ns h e = by_further rest some none (so_far.further ns h e).0 (so_far.further ns h e).2 (so_far.further ns h e).3
   where
     by_further : (rest : List ℕ) → 0 < length rest → ((n : ℕ) (more : List ℕ) → n < 2 ^ 32 → AtSpace more → rest ≡ part n ++ more → ⊥) → (ms : List ℕ) → AllBelow 4294967296 ms → rest ≡ parts ms → ⊥
@@ -52,13 +55,15 @@ row_none text numbers rest some none so_far ns h e = by_further rest some none (
     by_further rest some none (m ∷ ms) below e = none m (parts ms) below.0 (parts_at_space ms) e
 
 -- more than five numbers
-pub row_full : (text numbers rest more : List ℕ) (n : ℕ) → length numbers ≡ 5 → n < 4294967296 → rest ≡ part n ++ more → AtSpace more → RowSoFar text numbers rest → (ns : List ℕ) → length ns ≤ 5 → AllBelow 4294967296 ns → text ≡ parts ns → ⊥
+pub row_full : (text numbers rest more : List ℕ) (n : ℕ) → length numbers ≡ 5 → n < 4294967296 → rest ≡ part n ++ more → AtSpace more
+    → RowSoFar text numbers rest → (ns : List ℕ) → length ns ≤ 5 → AllBelow 4294967296 ns → text ≡ parts ns → ⊥
 row_full text numbers rest more n five small cut at so_far ns few h e =
     let f : (ks : List ℕ) × (ns ≡ (numbers ++ n ∷ []) ++ ks) × AllBelow 4294967296 ks × (more ≡ parts ks) = (row_step text numbers rest more n small cut at so_far).further ns h e in
     let long : length ns ≡ length ((numbers ++ n ∷ []) ++ f.0) = ap length f.1 in
     omega (arith, long, length-append (numbers ++ n ∷ []) f.0, length-append numbers (n ∷ []))
 
-pub row_push : (text numbers numbers' rest more : List ℕ) (n : ℕ) → numbers' ≡ numbers ++ n ∷ [] → n < 4294967296 → rest ≡ part n ++ more → AtSpace more → RowSoFar text numbers rest → RowSoFar text numbers' more
+pub row_push : (text numbers numbers' rest more : List ℕ) (n : ℕ) → numbers' ≡ numbers ++ n ∷ [] → n < 4294967296 → rest ≡ part n ++ more
+    → AtSpace more → RowSoFar text numbers rest → RowSoFar text numbers' more
 row_push text numbers numbers' rest more n pushed small cut at so_far =
     subst (λ (ns : List ℕ). RowSoFar text ns more) (sym pushed) (row_step text numbers rest more n small cut at so_far)
 

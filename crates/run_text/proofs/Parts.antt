@@ -23,7 +23,8 @@ written_line : (x y z : List ℕ) → ((x ++ []) ++ 32 ∷ []) ++ y ++ z ≡ (x 
 written_line x y z =
     ap (λ (u : List ℕ). (u ++ 32 ∷ []) ++ y ++ z) (append-nil x) ∙ ap (λ (u : List ℕ). u ++ z) (append_assoc x (32 ∷ []) y)
 
-paged_line : (l : ℕ) (page : Page) (ns : List ℕ) → (l ∷ []) ++ page_text page ++ rest_of_line ns ≡ (l ∷ body_text (Paged (segment_of page) (page_numbers page ++ ns))) ++ codes "\n"
+paged_line : (l : ℕ) (page : Page) (ns : List ℕ)
+    → (l ∷ []) ++ page_text page ++ rest_of_line ns ≡ (l ∷ body_text (Paged (segment_of page) (page_numbers page ++ ns))) ++ codes "\n"
 paged_line l (Data sid v) ns = ap (λ (z : List ℕ). l ∷ 32 ∷ 100 ∷ z) (parts_more (part sid) (part v) (parts ns) (codes "\n"))
 paged_line l (Stack sid v) ns = ap (λ (z : List ℕ). l ∷ 32 ∷ 115 ∷ z) (parts_more (part sid) (part v) (parts ns) (codes "\n"))
 paged_line l (Text image v) ns = ap (λ (z : List ℕ). l ∷ 32 ∷ 120 ∷ z) (parts_more (part image) (part v) (parts ns) (codes "\n"))

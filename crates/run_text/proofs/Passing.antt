@@ -37,7 +37,8 @@ pub passed_more : (m p' p x y : List ℕ) → m ++ p' ≡ p ++ x → m ++ (p' ++
 passed_more m p' p x y e = sym (append_assoc m p' y) ∙ ap (λ (z : List ℕ). z ++ y) e ∙ append_assoc p x y
 
 -- pieces that pass one after the other
-pub passes_then : (w : Option (List ℕ)) (p x : List ℕ) (w' : Option (List ℕ)) (p' y : List ℕ) (w'' : Option (List ℕ)) (p'' : List ℕ) → Passes w p x w' p' → Passes w' p' y w'' p'' → Passes w p (x ++ y) w'' p''
+pub passes_then : (w : Option (List ℕ)) (p x : List ℕ) (w' : Option (List ℕ)) (p' y : List ℕ) (w'' : Option (List ℕ)) (p'' : List ℕ)
+    → Passes w p x w' p' → Passes w' p' y w'' p'' → Passes w p (x ++ y) w'' p''
 passes_then w p x w' p' y w'' p'' a b = record {
   moved = a.moved ++ b.moved;
   appended = appends_then w a.moved b.moved w' w'' a.appended b.appended;
@@ -45,14 +46,16 @@ passes_then w p x w' p' y w'' p'' a b = record {
 }
 
 -- a piece that passes, and one that fails behind it
-pub fails_then : (w : Option (List ℕ)) (p x : List ℕ) (w' : Option (List ℕ)) (p' y : List ℕ) (w'' : Option (List ℕ)) (p'' : List ℕ) → Passes w p x w' p' → Fails w' p' y w'' p'' → Fails w p (x ++ y) w'' p''
+pub fails_then : (w : Option (List ℕ)) (p x : List ℕ) (w' : Option (List ℕ)) (p' y : List ℕ) (w'' : Option (List ℕ)) (p'' : List ℕ)
+    → Passes w p x w' p' → Fails w' p' y w'' p'' → Fails w p (x ++ y) w'' p''
 fails_then w p x w' p' y w'' p'' a b = record {
   some = subst (λ (z : List ℕ). AppendsSome w z w'') (passed_more a.moved p' p x y a.kept) (some_then w a.moved (p' ++ y) w' w'' a.appended b.some);
   none_waits = b.none_waits;
 }
 
 -- a piece that passes, and one that is put behind it
-pub puts_then : {T E : Type 0} (r : Result T E) (w : Option (List ℕ)) (p x : List ℕ) (w' : Option (List ℕ)) (p' y : List ℕ) (w'' : Option (List ℕ)) (p'' : List ℕ) → Passes w p x w' p' → Puts r w' p' y w'' p'' → Puts r w p (x ++ y) w'' p''
+pub puts_then : {T E : Type 0} (r : Result T E) (w : Option (List ℕ)) (p x : List ℕ) (w' : Option (List ℕ)) (p' y : List ℕ) (w'' : Option (List ℕ)) (p'' : List ℕ)
+    → Passes w p x w' p' → Puts r w' p' y w'' p'' → Puts r w p (x ++ y) w'' p''
 puts_then (Ok x) = passes_then
 puts_then (Err e) = fails_then
 
@@ -62,7 +65,8 @@ fails_more w p x y w' p' f =
     record { some = subst (λ (z : List ℕ). AppendsSome w z w') (append_assoc p x y) (some_of_more w (p ++ x) y w' f.some); none_waits = f.none_waits }
 
 -- a piece that is put and fails, so that more isn't tried
-pub puts_failed : {T E : Type 0} (r : Result T E) (e : E) (w : Option (List ℕ)) (p x y : List ℕ) (w' : Option (List ℕ)) (p' : List ℕ) → r ≡ Err e → Fails w p x w' p' → Puts r w p (x ++ y) w' p'
+pub puts_failed : {T E : Type 0} (r : Result T E) (e : E) (w : Option (List ℕ)) (p x y : List ℕ) (w' : Option (List ℕ)) (p' : List ℕ) → r ≡ Err e
+    → Fails w p x w' p' → Puts r w p (x ++ y) w' p'
 puts_failed {T} {E} r e w p x y w' p' is f = subst (λ (r : Result T E). Puts r w p (x ++ y) w' p') (sym is) (fails_more w p x y w' p' f)
 
 -- no bytes pass
@@ -71,7 +75,9 @@ passes_none None p = record { moved = []; appended = refl; kept = sym (append-ni
 passes_none (Some u) p = record { moved = []; appended = ap (λ (z : List ℕ). Some z) (sym (append-nil u)); kept = sym (append-nil p) }
 
 -- the text of one more item passes
-pub each_more : {X : Type 0} (f : X → List ℕ) (xs : List X) (i : ℕ) (d : X) (w : Option (List ℕ)) (p : List ℕ) (w' : Option (List ℕ)) (p' : List ℕ) (w'' : Option (List ℕ)) (p'' : List ℕ) → i < length xs → Passes w p (flat_map f (take i xs)) w' p' → Passes w' p' (f (get_or xs i d)) w'' p'' → Passes w p (flat_map f (take (i + 1) xs)) w'' p''
+pub each_more : {X : Type 0} (f : X → List ℕ) (xs : List X) (i : ℕ) (d : X) (w : Option (List ℕ)) (p : List ℕ) (w' : Option (List ℕ)) (p' : List ℕ) (w'' : Option (List ℕ)) (p'' : List ℕ)
+    → i < length xs → Passes w p (flat_map f (take i xs)) w' p' → Passes w' p' (f (get_or xs i d)) w'' p''
+    → Passes w p (flat_map f (take (i + 1) xs)) w'' p''
 each_more {X} f xs i d w p w' p' w'' p'' h a b =
     let e : flat_map f (take (i + 1) xs) ≡ flat_map f (take i xs) ++ f (get_or xs i d) =
     ap (λ (zs : List X). flat_map f zs) (take_more xs i d h) ∙ flat_map-append f (take i xs) (get_or xs i d ∷ []) ∙ ap (λ (z : List ℕ). flat_map f (take i xs) ++ z) (append-nil (f (get_or xs i d))) in
@@ -93,12 +99,14 @@ each_failed {X} {T} {E} r e f xs i d w p w' p' w'' p'' is h a b =
     (subst (λ (z : List ℕ). Fails w p z w'' p'') whole (fails_more w p (front ++ one) more w'' p'' failed))
 
 -- bytes pass that nothing waited before, and then what waits is written
-pub ends_done : {T E : Type 0} (r : Result T E) (w : Option (List ℕ)) (p x : List ℕ) (w' : Option (List ℕ)) (p' : List ℕ) (w'' : Option (List ℕ)) → p ≡ [] → Passes w p x w' p' → OnOk r (Appends w' p' w'') → OnOk r (Appends w x w'')
+pub ends_done : {T E : Type 0} (r : Result T E) (w : Option (List ℕ)) (p x : List ℕ) (w' : Option (List ℕ)) (p' : List ℕ) (w'' : Option (List ℕ))
+    → p ≡ [] → Passes w p x w' p' → OnOk r (Appends w' p' w'') → OnOk r (Appends w x w'')
 ends_done (Ok v) w p x w' p' w'' none a b =
     subst (λ (z : List ℕ). Appends w z w'') (a.kept ∙ ap (λ (z : List ℕ). z ++ x) none) (appends_then w a.moved p' w' w'' a.appended b)
 ends_done (Err e) w p x w' p' w'' none a b = b
 
-pub ends_failed : {T E : Type 0} (r : Result T E) (w : Option (List ℕ)) (p x : List ℕ) (w' : Option (List ℕ)) (p' : List ℕ) (w'' : Option (List ℕ)) → p ≡ [] → Passes w p x w' p' → OnErr r (AppendsSome w' p' w'') → OnErr r (AppendsSome w x w'')
+pub ends_failed : {T E : Type 0} (r : Result T E) (w : Option (List ℕ)) (p x : List ℕ) (w' : Option (List ℕ)) (p' : List ℕ) (w'' : Option (List ℕ))
+    → p ≡ [] → Passes w p x w' p' → OnErr r (AppendsSome w' p' w'') → OnErr r (AppendsSome w x w'')
 ends_failed (Ok v) w p x w' p' w'' none a b = b
 ends_failed (Err e) w p x w' p' w'' none a b =
     subst (λ (z : List ℕ). AppendsSome w z w'') (a.kept ∙ ap (λ (z : List ℕ). z ++ x) none) (some_then w a.moved p' w' w'' a.appended b)

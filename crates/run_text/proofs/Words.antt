@@ -157,7 +157,8 @@ no_digits ds n small is none =
     none (subst (λ (xs : List ℕ). IsNumeral 10 xs) (sym is) value.0)
     (subst (λ (xs : List ℕ). digits_value 10 xs < 4294967296) (sym is) (subst (λ (k : ℕ). k < 4294967296) (sym value.1) small))
 
-pub no_word : (text after word behind : List ℕ) → text ≡ 32 ∷ after → after ≡ word ++ behind → HasNo 32 word → AtSpace behind → ((n : ℕ) → n < 2 ^ 32 → word ≡ decimal n → ⊥) → (n : ℕ) (rest : List ℕ) → n < 2 ^ 32 → AtSpace rest → text ≡ part n ++ rest → ⊥
+pub no_word : (text after word behind : List ℕ) → text ≡ 32 ∷ after → after ≡ word ++ behind → HasNo 32 word → AtSpace behind
+    → ((n : ℕ) → n < 2 ^ 32 → word ≡ decimal n → ⊥) → (n : ℕ) (rest : List ℕ) → n < 2 ^ 32 → AtSpace rest → text ≡ part n ++ rest → ⊥
 no_word text after word behind front cut one at none n rest small start is =
     let tails : after ≡ decimal n ++ rest = cc in
     none n small (cut_word word (decimal n) behind rest one (decimal_no_space n small) at start (sym cut ∙ tails)).0

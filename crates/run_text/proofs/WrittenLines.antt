@@ -106,7 +106,8 @@ rows_once (d ∷ ds) (e ∷ es) (l ∷ ls) h k =
     ap (λ (x : Entry). x ∷ ds) first ∙ ap (λ (xs : List Entry). e ∷ xs) (rows_once ds es ls h.1 k.1)
 
 -- among lines of entries none is bad
-pub none_bad : (es : List Entry) (before : List (List ℕ)) (bad : List ℕ) (after : List (List ℕ)) → AreLines IsEntryLine es (before ++ bad ∷ after) → ((e : Entry) → IsEntryLine e bad → ⊥) → ⊥
+pub none_bad : (es : List Entry) (before : List (List ℕ)) (bad : List ℕ) (after : List (List ℕ)) → AreLines IsEntryLine es (before ++ bad ∷ after)
+    → ((e : Entry) → IsEntryLine e bad → ⊥) → ⊥
 none_bad [] [] bad after h none = h
 none_bad [] (l ∷ ls) bad after h none = h
 none_bad (e ∷ es) [] bad after h none = none e h.0
@@ -117,7 +118,8 @@ abbrev pub IsSmallLine : Transcript → Type 0
 IsSmallLine (Is entries) = ⊤
 IsSmallLine (BadLine n) = n ≤ 4294967295
 
-pub written_is_read : (es : List Entry) (bytes : List ℕ) (t : Transcript) → AreWithin es → bytes ≡ lines_of es → IsReadTranscript bytes t → IsSmallLine t → IsRead es t
+pub written_is_read : (es : List Entry) (bytes : List ℕ) (t : Transcript) → AreWithin es → bytes ≡ lines_of es → IsReadTranscript bytes t
+    → IsSmallLine t → IsRead es t
 written_is_read es bytes (Is entries) h is read small =
     rows_once entries.items es (lines_in bytes) read (subst (λ (xs : List ℕ). AreLines IsEntryLine es (lines_in xs)) (sym is) (lines_are es h))
 written_is_read es bytes (BadLine m) h is read small =

@@ -133,4 +133,5 @@ HasParts l body e = (letter_of e ≡ l) × (body_of e ≡ body) × IsWithin e
 -- an entry has this letter, this page and these further numbers, and is within its ranges where all of
 -- these numbers are
 abbrev pub HasPageParts : ℕ → Page → List ℕ → Entry → Type 0
-HasPageParts l page ns e = (letter_of e ≡ l) × (body_of e ≡ Paged (segment_of page) (page_numbers page ++ ns)) × (AllBelow 4294967296 (page_numbers page ++ ns) → IsWithin e)
+HasPageParts l page ns e =
+    (letter_of e ≡ l) × (body_of e ≡ Paged (segment_of page) (page_numbers page ++ ns)) × (AllBelow 4294967296 (page_numbers page ++ ns) → IsWithin e)

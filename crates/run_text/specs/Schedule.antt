@@ -13,7 +13,8 @@ Writes most ds n = IsNumeral 10 ds × (length ds ≤ 8) × (digits_value 10 ds �
 
 -- the text of an event
 abbrev pub IsEvent : Event → List ℕ → Type 0
-IsEvent (Dispatch pid count) text = (p : List ℕ) × (n : List ℕ) × Writes 99999999 p pid × Writes 1000000 n count × (text ≡ codes "d " ++ (p ++ (codes " " ++ n)))
+IsEvent (Dispatch pid count) text =
+    (p : List ℕ) × (n : List ℕ) × Writes 99999999 p pid × Writes 1000000 n count × (text ≡ codes "d " ++ (p ++ (codes " " ++ n)))
 IsEvent Interrupt text = text ≡ codes "i"
 IsEvent (Hands count) text = (n : List ℕ) × Writes 8192 n count × (text ≡ codes "h " ++ n)
 IsEvent Swapper text = text ≡ codes "w"

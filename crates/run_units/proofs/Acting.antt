@@ -13,7 +13,8 @@ use Rattle.run_model.specs.Act.{act, act_if, act_by, must_refuse, must_settle}
 use Rattle.run_units.specs.Acting.{IsBetween}
 
 -- by whether it is refused, and has to settle
-acts_by : (A : Inputs) (s : State) (pid : ℕ) (refused settling : Bool) → can_step s.point.flat pid ≡ true → must_refuse A s pid ≡ refused → must_settle A s pid ≡ settling
+acts_by : (A : Inputs) (s : State) (pid : ℕ) (refused settling : Bool) → can_step s.point.flat pid ≡ true → must_refuse A s pid ≡ refused
+    → must_settle A s pid ≡ settling
     → act A s pid ≡ act_by A s pid refused settling
 unfolding act
 acts_by A s pid refused settling c r t =
@@ -34,7 +35,8 @@ allowed A s pid f = ap (λ (b : Bool). not (is_refused s.point.last pid) && not 
     none true = refl
     none false = refl
 
-comes_first : (A : Inputs) (s : State) (pid : ℕ) (e : Entry) (es : List Entry) → can_step s.point.flat pid ≡ true → due_at A s.point pid ≡ e ∷ es → next_of_step A s.point pid ≡ Some e
+comes_first : (A : Inputs) (s : State) (pid : ℕ) (e : Entry) (es : List Entry) → can_step s.point.flat pid ≡ true → due_at A s.point pid ≡ e ∷ es
+    → next_of_step A s.point pid ≡ Some e
 comes_first A s pid e es c d = ap (λ (b : Bool). first_if b (due_at A s.point pid)) c ∙ ap (first_if true) d
 
 pub step_begins : (A : Inputs) (s : State) (pid : ℕ) (e : Entry) (es : List Entry) → can_step s.point.flat pid ≡ true → IsBetween s.point.last
@@ -42,12 +44,14 @@ pub step_begins : (A : Inputs) (s : State) (pid : ℕ) (e : Entry) (es : List En
 step_begins A s pid e es c b first f t =
     acts_by A s pid false false c (allowed A s pid f) t ∙ comes_first A s pid e es c (between_due s.point.last pid (step_at A s.point pid).entries b ∙ first)
 
-pub step_refused : (A : Inputs) (s : State) (pid : ℕ) → can_step s.point.flat pid ≡ true → IsBetween s.point.last → fits A.swap_blocks s.holdings (asks A s.point.flat pid) ≡ false
+pub step_refused : (A : Inputs) (s : State) (pid : ℕ) → can_step s.point.flat pid ≡ true → IsBetween s.point.last
+    → fits A.swap_blocks s.holdings (asks A s.point.flat pid) ≡ false
     → act A s pid ≡ Some (entries.Refused pid)
 step_refused A s pid c b f =
     acts_by A s pid true (must_settle A s pid) c (ap (λ (x : Bool). not x && not (fits A.swap_blocks s.holdings (asks A s.point.flat pid))) (between_refused s.point.last pid b) ∙ ap not f) refl
 
-pub refused_comes : (A : Inputs) (s : State) (pid : ℕ) (e : Entry) (es : List Entry) → can_step s.point.flat pid ≡ true → s.point.last ≡ Some (entries.Refused pid)
+pub refused_comes : (A : Inputs) (s : State) (pid : ℕ) (e : Entry) (es : List Entry) → can_step s.point.flat pid ≡ true
+    → s.point.last ≡ Some (entries.Refused pid)
     → (step_at A s.point pid).entries ≡ e ∷ es → must_settle A s pid ≡ false → act A s pid ≡ Some e
 refused_comes A s pid e es c l first t =
     acts_by A s pid false false c

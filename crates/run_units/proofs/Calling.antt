@@ -191,7 +191,8 @@ given_of {A} P memory (Tests address next) x h e = go (λ k. given_of P memory n
     go later tests.Outside k = absurd cc
 
 -- who makes a call writes nothing
-pub calls_write_none : (memory : Answers) (regs : Regs) (effect : Effect) (number : ℤ) → run memory (instruction regs) ≡ Ok effect → effect.call ≡ Some number → effect.writes ≡ []
+pub calls_write_none : (memory : Answers) (regs : Regs) (effect : Effect) (number : ℤ) → run memory (instruction regs) ≡ Ok effect
+    → effect.call ≡ Some number → effect.writes ≡ []
 calls_write_none memory regs effect number e c = elim (given_of IsQuiet memory (instruction regs) effect (instruction_quiet regs) e) [
   | inl n ↦ let z : Some number ≡ None = sym c ∙ n in absurd cc
   | inr w ↦ w

@@ -60,11 +60,13 @@ fills_unit p (Start q ∷ ds) e locked h = ap (λ (x : Entry). Some (fill_unit p
 fills_unit p (CopyOf q parent ∷ ds) e locked h =
     ap (λ (o : Option Entry). Some (copy_unit_by p q o)) (valid_unit (state_of p parent) p parent true h.2) ∙ ap (λ (x : Entry). Some (fill_unit p x)) (sym h.0)
 
-pub forced_next : (A : Inputs) (s : State) (e : Entry) (locked : List Page) → FillsFirst s.place s.place.due e locked → s.place.free ≡ [] → next_unit A s ≡ Some (force_entry s.place.transfers)
+pub forced_next : (A : Inputs) (s : State) (e : Entry) (locked : List Page) → FillsFirst s.place s.place.due e locked → s.place.free ≡ []
+    → next_unit A s ≡ Some (force_entry s.place.transfers)
 forced_next A s e locked h n =
     due_next A s (force_entry s.place.transfers) (fills_unit s.place s.place.due e locked h ∙ ap (λ (fr : List ℕ). Some (fill_by s.place e fr)) n)
 
-pub fill_next : (A : Inputs) (s : State) (e : Entry) (locked : List Page) (f : ℕ) (free : List ℕ) → FillsFirst s.place s.place.due e locked → s.place.free ≡ f ∷ free → next_unit A s ≡ Some e
+pub fill_next : (A : Inputs) (s : State) (e : Entry) (locked : List Page) (f : ℕ) (free : List ℕ) → FillsFirst s.place s.place.due e locked
+    → s.place.free ≡ f ∷ free → next_unit A s ≡ Some e
 fill_next A s e locked f free h n = due_next A s e (fills_unit s.place s.place.due e locked h ∙ ap (λ (fr : List ℕ). Some (fill_by s.place e fr)) n)
 
 -- the pages over which the hands pass
@@ -88,7 +90,8 @@ fills_on p q (Start x ∷ ds) e locked s h = h
 fills_on p q (CopyOf x parent ∷ ds) e locked s h =
     (h.0, h.1, s parent (subst (λ (qs : List Page). is_among parent qs ≡ true) (sym h.1) (among_first parent [])) h.2)
 
-mark_free : (A : Inputs) (s : State) (e : Entry) (kept : List Page) → IsRun A s → FillsFirst s.place s.place.due e kept → Rattle.economy_laws.proofs.Marks.IsFree s.mark
+mark_free : (A : Inputs) (s : State) (e : Entry) (kept : List Page) → IsRun A s → FillsFirst s.place s.place.due e kept
+    → Rattle.economy_laws.proofs.Marks.IsFree s.mark
 mark_free A s e kept run h = go s.place.due refl h
   where
     go : (ds : List Due) → s.place.due ≡ ds → FillsFirst s.place ds e kept → Rattle.economy_laws.proofs.Marks.IsFree s.mark
@@ -99,7 +102,8 @@ pub record Forced (A : Inputs) (g : Ground) (s : State) (k : Kernel) (image : Li
   pub led : LeadsDue A s k image us l j
   pub fills : FillsFirst led.state.place led.state.place.due e g.locked
 
-forced : (us : List Entry) (A : Inputs) (g : Ground) (s : State) (k l : Kernel) (image : List ℕ) (j : Option (List ℕ)) (e : Entry) → At A s k image → HasImages g A
+forced : (us : List Entry) (A : Inputs) (g : Ground) (s : State) (k l : Kernel) (image : List ℕ) (j : Option (List ℕ)) (e : Entry) → At A s k image
+    → HasImages g A
     → FillsFirst s.place s.place.due e g.locked → Forces us k.place g.locked l.place → Made g us k (Some image) l j → Forced A g s k image e us l j
 forced [] A g s k l image j e at f h x m = record {
   led = record {
@@ -145,18 +149,21 @@ forced (u ∷ us) A g s k l image j e at f h x m =
       fills = more.fills;
     }
 
-pub forcing : (A : Inputs) (g : Ground) (s : State) (k l : Kernel) (image : List ℕ) (j : Option (List ℕ)) (e : Entry) (us : List Entry) → At A s k image → HasImages g A
+pub forcing : (A : Inputs) (g : Ground) (s : State) (k l : Kernel) (image : List ℕ) (j : Option (List ℕ)) (e : Entry) (us : List Entry)
+    → At A s k image → HasImages g A
     → FillsFirst s.place s.place.due e g.locked → Forces us k.place g.locked l.place → Made g us k (Some image) l j
     → (led : LeadsDue A s k image us l j) × FillsFirst led.state.place led.state.place.due e g.locked
 forcing A g s k l image j e us at f h x m = let r = forced us A g s k l image j e at f h x m in (r.led, r.fills)
 
 -- The parent's page.
 
-pub brought_next : (A : Inputs) (s : State) (child parent : Page) (ds : List Due) (u : Entry) → s.place.due ≡ CopyOf child parent ∷ ds → serve_unit s.place parent true ≡ Some u → next_unit A s ≡ Some u
+pub brought_next : (A : Inputs) (s : State) (child parent : Page) (ds : List Due) (u : Entry) → s.place.due ≡ CopyOf child parent ∷ ds
+    → serve_unit s.place parent true ≡ Some u → next_unit A s ≡ Some u
 brought_next A s child parent ds u d h =
     due_next A s u (ap (due_unit s.place) d ∙ ap (λ (o : Option Entry). Some (copy_unit_by s.place child o)) h)
 
-pub bringing : (us : List Entry) (A : Inputs) (g : Ground) (s : State) (k l : Kernel) (image : List ℕ) (j : Option (List ℕ)) (child parent : Page) (ds : List Due) → At A s k image → HasImages g A
+pub bringing : (us : List Entry) (A : Inputs) (g : Ground) (s : State) (k l : Kernel) (image : List ℕ) (j : Option (List ℕ)) (child parent : Page) (ds : List Due)
+    → At A s k image → HasImages g A
     → g.locked ≡ parent ∷ [] → s.place.due ≡ CopyOf child parent ∷ ds → Serves us k.place g.locked parent true l.place → Made g us k (Some image) l j → LeadsDue A s k image us l j
 bringing [] A g s k l image j child parent ds at f e d x m = record {
   state = s;

@@ -60,7 +60,8 @@ sized_in : (k : Kernel) (x : Space) (o : Option SpacePages) → numbered space_n
 sized_in k x None e h = absurd h
 sized_in k x (Some y) e h = (y, e, h)
 
-lent : (A : Inputs) (s : State) (k : Kernel) (image : List ℕ) (pid : ℕ) (p : Process) (x : Space) → At A s k image → process_of s.point.flat pid ≡ Some p → p.holding ≡ Holds x → Lent A k x
+lent : (A : Inputs) (s : State) (k : Kernel) (image : List ℕ) (pid : ℕ) (p : Process) (x : Space) → At A s k image
+    → process_of s.point.flat pid ≡ Some p → p.holding ≡ Holds x → Lent A k x
 lent A s k image pid p x at here holds = record {
   spots = record { image = same_image; spots = spot_same };
   covers = memory_covers A.images k image flat x keeps.coupled keeps.stands.texts own same_text;
@@ -104,7 +105,8 @@ lent A s k image pid p x at here holds = record {
         ∙ ap (λ (d : ℕ). spot_at (length x.text_bytes) d (stack_len k.place x.sid) a) data_same
         ∙ ap (λ (z : ℕ). spot_at (length x.text_bytes) (length x.data_bytes) z a) stack_same
 
-pub same_spots : (A : Inputs) (s : State) (k : Kernel) (image : List ℕ) (pid : ℕ) (p : Process) (x : Space) → At A s k image → process_of s.point.flat pid ≡ Some p → p.holding ≡ Holds x → SameSpots k x
+pub same_spots : (A : Inputs) (s : State) (k : Kernel) (image : List ℕ) (pid : ℕ) (p : Process) (x : Space) → At A s k image
+    → process_of s.point.flat pid ≡ Some p → p.holding ≡ Holds x → SameSpots k x
 same_spots A s k image pid p x at here holds = (lent A s k image pid p x at here holds).spots
 
 -- What a process that runs touches.
@@ -125,7 +127,8 @@ runs_touch A s pid now p x r =
 
 -- A byte that misses.
 
-missing_at : (k : Kernel) (x : Space) (e : SameSpots k x) (a : Access) (address : ℕ) (write : Bool) → refusal (kernel_answers k x.sid) a ≡ Some (Miss address write)
+missing_at : (k : Kernel) (x : Space) (e : SameSpots k x) (a : Access) (address : ℕ) (write : Bool)
+    → refusal (kernel_answers k x.sid) a ≡ Some (Miss address write)
     → (spot : Spot) × (page_in k.place x.sid address ≡ page_at_spot k.place x.sid spot) × Missing k x (page_of_access x a) spot
 missing_at k x e (ReadOf b) address write h =
     let same : b ≡ address = read_same (read_spot k x.sid (spot_in k.place x.sid b)) h in (
@@ -163,7 +166,8 @@ read_asks k x (spots.Stack i) address page e = ap (λ (q : Page). accesses.Page 
 read_asks k x spots.Below address page e = absurd cc
 read_asks k x spots.Outside address page e = absurd cc
 
-test_asks : (k : Kernel) (x : Space) (spot : Spot) (b address : ℕ) (write : Bool) (page : Page) → test_refusal (may_write_spot k.place x.sid spot) b ≡ Some (Miss address write)
+test_asks : (k : Kernel) (x : Space) (spot : Spot) (b address : ℕ) (write : Bool) (page : Page)
+    → test_refusal (may_write_spot k.place x.sid spot) b ≡ Some (Miss address write)
     → page_at_spot k.place x.sid spot ≡ Some page → access_at x.sid (image_of k.place x.sid) address spot true ≡ accesses.Page page
 test_asks k x (spots.Text i) b address write page m e = absurd cc
 test_asks k x (spots.Data i) b address write page m e = ap (λ (q : Page). accesses.Page q) (let z : pages.Data x.sid (i / 1024) ≡ page = cc in z)
@@ -171,7 +175,8 @@ test_asks k x (spots.Stack i) b address write page m e = ap (λ (q : Page). acce
 test_asks k x spots.Below b address write page m e = absurd cc
 test_asks k x spots.Outside b address write page m e = absurd cc
 
-asks_page : (k : Kernel) (x : Space) (e : SameSpots k x) (a : Access) (address : ℕ) (write : Bool) (page : Page) → refusal (kernel_answers k x.sid) a ≡ Some (Miss address write)
+asks_page : (k : Kernel) (x : Space) (e : SameSpots k x) (a : Access) (address : ℕ) (write : Bool) (page : Page)
+    → refusal (kernel_answers k x.sid) a ≡ Some (Miss address write)
     → page_in k.place x.sid address ≡ Some page → access_to k.place x.sid address write ≡ accesses.Page page
 asks_page k x e (ReadOf b) address write page m h = go (read_spot k x.sid (spot_in k.place x.sid b)) m
   where
@@ -202,7 +207,8 @@ append_one : (xs ys zs : List Access) → (xs ++ ys) ++ zs ≡ xs ++ (ys ++ zs)
 append_one [] ys zs = refl
 append_one (x ∷ xs) ys zs = ap (λ (list : List Access). x ∷ list) (append_one xs ys zs)
 
-found_first : (x : Space) (a : Access) (q : Page) (list : List Access) → page_of_access x a ≡ Some q → filter_map (page_of_access x) (a ∷ list) ≡ q ∷ filter_map (page_of_access x) list
+found_first : (x : Space) (a : Access) (q : Page) (list : List Access) → page_of_access x a ≡ Some q
+    → filter_map (page_of_access x) (a ∷ list) ≡ q ∷ filter_map (page_of_access x) list
 found_first x a q list e = ap (λ (o : Option Page). cons_option o (filter_map (page_of_access x) list)) e
 
 -- the byte of an access that misses, behind others that don't, is of the page that the process waits for
@@ -234,7 +240,8 @@ wanted_at A s k image pid now p x front rest last address write at r e hits miss
     }
 
 -- where no access misses the process waits for none
-ready_at : (A : Inputs) (s : State) (k : Kernel) (image : List ℕ) (pid : ℕ) (now : Bool) (p : Process) (x : Space) (list : List Access) → At A s k image → IsRunning A s pid now p x
+ready_at : (A : Inputs) (s : State) (k : Kernel) (image : List ℕ) (pid : ℕ) (now : Bool) (p : Process) (x : Space) (list : List Access)
+    → At A s k image → IsRunning A s pid now p x
     → step_accesses A.images s.point.flat p x ≡ list → AllHit (kernel_answers k x.sid) list → wanted A s ≡ None
 ready_at A s k image pid now p x list at r e hits =
     let l : Lent A k x = lent A s k image pid p x at r.here r.holds in
@@ -255,7 +262,8 @@ others memory flat q c = elim (same_or_misses memory flat q c) [
   | inr h ↦ (h.3, h.4)
 ]
 
-same : {B : Type 0} (memory flat : Answers) (q : Program B) → Covers memory flat → NotMissed (run memory q) → (run memory q ≡ run flat q) × (accesses memory q ≡ accesses flat q)
+same : {B : Type 0} (memory flat : Answers) (q : Program B) → Covers memory flat → NotMissed (run memory q)
+    → (run memory q ≡ run flat q) × (accesses memory q ≡ accesses flat q)
 same memory flat q c n = elim (same_or_misses memory flat q c) [
   | inl e ↦ e
   | inr h ↦ absurd (subst NotMissed h.2 n)
@@ -270,7 +278,8 @@ record EndsMissed (memory : Answers) (list : List Access) (address : ℕ) (write
   hits : AllHit memory front
   misses : refusal memory last ≡ Some (Miss address write)
 
-missed : {B : Type 0} (memory flat : Answers) (q : Program B) (address : ℕ) (write : Bool) (after : List Access) → Covers memory flat → run memory q ≡ Err (Miss address write)
+missed : {B : Type 0} (memory flat : Answers) (q : Program B) (address : ℕ) (write : Bool) (after : List Access) → Covers memory flat
+    → run memory q ≡ Err (Miss address write)
     → EndsMissed memory (accesses flat q ++ after) address write
 missed memory flat q address write after c m =
     let ends : EndsRefused memory (accesses memory q) (Miss address write) = (keeps_order memory q).misses address write m in
@@ -296,7 +305,8 @@ stepped : (A : Inputs) (s : State) (p : Process) (x : Space) → step_accesses A
 unfolding step_accesses
 stepped A s p x = refl
 
-pub miss_wanted : (A : Inputs) (s : State) (k : Kernel) (image : List ℕ) (pid : ℕ) (now : Bool) (p : Process) (x : Space) (address : ℕ) (write : Bool) → At A s k image
+pub miss_wanted : (A : Inputs) (s : State) (k : Kernel) (image : List ℕ) (pid : ℕ) (now : Bool) (p : Process) (x : Space) (address : ℕ) (write : Bool)
+    → At A s k image
     → IsRunning A s pid now p x → run (kernel_answers k x.sid) (instruction p.regs) ≡ Err (Miss address write) → WantsPage A s k x address write
 miss_wanted A s k image pid now p x address write at r m =
     let after : List Access = accesses_after A.images s.point.flat p x (instruction_in x p.regs) in
@@ -319,7 +329,8 @@ none_after images F p x (Ok effect) h = go effect.call h
     go (Some number) h = ap (Rattle.flat_model.specs.Touched.call_accesses images F p x effect) h
 none_after images F p x (Err refused) h = refl
 
-pub hit_ready : (A : Inputs) (s : State) (k : Kernel) (image : List ℕ) (pid : ℕ) (now : Bool) (p : Process) (x : Space) → At A s k image → IsRunning A s pid now p x
+pub hit_ready : (A : Inputs) (s : State) (k : Kernel) (image : List ℕ) (pid : ℕ) (now : Bool) (p : Process) (x : Space) → At A s k image
+    → IsRunning A s pid now p x
     → IsWhole (run (kernel_answers k x.sid) (instruction p.regs)) → IsReadyFor A s p x (run (kernel_answers k x.sid) (instruction p.regs))
 hit_ready A s k image pid now p x at r w =
     let memory : Answers = kernel_answers k x.sid in
@@ -338,7 +349,8 @@ hit_ready A s k image pid now p x at r w =
 -- A call.
 
 -- the accesses of a call, whose instruction wrote nothing
-call_after : (images : List NamedImage) (F : FlatState) (p : Process) (x : Space) (effect : Effect) (call : SystemCall) → IsCallOf effect call → effect.writes ≡ []
+call_after : (images : List NamedImage) (F : FlatState) (p : Process) (x : Space) (effect : Effect) (call : SystemCall) → IsCallOf effect call
+    → effect.writes ≡ []
     → accesses_after images F p x (Ok effect) ≡ accesses (answers_of x) (reply_asked images F p x call effect)
 call_after images F p x effect call c w =
     ap (Rattle.flat_model.specs.Touched.accesses_behind images F p x effect) c.is_number ∙ ap (Rattle.flat_model.specs.Touched.call_accesses images F p x effect) c.names

@@ -81,7 +81,8 @@ moved_by A s n false o h e = record {
 fewer : (n a b : ℕ) → (n - a) - b ≡ n - (a + b)
 fewer n a b = omega arith
 
-pub moving : (us : List Entry) (A : Inputs) (g : Ground) (s : State) (k l : Kernel) (image : List ℕ) (j : Option (List ℕ)) (n : ℕ) → At A s k image → HasImages g A → g.locked ≡ []
+pub moving : (us : List Entry) (A : Inputs) (g : Ground) (s : State) (k l : Kernel) (image : List ℕ) (j : Option (List ℕ)) (n : ℕ) → At A s k image
+    → HasImages g A → g.locked ≡ []
     → AsksMoves s n → Moves us n k.place l.place → Made g us k (Some image) l j → LeadsMoving A s k image n us l j
 moving [] A g s k l image j n at f e h x m = record {
   state = s;

@@ -117,7 +117,8 @@ stays_in A s pid u i g h =
     (not_out s.place (place_entry (locked A s) (place_at s u) s.place u) pid
     (λ e. elim (entry_out (locked A s) (place_at s u) s.place u pid e) [ inl k ↦ k | inr l ↦ absurd (paging_stays u pid i l) ]) h)
 
-pub runs_on : (A : Inputs) (s : State) (pid : ℕ) (now : Bool) (u : Entry) → IsPaging u → Paged A s u → (after A s u).place.due ≡ [] → Runs A s pid now → Runs A (after A s u) pid now
+pub runs_on : (A : Inputs) (s : State) (pid : ℕ) (now : Bool) (u : Entry) → IsPaging u → Paged A s u → (after A s u).place.due ≡ [] → Runs A s pid now
+    → Runs A (after A s u) pid now
 runs_on A s pid now u i g d r = record {
   clear = d;
   on = subst (λ (m : Mark). GoesOn A (after A s u) m pid now) (sym g.same.mark) (goes_same A s (after A s u) pid now s.mark g.same.point g.same.count r.on);
@@ -127,7 +128,8 @@ runs_on A s pid now u i g d r = record {
 -- Serving.
 
 -- the page that a process waits for isn't valid, while serving asks for a unit
-splits : (A : Inputs) (g : Ground) (s : State) (pid : ℕ) (now : Bool) (before : List Page) (q : Page) → IsWaiting A g s pid now before q → is_valid (state_of s.place q) ≡ false
+splits : (A : Inputs) (g : Ground) (s : State) (pid : ℕ) (now : Bool) (before : List Page) (q : Page) → IsWaiting A g s pid now before q
+    → is_valid (state_of s.place q) ≡ false
     → Splits s.place (touched_next A s) before q
 splits A g s pid now before q w n = record { behind = w.rest; whole = w.touched; valid = w.valid; absent = n }
 
@@ -182,7 +184,8 @@ pub moving_locked : (g : Ground) (A : Inputs) (s : State) (u : Entry) → g.lock
 moving_locked g A s (entries.Hands n) h = h
 moving_locked g A s _ h = tt
 
-keeps_locked : (A : Inputs) (g : Ground) (s : State) (before : List Page) (q : Page) (u : Entry) (now : Bool) → locked A s ≡ before → (now ≡ true → g.locked ≡ before)
+keeps_locked : (A : Inputs) (g : Ground) (s : State) (before : List Page) (q : Page) (u : Entry) (now : Bool) → locked A s ≡ before
+    → (now ≡ true → g.locked ≡ before)
     → serve_unit s.place q now ≡ Some u → KeepsLocked g A s u
 keeps_locked A g s before q u true e f h = moving_locked g A s u (f refl ∙ sym e)
 keeps_locked A g s before q u false e f h = still_locked g A s u (never_moves s.place q u h)
@@ -192,7 +195,8 @@ is_there p [] rest q h = h.0.there
 is_there p (b ∷ before) rest q h = is_there p before rest q h.1
 
 -- the process still waits for it behind a unit that serves it
-pub waits_on : (A : Inputs) (g : Ground) (s : State) (k : Kernel) (image : List ℕ) (pid : ℕ) (now : Bool) (before : List Page) (q : Page) (u : Entry) → At A s k image
+pub waits_on : (A : Inputs) (g : Ground) (s : State) (k : Kernel) (image : List ℕ) (pid : ℕ) (now : Bool) (before : List Page) (q : Page) (u : Entry)
+    → At A s k image
     → IsWaiting A g s pid now before q → serve_unit s.place q now ≡ Some u → Paged A s u → IsWaiting A g (after A s u) pid now before q
 waits_on A g s k image pid now before q u at w h p =
     let n = unit_is s.place q now u h in

@@ -31,21 +31,25 @@ use Rattle.run_units.specs.Settling.{IsLeaving, LeadsLeaving}
 use Rattle.run_units.proofs.Units.{one_made, none_leads, first_leads, leads_at}
 use Rattle.run_units.proofs.Serving.{Paged, paged, runs_on, same_both}
 
-act_done : (A : Inputs) (s : State) (pid : ℕ) (b : Bool) → b ≡ true → must_refuse A s pid ≡ false → must_settle A s pid ≡ true → act_if b A s pid ≡ Some entries.Done
+act_done : (A : Inputs) (s : State) (pid : ℕ) (b : Bool) → b ≡ true → must_refuse A s pid ≡ false → must_settle A s pid ≡ true
+    → act_if b A s pid ≡ Some entries.Done
 act_done A s pid true e f h = ap (λ (x : Bool). act_by A s pid x (must_settle A s pid)) f ∙ ap (λ (x : Bool). act_by A s pid false x) h
 act_done A s pid false e f h = absurd cc
 
-acts : (A : Inputs) (s : State) (pid : ℕ) → can_step s.point.flat pid ≡ true → must_refuse A s pid ≡ false → must_settle A s pid ≡ true → act A s pid ≡ Some entries.Done
+acts : (A : Inputs) (s : State) (pid : ℕ) → can_step s.point.flat pid ≡ true → must_refuse A s pid ≡ false → must_settle A s pid ≡ true
+    → act A s pid ≡ Some entries.Done
 unfolding act
 acts A s pid c f h = act_done A s pid (can_step s.point.flat pid) c f h
 
-pub settled_next : (A : Inputs) (s : State) (pid : ℕ) (now : Bool) (sid : ℕ) → IsLeaving A s pid now sid → is_settled s.place sid ≡ false → next_unit A s ≡ Some entries.Done
+pub settled_next : (A : Inputs) (s : State) (pid : ℕ) (now : Bool) (sid : ℕ) → IsLeaving A s pid now sid → is_settled s.place sid ≡ false
+    → next_unit A s ≡ Some entries.Done
 settled_next A s pid now sid h u =
     let m : must_settle A s pid ≡ true = ap (λ (b : Bool). b && not (settled s.point.flat s.place pid)) h.loses ∙ ap not (h.own s.place ∙ u) in
     runs_next A s pid now entries.Done h.runs h.unwanted (acts A s pid (on_steps A s s.mark pid now h.runs.on) h.fits m)
 
 -- the process leaves the space yet behind the end of a transfer
-leaves_on : (A : Inputs) (s : State) (pid : ℕ) (now : Bool) (sid : ℕ) → OwnsFrames s.place → IsLeaving A s pid now sid → Paged A s entries.Done → IsLeaving A (after A s entries.Done) pid now sid
+leaves_on : (A : Inputs) (s : State) (pid : ℕ) (now : Bool) (sid : ℕ) → OwnsFrames s.place → IsLeaving A s pid now sid → Paged A s entries.Done
+    → IsLeaving A (after A s entries.Done) pid now sid
 leaves_on A s pid now sid o h p =
     let st : Steady s.place (done s.place) = done_steady s.place o in
     let t : State = after A s entries.Done in
@@ -77,7 +81,8 @@ leaves_on A s pid now sid o h p =
         ap (λ (y : Point). Rattle.run_model.specs.Act.loses_if (Rattle.flat_state.specs.Change.is_borrower y.flat.processes pid)
         (Rattle.flat_model.specs.Run.step_at A y pid).change (Rattle.flat_state.specs.Flat.process_of y.flat pid)) e.point
 
-pub settles : (n : ℕ) (A : Inputs) (g : Ground) (s : State) (k l : Kernel) (image : List ℕ) (j : Option (List ℕ)) (pid : ℕ) (now : Bool) (sid : ℕ) → At A s k image → HasImages g A
+pub settles : (n : ℕ) (A : Inputs) (g : Ground) (s : State) (k l : Kernel) (image : List ℕ) (j : Option (List ℕ)) (pid : ℕ) (now : Bool) (sid : ℕ)
+    → At A s k image → HasImages g A
     → IsLeaving A s pid now sid → EndsWhile g.from sid n k (Some image) l j → LeadsLeaving A s k image pid now sid (replicate n entries.Done) l j
 settles zero A g s k l image j pid now sid at f h e = record {
   state = s;

@@ -76,14 +76,16 @@ unwritten : (A : Inputs) (s : State) (k : Kernel) (pid : ℕ) (step : Step) → 
 unwritten A s k pid step e w =
     ap (λ (x : Step). write_by k (process_of s.point.flat pid) x.writes) e ∙ ap (write_by k (process_of s.point.flat pid)) w ∙ none_written k (process_of s.point.flat pid)
 
-wanted_is : (A : Inputs) (s : State) (k : Kernel) (image : List ℕ) (pid : ℕ) (now : Bool) (p : Process) (x : Space) (change : Change) → At A s k image → IsRunning A s pid now p x
+wanted_is : (A : Inputs) (s : State) (k : Kernel) (image : List ℕ) (pid : ℕ) (now : Bool) (p : Process) (x : Space) (change : Change) → At A s k image
+    → IsRunning A s pid now p x
     → wanted_if A.images s.point.flat change (process_of s.point.flat pid) ≡ asked (facts_of A.images) k pid change
 wanted_is A s k image pid now p x change at r =
     let keeps = at.stands.keeps in
     ap (wanted_if A.images s.point.flat change) r.here ∙ ap (wanted_in A.images s.point.flat change) r.holds
     ∙ sym (change_same A.images k s.point.flat pid p x change at.fit keeps.stands.texts keeps.numbered at.run.numbers keeps.coupled.tables r.here r.holds)
 
-taken : (A : Inputs) (s : State) (k : Kernel) (image : List ℕ) (pid : ℕ) (now : Bool) (p : Process) (x : Space) (step : Step) (found : Holdings) → At A s k image → IsRunning A s pid now p x
+taken : (A : Inputs) (s : State) (k : Kernel) (image : List ℕ) (pid : ℕ) (now : Bool) (p : Process) (x : Space) (step : Step) (found : Holdings)
+    → At A s k image → IsRunning A s pid now p x
     → step_at A s.point pid ≡ step → step.writes ≡ [] → place_all A.swap_blocks k.holdings (asked (facts_of A.images) k pid step.change) ≡ Ok found
     → taken_step A s k pid ≡ with_holdings k found
 taken A s k image pid now p x step found at r e w f =
@@ -99,7 +101,8 @@ made_is A s k image pid (entries.Sleeps q) c = ap (λ (n : ℕ). process_step A 
 made_is A s k image pid (entries.Ended q status) c = ap (λ (n : ℕ). process_step A s k n (entries.Ended q status)) c
 made_is A s k image pid _ c = absurd c
 
-by_unit : (A : Inputs) (s : State) (k l : Kernel) (image : List ℕ) (pid : ℕ) (u : Entry) → Completes pid u → l ≡ unit_step A s k image [] u → MadeAs A s k image u l (Some image)
+by_unit : (A : Inputs) (s : State) (k l : Kernel) (image : List ℕ) (pid : ℕ) (u : Entry) → Completes pid u → l ≡ unit_step A s k image [] u
+    → MadeAs A s k image u l (Some image)
 by_unit A s k l image pid (entries.Grew q pages) c e = record { read = []; given = tt; made = e; told = refl }
 by_unit A s k l image pid (entries.Call q number carry r0 r1) c e = record { read = []; given = tt; made = e; told = refl }
 by_unit A s k l image pid (entries.Sleeps q) c e = record { read = []; given = tt; made = e; told = refl }
@@ -175,7 +178,8 @@ same_writes [] k x e = refl
 same_writes (w ∷ ws) k x e =
     same_writes ws (write_in k x.sid w) x (written_spots k x (spot_in k.place x.sid w.address) w.byte e) ∙ ap (λ (y : Kernel). write_bytes y x ws) (same_write k x w e)
 
-pub ran_made : (A : Inputs) (s : State) (k l : Kernel) (image : List ℕ) (pid : ℕ) (now : Bool) (p : Process) (x : Space) (step : Step) → At A s k image → IsRunning A s pid now p x
+pub ran_made : (A : Inputs) (s : State) (k l : Kernel) (image : List ℕ) (pid : ℕ) (now : Bool) (p : Process) (x : Space) (step : Step)
+    → At A s k image → IsRunning A s pid now p x
     → step_at A s.point pid ≡ step → l ≡ ran_by (writes_in k x.sid step.writes) pid step.regs (entries.Ran pid 1) → MadeAs A s k image (entries.Ran pid 1) l (Some image)
 ran_made A s k l image pid now p x step at r e m =
     let written : written_step A s k pid ≡ writes_in k x.sid step.writes =
@@ -187,18 +191,21 @@ ran_made A s k l image pid now p x step at r e m =
 
 -- The step that comes.
 
-held : (A : Inputs) (s : State) (pid : ℕ) (p : Process) (x : Space) (r : Result Effect Refused) → process_of s.point.flat pid ≡ Some p → p.holding ≡ Holds x → instruction_in x p.regs ≡ r
+held : (A : Inputs) (s : State) (pid : ℕ) (p : Process) (x : Space) (r : Result Effect Refused) → process_of s.point.flat pid ≡ Some p
+    → p.holding ≡ Holds x → instruction_in x p.regs ≡ r
     → step_at A s.point pid ≡ step_of A.images s.point.flat p x (is_refused s.point.last pid) r
 unfolding flat_step
 held A s pid p x r here holds same =
     let refused : Bool = is_refused s.point.last pid in
     ap (step_if A.images s.point.flat refused) here ∙ ap (step_holding A.images s.point.flat p refused) holds ∙ ap (step_of A.images s.point.flat p x refused) same
 
-pub step_known : (A : Inputs) (s : State) (pid : ℕ) (now : Bool) (p : Process) (x : Space) (r : Result Effect Refused) → IsRunning A s pid now p x → IsReadyFor A s p x r
+pub step_known : (A : Inputs) (s : State) (pid : ℕ) (now : Bool) (p : Process) (x : Space) (r : Result Effect Refused) → IsRunning A s pid now p x
+    → IsReadyFor A s p x r
     → step_at A s.point pid ≡ step_of A.images s.point.flat p x (is_refused s.point.last pid) r
 step_known A s pid now p x r i h = held A s pid p x r i.here i.holds h.same
 
-pub call_known : (A : Inputs) (s : State) (pid : ℕ) (now : Bool) (p : Process) (x : Space) (effect : Effect) (call : SystemCall) (r : Result Reply Refused) → IsRunning A s pid now p x
+pub call_known : (A : Inputs) (s : State) (pid : ℕ) (now : Bool) (p : Process) (x : Space) (effect : Effect) (call : SystemCall) (r : Result Reply Refused)
+    → IsRunning A s pid now p x
     → IsCallOf effect call → IsCalledFor A s p x call effect r
     → step_at A s.point pid ≡ replied_step A.images s.point.flat p call effect (refused_reply (is_refused s.point.last pid) (or_fault r))
 call_known A s pid now p x effect call r i c h =
@@ -293,7 +300,8 @@ headers_agree A g h = go g.from.files h
     go None x = absurd x
     go (Some files) x = loaded_facts g.from.images files A.images x
 
-pub growth_counts : (A : Inputs) (s : State) (k : Kernel) (image : List ℕ) (pid : ℕ) (now : Bool) (p : Process) (x : Space) → At A s k image → IsRunning A s pid now p x
+pub growth_counts : (A : Inputs) (s : State) (k : Kernel) (image : List ℕ) (pid : ℕ) (now : Bool) (p : Process) (x : Space) → At A s k image
+    → IsRunning A s pid now p x
     → (data_count k.place x.sid ≡ data_pages_of x) × (stack_count k.place x.sid ≡ stack_pages_of x)
 growth_counts A s k image pid now p x at r =
     let own = own_space s.point.flat pid p x at.run.numbers r.here r.holds in

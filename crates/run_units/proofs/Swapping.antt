@@ -65,7 +65,8 @@ is_below a b l = grind (arith, nat_tests)
 not_below : (a b : ℕ) → b ≡ a → nat_lt a b ≡ false
 not_below a b e = grind (arith, nat_tests)
 
-pub line_comes : (A : Inputs) (s : State) → s.place.due ≡ [] → under A s s.mark ≡ None → s.count < A.limit → s.lines < length A.lines → next_unit A s ≡ Some (entries.Event (s.lines + 1))
+pub line_comes : (A : Inputs) (s : State) → s.place.due ≡ [] → under A s s.mark ≡ None → s.count < A.limit → s.lines < length A.lines
+    → next_unit A s ≡ Some (entries.Event (s.lines + 1))
 line_comes A s d o c l =
     over_next A s (entries.Event (s.lines + 1)) d o
     (ap (λ (b : Bool). when b (line_or_turn s (nat_lt s.lines (length A.lines)))) (is_below s.count A.limit c) ∙ ap (line_or_turn s) (is_below s.lines (length A.lines) l))
@@ -82,7 +83,8 @@ pub out_made : (A : Inputs) (s : State) (k l : Kernel) (image : List ℕ) (j : O
     → l ≡ out_step k pid → WritesU k pid (Some image) j → MadeAs A s k image (entries.SwapOut pid) l j
 out_made A s k l image j pid r m w = record { read = []; given = r; made = m; told = w }
 
-pub in_made : (A : Inputs) (s : State) (k l : Kernel) (image : List ℕ) (pid : ℕ) → IsIn k l pid (Some image) → MadeAs A s k image (entries.SwapIn pid) l (Some image)
+pub in_made : (A : Inputs) (s : State) (k l : Kernel) (image : List ℕ) (pid : ℕ) → IsIn k l pid (Some image)
+    → MadeAs A s k image (entries.SwapIn pid) l (Some image)
 in_made A s k l image pid h = record { read = []; given = tt; made = h.step ∙ ap (in_step k pid) h.stored; told = refl }
 
 pub note_made : (A : Inputs) (s : State) (k l : Kernel) (image : List ℕ) (u : Entry) → IsNote u → l ≡ note_step k u → MadeAs A s k image u l (Some image)
@@ -101,7 +103,8 @@ IsPut entries.Done = Unit {0}
 IsPut (entries.Put q n) = Unit {0}
 IsPut _ = ⊥
 
-put_or_last : (p : Placement) (pid sid : ℕ) (g : Ground) (k l : Kernel) (i : Option (List ℕ)) → MadeBy g (put_out_unit p pid sid) k i l → IsPut (put_out_unit p pid sid)
+put_or_last : (p : Placement) (pid sid : ℕ) (g : Ground) (k l : Kernel) (i : Option (List ℕ)) → MadeBy g (put_out_unit p pid sid) k i l
+    → IsPut (put_out_unit p pid sid)
 put_or_last p pid sid g k l i h = go (is_settled p sid) h
   where
     unit : (q : Page) (b : Bool) → IsPut (put_unit_by p q b)
@@ -141,7 +144,8 @@ put_by A s (entries.Put q n) pid sid o h i = record {
 }
 put_by A s _ pid sid o h i = absurd i
 
-pub putting : (us : List Entry) (A : Inputs) (g : Ground) (s : State) (k l : Kernel) (image : List ℕ) (j : Option (List ℕ)) (pid sid at : ℕ) → At A s k image → HasImages g A
+pub putting : (us : List Entry) (A : Inputs) (g : Ground) (s : State) (k l : Kernel) (image : List ℕ) (j : Option (List ℕ)) (pid sid at : ℕ)
+    → At A s k image → HasImages g A
     → PutsProcess s pid sid → PutsOut us at k.place pid sid l.place → Made g us k (Some image) l j → LeadsPutting A s k image pid sid us l j
 putting [] A g s k l image j pid sid at here f h x m = record {
   state = s;

@@ -94,7 +94,8 @@ test_valid k q address h = go (state_of k.place q) refl h
     go (Going f) e n = absurd n
     go OnSwap e n = absurd n
 
-read_absent : (k : Kernel) (q : Page) (at address : ℕ) (refused : Refused) → read_refusal (read_page k q at) address ≡ Some refused → is_valid (state_of k.place q) ≡ false
+read_absent : (k : Kernel) (q : Page) (at address : ℕ) (refused : Refused) → read_refusal (read_page k q at) address ≡ Some refused
+    → is_valid (state_of k.place q) ≡ false
 read_absent k q at address refused h = go (state_of k.place q) refl h
   where
     go : (s : PageState) → state_of k.place q ≡ s → read_refusal (read_by_state k s at) address ≡ Some refused → is_valid (state_of k.place q) ≡ false
@@ -105,7 +106,8 @@ read_absent k q at address refused h = go (state_of k.place q) refl h
     go (Going f) e n = ap is_valid e
     go OnSwap e n = ap is_valid e
 
-test_absent : (k : Kernel) (q : Page) (address : ℕ) (refused : Refused) → test_refusal (may_write_by (state_of k.place q)) address ≡ Some refused → is_valid (state_of k.place q) ≡ false
+test_absent : (k : Kernel) (q : Page) (address : ℕ) (refused : Refused) → test_refusal (may_write_by (state_of k.place q)) address ≡ Some refused
+    → is_valid (state_of k.place q) ≡ false
 test_absent k q address refused h = go (state_of k.place q) refl h
   where
     go : (s : PageState) → state_of k.place q ≡ s → test_refusal (may_write_by s) address ≡ Some refused → is_valid (state_of k.place q) ≡ false
@@ -117,7 +119,8 @@ test_absent k q address refused h = go (state_of k.place q) refl h
     go OnSwap e n = ap is_valid e
 
 -- by the spot of the address, of a space whose image the machine has too
-hit_valid : (k : Kernel) (x : Space) (image : image_of k.place x.sid ≡ x.image) (spot : Spot) (address : ℕ) (q : Page) → IsHit (read_refusal (read_spot k x.sid spot) address)
+hit_valid : (k : Kernel) (x : Space) (image : image_of k.place x.sid ≡ x.image) (spot : Spot) (address : ℕ) (q : Page)
+    → IsHit (read_refusal (read_spot k x.sid spot) address)
     → page_read x spot ≡ Some q → is_valid (state_of k.place q) ≡ true
 hit_valid k x e (spots.Text i) address q h p =
     let same : pages.Text (image_of k.place x.sid) (i / 1024) ≡ q = ap (λ (n : ℕ). pages.Text n (i / 1024)) e ∙ (let z : pages.Text x.image (i / 1024) ≡ q = cc in z) in
@@ -129,7 +132,8 @@ hit_valid k x e (spots.Stack i) address q h p =
 hit_valid k x e spots.Below address q h p = absurd cc
 hit_valid k x e spots.Outside address q h p = absurd cc
 
-tested_valid : (k : Kernel) (x : Space) (spot : Spot) (address : ℕ) (q : Page) → IsHit (test_refusal (may_write_spot k.place x.sid spot) address) → page_tested x spot ≡ Some q
+tested_valid : (k : Kernel) (x : Space) (spot : Spot) (address : ℕ) (q : Page) → IsHit (test_refusal (may_write_spot k.place x.sid spot) address)
+    → page_tested x spot ≡ Some q
     → is_valid (state_of k.place q) ≡ true
 tested_valid k x (spots.Text i) address q h p = absurd cc
 tested_valid k x (spots.Data i) address q h p =
@@ -192,13 +196,15 @@ pub record SameSpots (k : Kernel) (x : Space) : Type 0 where
   pub image : image_of k.place x.sid ≡ x.image
   pub spots : (a : ℕ) → spot_in k.place x.sid a ≡ address_in x a
 
-access_valid : (k : Kernel) (x : Space) (e : SameSpots k x) (a : Access) (q : Page) → IsHit (refusal (kernel_answers k x.sid) a) → page_of_access x a ≡ Some q → is_valid (state_of k.place q) ≡ true
+access_valid : (k : Kernel) (x : Space) (e : SameSpots k x) (a : Access) (q : Page) → IsHit (refusal (kernel_answers k x.sid) a)
+    → page_of_access x a ≡ Some q → is_valid (state_of k.place q) ≡ true
 access_valid k x e (ReadOf address) q h p =
     hit_valid k x e.image (address_in x address) address q (subst (λ (spot : Spot). IsHit (read_refusal (read_spot k x.sid spot) address)) (e.spots address) h) p
 access_valid k x e (TestOf address) q h p =
     tested_valid k x (address_in x address) address q (subst (λ (spot : Spot). IsHit (test_refusal (may_write_spot k.place x.sid spot) address)) (e.spots address) h) p
 
-pub pages_valid : (k : Kernel) (x : Space) (e : SameSpots k x) (list : List Access) → AllHit (kernel_answers k x.sid) list → EachPage (λ q. is_valid (state_of k.place q) ≡ true) (filter_map (page_of_access x) list)
+pub pages_valid : (k : Kernel) (x : Space) (e : SameSpots k x) (list : List Access) → AllHit (kernel_answers k x.sid) list
+    → EachPage (λ q. is_valid (state_of k.place q) ≡ true) (filter_map (page_of_access x) list)
 pages_valid k x e [] h = tt
 pages_valid k x e (a ∷ list) h = go (page_of_access x a) refl (pages_valid k x e list h.1)
   where
@@ -245,7 +251,8 @@ other_page p q page v n = go (same_page q page) refl
     go false e = refl
     go true e = let k : true ≡ false = sym v ∙ ap (λ (r : Page). is_valid (state_of p r)) (same_page_is q page e) ∙ n in absurd cc
 
-pub parts : (p : Placement) (before rest : List Page) (page : Page) → AllValid p before → is_valid (state_of p page) ≡ false → Parts p (distinct (before ++ page ∷ rest)) page
+pub parts : (p : Placement) (before rest : List Page) (page : Page) → AllValid p before → is_valid (state_of p page) ≡ false
+    → Parts p (distinct (before ++ page ∷ rest)) page
 unfolding distinct
 parts p [] rest page v n = record { before = []; rest = _; whole = refl; valid = tt }
 parts p (q ∷ before) rest page v n =

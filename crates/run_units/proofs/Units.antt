@@ -41,7 +41,8 @@ one_made A g s k l image j _ f p m i = absurd m
 pub none_leads : (A : Inputs) (s : State) (k : Kernel) (image : List ℕ) → Leads A s k image [] s k (Some image)
 none_leads A s k image = record { behind = image; told = refl; makes = (refl, refl, refl) }
 
-pub first_leads : (A : Inputs) (s t : State) (k next l : Kernel) (image : List ℕ) (i j : Option (List ℕ)) (u : Entry) (us : List Entry) → next_unit A s ≡ Some u → (m : MadeAs A s k image u next i)
+pub first_leads : (A : Inputs) (s t : State) (k next l : Kernel) (image : List ℕ) (i j : Option (List ℕ)) (u : Entry) (us : List Entry)
+    → next_unit A s ≡ Some u → (m : MadeAs A s k image u next i)
     → Leads A (after A s u) next (unit_image k image u) us t l j → Leads A s k image (u ∷ us) t l j
 first_leads A s t k next l image i j u us n m r = record {
   behind = r.behind;
@@ -49,7 +50,8 @@ first_leads A s t k next l image i j u us n m r = record {
   makes = (n, (m.read, m.given, subst (λ (x : Kernel). Makes A (after A s u) x (unit_image k image u) us t l r.behind) m.made r.makes));
 }
 
-makes_append : (A : Inputs) (s t r : State) (k l m : Kernel) (a b c : List ℕ) (us vs : List Entry) → Makes A s k a us t l b → Makes A t l b vs r m c → Makes A s k a (us ++ vs) r m c
+makes_append : (A : Inputs) (s t r : State) (k l m : Kernel) (a b c : List ℕ) (us vs : List Entry) → Makes A s k a us t l b → Makes A t l b vs r m c
+    → Makes A s k a (us ++ vs) r m c
 makes_append A s t r k l m a b c [] vs x y =
     subst (λ (z : State). Makes A z k a vs r m c) (sym x.0)
     (subst (λ (z : Kernel). Makes A t z a vs r m c) (sym x.1) (subst (λ (z : List ℕ). Makes A t l z vs r m c) (sym x.2) y))
@@ -62,7 +64,8 @@ both_lead A s t r k l m image i j us vs a f =
     let b = f a.behind a.told in
     record { behind = b.behind; told = b.told; makes = makes_append A s t r k l m image a.behind b.behind us vs a.makes b.makes }
 
-pub leads_at : (A : Inputs) (s t : State) (k l : Kernel) (image behind : List ℕ) (us : List Entry) → At A s k image → Leads A s k image us t l (Some behind) → At A t l behind
+pub leads_at : (A : Inputs) (s t : State) (k l : Kernel) (image behind : List ℕ) (us : List Entry) → At A s k image
+    → Leads A s k image us t l (Some behind) → At A t l behind
 leads_at A s t k l image behind us at a =
     let same : a.behind ≡ behind = same_Some a.behind behind (sym a.told) in
     record {

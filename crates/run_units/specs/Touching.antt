@@ -77,7 +77,9 @@ NoMissIsReady =
 
 -- an instruction that makes a call writes nothing itself
 abbrev pub CallsWriteNothing : Type 0
-CallsWriteNothing = (memory : Answers) (regs : Regs) (effect : Effect) (number : ℤ) → run memory (instruction regs) ≡ Ok effect → effect.call ≡ Some number → effect.writes ≡ []
+CallsWriteNothing =
+    (memory : Answers) (regs : Regs) (effect : Effect) (number : ℤ) → run memory (instruction regs) ≡ Ok effect → effect.call ≡ Some number
+    → effect.writes ≡ []
 
 -- what a call reads misses no byte
 abbrev pub IsAnswered : Result Reply Refused → Type 0

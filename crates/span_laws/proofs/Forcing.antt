@@ -144,7 +144,8 @@ writing b (e ∷ es) p r locked fr w h = go p.transfers refl w h.1 h.2
         none = subst (λ (q : Placement). length q.transfers ≡ 0) n.1 (ap length (done_rest p t ts k ∙ v.2))
 
 -- with nothing in flight the hands move till a frame is free, or a write begins
-moving : (b : Bool) (us : List Entry) (p r : Placement) (locked : List Page) → OwnsFrames p → p.transfers ≡ [] → Forces us p locked r → Short b us r (adds b (entries.Hands 1) + 1) 0 (length us)
+moving : (b : Bool) (us : List Entry) (p r : Placement) (locked : List Page) → OwnsFrames p → p.transfers ≡ [] → Forces us p locked r
+    → Short b us r (adds b (entries.Hands 1) + 1) 0 (length us)
 moving b [] p r locked o t h = record {
   few = subst (λ (x : Placement). 0 + length x.transfers ≤ adds b (entries.Hands 1) + 1) h (omega (arith, ap length t));
   rest = λ l. subst (λ (x : Placement). length x.transfers ≤ 0) h (omega (arith, ap length t));
@@ -179,7 +180,8 @@ moving b (e ∷ es) p r locked o t h = subst (λ (x : Entry). Short b (x ∷ es)
     }
 
 -- how many entries forcing adds
-pub forced_short : (b : Bool) (us : List Entry) (p r : Placement) (locked : List Page) → OwnsFrames p → Forces us p locked r → Short b us r (length p.transfers + 2) (length p.transfers) (length us)
+pub forced_short : (b : Bool) (us : List Entry) (p r : Placement) (locked : List Page) → OwnsFrames p → Forces us p locked r
+    → Short b us r (length p.transfers + 2) (length p.transfers) (length us)
 forced_short b [] p r locked o h = record {
   few = subst (λ (x : Placement). 0 + length x.transfers ≤ length p.transfers + 2) h (omega arith);
   rest = λ l. subst (λ (x : Placement). length x.transfers ≤ length p.transfers) h (omega arith);
@@ -208,7 +210,8 @@ forced_short b (e ∷ es) p r locked o h = go p.transfers refl h.1 h.2 (λ f. fo
 far_some : (p : Placement) (locked : List Page) → p.free ≡ [] → p.transfers ≡ [] → 2 ≤ far p locked
 far_some p locked e t = let k : far p locked ≡ 2 + reach p locked (length p.holds) (length p.holds / 4) p.back = ap (far_by p locked) e ∙ ap (far_transfers p locked) t in omega arith
 
-moving_moves : (us : List Entry) (p r : Placement) (locked : List Page) → OwnsFrames p → HandsStand p → HasRoom p locked → p.transfers ≡ [] → p.free ≡ [] → Forces us p locked r → moves_of us + 1 ≤ far p locked
+moving_moves : (us : List Entry) (p r : Placement) (locked : List Page) → OwnsFrames p → HandsStand p → HasRoom p locked → p.transfers ≡ []
+    → p.free ≡ [] → Forces us p locked r → moves_of us + 1 ≤ far p locked
 moving_moves [] p r locked o s m t fr h = omega (arith, far_some p locked fr t)
 moving_moves (e ∷ es) p r locked o s m t fr h = subst (λ (x : Entry). moves_of (x ∷ es) + 1 ≤ far p locked) (sym (h.1 ∙ ap force_entry t))
     (by (moved p locked o fr t) (subst (λ (q : Placement). Forces es q locked r) move h.2)
@@ -229,7 +232,8 @@ moving_moves (e ∷ es) p r locked o s m t fr h = subst (λ (x : Entry). moves_o
     by (Writing z w) f more = let k : Short true es r 1 0 0 = writing true es (hand_move p locked) r locked z w f in let a = k.moves in omega (arith, two)
     by (Idles z y) f more = let k = more z y f in omega (arith, falls)
 
-pub forced_moves : (us : List Entry) (p r : Placement) (locked : List Page) → OwnsFrames p → HandsStand p → HasRoom p locked → Forces us p locked r → moves_of us ≤ length p.holds
+pub forced_moves : (us : List Entry) (p r : Placement) (locked : List Page) → OwnsFrames p → HandsStand p → HasRoom p locked → Forces us p locked r
+    → moves_of us ≤ length p.holds
 forced_moves [] p r locked o s m h = omega arith
 forced_moves (e ∷ es) p r locked o s m h = go p.transfers refl h.1 (forced_moves es (force p locked) r locked (force_owner p locked o) (force_stands p locked o s) (force_room p locked o m) h.2)
   where

@@ -35,7 +35,8 @@ pub record Served (b : Bool) (us : List Entry) (r : Placement) (q : Page) (most 
   pub moves : moves_of us ≤ hands
 
 -- the end of a list of units
-none_served : (b : Bool) (p r : Placement) (q : Page) (most down flights takers hands : ℕ) → p ≡ r → length p.transfers ≤ most → (is_valid (state_of p q) ≡ true → length p.transfers + down ≤ flights)
+none_served : (b : Bool) (p r : Placement) (q : Page) (most down flights takers hands : ℕ) → p ≡ r → length p.transfers ≤ most
+    → (is_valid (state_of p q) ≡ true → length p.transfers + down ≤ flights)
     → Served b [] r q most down flights takers hands
 none_served b p r q most down flights takers hands e l k = record {
   few = subst (λ (x : Placement). 0 + length x.transfers ≤ most) e (omega (arith, l));
@@ -45,7 +46,8 @@ none_served b p r q most down flights takers hands e l k = record {
 }
 
 -- one unit that is no move of the hands, and then others
-more_served : (b : Bool) (u e : Entry) (es : List Entry) (r : Placement) (q : Page) (most down flights takers hands : ℕ) → e ≡ u → is_hands u ≡ false → moves u ≡ 0
+more_served : (b : Bool) (u e : Entry) (es : List Entry) (r : Placement) (q : Page) (most down flights takers hands : ℕ) → e ≡ u → is_hands u ≡ false
+    → moves u ≡ 0
     → Served false es r q most down flights takers hands → Served b (e ∷ es) r q (1 + most) down flights (takes u + takers) hands
 more_served b u e es r q most down flights takers hands i n z s = subst (λ (x : Entry). Served b (x ∷ es) r q (1 + most) down flights (takes u + takers) hands) (sym i) (record {
   few = let a = adds_one b u n in let c = ap (λ (x : Bool). added x es) n in let d = s.few in omega arith;
@@ -55,7 +57,8 @@ more_served b u e es r q most down flights takers hands i n z s = subst (λ (x :
 })
 
 -- looser numbers
-looser : (b : Bool) (us : List Entry) (r : Placement) (q : Page) (most down flights takers hands most2 down2 flights2 takers2 hands2 : ℕ) → Served b us r q most down flights takers hands
+looser : (b : Bool) (us : List Entry) (r : Placement) (q : Page) (most down flights takers hands most2 down2 flights2 takers2 hands2 : ℕ)
+    → Served b us r q most down flights takers hands
     → most ≤ most2 → flights + down2 ≤ flights2 + down → takers ≤ takers2 → hands ≤ hands2 → Served b us r q most2 down2 flights2 takers2 hands2
 looser b us r q most down flights takers hands most2 down2 flights2 takers2 hands2 s l m n o = record {
   few = omega (arith, s.few);
@@ -65,20 +68,24 @@ looser b us r q most down flights takers hands most2 down2 flights2 takers2 hand
 }
 
 -- what the head of a list of units is
-unit_at : (p : Placement) (q : Page) (now : Bool) (e : Entry) (s : PageState) → state_of p q ≡ s → serve_unit p q now ≡ Some e → (is_valid s ≡ false) × (e ≡ serve_entry_by p q s)
+unit_at : (p : Placement) (q : Page) (now : Bool) (e : Entry) (s : PageState) → state_of p q ≡ s → serve_unit p q now ≡ Some e
+    → (is_valid s ≡ false) × (e ≡ serve_entry_by p q s)
 unit_at p q now e s k h = let a = unit_is p q now e h in (ap is_valid (sym k) ∙ a.0, a.1 ∙ ap (serve_entry_by p q) k)
 
-step_at : (p : Placement) (locked : List Page) (q : Page) (now : Bool) (es : List Entry) (r : Placement) (s : PageState) → state_of p q ≡ s → Serves es (serve_step p locked q) locked q now r
+step_at : (p : Placement) (locked : List Page) (q : Page) (now : Bool) (es : List Entry) (r : Placement) (s : PageState) → state_of p q ≡ s
+    → Serves es (serve_step p locked q) locked q now r
     → Serves es (serve_by p locked q s) locked q now r
 step_at p locked q now es r s k h = subst (λ (x : PageState). Serves es (serve_by p locked q x) locked q now r) k h
 
 -- A page that is valid, or still in its frame.
 
-valid_none : (b : Bool) (us : List Entry) (p r : Placement) (locked : List Page) (q : Page) (now : Bool) → is_valid (state_of p q) ≡ true → Serves us p locked q now r → Served b us r q (length p.transfers) 0 (length p.transfers) 0 0
+valid_none : (b : Bool) (us : List Entry) (p r : Placement) (locked : List Page) (q : Page) (now : Bool) → is_valid (state_of p q) ≡ true
+    → Serves us p locked q now r → Served b us r q (length p.transfers) 0 (length p.transfers) 0 0
 valid_none b [] p r locked q now v h = none_served b p r q (length p.transfers) 0 (length p.transfers) 0 0 h (omega arith) (λ k. omega arith)
 valid_none b (e ∷ es) p r locked q now v h = absurd (let a = unit_is p q now e h.0 in let k : true ≡ false = sym v ∙ a.0 in cc)
 
-landed_served : (b : Bool) (us : List Entry) (p r : Placement) (locked : List Page) (q : Page) (now : Bool) → IsThere p q → Landed (state_of p q) → Serves us p locked q now r
+landed_served : (b : Bool) (us : List Entry) (p r : Placement) (locked : List Page) (q : Page) (now : Bool) → IsThere p q → Landed (state_of p q)
+    → Serves us p locked q now r
     → Served b us r q (length p.transfers + 1) 0 (length p.transfers) 0 0
 landed_served b [] p r locked q now there l h = none_served b p r q (length p.transfers + 1) 0 (length p.transfers) 0 0 h (omega arith) (λ k. omega arith)
 landed_served b (e ∷ es) p r locked q now there l h = go (state_of p q) refl l
@@ -125,7 +132,8 @@ flying_in p q o e t = go (state_of p q) refl e
     go OnSwap k x = absurd cc
 
 -- the unit for a page in flight is `Done`
-flying_unit : (p : Placement) (locked : List Page) (q : Page) (now : Bool) (e : Entry) → is_flying (state_of p q) ≡ true → serve_unit p q now ≡ Some e → (e ≡ entries.Done) × (serve_step p locked q ≡ done p)
+flying_unit : (p : Placement) (locked : List Page) (q : Page) (now : Bool) (e : Entry) → is_flying (state_of p q) ≡ true → serve_unit p q now ≡ Some e
+    → (e ≡ entries.Done) × (serve_step p locked q ≡ done p)
 flying_unit p locked q now e n h = let a = unit_is p q now e h in go (state_of p q) n a.1
   where
     go : (s : PageState) → is_flying s ≡ true → e ≡ serve_entry_by p q s → (e ≡ entries.Done) × (serve_by p locked q s ≡ done p)
@@ -153,7 +161,8 @@ done_lands p q there = go p.transfers
 done_there : (p : Placement) (q : Page) → OwnsFrames p → IsThere p q → IsThere (done p) q
 done_there p q o there = let s : Steady p (done p) = done_steady p o in let a = s.sizes q in omega arith
 
-flying_served : (b : Bool) (us : List Entry) (p r : Placement) (locked : List Page) (q : Page) (now : Bool) → OwnsFrames p → IsThere p q → is_flying (state_of p q) ≡ true → Serves us p locked q now r
+flying_served : (b : Bool) (us : List Entry) (p r : Placement) (locked : List Page) (q : Page) (now : Bool) → OwnsFrames p → IsThere p q
+    → is_flying (state_of p q) ≡ true → Serves us p locked q now r
     → Served b us r q (length p.transfers + 1) 1 (length p.transfers) 0 0
 flying_served b [] p r locked q now o there n h = none_served b p r q (length p.transfers + 1) 1 (length p.transfers) 0 0 h (omega arith) (λ v. absurd (flying_not_valid (state_of p q) n v))
 flying_served b (e ∷ es) p r locked q now o there n h =
@@ -199,7 +208,8 @@ pub data Fed (p : Placement) (locked : List Page) (q : Page) (e : Entry) : Type 
   Waited : e ≡ entries.Done → serve_step p locked q ≡ done p → is_full p ≡ true → Fed p locked q e
   Read : e ≡ read_entry p q → serve_step p locked q ≡ read_step p q → Fed p locked q e
 
-fed : (p : Placement) (locked : List Page) (q : Page) (now : Bool) (e : Entry) (f : ℕ) (fs : List ℕ) → frame_of (state_of p q) ≡ None → p.free ≡ f ∷ fs → serve_unit p q now ≡ Some e → Fed p locked q e
+fed : (p : Placement) (locked : List Page) (q : Page) (now : Bool) (e : Entry) (f : ℕ) (fs : List ℕ) → frame_of (state_of p q) ≡ None
+    → p.free ≡ f ∷ fs → serve_unit p q now ≡ Some e → Fed p locked q e
 fed p locked q now e f fs n fr h = let a = unit_is p q now e h in go (state_of p q) refl n a.1
   where
     read : (full : Bool) → is_full p ≡ full → e ≡ read_entry_if p q full → serve_step p locked q ≡ read_if p q full → Fed p locked q e
@@ -224,7 +234,8 @@ first_of : (xs : List ℕ) → 0 < length xs → (f : ℕ) × (fs : List ℕ) ×
 first_of [] l = absurd (omega arith)
 first_of (x ∷ xs) l = (x, xs, refl)
 
-fed_served : (b : Bool) (us : List Entry) (p r : Placement) (locked : List Page) (q : Page) (now : Bool) → OwnsFrames p → IsThere p q → frame_of (state_of p q) ≡ None → 0 < length p.free → Serves us p locked q now r
+fed_served : (b : Bool) (us : List Entry) (p r : Placement) (locked : List Page) (q : Page) (now : Bool) → OwnsFrames p → IsThere p q
+    → frame_of (state_of p q) ≡ None → 0 < length p.free → Serves us p locked q now r
     → Served b us r q (length p.transfers + 3) 0 (length p.transfers) 1 0
 fed_served b [] p r locked q now o there n l h = none_served b p r q (length p.transfers + 3) 0 (length p.transfers) 1 0 h (omega arith) (λ v. absurd (frameless_not_valid (state_of p q) n v))
 fed_served b (e ∷ es) p r locked q now o there n l h = let x = first_of p.free l in go (fed p locked q now e x.0 x.1 n x.2 h.0) (λ s. fed_served false es (done p) r locked q now (done_owner p o) (done_there p q o there) still free s)
@@ -273,7 +284,8 @@ pub record Split (us : List Entry) (p r : Placement) (locked : List Page) (q : P
   pub frameless : frame_of (state_of middle q) ≡ None
   pub then : ((behind ≡ []) × (middle ≡ r)) ⊎ ((0 < length middle.free) × Serves behind middle locked q now r)
 
-forced_unit : (p : Placement) (locked : List Page) (q : Page) (now : Bool) (e : Entry) → frame_of (state_of p q) ≡ None → p.free ≡ [] → serve_unit p q now ≡ Some e → (e ≡ force_entry p.transfers) × (serve_step p locked q ≡ force p locked)
+forced_unit : (p : Placement) (locked : List Page) (q : Page) (now : Bool) (e : Entry) → frame_of (state_of p q) ≡ None → p.free ≡ []
+    → serve_unit p q now ≡ Some e → (e ≡ force_entry p.transfers) × (serve_step p locked q ≡ force p locked)
 forced_unit p locked q now e n fr h = let a = unit_is p q now e h in go (state_of p q) refl n a.1
   where
     go : (s : PageState) → state_of p q ≡ s → frame_of s ≡ None → e ≡ serve_entry_by p q s → (e ≡ force_entry p.transfers) × (serve_step p locked q ≡ force p locked)
@@ -290,7 +302,8 @@ forced_unit p locked q now e n fr h = let a = unit_is p q now e h in go (state_o
     go (Coming g) k z i = Rattle.page_laws.proofs.Lists.Local.none_some g (sym z)
     go (Going g) k z i = Rattle.page_laws.proofs.Lists.Local.none_some g (sym z)
 
-split : (us : List Entry) (p r : Placement) (locked : List Page) (q : Page) (now : Bool) → OwnsFrames p → IsThere p q → frame_of (state_of p q) ≡ None → Serves us p locked q now r → Split us p r locked q now
+split : (us : List Entry) (p r : Placement) (locked : List Page) (q : Page) (now : Bool) → OwnsFrames p → IsThere p q → frame_of (state_of p q) ≡ None
+    → Serves us p locked q now r → Split us p r locked q now
 split [] p r locked q now o there n h = record { before = []; behind = []; middle = p; whole = refl; forces = refl; owner = o; there = there; frameless = n; then = inl (refl, h) }
 split (e ∷ es) p r locked q now o there n h = go p.free refl (λ s. split es (force p locked) r locked q now (force_owner p locked o) forced_there forced_none s)
   where
@@ -318,7 +331,8 @@ no_takings (e ∷ es) a m locked h = subst (λ (x : Entry). takings (x ∷ es) �
     go [] z = omega (arith, z)
     go (t ∷ ts) z = omega (arith, z)
 
-frameless_served : (b : Bool) (us : List Entry) (p r : Placement) (locked : List Page) (q : Page) (now : Bool) → OwnsFrames p → IsThere p q → frame_of (state_of p q) ≡ None → Serves us p locked q now r
+frameless_served : (b : Bool) (us : List Entry) (p r : Placement) (locked : List Page) (q : Page) (now : Bool) → OwnsFrames p → IsThere p q
+    → frame_of (state_of p q) ≡ None → Serves us p locked q now r
     → (hands : ℕ) → ((xs ys : List Entry) (m : Placement) → us ≡ xs ++ ys → Forces xs p locked m → moves_of xs ≤ hands) → Served b us r q (length p.transfers + 5) 0 (length p.transfers) 1 hands
 frameless_served b us p r locked q now o there n h hands bound = by (split us p r locked q now o there n h)
   where
@@ -350,7 +364,8 @@ frameless_served b us p r locked q now o there n h hands bound = by (split us p 
     ])
 
 -- Serving a page, whatever its state.
-served_by : (b : Bool) (us : List Entry) (p r : Placement) (locked : List Page) (q : Page) (now : Bool) → OwnsFrames p → IsThere p q → Serves us p locked q now r
+served_by : (b : Bool) (us : List Entry) (p r : Placement) (locked : List Page) (q : Page) (now : Bool) → OwnsFrames p → IsThere p q
+    → Serves us p locked q now r
     → (hands : ℕ) → ((xs ys : List Entry) (m : Placement) → us ≡ xs ++ ys → Forces xs p locked m → moves_of xs ≤ hands) → Served b us r q (length p.transfers + 5) 0 (length p.transfers) 1 hands
 served_by b us p r locked q now o there h hands bound = go (state_of p q) refl
   where
@@ -370,13 +385,15 @@ served_by b us p r locked q now o there h hands bound = go (state_of p q) refl
     go Unfilled k = frameless_served b us p r locked q now o there (ap frame_of k) h hands bound
     go OnSwap k = frameless_served b us p r locked q now o there (ap frame_of k) h hands bound
 
-pub served_short : (b : Bool) (us : List Entry) (p r : Placement) (locked : List Page) (q : Page) (now : Bool) → OwnsFrames p → IsThere p q → Serves us p locked q now r
+pub served_short : (b : Bool) (us : List Entry) (p r : Placement) (locked : List Page) (q : Page) (now : Bool) → OwnsFrames p → IsThere p q
+    → Serves us p locked q now r
     → Served b us r q (length p.transfers + 5) 0 (length p.transfers) 1 (length us)
 served_short b us p r locked q now o there h = served_by b us p r locked q now o there h (length us) (λ xs ys m e f.
     let k : Short b xs m (length p.transfers + 2) (length p.transfers) (length xs) = forced_short b xs p m locked o f in
     let a = k.moves in let c = ap length e in let d = length-append xs ys in omega arith)
 
-pub served_moves : (us : List Entry) (p r : Placement) (locked : List Page) (q : Page) (now : Bool) → OwnsFrames p → HandsStand p → HasRoom p locked → IsThere p q → Serves us p locked q now r → moves_of us ≤ length p.holds
+pub served_moves : (us : List Entry) (p r : Placement) (locked : List Page) (q : Page) (now : Bool) → OwnsFrames p → HandsStand p → HasRoom p locked
+    → IsThere p q → Serves us p locked q now r → moves_of us ≤ length p.holds
 served_moves us p r locked q now o s m there h =
     let k : Served false us r q (length p.transfers + 5) 0 (length p.transfers) 1 (length p.holds) = served_by false us p r locked q now o there h (length p.holds) (λ xs ys n e f. forced_moves xs p n locked o s m f) in
     k.moves

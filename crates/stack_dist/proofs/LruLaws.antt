@@ -314,7 +314,8 @@ total-take-push (suc n) (x ∷ xs) = ap (λ t. x + t) (total-take-push n xs)
 pub ltb_suc : (m n : ℕ) → ltb (suc m) (suc n) ≡ ltb m n
 ltb_suc m n = reaches_suc n (Some m)
 
-pub total-take-set : (n : ℕ) (xs : List ℕ) (at : ℕ) → at < length xs → total (take n (set xs at (get_or xs at 0 + 1))) ≡ (if ltb at n then 1 else 0) + total (take n xs)
+pub total-take-set : (n : ℕ) (xs : List ℕ) (at : ℕ) → at < length xs
+    → total (take n (set xs at (get_or xs at 0 + 1))) ≡ (if ltb at n then 1 else 0) + total (take n xs)
 unfolding total
 total-take-set n [] at lt = absurd (omega arith)
 total-take-set zero (x ∷ xs) at lt = let e = choose (ltb at 0) false 1 0 (le-ltb at 0 (omega arith)) in omega arith
@@ -353,7 +354,8 @@ hit_counted n page history hits room so_far =
     at (Some k) below e = let b = below k refl in total-take-set n hits k (omega arith)
 
 -- and there are as many depths as pages on the stack
-pub depths_counted : (page : ℕ) (pages hits : List ℕ) → length hits ≡ length pages → length (counted hits (place_in page pages)) ≡ suc (length (without_first page pages))
+pub depths_counted : (page : ℕ) (pages hits : List ℕ) → length hits ≡ length pages
+    → length (counted hits (place_in page pages)) ≡ suc (length (without_first page pages))
 depths_counted page pages hits same = at (place_in page pages) refl
   where
     at : (o : Option ℕ) → place_in page pages ≡ o → length (counted hits o) ≡ suc (length (without_first page pages))

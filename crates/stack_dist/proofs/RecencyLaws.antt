@@ -193,7 +193,8 @@ unfolding gaps
 length-gaps [] = refl
 length-gaps (page ∷ history) = ap suc (length-gapped (place_in page history) (gaps history) ∙ length-gaps history)
 
-total-take-unset : (n : ℕ) (xs : List ℕ) (at : ℕ) → at < length xs → get_or xs at 0 ≡ 1 → total (take n xs) ≡ (if ltb at n then 1 else 0) + total (take n (set xs at 0))
+total-take-unset : (n : ℕ) (xs : List ℕ) (at : ℕ) → at < length xs → get_or xs at 0 ≡ 1
+    → total (take n xs) ≡ (if ltb at n then 1 else 0) + total (take n (set xs at 0))
 unfolding total
 total-take-unset n [] at lt one = absurd (omega arith)
 total-take-unset zero (x ∷ xs) at lt one = let e = choose (ltb at 0) false 1 0 (le-ltb at 0 (omega arith)) in omega arith

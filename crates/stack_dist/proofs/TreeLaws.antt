@@ -360,7 +360,8 @@ half_power n (zero, e) some = absurd (omega arith)
 half_power n (suc d, e) some = let two = pow-add 2 1 d in ((d, omega arith), omega arith)
 
 -- one level up: the node to the left is counted where there is one
-step_up : (size node first before whole x : ℕ) (old : List ℕ) → AreSums size old → 1 < node → node < size + size → IsPower first → first ≤ node → node < 2 * first
+step_up : (size node first before whole x : ℕ) (old : List ℕ) → AreSums size old → 1 < node → node < size + size → IsPower first → first ≤ node
+    → node < 2 * first
     → before + between old first (node - first) ≡ whole → x ≡ if_odd node (get_or old (node - 1) 0)
     → before + x + between old (first / 2) (node / 2 - first / 2) ≡ whole
 unfolding between

@@ -37,7 +37,8 @@ first_hit n r rs e = grind (arith, nat_tests)
 first_miss : (n : ℕ) (r : Residence) (rs : List Residence) → r.pid ≢ n → swapper.residence_of (r ∷ rs) n ≡ swapper.residence_of rs n
 first_miss n r rs e = grind (arith, nat_tests)
 
-is_in : (ns : List ℕ) (ps : List Record) (pid : ℕ) (p : Record) → find pid ps ≡ Some p → p.out ≡ false → (swapper.residence_of (filter_map (λ n. residence_of (find n ps)) ns) pid).out ≡ false
+is_in : (ns : List ℕ) (ps : List Record) (pid : ℕ) (p : Record) → find pid ps ≡ Some p → p.out ≡ false
+    → (swapper.residence_of (filter_map (λ n. residence_of (find n ps)) ns) pid).out ≡ false
 is_in [] ps pid p f o = refl
 is_in (n ∷ ns) ps pid p f o = go (residence_of (find n ps)) refl (is_in ns ps pid p f o)
   where
@@ -55,7 +56,8 @@ is_in (n ∷ ns) ps pid p f o = go (residence_of (find n ps)) refl (is_in ns ps 
       | inr d ↦ ap (λ (y : Residence). y.out) (first_miss pid r rs d) ∙ more
     ]
 
-pub is_caller : (m : Standing) (ps : List Record) (p : Record) (pid sid : ℕ) → m.kernel.stopped ≡ false → m.before ≡ m.kernel.holdings → m.kernel.place.due ≡ [] → HoldersStand m.kernel
+pub is_caller : (m : Standing) (ps : List Record) (p : Record) (pid sid : ℕ) → m.kernel.stopped ≡ false → m.before ≡ m.kernel.holdings
+    → m.kernel.place.due ≡ [] → HoldersStand m.kernel
     → m.kernel.processes ≡ processes_of ps m.kernel.next_pid → m.kernel.place.residents ≡ residents_of ps m.kernel.next_pid → AreRecords ps m.kernel.next_pid
     → find pid ps ≡ Some p → p.state ≡ lives.Holds sid → p.out ≡ false → IsCaller m pid
 is_caller m ps p pid sid running whole clear stand procs residents records f s o = record {

@@ -70,7 +70,8 @@ pub holder_lives : (k : Kernel) (pid : ℕ) → IsHolder (life_in k pid) → liv
 holder_lives k pid h = life_there (numbered (λ (p : Proc). p.pid) pid k.processes) h
 
 -- what a reply that starts no image changes
-may_reply : (images : List Image) (life : Life) (after : Regs) (change : Change) → HoldsOrNone life → StartsNone (Does after change) → MayKeep images life change
+may_reply : (images : List Image) (life : Life) (after : Regs) (change : Change) → HoldsOrNone life → StartsNone (Does after change)
+    → MayKeep images life change
 may_reply images life after Keep o s = tt
 may_reply images life after (Resize a b) o s = tt
 may_reply images life after (Fork child) o s = tt
@@ -82,7 +83,8 @@ may_reply images life after (End status) o s = o
 
 -- Replies.
 
-written_keeps : (old new : Standing) (pid : ℕ) (call : SystemCall) (bytes : List ℕ) (regs : Regs) → IsHolder (life_in old.kernel pid) → Written old new pid call bytes regs → KeepsHolders old new
+written_keeps : (old new : Standing) (pid : ℕ) (call : SystemCall) (bytes : List ℕ) (regs : Regs) → IsHolder (life_in old.kernel pid)
+    → Written old new pid call bytes regs → KeepsHolders old new
 written_keeps old new pid call bytes regs c w n h = go bytes w.out
   where
     go : (bytes : List ℕ) → GoneOut old w.between pid bytes → HoldersStand new.kernel
@@ -92,7 +94,8 @@ written_keeps old new pid call bytes regs c w n h = go bytes w.out
         (subst Numbered (sym out.step) (flat_numbered (facts_named old.images) old.kernel pid (regs_of old.kernel pid) (entries.Out pid (byte ∷ more)) Keep tt (holder_lives old.kernel pid c) n)) tt
         (entered_keeps old w.between pid (regs_of old.kernel pid) (entries.Out pid (byte ∷ more)) Keep out n tt h)
 
-pub replied_keeps : (old new : Standing) (pid : ℕ) (call : SystemCall) (regs : Regs) (reply : Reply) (called : Called) → IsHolder (life_in old.kernel pid) → StartsNone reply
+pub replied_keeps : (old new : Standing) (pid : ℕ) (call : SystemCall) (regs : Regs) (reply : Reply) (called : Called)
+    → IsHolder (life_in old.kernel pid) → StartsNone reply
     → Replied old new pid call regs reply called → KeepsHolders old new
 replied_keeps old new pid call regs (Fails error) called c s r n h = entered_keeps old new pid (replied regs true error) (call_entry pid call (replied regs true error)) Keep r.1 n tt h
 replied_keeps old new pid call regs (Does after change) called c s r n h =
@@ -106,7 +109,8 @@ abbrev pub ReadsNone : Result Reply Refused → Type 0
 ReadsNone (Ok reply) = StartsNone reply
 ReadsNone (Err refused) = Unit {0}
 
-pub comes_keeps : (old new : Standing) (pid : ℕ) (call : SystemCall) (regs : Regs) (asked : Result Reply Refused) (called : Called) → IsHolder (life_in old.kernel pid) → ReadsNone asked
+pub comes_keeps : (old new : Standing) (pid : ℕ) (call : SystemCall) (regs : Regs) (asked : Result Reply Refused) (called : Called)
+    → IsHolder (life_in old.kernel pid) → ReadsNone asked
     → Comes old new pid call regs asked called → KeepsHolders old new
 comes_keeps old new pid call regs (Ok reply) called c s r n h = replied_keeps old new pid call regs reply called c s r n h
 comes_keeps old new pid call regs (Err (Miss address write)) called c s r n h = subst (λ (m : Standing). HoldersStand m.kernel) (sym r.1) h
@@ -151,17 +155,21 @@ pub pieces_numbered : (k : Kernel) (hs : Holdings) → Numbered k → Numbered (
 pieces_numbered k hs n = record { spaces_differ = n.spaces_differ; spaces_below = n.spaces_below; pids_differ = n.pids_differ; pids_below = n.pids_below; residents = n.residents }
 
 -- transfers end until a space is settled
-pub settled_numbered : (old new : Standing) (sid : ℕ) (holds : Option (List NamedFile)) (i j : Option (List ℕ)) → HasSettled old new sid holds i j → Numbered old.kernel → Numbered new.kernel
+pub settled_numbered : (old new : Standing) (sid : ℕ) (holds : Option (List NamedFile)) (i j : Option (List ℕ)) → HasSettled old new sid holds i j
+    → Numbered old.kernel → Numbered new.kernel
 settled_numbered old new sid holds i j s n = ends_by Numbered done_numbered (sources old holds) sid s.settled.count old.kernel new.kernel i j s.settled.ends n
 
-pub settled_keeps : (old new : Standing) (sid : ℕ) (holds : Option (List NamedFile)) (i j : Option (List ℕ)) → HasSettled old new sid holds i j → HoldersStand old.kernel → HoldersStand new.kernel
+pub settled_keeps : (old new : Standing) (sid : ℕ) (holds : Option (List NamedFile)) (i j : Option (List ℕ)) → HasSettled old new sid holds i j
+    → HoldersStand old.kernel → HoldersStand new.kernel
 settled_keeps old new sid holds i j s h = ends_by HoldersStand done_keeps (sources old holds) sid s.settled.count old.kernel new.kernel i j s.settled.ends h
 
-pub settled_holds : (old new : Standing) (pid sid : ℕ) (holds : Option (List NamedFile)) (i j : Option (List ℕ)) → HasSettled old new sid holds i j → IsHolder (life_in old.kernel pid)
+pub settled_holds : (old new : Standing) (pid sid : ℕ) (holds : Option (List NamedFile)) (i j : Option (List ℕ)) → HasSettled old new sid holds i j
+    → IsHolder (life_in old.kernel pid)
     → IsHolder (life_in new.kernel pid)
 settled_holds old new pid sid holds i j s h = ends_by (λ (k : Kernel). IsHolder (life_in k pid)) (λ k read h. h) (sources old holds) sid s.settled.count old.kernel new.kernel i j s.settled.ends h
 
-moves_keep : (old new : Standing) (pid : ℕ) (regs : Regs) (pages : ℕ) (holds : Option (List NamedFile)) (i j : Option (List ℕ)) (called : Called) → IsHolder (life_in old.kernel pid)
+moves_keep : (old new : Standing) (pid : ℕ) (regs : Regs) (pages : ℕ) (holds : Option (List NamedFile)) (i j : Option (List ℕ)) (called : Called)
+    → IsHolder (life_in old.kernel pid)
     → MovesEnd old new pid regs pages holds i j called → KeepsHolders old new
 moves_keep old new pid regs pages holds i j called c m n h = elim m [
   | inl a ↦ elim a.0 [

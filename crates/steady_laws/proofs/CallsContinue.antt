@@ -51,7 +51,8 @@ out_on old between pid (byte ∷ bytes) c h = (
   entry_continues old between pid (regs_of old.kernel pid) (entries.Out pid (byte ∷ bytes)) Keep c tt tt h,
 )
 
-written_on : (old new : Standing) (pid : ℕ) (call : SystemCall) (bytes : List ℕ) (regs : Regs) → IsCaller old pid → Written old new pid call bytes regs → Continues old new 1
+written_on : (old new : Standing) (pid : ℕ) (call : SystemCall) (bytes : List ℕ) (regs : Regs) → IsCaller old pid
+    → Written old new pid call bytes regs → Continues old new 1
 written_on old new pid call bytes regs c h =
     let o = out_on old h.between pid bytes c h.out in
     continues_both old h.between new 0 1 o.1 (entry_continues h.between new pid regs (call_entry pid call regs) Keep o.0 tt tt h.answer)
@@ -69,7 +70,8 @@ reply_continues old new pid call regs Waits called c n h =
     subst (λ (y : Called). Continues old new (called_count y)) (sym h.0) (entry_continues old new pid (regs_of old.kernel pid) (entries.Sleeps pid) Sleep c tt tt h.1)
 reply_continues old new pid call regs (Exits status) called c n h = absurd h
 
-pub call_continues : (old new : Standing) (pid : ℕ) (call : SystemCall) (regs : Regs) (r : Result Reply Refused) (called : Called) → IsCaller old pid → AnswersNone r
+pub call_continues : (old new : Standing) (pid : ℕ) (call : SystemCall) (regs : Regs) (r : Result Reply Refused) (called : Called) → IsCaller old pid
+    → AnswersNone r
     → Comes old new pid call regs r called → Continues old new (called_count called)
 call_continues old new pid call regs (Ok reply) called c n h = reply_continues old new pid call regs reply called c n h
 call_continues old new pid call regs (Err (Miss address write)) called c n h =
@@ -115,11 +117,13 @@ refusal_there old pid c = record {
   lends = record { sid = c.lends.sid; holds = c.lends.holds; there = c.lends.there; resident = c.lends.resident };
 }
 
-pub behind_refusal : (old new : Standing) (pid n : ℕ) → IsCaller old pid → (IsCaller (without_pieces old pid) pid → Continues (without_pieces old pid) new n) → Continues old new n
+pub behind_refusal : (old new : Standing) (pid n : ℕ) → IsCaller old pid
+    → (IsCaller (without_pieces old pid) pid → Continues (without_pieces old pid) new n) → Continues old new n
 behind_refusal old new pid n c h =
     continues_from old (without_pieces old pid) new n (note_continues old (without_pieces old pid) (entries.Refused pid) (caller_ready old pid c) tt refl) (h (refusal_there old pid c))
 
-pub refusal_continues : (old new : Standing) (pid : ℕ) (call : SystemCall) (regs : Regs) → IsCaller old pid → IsRefused old new pid call regs → Continues old new 1
+pub refusal_continues : (old new : Standing) (pid : ℕ) (call : SystemCall) (regs : Regs) → IsCaller old pid → IsRefused old new pid call regs
+    → Continues old new 1
 refusal_continues old new pid call regs c h =
     behind_refusal old new pid 1 c
     (λ d. entry_continues (without_pieces old pid) new pid (replied regs true no_memory) (call_entry pid call (replied regs true no_memory)) Keep d tt tt h.answer)
@@ -177,7 +181,8 @@ left_settled old new pid holds i j c h =
       numbers = e.numbers;
     }
 
-left_by : (lent : Bool) (old new : Standing) (pid : ℕ) (holds : Option (List NamedFile)) (i j : Option (List ℕ)) → IsCaller old pid → HasLeftBy lent old new pid holds i j → Left old new pid
+left_by : (lent : Bool) (old new : Standing) (pid : ℕ) (holds : Option (List NamedFile)) (i j : Option (List ℕ)) → IsCaller old pid
+    → HasLeftBy lent old new pid holds i j → Left old new pid
 left_by true old new pid holds i j c h = record {
   on = pass_continues old new pid (lender_among old.kernel.processes pid) (caller_ready old pid c) h.step;
   there = subst (λ (m : Standing). IsSome (proc_in m.kernel pid)) (sym h.step)
@@ -186,10 +191,12 @@ left_by true old new pid holds i j c h = record {
 }
 left_by false old new pid holds i j c h = left_settled old new pid holds i j c h
 
-pub left_on : (old new : Standing) (pid : ℕ) (holds : Option (List NamedFile)) (i j : Option (List ℕ)) → IsCaller old pid → HasLeft old new pid holds i j → Left old new pid
+pub left_on : (old new : Standing) (pid : ℕ) (holds : Option (List NamedFile)) (i j : Option (List ℕ)) → IsCaller old pid
+    → HasLeft old new pid holds i j → Left old new pid
 left_on old new pid holds i j c h = left_by (has_lender old.kernel.processes pid) old new pid holds i j c h
 
-pub end_continues : (old new : Standing) (pid status : ℕ) (holds : Option (List NamedFile)) (i j : Option (List ℕ)) → IsCaller old pid → HasEnded old new pid status holds i j
+pub end_continues : (old new : Standing) (pid status : ℕ) (holds : Option (List NamedFile)) (i j : Option (List ℕ)) → IsCaller old pid
+    → HasEnded old new pid status holds i j
     → Continues old new 1
 end_continues old new pid status holds i j c h =
     let l = left_on old h.between pid holds i j c h.left in
@@ -209,7 +216,8 @@ exit_continues old new pid regs (Err refused) holds i j called c h = call_contin
 -- A break.
 
 -- a reply of a break, of a process that is there
-break_on : (fits : Bool) (old new : Standing) (pid : ℕ) (regs : Regs) (pages stack : ℕ) (called : Called) → old.kernel.stopped ≡ false → old.kernel.place.due ≡ []
+break_on : (fits : Bool) (old new : Standing) (pid : ℕ) (regs : Regs) (pages stack : ℕ) (called : Called) → old.kernel.stopped ≡ false
+    → old.kernel.place.due ≡ []
     → IsSome (proc_in old.kernel pid) → Replied old new pid system_calls.Break regs (break_by fits regs pages stack) called → Continues old new (called_count called)
 break_on true old new pid regs pages stack called r d s h =
     subst (λ (y : Called). Continues old new (called_count y)) (sym h.0)
@@ -218,13 +226,15 @@ break_on false old new pid regs pages stack called r d s h =
     subst (λ (y : Called). Continues old new (called_count y)) (sym h.0)
     (entered_on old new pid (replied regs true no_memory) (call_entry pid system_calls.Break (replied regs true no_memory)) Keep r d s tt tt h.1)
 
-grown_on : (old new : Standing) (pid : ℕ) (regs : Regs) (pages : ℕ) (called : Called) → IsCaller old pid → GrownData old new pid regs pages called → Continues old new (called_count called)
+grown_on : (old new : Standing) (pid : ℕ) (regs : Regs) (pages : ℕ) (called : Called) → IsCaller old pid → GrownData old new pid regs pages called
+    → Continues old new (called_count called)
 grown_on old new pid regs pages called c s =
     from_found old new s.found (called_count called)
     (break_on (nat_le pages data_limit) (with_pieces old s.found) new pid regs pages (stack_pages_of old.kernel pid) called c.running c.clear
     (caller_there old.kernel pid c.lends) s.replied)
 
-none_on : (old new : Standing) (pid : ℕ) (regs : Regs) (pages : ℕ) (called : Called) → IsCaller old pid → NoPieces old new pid regs pages called → Continues old new (called_count called)
+none_on : (old new : Standing) (pid : ℕ) (regs : Regs) (pages : ℕ) (called : Called) → IsCaller old pid → NoPieces old new pid regs pages called
+    → Continues old new (called_count called)
 none_on old new pid regs pages called c s =
     behind_refusal old new pid (called_count called) c
     (λ d. reply_continues (without_pieces old pid) new pid system_calls.Break regs (Fails no_memory) called d tt s.replied)
@@ -236,7 +246,8 @@ cut_on old new pid regs pages holds i j called c s =
     continues_from old s.between new (called_count called) l.on
     (break_on (nat_le pages data_limit) s.between new pid regs pages (stack_pages_of old.kernel pid) called l.on.running l.on.clear l.there s.replied)
 
-sized_on : (old new : Standing) (pid : ℕ) (regs : Regs) (pages : ℕ) (holds : Option (List NamedFile)) (i j : Option (List ℕ)) (called : Called) → IsCaller old pid
+sized_on : (old new : Standing) (pid : ℕ) (regs : Regs) (pages : ℕ) (holds : Option (List NamedFile)) (i j : Option (List ℕ)) (called : Called)
+    → IsCaller old pid
     → MovesEnd old new pid regs pages holds i j called → Continues old new (called_count called)
 sized_on old new pid regs pages holds i j called c (inl (inl s, e)) =
     break_on (nat_le pages data_limit) old new pid regs pages (stack_pages_of old.kernel pid) called c.running c.clear (caller_there old.kernel pid c.lends) s.replied

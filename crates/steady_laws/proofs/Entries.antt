@@ -39,7 +39,8 @@ pub record IsBehind (k l : Kernel) (e : Entry) : Type 0 where
   pub stopped : l.stopped ≡ k.stopped
   pub journal : l.journal ≡ append k.journal e
 
-behind_by : (images : List Image) (k : Kernel) (regs : Regs) (e : Entry) (change : Change) (o : Option Proc) → IsSome o → IsBehind k (change_if images k regs e change o) e
+behind_by : (images : List Image) (k : Kernel) (regs : Regs) (e : Entry) (change : Change) (o : Option Proc) → IsSome o
+    → IsBehind k (change_if images k regs e change o) e
 behind_by images k regs e change None s = absurd cc
 behind_by images k regs e change (Some p) s = record {
   frames = change_frames images k.place p.pid (space_of_life p.life) (gave_back p.life) k.next_sid (length (append k.journal e)) change;
@@ -52,12 +53,14 @@ clear_by : (images : List Image) (k : Kernel) (regs : Regs) (e : Entry) (change 
 clear_by images k regs e change None n = refl
 clear_by images k regs e change (Some p) n = change_due images k.place p.pid (space_of_life p.life) (gave_back p.life) k.next_sid (length (append k.journal e)) change n
 
-pub change_behind : (images : List Image) (k : Kernel) (pid : ℕ) (regs : Regs) (e : Entry) (change : Change) → IsSome (proc_in k pid) → IsBehind k (change_step images k pid regs e change) e
+pub change_behind : (images : List Image) (k : Kernel) (pid : ℕ) (regs : Regs) (e : Entry) (change : Change) → IsSome (proc_in k pid)
+    → IsBehind k (change_step images k pid regs e change) e
 change_behind images k pid regs e change s = behind_by images k regs e change (proc_in k pid) s
 
 -- The machine.
 
-pub entered_behind : (old new : Standing) (pid : ℕ) (regs : Regs) (e : Entry) (change : Change) → IsSome (proc_in old.kernel pid) → Entered old new pid regs e change → IsBehind old.kernel new.kernel e
+pub entered_behind : (old new : Standing) (pid : ℕ) (regs : Regs) (e : Entry) (change : Change) → IsSome (proc_in old.kernel pid)
+    → Entered old new pid regs e change → IsBehind old.kernel new.kernel e
 entered_behind old new pid regs e change s h =
     subst (λ (l : Kernel). IsBehind old.kernel l e) (sym h.step) (change_behind (facts_named old.images) old.kernel pid regs e change s)
 
@@ -110,7 +113,8 @@ from_found old new found n c = record {
   counted = c.counted;
 }
 
-pub found_continues : (old new : Standing) (found : Holdings) (pid : ℕ) (regs : Regs) (e : Entry) (change : Change) → IsCaller old pid → IsPlain e → LeavesNone change
+pub found_continues : (old new : Standing) (found : Holdings) (pid : ℕ) (regs : Regs) (e : Entry) (change : Change) → IsCaller old pid → IsPlain e
+    → LeavesNone change
     → Entered (with_pieces old found) new pid regs e change → Continues old new (counted e)
 found_continues old new found pid regs e change c plain n h =
     from_found old new found (counted e) (entered_on (with_pieces old found) new pid regs e change c.running c.clear (caller_there old.kernel pid c.lends) plain n h)
@@ -130,10 +134,12 @@ note_on old e r plain = record {
   counted = counts_one old.kernel.journal (append old.kernel.journal e) e refl;
 }
 
-pub note_continues : (old new : Standing) (e : Entry) → IsReady old → IsPlain e → new ≡ record old { kernel = note_step old.kernel e; room = None } → Continues old new (counted e)
+pub note_continues : (old new : Standing) (e : Entry) → IsReady old → IsPlain e → new ≡ record old { kernel = note_step old.kernel e; room = None }
+    → Continues old new (counted e)
 note_continues old new e r plain h = subst (λ (m : Standing). Continues old m (counted e)) (sym h) (note_on old e r plain)
 
-pub note_counts_none : (old new : Standing) (e : Entry) → IsPlain e → new ≡ record old { kernel = note_step old.kernel e; room = None } → last_moves new.kernel.journal ≡ 0
+pub note_counts_none : (old new : Standing) (e : Entry) → IsPlain e → new ≡ record old { kernel = note_step old.kernel e; room = None }
+    → last_moves new.kernel.journal ≡ 0
 note_counts_none old new e plain h = ap (λ (m : Standing). last_moves m.kernel.journal) h ∙ last_plain old.kernel.journal e plain
 
 pub moved_note_continues : (old between new : Standing) (moves : ℕ) (e : Entry) → RunsMoved old between moves → IsPlain e
@@ -164,7 +170,8 @@ ran_on old pid regs r = record {
   counted = counts_one old.kernel.journal (append old.kernel.journal (entries.Ran pid 1)) (entries.Ran pid 1) refl;
 }
 
-pub ran_continues : (old new : Standing) (pid : ℕ) (regs : Regs) → IsReady old → new ≡ record old { kernel = ran_by old.kernel pid regs (entries.Ran pid 1); room = None }
+pub ran_continues : (old new : Standing) (pid : ℕ) (regs : Regs) → IsReady old
+    → new ≡ record old { kernel = ran_by old.kernel pid regs (entries.Ran pid 1); room = None }
     → Continues old new 1
 ran_continues old new pid regs r h = subst (λ (m : Standing). Continues old m 1) (sym h) (ran_on old pid regs r)
 
@@ -234,6 +241,7 @@ all_written : (k : Kernel) (sid : ℕ) (ws : List ByteWrite) → SameJournal k (
 all_written k sid [] = same_self k
 all_written k sid (w ∷ ws) = same_then k (write_in k sid w) (writes_in (write_in k sid w) sid ws) (byte_written k sid w) (all_written (write_in k sid w) sid ws)
 
-pub writes_continue : (old new : Standing) (sid : ℕ) (ws : List ByteWrite) → IsReady old → new ≡ record old { kernel = writes_in old.kernel sid ws } → Continues old new 0
+pub writes_continue : (old new : Standing) (sid : ℕ) (ws : List ByteWrite) → IsReady old → new ≡ record old { kernel = writes_in old.kernel sid ws }
+    → Continues old new 0
 writes_continue old new sid ws r h =
     subst (λ (m : Standing). Continues old m 0) (sym h) (same_on old (writes_in old.kernel sid ws) old.room r (all_written old.kernel sid ws))

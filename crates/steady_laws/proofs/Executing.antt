@@ -16,7 +16,8 @@ then_starts : {A : Type 0} (r : Result A Refused) (f : A → Result Reply Refuse
 then_starts (Ok x) f h = h x
 then_starts (Err refused) f h = tt
 
-bind_starts : {A : Type 0} (memory : Answers) (p : Program A) (f : A → Program Reply) → ((x : A) → StartsOrFails (run memory (f x))) → StartsOrFails (run memory (p >>= f))
+bind_starts : {A : Type 0} (memory : Answers) (p : Program A) (f : A → Program Reply) → ((x : A) → StartsOrFails (run memory (f x)))
+    → StartsOrFails (run memory (p >>= f))
 bind_starts memory p f h = subst StartsOrFails (sym (run_bind memory p f)) (then_starts (run memory p) (λ x. run memory (f x)) h)
 
 image_starts : (memory : Answers) (found : ℕ × NamedImage) (arguments : Option (List (List ℕ))) → StartsOrFails (run memory (Gives (starts found arguments)))

@@ -44,7 +44,8 @@ path_within known (Some name) = found_within 1 known name
 reply_none : {C : Type 0} (error : ℕ) (after : Regs) (image : ℕ) (top : List ℕ) → Fails error ≡ Does after (Exec image top) → C
 reply_none error after image top e = absurd cc
 
-started : (found : ℕ × NamedImage) (arguments : Option (List (List ℕ))) (after : Regs) (image : ℕ) (top : List ℕ) → starts found arguments ≡ Does after (Exec image top) → found.0 ≡ image
+started : (found : ℕ × NamedImage) (arguments : Option (List (List ℕ))) (after : Regs) (image : ℕ) (top : List ℕ)
+    → starts found arguments ≡ Does after (Exec image top) → found.0 ≡ image
 started found None after image top e = reply_none 7 after image top e
 started found (Some arguments) after image top e = cc
 
@@ -63,7 +64,8 @@ of_image memory argv (Some found) after image top count w e =
     let high = w.1 in
     (omega arith, omega arith)
 
-pub exec_within : (memory : Answers) (known : List NamedImage) (regs after : Regs) (image : ℕ) (top : List ℕ) → run memory (execve_reply known regs) ≡ Ok (Does after (Exec image top))
+pub exec_within : (memory : Answers) (known : List NamedImage) (regs after : Regs) (image : ℕ) (top : List ℕ)
+    → run memory (execve_reply known regs) ≡ Ok (Does after (Exec image top))
     → (0 < image) × (image ≤ length known)
 unfolding execve_reply
 exec_within memory known regs after image top e =

@@ -48,7 +48,8 @@ pub record MayGo (old new : Standing) (pid : ℕ) : Type 0 where
   pub stand : HoldersStand new.kernel
   pub images : new.images ≡ old.images
 
-pub has_left : (old new : Standing) (pid : ℕ) (holds : Option (List NamedFile)) (i j : Option (List ℕ)) → IsHolder (life_in old.kernel pid) → HasLeft old new pid holds i j → Numbered old.kernel
+pub has_left : (old new : Standing) (pid : ℕ) (holds : Option (List NamedFile)) (i j : Option (List ℕ)) → IsHolder (life_in old.kernel pid)
+    → HasLeft old new pid holds i j → Numbered old.kernel
     → HoldersStand old.kernel → MayGo old new pid
 has_left old new pid holds i j c left n h = go (has_lender old.kernel.processes pid) refl left
   where
@@ -87,7 +88,8 @@ has_left old new pid holds i j c left n h = go (has_lender old.kernel.processes 
 
 -- Ends.
 
-pub ended_keeps : (old new : Standing) (pid status : ℕ) (holds : Option (List NamedFile)) (i j : Option (List ℕ)) → IsHolder (life_in old.kernel pid) → HasEnded old new pid status holds i j
+pub ended_keeps : (old new : Standing) (pid status : ℕ) (holds : Option (List NamedFile)) (i j : Option (List ℕ)) → IsHolder (life_in old.kernel pid)
+    → HasEnded old new pid status holds i j
     → KeepsHolders old new
 ended_keeps old new pid status holds i j c d n h =
     let m = has_left old d.between pid holds i j c d.left n h in
@@ -108,7 +110,8 @@ exit_keeps old new pid regs (Err refused) holds i j called c r n h = comes_keeps
 
 -- Images.
 
-pub started_keeps : (old new : Standing) (pid : ℕ) (after : Regs) (image : ℕ) (top : List ℕ) (holds : Option (List NamedFile)) (i j : Option (List ℕ)) → IsHolder (life_in old.kernel pid)
+pub started_keeps : (old new : Standing) (pid : ℕ) (after : Regs) (image : ℕ) (top : List ℕ) (holds : Option (List NamedFile)) (i j : Option (List ℕ))
+    → IsHolder (life_in old.kernel pid)
     → IsImageOf old image
     → HasStarted old new pid after image top holds i j → KeepsHolders old new
 started_keeps old new pid after image top holds i j c known s n h = subst HoldersStand (sym s.answer.step) (go s.asked s.finds.step)
@@ -130,7 +133,8 @@ started_keeps old new pid after image top holds i j c known s n h = subst Holder
         subst (λ (a : Standing). HoldersStand (change_step (facts_named a.images) a.kernel pid after (call_entry pid numbers.Execve after) (Exec image top))) (sym e)
         (holders_of l (change_stands (facts_named between.images) k pid after (call_entry pid numbers.Execve after) (Exec image top) m.below m.differ (there between.images m.images) (stand_of between.kernel m.stand)))
 
-starts_keep : (fits : Bool) (old new : Standing) (pid : ℕ) (regs after : Regs) (image : ℕ) (top : List ℕ) (holds : Option (List NamedFile)) (i j : Option (List ℕ)) → IsHolder (life_in old.kernel pid)
+starts_keep : (fits : Bool) (old new : Standing) (pid : ℕ) (regs after : Regs) (image : ℕ) (top : List ℕ) (holds : Option (List NamedFile)) (i j : Option (List ℕ))
+    → IsHolder (life_in old.kernel pid)
     → IsImageOf old image → StartsBy fits old new pid regs after image top holds i j → KeepsHolders old new
 starts_keep true old new pid regs after image top holds i j c known s n h =
     filled_keeps (Stack old.kernel.next_sid 0) s.between new holds s.told j s.fills (started_keeps old s.between pid after image top holds i s.told c known s.started n h)

@@ -26,7 +26,8 @@ lends pid (Ended status) e = absurd (let z : false ≡ true = e in cc)
 new_lends_none : {C : Type 0} (pid sid : ℕ) → New ≡ LendsSpace sid pid → C
 new_lends_none pid sid e = absurd cc
 
-pub lender_lends : (ps : List Proc) (pid : ℕ) → AllDistinct (map (λ (p : Proc). p.pid) ps) → has_lender ps pid ≡ true → Lends pid (life_at ps (lender_among ps pid))
+pub lender_lends : (ps : List Proc) (pid : ℕ) → AllDistinct (map (λ (p : Proc). p.pid) ps) → has_lender ps pid ≡ true
+    → Lends pid (life_at ps (lender_among ps pid))
 lender_lends [] pid d e = absurd (let z : false ≡ true = e in cc)
 lender_lends (p ∷ ps) pid d e = go (lends_life pid p.life) refl e (lender_lends ps pid d.1)
   where
@@ -40,7 +41,8 @@ lender_lends (p ∷ ps) pid d e = go (lends_life pid p.life) refl e (lender_lend
         (l.0, ap life_of_proc (numbered_miss (λ (q : Proc). q.pid) (lender_among ps pid) p ps other) ∙ l.1)
 
 -- who gave a space back to its lender has none
-pub back_none : (k : Kernel) (pid sid : ℕ) → life_in k pid ≡ HoldsSpace sid → AllDistinct (map (λ (p : Proc). p.pid) k.processes) → has_lender k.processes pid ≡ true
+pub back_none : (k : Kernel) (pid sid : ℕ) → life_in k pid ≡ HoldsSpace sid → AllDistinct (map (λ (p : Proc). p.pid) k.processes)
+    → has_lender k.processes pid ≡ true
     → HoldsOrNone (life_in (pass_step k pid (lender_among k.processes pid)) pid)
 back_none k pid sid held d e =
     let to : ℕ = lender_among k.processes pid in

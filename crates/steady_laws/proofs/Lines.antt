@@ -43,7 +43,8 @@ unit_last g (entries.Put q n) k l i h = let last = last_plain k.journal (entries
 unit_last g entries.Done k l i h = let last = last_plain k.journal entries.Done tt in omega arith
 unit_last g _ k l i h = absurd h
 
-made_last : (g : Ground) (us : List Entry) (k l : Kernel) (i j : Option (List ℕ)) → Made g us k i l j → last_moves l.journal ≤ last_moves k.journal + moves_of us
+made_last : (g : Ground) (us : List Entry) (k l : Kernel) (i j : Option (List ℕ)) → Made g us k i l j
+    → last_moves l.journal ≤ last_moves k.journal + moves_of us
 made_last g [] k l i j m = let same = ap (λ (x : Kernel). last_moves x.journal) m.0 in omega arith
 made_last g (e ∷ us) k l i j m =
     let rest = made_last g us m.next l m.image j m.rest in
@@ -51,23 +52,27 @@ made_last g (e ∷ us) k l i j m =
     let same = ap last_moves (unit_journal g e k m.next i m.made) in
     omega arith
 
-units_moved : (g : Ground) (us : List Entry) (old new : Standing) (i j : Option (List ℕ)) (most : ℕ) → IsReady old → Makes g us old new i j → moves_of us ≤ most → RunsMoved old new most
+units_moved : (g : Ground) (us : List Entry) (old new : Standing) (i j : Option (List ℕ)) (most : ℕ) → IsReady old → Makes g us old new i j
+    → moves_of us ≤ most → RunsMoved old new most
 units_moved g us old new i j most r m few = record {
   on = units_run g us old new i j (ready_runs old r) m;
   clear = made_clear g us old.kernel new.kernel i j r.clear m.made;
   most = let last = made_last g us old.kernel new.kernel i j m.made in omega arith;
 }
 
-pub moves_continue : (old new : Standing) (n made : ℕ) (holds : Option (List NamedFile)) (i j : Option (List ℕ)) → IsReady old → Moved n old new made holds i j → RunsMoved old new made
+pub moves_continue : (old new : Standing) (n made : ℕ) (holds : Option (List NamedFile)) (i j : Option (List ℕ)) → IsReady old
+    → Moved n old new made holds i j → RunsMoved old new made
 moves_continue old new n made holds i j r m = units_moved (ground old holds []) m.units old new i j made r m.makes (let same = m.counted in omega arith)
 
-pub forced_continues : (old new : Standing) (locked : List Page) (holds : Option (List NamedFile)) (i j : Option (List ℕ)) → IsReady old → Forced locked old new holds i j
+pub forced_continues : (old new : Standing) (locked : List Page) (holds : Option (List NamedFile)) (i j : Option (List ℕ)) → IsReady old
+    → Forced locked old new holds i j
     → RunsMoved old new (length old.kernel.place.holds)
 forced_continues old new locked holds i j r f = units_moved (ground old holds locked) f.units old new i j (length old.kernel.place.holds) r f.makes f.moves
 
 -- The swapper.
 
-in_continues : (old new : Standing) (pid : ℕ) (i : Option (List ℕ)) → IsReady old → IsIn old.kernel new.kernel pid i → IsSameBeside old new → Continues old new 0
+in_continues : (old new : Standing) (pid : ℕ) (i : Option (List ℕ)) → IsReady old → IsIn old.kernel new.kernel pid i → IsSameBeside old new
+    → Continues old new 0
 in_continues old new pid i r h b =
     let e : Entry = entries.SwapIn pid in
     let journal : new.kernel.journal ≡ append old.kernel.journal e = ap (λ (k : Kernel). k.journal) h.step in
@@ -82,7 +87,8 @@ in_continues old new pid i r h b =
       counted = counts_one old.kernel.journal new.kernel.journal e journal;
     }
 
-out_continues : (old new : Standing) (pid sid : ℕ) (holds : Option (List NamedFile)) (i j : Option (List ℕ)) → IsReady old → PutOut pid sid old new holds i j → Continues old new 0
+out_continues : (old new : Standing) (pid sid : ℕ) (holds : Option (List NamedFile)) (i j : Option (List ℕ)) → IsReady old
+    → PutOut pid sid old new holds i j → Continues old new 0
 out_continues old new pid sid holds i j r h =
     let e : Entry = entries.SwapOut pid in
     let journal : new.kernel.journal ≡ append h.at.journal e = ap (λ (k : Kernel). k.journal) h.step in
@@ -101,7 +107,8 @@ out_continues old new pid sid holds i j r h =
           omega arith;
     }
 
-pub turn_continues : (turned : Turned) (old new : Standing) (holds : Option (List NamedFile)) (i j : Option (List ℕ)) → IsReady old → Turns turned old new holds i j → Continues old new 0
+pub turn_continues : (turned : Turned) (old new : Standing) (holds : Option (List NamedFile)) (i j : Option (List ℕ)) → IsReady old
+    → Turns turned old new holds i j → Continues old new 0
 turn_continues turns.Nothing old new holds i j r h = subst (λ (m : Standing). Continues old m 0) (sym h.0) (continues_self old r)
 turn_continues (turns.In pid) old new holds i j r h = in_continues old new pid i r h.0 h.1
 turn_continues (turns.Out pid) old new holds i j r h = out_continues old new pid h.0 holds i j r h.2
@@ -141,7 +148,8 @@ pub record Filled (page : Page) (old new : Standing) : Type 0 where
   pub due : new.kernel.place.due ≡ due_after old.kernel.place.due page
   pub last : last_moves new.kernel.journal ≡ 0
 
-zero_fills : (roomy : Standing) (page : Page) → IsRunning roomy → (let new : Standing = record roomy { kernel = zero_step roomy.kernel page; room = None } in Filled page roomy new)
+zero_fills : (roomy : Standing) (page : Page) → IsRunning roomy
+    → (let new : Standing = record roomy { kernel = zero_step roomy.kernel page; room = None } in Filled page roomy new)
 zero_fills roomy page r = record {
   on = record {
     params = refl;
@@ -155,7 +163,8 @@ zero_fills roomy page r = record {
   last = last_plain roomy.kernel.journal (entries.Zero page) tt;
 }
 
-pub start_fills : (old new : Standing) (page : Page) (holds : Option (List NamedFile)) (i j : Option (List ℕ)) → IsRunning old → FillsStart page old new holds i j → Filled page old new
+pub start_fills : (old new : Standing) (page : Page) (holds : Option (List NamedFile)) (i j : Option (List ℕ)) → IsRunning old
+    → FillsStart page old new holds i j → Filled page old new
 start_fills old new page holds i j r f =
     let on = units_run (ground old holds []) f.forces.units old f.roomy i j r f.forces.makes in
     let z : Filled page f.roomy new = subst (Filled page f.roomy) (sym f.fills) (zero_fills f.roomy page (record { running = on.running; whole = on.whole })) in

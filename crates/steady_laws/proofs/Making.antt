@@ -29,7 +29,8 @@ use Rattle.steady_laws.proofs.Pages.{serves_keep, forced_keeps}
 
 -- A child.
 
-child_keeps : (old new : Standing) (pid : ℕ) (call : SystemCall) (regs : Regs) (child : ℕ) (change : Change) → MayKeep (facts_named old.images) (life_in old.kernel pid) change
+child_keeps : (old new : Standing) (pid : ℕ) (call : SystemCall) (regs : Regs) (child : ℕ) (change : Change)
+    → MayKeep (facts_named old.images) (life_in old.kernel pid) change
     → HasChild old new pid call regs child change → KeepsHolders old new
 child_keeps old new pid call regs child change may c n h =
     entered_keeps (with_pieces old c.found) new pid (replied_both regs child 0) (call_entry pid call (replied_both regs child 0)) change c.answer (pieces_numbered old.kernel c.found n) may (pieces_keep old.kernel c.found h)
@@ -54,7 +55,8 @@ vforked_keeps old new pid regs v =
 
 -- Copies.
 
-copied_keeps : (child parent : Page) (old new : Standing) (holds : Option (List NamedFile)) (i j : Option (List ℕ)) → CopiesPage child parent old new holds i j → HoldersStand old.kernel
+copied_keeps : (child parent : Page) (old new : Standing) (holds : Option (List NamedFile)) (i j : Option (List ℕ))
+    → CopiesPage child parent old new holds i j → HoldersStand old.kernel
     → HoldersStand new.kernel
 copied_keeps child parent old new holds i j c h = subst (λ (m : Standing). HoldersStand m.kernel) (sym c.copies)
     (same_keep k (copy_step k child) refl (entry_has [] (length (append k.journal (entries.Copy child))) k.place (entries.Copy child)) roomy)
@@ -65,7 +67,8 @@ copied_keeps child parent old new holds i j c h = subst (λ (m : Standing). Hold
     roomy : HoldersStand k
     roomy = forced_keeps (parent ∷ []) c.served c.roomy holds c.behind j c.forces (serves_keep true (parent ∷ []) parent old c.served holds i c.behind c.serves.0 h)
 
-copies_keep : (ds : List Due) (old new : Standing) (holds : Option (List NamedFile)) (i j : Option (List ℕ)) → CopiesAll ds old new holds i j → HoldersStand old.kernel → HoldersStand new.kernel
+copies_keep : (ds : List Due) (old new : Standing) (holds : Option (List NamedFile)) (i j : Option (List ℕ)) → CopiesAll ds old new holds i j
+    → HoldersStand old.kernel → HoldersStand new.kernel
 copies_keep [] old new holds i j c h = subst (λ (m : Standing). HoldersStand m.kernel) (sym c.0) h
 copies_keep (Start q ∷ ds) old new holds i j c h = absurd c
 copies_keep (CopyOf child parent ∷ ds) old new holds i j c h = copies_keep ds c.0 new holds c.1 j c.3 (copied_keeps child parent old c.0 holds i c.1 c.2 h)
@@ -78,12 +81,14 @@ fork_answered_keeps old new pid regs f =
     child : ℕ
     child = old.kernel.next_pid
 
-pub forked_keeps : (old new : Standing) (pid : ℕ) (regs : Regs) (holds : Option (List NamedFile)) (i j : Option (List ℕ)) → Forked old new pid regs holds i j → KeepsHolders old new
+pub forked_keeps : (old new : Standing) (pid : ℕ) (regs : Regs) (holds : Option (List NamedFile)) (i j : Option (List ℕ))
+    → Forked old new pid regs holds i j → KeepsHolders old new
 forked_keeps old new pid regs holds i j f n h = copies_keep f.between.kernel.place.due f.between new holds i j f.copies (fork_answered_keeps old f.between pid regs f.answer n h)
 
 -- The new stack page 0 is filled.
 
-pub filled_keeps : (page : Page) (old new : Standing) (holds : Option (List NamedFile)) (i j : Option (List ℕ)) → FillsStart page old new holds i j → HoldersStand old.kernel → HoldersStand new.kernel
+pub filled_keeps : (page : Page) (old new : Standing) (holds : Option (List NamedFile)) (i j : Option (List ℕ)) → FillsStart page old new holds i j
+    → HoldersStand old.kernel → HoldersStand new.kernel
 filled_keeps page old new holds i j f h = subst (λ (m : Standing). HoldersStand m.kernel) (sym f.fills)
     (same_keep k (zero_step k page) refl (entry_has [] (length (append k.journal (entries.Zero page))) k.place (entries.Zero page)) (forced_keeps [] old f.roomy holds i j f.forces h))
   where

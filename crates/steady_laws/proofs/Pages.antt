@@ -30,27 +30,33 @@ use Rattle.steady_laws.proofs.Passing.{change_keeps}
 
 -- Units of a machine.
 
-pub makes_keep : (g : Ground) (us : List Entry) (old new : Standing) (i j : Option (List ℕ)) → Makes g us old new i j → HoldersStand old.kernel → HoldersStand new.kernel
+pub makes_keep : (g : Ground) (us : List Entry) (old new : Standing) (i j : Option (List ℕ)) → Makes g us old new i j → HoldersStand old.kernel
+    → HoldersStand new.kernel
 makes_keep g us old new i j m h = made_keeps g us old.kernel new.kernel i j m.made h
 
-pub serves_keep : (now : Bool) (locked : List Page) (q : Page) (old new : Standing) (holds : Option (List NamedFile)) (i j : Option (List ℕ)) → ServesTo now locked q old new holds i j
+pub serves_keep : (now : Bool) (locked : List Page) (q : Page) (old new : Standing) (holds : Option (List NamedFile)) (i j : Option (List ℕ))
+    → ServesTo now locked q old new holds i j
     → HoldersStand old.kernel → HoldersStand new.kernel
 serves_keep now locked q old new holds i j s h = makes_keep (ground old holds locked) s.units old new i j s.makes h
 
-pub forced_keeps : (locked : List Page) (old new : Standing) (holds : Option (List NamedFile)) (i j : Option (List ℕ)) → Forced locked old new holds i j → HoldersStand old.kernel
+pub forced_keeps : (locked : List Page) (old new : Standing) (holds : Option (List NamedFile)) (i j : Option (List ℕ))
+    → Forced locked old new holds i j → HoldersStand old.kernel
     → HoldersStand new.kernel
 forced_keeps locked old new holds i j f h = makes_keep (ground old holds locked) f.units old new i j f.makes h
 
-pub moved_keeps : (n : ℕ) (old new : Standing) (made : ℕ) (holds : Option (List NamedFile)) (i j : Option (List ℕ)) → Moved n old new made holds i j → HoldersStand old.kernel → HoldersStand new.kernel
+pub moved_keeps : (n : ℕ) (old new : Standing) (made : ℕ) (holds : Option (List NamedFile)) (i j : Option (List ℕ)) → Moved n old new made holds i j
+    → HoldersStand old.kernel → HoldersStand new.kernel
 moved_keeps n old new made holds i j m h = makes_keep (ground old holds []) m.units old new i j m.makes h
 
 -- Accesses.
 
-comes_so : (answer : Came) (q : Page) (old new : Standing) (holds : Option (List NamedFile)) (i j : Option (List ℕ)) → PageComes answer q old new holds i j → HoldersStand old.kernel
+comes_so : (answer : Came) (q : Page) (old new : Standing) (holds : Option (List NamedFile)) (i j : Option (List ℕ))
+    → PageComes answer q old new holds i j → HoldersStand old.kernel
     → HoldersStand new.kernel
 comes_so answer q old new holds i j p h = serves_keep false [] q old new holds i j p.serves.0.serves h
 
-touched_keeps : (answer : Served) (q : Page) (old new : Standing) (holds : Option (List NamedFile)) (i j : Option (List ℕ)) → TouchedAs answer q old new holds i j → HoldersStand old.kernel
+touched_keeps : (answer : Served) (q : Page) (old new : Standing) (holds : Option (List NamedFile)) (i j : Option (List ℕ))
+    → TouchedAs answer q old new holds i j → HoldersStand old.kernel
     → HoldersStand new.kernel
 touched_keeps served.Valid q old new holds i j t h = comes_so came.Valid q old new holds i j t h
 touched_keeps (served.Asleep r) q old new holds i j t h = comes_so (came.Asleep r) q old new holds i j t h
@@ -58,7 +64,8 @@ touched_keeps served.NoFrame q old new holds i j t h = comes_so came.NoFrame q o
 touched_keeps served.NoSpace q old new holds i j t h = absurd t
 touched_keeps (served.Signal signal) q old new holds i j t h = absurd t
 
-now_keeps : (locked : List Page) (answer : Served) (q : Page) (old new : Standing) (holds : Option (List NamedFile)) (i j : Option (List ℕ)) → TouchedNow locked answer q old new holds i j
+now_keeps : (locked : List Page) (answer : Served) (q : Page) (old new : Standing) (holds : Option (List NamedFile)) (i j : Option (List ℕ))
+    → TouchedNow locked answer q old new holds i j
     → HoldersStand old.kernel → HoldersStand new.kernel
 now_keeps locked served.Valid q old new holds i j t h = serves_keep true locked q old new holds i j t.serves.0.serves h
 now_keeps locked (served.Asleep r) q old new holds i j t h = absurd t
@@ -105,11 +112,13 @@ served_now_keeps locked access answer pid old new holds i j a =
 
 -- The swapper.
 
-put_out_keeps : (pid sid : ℕ) (old new : Standing) (holds : Option (List NamedFile)) (i j : Option (List ℕ)) → PutOut pid sid old new holds i j → HoldersStand old.kernel → HoldersStand new.kernel
+put_out_keeps : (pid sid : ℕ) (old new : Standing) (holds : Option (List NamedFile)) (i j : Option (List ℕ)) → PutOut pid sid old new holds i j
+    → HoldersStand old.kernel → HoldersStand new.kernel
 put_out_keeps pid sid old new holds i j p h =
     subst HoldersStand (sym p.step) (out_keeps p.at pid (made_keeps (ground old holds []) p.units old.kernel p.at i p.image p.made h))
 
-pub turn_keeps : (t : Turned) (old new : Standing) (holds : Option (List NamedFile)) (i j : Option (List ℕ)) → Turns t old new holds i j → HoldersStand old.kernel → HoldersStand new.kernel
+pub turn_keeps : (t : Turned) (old new : Standing) (holds : Option (List NamedFile)) (i j : Option (List ℕ)) → Turns t old new holds i j
+    → HoldersStand old.kernel → HoldersStand new.kernel
 turn_keeps turns.Nothing old new holds i j t h = subst (λ (m : Standing). HoldersStand m.kernel) (sym t.0) h
 turn_keeps (turns.In pid) old new holds i j t h = is_in_keeps old.kernel new.kernel pid i t.0 h
 turn_keeps (turns.Out pid) old new holds i j t h = put_out_keeps pid t.0 old new holds i j t.2 h

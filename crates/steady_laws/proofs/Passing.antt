@@ -60,7 +60,8 @@ pass_keeps k from to sid held h = holders_of l (stand_passed k.processes l.proce
       ]
     ]
 
-pub change_keeps : (images : List Image) (k : Kernel) (pid : ℕ) (regs : Regs) (e : Entry) (change : Change) → Numbered k → MayKeep images (life_in k pid) change → HoldersStand k
+pub change_keeps : (images : List Image) (k : Kernel) (pid : ℕ) (regs : Regs) (e : Entry) (change : Change) → Numbered k
+    → MayKeep images (life_in k pid) change → HoldersStand k
     → HoldersStand (change_step images k pid regs e change)
 change_keeps images k pid regs e change n may h =
     holders_of (change_step images k pid regs e change) (change_stands images k pid regs e change n.spaces_below n.pids_differ may (stand_of k h))

@@ -20,7 +20,8 @@ use Rattle.steady_laws.proofs.Journals.{counts_one}
 
 -- Machines.
 
-pub continues : (old new : Standing) (n : ℕ) → RunsOn old new n → new.kernel.place.due ≡ [] → last_moves new.kernel.journal ≤ last_moves old.kernel.journal → Continues old new n
+pub continues : (old new : Standing) (n : ℕ) → RunsOn old new n → new.kernel.place.due ≡ []
+    → last_moves new.kernel.journal ≤ last_moves old.kernel.journal → Continues old new n
 continues old new n on clear low = record {
   params = on.params;
   images = on.images;
@@ -75,10 +76,12 @@ stays_roomy old new n locked c r = room_still old.kernel.place new.kernel.place 
 pub none_due : (old new : Standing) (n : ℕ) → RunsDue old new n [] → Continues old new n
 none_due old new n d = continues old new n d.on d.due d.low
 
-pub due_roomy : (old new : Standing) (n : ℕ) (ds : List Due) (locked : List Page) → RunsDue old new n ds → HasRoom old.kernel.place locked → IsRunning new × HasRoom new.kernel.place locked
+pub due_roomy : (old new : Standing) (n : ℕ) (ds : List Due) (locked : List Page) → RunsDue old new n ds → HasRoom old.kernel.place locked
+    → IsRunning new × HasRoom new.kernel.place locked
 due_roomy old new n ds locked d r = (record { running = d.on.running; whole = d.on.whole }, room_still old.kernel.place new.kernel.place locked d.on.frames r)
 
-pub moved_ready : (old new : Standing) (moves : ℕ) (locked : List Page) → RunsMoved old new moves → HasRoom old.kernel.place locked → IsReady new × HasRoom new.kernel.place locked
+pub moved_ready : (old new : Standing) (moves : ℕ) (locked : List Page) → RunsMoved old new moves → HasRoom old.kernel.place locked
+    → IsReady new × HasRoom new.kernel.place locked
 moved_ready old new moves locked d r =
     (record { running = d.on.running; whole = d.on.whole; clear = d.clear }, room_still old.kernel.place new.kernel.place locked d.on.frames r)
 
@@ -95,7 +98,8 @@ unit_counts g (entries.Call pid number carry a b) k l i h = absurd h
 unit_counts g (entries.Ended pid status) k l i h = absurd h
 unit_counts g _ k l i h = refl
 
-pub made_counted : (g : Ground) (us : List Entry) (k l : Kernel) (i j : Option (List ℕ)) → Made g us k i l j → instructions_of l.journal ≡ instructions_of k.journal
+pub made_counted : (g : Ground) (us : List Entry) (k l : Kernel) (i j : Option (List ℕ)) → Made g us k i l j
+    → instructions_of l.journal ≡ instructions_of k.journal
 made_counted g [] k l i j m = sym (ap (λ (x : Kernel). instructions_of x.journal) m.0)
 made_counted g (e ∷ us) k l i j m =
     let rest = made_counted g us m.next l m.image j m.rest in

@@ -49,7 +49,8 @@ mapped_there : (f : SpacePages → SpacePages) (o : Option SpacePages) → mappe
 mapped_there f None e = refl
 mapped_there f (Some s) e = absurd cc
 
-changed_there : (n : ℕ) (f : SpacePages → SpacePages) → ((s : SpacePages) → space_number (f s) ≡ space_number s) → (ss : List SpacePages) (sid : ℕ) → IsThere ss sid
+changed_there : (n : ℕ) (f : SpacePages → SpacePages) → ((s : SpacePages) → space_number (f s) ≡ space_number s) → (ss : List SpacePages) (sid : ℕ)
+    → IsThere ss sid
     → IsThere (changed space_number n f ss) sid
 changed_there n f k ss sid h e = elim (cases_eq sid n) [
   | inl i ↦ h (ap (λ (m : ℕ). numbered space_number m ss) i
@@ -97,7 +98,8 @@ give_up_has p sid t d h = text (sharers r (image_of p sid))
     text zero k = leave_all_kept has_by_puts (pages_of_text r (image_of p sid)) r t k
     text (suc n) k = k
 
-pub unless_has : (borrowed : Bool) (p : Placement) (sid t : ℕ) → (borrowed ≡ false → t ≢ sid) → IsThere p.spaces t → IsThere (give_up_unless borrowed p sid).spaces t
+pub unless_has : (borrowed : Bool) (p : Placement) (sid t : ℕ) → (borrowed ≡ false → t ≢ sid) → IsThere p.spaces t
+    → IsThere (give_up_unless borrowed p sid).spaces t
 unless_has true p sid t d h = h
 unless_has false p sid t d h = give_up_has p sid t (d refl) h
 

@@ -106,7 +106,8 @@ record ExecOn (asked new : Standing) : Type 0 where
   on : RunsOn asked new 1
   filled : due_after new.kernel.place.due (Stack asked.kernel.next_sid 0) ≡ []
 
-exec_on : (asked new : Standing) (pid : ℕ) (after : Regs) (image : ℕ) (top : List ℕ) → asked.kernel.stopped ≡ false → asked.kernel.place.due ≡ [] → IsSome (proc_in asked.kernel pid)
+exec_on : (asked new : Standing) (pid : ℕ) (after : Regs) (image : ℕ) (top : List ℕ) → asked.kernel.stopped ≡ false → asked.kernel.place.due ≡ []
+    → IsSome (proc_in asked.kernel pid)
     → Answered asked new pid system_calls.Execve after (Exec image top) → ExecOn asked new
 exec_on asked new pid after image top r d s h = record {
   on = entered_runs asked new pid after (call_entry pid system_calls.Execve after) (Exec image top) r s h;
@@ -115,7 +116,8 @@ exec_on asked new pid after image top r d s h = record {
       ∙ filled_by (facts_named asked.images) asked.kernel after (call_entry pid system_calls.Execve after) image top (proc_in asked.kernel pid) s d;
 }
 
-pub start_continues : (old between new : Standing) (pid : ℕ) (after : Regs) (image : ℕ) (top : List ℕ) (holds later : Option (List NamedFile)) (h i j : Option (List ℕ)) → IsCaller old pid
+pub start_continues : (old between new : Standing) (pid : ℕ) (after : Regs) (image : ℕ) (top : List ℕ) (holds later : Option (List NamedFile)) (h i j : Option (List ℕ))
+    → IsCaller old pid
     → HasStarted old between pid after image top holds h i → FillsStart (Stack old.kernel.next_sid 0) between new later i j → Continues old new 1
 start_continues old between new pid after image top holds later h i j c s f =
     let went : Standing = s.finds.between in
@@ -130,12 +132,14 @@ start_continues old between new pid after image top holds later h i j c s f =
     (z.due ∙ ap (λ (n : ℕ). due_after between.kernel.place.due (Stack n 0)) (sym l.numbers) ∙ x.filled)
     (let last = z.last in omega arith)
 
-exec_by : (fits : Bool) (old new : Standing) (pid : ℕ) (regs after : Regs) (image : ℕ) (top : List ℕ) (holds : Option (List NamedFile)) (i j : Option (List ℕ)) → IsCaller old pid
+exec_by : (fits : Bool) (old new : Standing) (pid : ℕ) (regs after : Regs) (image : ℕ) (top : List ℕ) (holds : Option (List NamedFile)) (i j : Option (List ℕ))
+    → IsCaller old pid
     → StartsBy fits old new pid regs after image top holds i j → Continues old new 1
 exec_by true old new pid regs after image top holds i j c h = start_continues old h.between new pid after image top holds holds i h.told j c h.started h.fills
 exec_by false old new pid regs after image top holds i j c h = refusal_continues old new pid system_calls.Execve regs c h.0
 
-exec_comes : (old new : Standing) (pid : ℕ) (regs : Regs) (r : Result Reply Refused) (holds : Option (List NamedFile)) (i j : Option (List ℕ)) (called : Called) → IsCaller old pid
+exec_comes : (old new : Standing) (pid : ℕ) (regs : Regs) (r : Result Reply Refused) (holds : Option (List NamedFile)) (i j : Option (List ℕ)) (called : Called)
+    → IsCaller old pid
     → StartsOrFails r → ExecComes old new pid regs r holds i j called → Continues old new (called_count called)
 exec_comes old new pid regs (Ok (Does after (Exec image top))) holds i j called c s h =
     subst (λ (y : Called). Continues old new (called_count y)) (sym h.0) (exec_by (is_ok (image_found image old)) old new pid regs after image top holds i j c h.1)

@@ -36,7 +36,8 @@ abbrev pub NoMore : List Proc → List Proc → Type 0
 NoMore ps qs = (n sid : ℕ) → life_at qs n ≡ HoldsSpace sid → life_at ps n ≡ HoldsSpace sid
 
 -- nobody comes, and the spaces of those that are left stay
-pub stand_kept : (ps qs : List Proc) (ss ts : List SpacePages) → NoMore ps qs → ((n sid : ℕ) → life_at qs n ≡ HoldsSpace sid → life_at ps n ≡ HoldsSpace sid → IsThere ss sid → IsThere ts sid)
+pub stand_kept : (ps qs : List Proc) (ss ts : List SpacePages) → NoMore ps qs
+    → ((n sid : ℕ) → life_at qs n ≡ HoldsSpace sid → life_at ps n ≡ HoldsSpace sid → IsThere ss sid → IsThere ts sid)
     → Stand ps ss → Stand qs ts
 stand_kept ps qs ss ts less keep s = record {
   spaces = λ n sid e. keep n sid e (less n sid e) (s.spaces n sid (less n sid e));

@@ -16,7 +16,8 @@ abbrev at : List Proc → ℕ → Option Proc
 at ps n = numbered (λ (p : Proc). p.pid) n ps
 
 -- what is done to each process leaves its number and what it has
-pub map_lives : (f : Proc → Proc) → ((q : Proc) → (f q).pid ≡ q.pid) → ((q : Proc) → (f q).life ≡ q.life) → (ps : List Proc) (n : ℕ) → life_at (map f ps) n ≡ life_at ps n
+pub map_lives : (f : Proc → Proc) → ((q : Proc) → (f q).pid ≡ q.pid) → ((q : Proc) → (f q).life ≡ q.life) → (ps : List Proc) (n : ℕ)
+    → life_at (map f ps) n ≡ life_at ps n
 map_lives f number life ps n = ap life_of_proc (numbered_map (λ (p : Proc). p.pid) f number n ps) ∙ go (at ps n)
   where
     go : (o : Option Proc) → life_of_proc (mapped f o) ≡ life_of_proc o
@@ -119,7 +120,8 @@ woken_lives : (ps : List Proc) (pid n : ℕ) → life_at (woken_procs ps pid) n 
 woken_lives ps pid n = map_lives (λ (q : Proc). record q { asleep = cond (q.pid == pid) false q.asleep }) (λ q. refl) (λ q. refl) ps n
 
 -- who holds a space behind an end isn't who ended
-left_cases : (gone : Bool) (ps : List Proc) (p : Proc) (status n sid : ℕ) → life_at (left_procs gone ps p status) n ≡ HoldsSpace sid → (n ≢ p.pid) × (life_at ps n ≡ HoldsSpace sid)
+left_cases : (gone : Bool) (ps : List Proc) (p : Proc) (status n sid : ℕ) → life_at (left_procs gone ps p status) n ≡ HoldsSpace sid
+    → (n ≢ p.pid) × (life_at ps n ≡ HoldsSpace sid)
 left_cases true ps p status n sid h = without_cases ps p.pid n sid h
 left_cases false ps p status n sid h =
     let x : Proc = record p { life = Ended status } in

@@ -80,7 +80,8 @@ pub record SettledOn (old new : Standing) : Type 0 where
   pub processes : new.kernel.processes ≡ old.kernel.processes
   pub numbers : new.kernel.next_sid ≡ old.kernel.next_sid
 
-pub settled_on : (from : Sources) (sid : ℕ) (old new : Standing) (i j : Option (List ℕ)) → IsReady old → SettledBy from sid old.kernel new.kernel i j → IsSameBeside old new → SettledOn old new
+pub settled_on : (from : Sources) (sid : ℕ) (old new : Standing) (i j : Option (List ℕ)) → IsReady old → SettledBy from sid old.kernel new.kernel i j
+    → IsSameBeside old new → SettledOn old new
 settled_on from sid old new i j r s b =
     let e = all_end from sid s.count old.kernel new.kernel i j s.ends in
     record { on = ended_continues old new r b e; processes = e.processes; numbers = e.next_sid }

@@ -29,7 +29,8 @@ abbrev pub GetpidComes : Standing → Standing → ℕ → Regs → Called → T
 GetpidComes old new pid regs called = Replied old new pid numbers.Getpid regs (Does (replied_both regs pid (parent_of old.kernel pid)) Keep) called
 
 abbrev pub WriteComes : Standing → Standing → ℕ → Regs → Called → Type 0
-WriteComes old new pid regs called = Comes old new pid numbers.Write regs (run (kernel_answers old.kernel (space_held old.kernel pid)) (write_reply regs)) called
+WriteComes old new pid regs called =
+    Comes old new pid numbers.Write regs (run (kernel_answers old.kernel (space_held old.kernel pid)) (write_reply regs)) called
 
 abbrev pub ExecveComes : List NamedImage → Standing → Standing → ℕ → Regs → Option (List NamedFile) → Option (List ℕ) → Option (List ℕ) → Called → Type 0
 ExecveComes known old new pid regs holds before after called = ExecComes old new pid regs (execve_read known old pid regs) holds before after called
@@ -37,7 +38,8 @@ ExecveComes known old new pid regs holds before after called = ExecComes old new
 -- An access whose page is served, as far as that needs no waiting, or until it is valid.
 
 abbrev pub AccessServed : Access → Served → ℕ → Standing → Standing → Option (List NamedFile) → Option (List ℕ) → Option (List ℕ) → Type 0
-AccessServed access answer pid old new holds before after = AccessComes (λ came q from. TouchedAs came q from new holds before after) access answer pid old new before after
+AccessServed access answer pid old new holds before after =
+    AccessComes (λ came q from. TouchedAs came q from new holds before after) access answer pid old new before after
 
 abbrev pub AccessServedNow : List Page → Access → Served → ℕ → Standing → Standing → Option (List NamedFile) → Option (List ℕ) → Option (List ℕ) → Type 0
 AccessServedNow locked access answer pid old new holds before after =

@@ -43,7 +43,9 @@ NoteContinues =
 
 -- Behind it the last entry counts no moves of the hands, so behind moves of them the machine goes on from before these.
 abbrev pub NoteCountsNone : Type 0
-NoteCountsNone = (old new : Standing) (e : Entry) → IsPlain e → new ≡ record old { kernel = note_step old.kernel e; room = None } → last_moves new.kernel.journal ≡ 0
+NoteCountsNone =
+    (old new : Standing) (e : Entry) → IsPlain e → new ≡ record old { kernel = note_step old.kernel e; room = None }
+    → last_moves new.kernel.journal ≡ 0
 
 abbrev pub MovedNoteContinues : Type 0
 MovedNoteContinues =

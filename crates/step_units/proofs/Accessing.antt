@@ -46,7 +46,8 @@ same_access A s m holds image pid now p x address write r =
     ap (λ (n : ℕ). access_to m.kernel.place n address write) (same_space A s m.kernel image pid now p x r.machine.at r.running)
 
 -- the pages that are touched before it are those that are kept
-pub wants_locked : (A : Inputs) (s : State) (k : Kernel) (pid : ℕ) (now : Bool) (p : Process) (x : Space) (address : ℕ) (write : Bool) (before : List Page) → IsRunning A s pid now p x
+pub wants_locked : (A : Inputs) (s : State) (k : Kernel) (pid : ℕ) (now : Bool) (p : Process) (x : Space) (address : ℕ) (write : Bool) (before : List Page)
+    → IsRunning A s pid now p x
     → ((w : WantsPage A s k x address write) × (w.before ≡ before)) → locked A s ≡ before
 wants_locked A s k pid now p x address write before r w =
     ap (locked_by A s) r.runs.clear
@@ -80,7 +81,8 @@ grown_page_leads A s old between holds image pid now before q l j answer b h = g
     go (served.Signal number) d = absurd d
 
 -- A page is served so that it leads on from each machine at which it is waited for.
-abbrev pub Leading : (Served → Page → Standing → Type 0) → Inputs → Standing → Option (List NamedFile) → List ℕ → Option (List ℕ) → ℕ → Bool → List Page → Type 0
+abbrev pub Leading : (Served → Page → Standing → Type 0) → Inputs → Standing → Option (List NamedFile) → List ℕ → Option (List ℕ) → ℕ → Bool
+    → List Page → Type 0
 Leading Touched A new holds image j pid now before =
     (s : State) (old : Standing) (q : Page) (answer : Served) → WaitsFor A s old holds image pid now before q → Touched answer q old → PageLeads A s old.kernel image before new.kernel j answer
 

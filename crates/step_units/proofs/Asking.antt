@@ -44,7 +44,8 @@ interrupts s m l = m ∙ go s.place.transfers l
 pub idle_ends : (A : Inputs) (s : State) → IsClear s → s.mark ≡ interrupt_mark s.place.transfers → s.place.transfers ≡ [] → IsOver A s
 idle_ends A s c m e = record { clear = c.clear; between = c.between; over = ap (under A s) (m ∙ ap interrupt_mark e) }
 
-pub interrupt_made : (A : Inputs) (s : State) (old : Standing) (l : Kernel) (holds : Option (List NamedFile)) (image : List ℕ) (j : Option (List ℕ)) → MachineAt A s old holds image → IsClear s
+pub interrupt_made : (A : Inputs) (s : State) (old : Standing) (l : Kernel) (holds : Option (List NamedFile)) (image : List ℕ) (j : Option (List ℕ))
+    → MachineAt A s old holds image → IsClear s
     → s.mark ≡ interrupt_mark s.place.transfers → 0 < length s.place.transfers → IsDone (sources old holds) (Some image) old.kernel l → ImageAfter old.kernel (Some image) j
     → LineLeads A s old.kernel image l j
 unfolding after
@@ -64,7 +65,8 @@ interrupt_made A s old l holds image j at c m n d i =
       unturned = ap (λ (m : Mark). last_turned (completed m)) is;
     }
 
-pub interrupt_stops : (A : Inputs) (s : State) (old new : Standing) (holds : Option (List NamedFile)) (image : List ℕ) (j : Option (List ℕ)) (stop : Stop) → MachineAt A s old holds image → IsClear s
+pub interrupt_stops : (A : Inputs) (s : State) (old new : Standing) (holds : Option (List NamedFile)) (image : List ℕ) (j : Option (List ℕ)) (stop : Stop)
+    → MachineAt A s old holds image → IsClear s
     → s.mark ≡ interrupt_mark s.place.transfers → 0 < length s.place.transfers → StopsEnding old new (Some image) j stop → StopLeads A s old.kernel image stop new j
 interrupt_stops A s old new holds image j stop at c m n x = record {
   units = [];
@@ -85,7 +87,8 @@ interrupt_stops A s old new holds image j stop at c m n x = record {
 
 -- Moves of the hands.
 
-pub hands_made : (A : Inputs) (s : State) (old new : Standing) (holds : Option (List NamedFile)) (image : List ℕ) (j : Option (List ℕ)) (n made : ℕ) → MachineAt A s old holds image → IsClear s
+pub hands_made : (A : Inputs) (s : State) (old new : Standing) (holds : Option (List NamedFile)) (image : List ℕ) (j : Option (List ℕ)) (n made : ℕ)
+    → MachineAt A s old holds image → IsClear s
     → s.mark ≡ marks.Hands n → Moved n old new made holds (Some image) j → LineLeads A s old.kernel image new.kernel j
 hands_made A s old new holds image j n made at c m h =
     let asks : AsksMoves s n = record { mark = m; clear = c.clear } in
@@ -108,7 +111,8 @@ hands_made A s old new holds image j n made at c m h =
       unturned = ap last_turned led.asks.mark;
     }
 
-pub hands_stop : (A : Inputs) (s : State) (old new : Standing) (holds : Option (List NamedFile)) (image : List ℕ) (j : Option (List ℕ)) (n : ℕ) (stop : Stop) → MachineAt A s old holds image
+pub hands_stop : (A : Inputs) (s : State) (old new : Standing) (holds : Option (List NamedFile)) (image : List ℕ) (j : Option (List ℕ)) (n : ℕ) (stop : Stop)
+    → MachineAt A s old holds image
     → IsClear s
     → s.mark ≡ marks.Hands n → StopsMoving n old stop new holds (Some image) j → StopLeads A s old.kernel image stop new j
 hands_stop A s old new holds image j n stop at c m h =
@@ -123,13 +127,15 @@ hands_stop A s old new holds image j n stop at c m h =
 
 -- Numbers.
 
-audits : (A : Inputs) (s : State) (old : Standing) (holds : Option (List NamedFile)) (image : List ℕ) → MachineAt A s old holds image → IsClear s → s.mark ≡ marks.Audit
+audits : (A : Inputs) (s : State) (old : Standing) (holds : Option (List NamedFile)) (image : List ℕ) → MachineAt A s old holds image → IsClear s
+    → s.mark ≡ marks.Audit
     → next_unit A s ≡ Some (owners_of old.kernel.place old.kernel.holdings)
 audits A s old holds image at c m =
     (line_asks A s c.clear).2 m ∙ ap (λ (p : Placement). Some (owners_of p s.holdings)) (sym at.at.stands.place)
     ∙ ap (λ hs. Some (owners_of old.kernel.place hs)) (sym at.at.stands.holdings)
 
-pub audit_made : (A : Inputs) (s : State) (old : Standing) (l : Kernel) (holds : Option (List NamedFile)) (image : List ℕ) → MachineAt A s old holds image → IsClear s → s.mark ≡ marks.Audit
+pub audit_made : (A : Inputs) (s : State) (old : Standing) (l : Kernel) (holds : Option (List NamedFile)) (image : List ℕ)
+    → MachineAt A s old holds image → IsClear s → s.mark ≡ marks.Audit
     → l ≡ note_step old.kernel (owners_of old.kernel.place old.kernel.holdings) → LineLeads A s old.kernel image l (Some image)
 unfolding after
 audit_made A s old l holds image at c m e =
@@ -145,7 +151,8 @@ audit_made A s old l holds image at c m e =
       unturned = ap (λ (x : Mark). last_turned (audited x)) m;
     }
 
-pub audit_stops : (A : Inputs) (s : State) (old new : Standing) (holds : Option (List NamedFile)) (image : List ℕ) (stop : Stop) → MachineAt A s old holds image → IsClear s → s.mark ≡ marks.Audit
+pub audit_stops : (A : Inputs) (s : State) (old new : Standing) (holds : Option (List NamedFile)) (image : List ℕ) (stop : Stop)
+    → MachineAt A s old holds image → IsClear s → s.mark ≡ marks.Audit
     → StopsNoting old new stop → StopLeads A s old.kernel image stop new (Some image)
 audit_stops A s old new holds image stop at c m x =
     note_stops A s old new image stop (owners_of old.kernel.place old.kernel.holdings) (audits A s old holds image at c m) tt x

@@ -30,14 +30,16 @@ use Rattle.run_units.proofs.Acting.{step_begins, step_refused, refused_comes, re
 -- Pieces.
 
 -- what a change of the process takes, as the flat machine and the kernel say it
-pub wanted_is : (A : Inputs) (s : State) (k : Kernel) (image : List ℕ) (pid : ℕ) (now : Bool) (p : Process) (x : Space) (change : Change) → At A s k image → IsRunning A s pid now p x
+pub wanted_is : (A : Inputs) (s : State) (k : Kernel) (image : List ℕ) (pid : ℕ) (now : Bool) (p : Process) (x : Space) (change : Change)
+    → At A s k image → IsRunning A s pid now p x
     → wanted_if A.images s.point.flat change (process_of s.point.flat pid) ≡ asked (facts_of A.images) k pid change
 wanted_is A s k image pid now p x change at r =
     let keeps = at.stands.keeps in
     ap (wanted_if A.images s.point.flat change) r.here ∙ ap (wanted_in A.images s.point.flat change) r.holds
     ∙ sym (change_same A.images k s.point.flat pid p x change at.fit keeps.stands.texts keeps.numbered at.run.numbers keeps.coupled.tables r.here r.holds)
 
-pub asks_is : (A : Inputs) (s : State) (k : Kernel) (image : List ℕ) (pid : ℕ) (now : Bool) (p : Process) (x : Space) → At A s k image → IsRunning A s pid now p x
+pub asks_is : (A : Inputs) (s : State) (k : Kernel) (image : List ℕ) (pid : ℕ) (now : Bool) (p : Process) (x : Space) → At A s k image
+    → IsRunning A s pid now p x
     → is_refused s.point.last pid ≡ false → asks A s.point.flat pid ≡ asked (facts_of A.images) k pid (step_at A s.point pid).change
 unfolding asks
 asks_is A s k image pid now p x at r u =
@@ -45,7 +47,8 @@ asks_is A s k image pid now p x at r u =
     ∙ ap (λ (b : Bool). wanted_if A.images s.point.flat (flat_step A s.point.flat pid b).change (process_of s.point.flat pid)) (sym u)
     ∙ wanted_is A s k image pid now p x (step_at A s.point pid).change at r
 
-pub fits_is : (A : Inputs) (s : State) (k : Kernel) (image : List ℕ) (pid : ℕ) (now : Bool) (p : Process) (x : Space) (step : Step) → At A s k image → IsRunning A s pid now p x
+pub fits_is : (A : Inputs) (s : State) (k : Kernel) (image : List ℕ) (pid : ℕ) (now : Bool) (p : Process) (x : Space) (step : Step) → At A s k image
+    → IsRunning A s pid now p x
     → is_refused s.point.last pid ≡ false → step_at A s.point pid ≡ step
     → fits A.swap_blocks s.holdings (asks A s.point.flat pid) ≡ is_ok (place_all A.swap_blocks k.holdings (asked (facts_of A.images) k pid step.change))
 fits_is A s k image pid now p x step at r u i =
@@ -108,14 +111,16 @@ goes_on_behind A s k image pid now p x step bytes o e es found at r l i first f 
 
 -- Spaces that settle.
 
-pub loses_is : (A : Inputs) (s : State) (pid : ℕ) (now : Bool) (p : Process) (x : Space) (step : Step) → IsRunning A s pid now p x → step_at A s.point pid ≡ step
+pub loses_is : (A : Inputs) (s : State) (pid : ℕ) (now : Bool) (p : Process) (x : Space) (step : Step) → IsRunning A s pid now p x
+    → step_at A s.point pid ≡ step
     → step_loses A s pid ≡ loses_pages x (is_borrower s.point.flat.processes pid) step.change
 loses_is A s pid now p x step r i =
     let b : Bool = is_borrower s.point.flat.processes pid in
     ap (λ (z : Step). loses_if b z.change (process_of s.point.flat pid)) i ∙ ap (loses_if b step.change) r.here ∙ ap (loses_in b step.change) r.holds
 
 -- a step that gives up no space and drops no page has nothing to wait for
-pub none_lost : (A : Inputs) (s : State) (pid : ℕ) (now : Bool) (p : Process) (x : Space) (step : Step) → IsRunning A s pid now p x → step_at A s.point pid ≡ step
+pub none_lost : (A : Inputs) (s : State) (pid : ℕ) (now : Bool) (p : Process) (x : Space) (step : Step) → IsRunning A s pid now p x
+    → step_at A s.point pid ≡ step
     → loses_pages x (is_borrower s.point.flat.processes pid) step.change ≡ false → must_settle A s pid ≡ false
 none_lost A s pid now p x step r i n =
     ap (λ (b : Bool). b && not (settled s.point.flat s.place pid)) (loses_is A s pid now p x step r i ∙ n)
@@ -129,5 +134,6 @@ none_unsettled A s pid e = ap (λ (b : Bool). step_loses A s pid && not b) e ∙
     none false = refl
 
 -- who borrowed its space, in the flat machine and in the kernel
-pub borrows : (A : Inputs) (s : State) (k : Kernel) (image : List ℕ) (pid : ℕ) → At A s k image → is_borrower s.point.flat.processes pid ≡ has_lender k.processes pid
+pub borrows : (A : Inputs) (s : State) (k : Kernel) (image : List ℕ) (pid : ℕ) → At A s k image
+    → is_borrower s.point.flat.processes pid ≡ has_lender k.processes pid
 borrows A s k image pid at = sym (borrows_is k s.point.flat pid at.stands.keeps.coupled.tables)

@@ -42,7 +42,8 @@ pub record StepEnds (A : Inputs) (s : State) (pid : ℕ) (e : Entry) (t : State)
 last_is : (A : Inputs) (s : State) (q pid : ℕ) (e : Entry) → q ≡ pid → due_at A s.point pid ≡ e ∷ [] → (point_after A s.point q).last ≡ Some e
 last_is A s q pid e c d = ap (λ (n : ℕ). (point_after A s.point n).last) c ∙ ap (λ (es : List Entry). (behind s.point (step_at A s.point pid).after es).last) d
 
-flat_is : (A : Inputs) (s : State) (q pid : ℕ) (e : Entry) → q ≡ pid → due_at A s.point pid ≡ e ∷ [] → (point_after A s.point q).flat ≡ (step_at A s.point pid).after
+flat_is : (A : Inputs) (s : State) (q pid : ℕ) (e : Entry) → q ≡ pid → due_at A s.point pid ≡ e ∷ []
+    → (point_after A s.point q).flat ≡ (step_at A s.point pid).after
 flat_is A s q pid e c d = ap (λ (n : ℕ). (point_after A s.point n).flat) c ∙ ap (λ (es : List Entry). (behind s.point (step_at A s.point pid).after es).flat) d
 
 pub step_ends : (A : Inputs) (s : State) (pid : ℕ) (e : Entry) → EndsStep pid e → due_at A s.point pid ≡ e ∷ [] → StepEnds A s pid e (after A s e)
@@ -75,7 +76,8 @@ pub refusal_waits : (A : Inputs) (s : State) (pid : ℕ) → StepWaits A s (entr
 unfolding after
 refusal_waits A s pid = record { count = refl; lines = refl; mark = refl; place = refl; holdings = refl; flat = refl; last = refl }
 
-pub output_waits : (A : Inputs) (s : State) (pid : ℕ) (bytes : List ℕ) (o e : Entry) (es : List Entry) → due_at A s.point pid ≡ o ∷ e ∷ es → o ≡ entries.Out pid bytes
+pub output_waits : (A : Inputs) (s : State) (pid : ℕ) (bytes : List ℕ) (o e : Entry) (es : List Entry) → due_at A s.point pid ≡ o ∷ e ∷ es
+    → o ≡ entries.Out pid bytes
     → StepWaits A s (entries.Out pid bytes) (after A s (entries.Out pid bytes))
 unfolding after
 output_waits A s pid bytes o e es d w = record {
@@ -93,7 +95,8 @@ same_goes A s t pid until f c =
     ap (λ (F : FlatState). can_step F pid && (nat_lt t.count A.limit && nat_lt t.count until)) f
     ∙ ap (λ (n : ℕ). can_step s.point.flat pid && (nat_lt n A.limit && nat_lt n until)) c
 
-same_on : (A : Inputs) (s t : State) (m : Mark) (pid : ℕ) (now : Bool) → t.point.flat ≡ s.point.flat → t.count ≡ s.count → GoesOn A s m pid now → GoesOn A t m pid now
+same_on : (A : Inputs) (s t : State) (m : Mark) (pid : ℕ) (now : Bool) → t.point.flat ≡ s.point.flat → t.count ≡ s.count → GoesOn A s m pid now
+    → GoesOn A t m pid now
 same_on A s t (marks.Dispatch q n since) pid false f c g = (g.0, same_goes A s t pid (since + n) f c ∙ g.1)
 same_on A s t (marks.Turn q since) pid true f c g = (g.0, same_goes A s t pid (since + turn_instructions) f c ∙ g.1)
 same_on A s t _ pid now f c g = absurd g
@@ -105,7 +108,8 @@ runs_same A s t e pid now w r = record {
   resident = ap (λ (p : Placement). is_out p pid) w.place ∙ r.resident;
 }
 
-pub running_same : (A : Inputs) (s t : State) (e : Entry) (pid : ℕ) (now : Bool) (p : Process) (x : Space) → StepWaits A s e t → IsRunning A s pid now p x → IsRunning A t pid now p x
+pub running_same : (A : Inputs) (s t : State) (e : Entry) (pid : ℕ) (now : Bool) (p : Process) (x : Space) → StepWaits A s e t
+    → IsRunning A s pid now p x → IsRunning A t pid now p x
 running_same A s t e pid now p x w r =
     record { runs = runs_same A s t e pid now w r.runs; here = ap (λ (F : FlatState). process_of F pid) w.flat ∙ r.here; holds = r.holds }
 

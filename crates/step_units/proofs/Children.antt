@@ -31,7 +31,8 @@ use Rattle.step_units.proofs.Replying.{asked_here, ready}
 
 -- a call that asks for a child, with this change by the child's number
 pub record AsksChild (call : SystemCall) (change : ℕ → Change) : Type 0 where
-  pub replies : (images : List NamedImage) (F : FlatState) (p : Process) (x : Space) (regs : Regs) → reply_of images F p x call regs ≡ Gives (child_reply F regs (change F.next_pid))
+  pub replies : (images : List NamedImage) (F : FlatState) (p : Process) (x : Space) (regs : Regs)
+      → reply_of images F p x call regs ≡ Gives (child_reply F regs (change F.next_pid))
   pub wants : (child : ℕ) → wants_space (change child) ≡ true
   pub keeps : (x : Space) (borrowed : Bool) (child : ℕ) → loses_pages x borrowed (change child) ≡ false
 
@@ -47,7 +48,8 @@ vfork_asks = record { replies = λ images F p x regs. refl; wants = λ child. re
 abbrev pub child_told : Kernel → Regs → (ℕ → Change) → Reply
 child_told k regs change = child_by (is_below_limit k) regs k.next_pid (change k.next_pid)
 
-reply_told : (k : Kernel) (F : FlatState) (regs : Regs) (change : ℕ → Change) → SameTables k F → child_reply F regs (change F.next_pid) ≡ child_told k regs change
+reply_told : (k : Kernel) (F : FlatState) (regs : Regs) (change : ℕ → Change) → SameTables k F
+    → child_reply F regs (change F.next_pid) ≡ child_told k regs change
 reply_told k F regs change t =
     ap (λ (n : ℕ). child_by (nat_lt n process_limit) regs F.next_pid (change F.next_pid)) (sym (as_many k F t))
     ∙ ap (λ (n : ℕ). child_by (is_below_limit k) regs n (change n)) (sym t.next_pid)

@@ -32,7 +32,8 @@ kept_all : (all ps : List Proc) → filter_map (λ q. runner_by all q q.life) ps
 kept_all all [] = refl
 kept_all all (q ∷ ps) = ap₂ cons_option (kept_one all q q.life) (kept_all all ps)
 
-flat_one : (F : FlatState) (q : Process) (h : Holding) → q.holding ≡ h → flat_runner_by F q h ≡ outlined_by (is_borrower F.processes) (outline_of q) (Rattle.kernel_model.specs.Kernel.life_of h)
+flat_one : (F : FlatState) (q : Process) (h : Holding) → q.holding ≡ h
+    → flat_runner_by F q h ≡ outlined_by (is_borrower F.processes) (outline_of q) (Rattle.kernel_model.specs.Kernel.life_of h)
 flat_one F q (Holds s) e = refl
 flat_one F q (Lends sid child) e = refl
 flat_one F q (Zombie status) e = refl

@@ -40,7 +40,8 @@ record Brought (A : Inputs) (s : State) (m served : Standing) (holds : Option (L
   pub due : led.state.place.due ≡ CopyOf child parent ∷ ds
   pub first : FillsFirst led.state.place led.state.place.due (entries.Copy child) (parent ∷ [])
 
-brought : (A : Inputs) (s : State) (m served : Standing) (holds : Option (List NamedFile)) (image : List ℕ) (i : Option (List ℕ)) (child parent : Page) (ds : List Due) → At A s m.kernel image
+brought : (A : Inputs) (s : State) (m served : Standing) (holds : Option (List NamedFile)) (image : List ℕ) (i : Option (List ℕ)) (child parent : Page) (ds : List Due)
+    → At A s m.kernel image
     → AreImages m.images holds A.images → s.place.due ≡ CopyOf child parent ∷ ds → ServesNow (parent ∷ []) parent m served holds (Some image) i → Brought A s m served holds image i child parent ds
 brought A s m served holds image i child parent ds at images d serves =
     let us : List Entry = serves.0.units in
@@ -59,13 +60,15 @@ brought A s m served holds image i child parent ds at images d serves =
 
 -- One page.
 
-copied_images : (A : Inputs) (old new : Standing) (holds : Option (List NamedFile)) (i j : Option (List ℕ)) (child parent : Page) → AreImages old.images holds A.images
+copied_images : (A : Inputs) (old new : Standing) (holds : Option (List NamedFile)) (i j : Option (List ℕ)) (child parent : Page)
+    → AreImages old.images holds A.images
     → CopiesPage child parent old new holds i j → AreImages new.images holds A.images
 copied_images A old new holds i j child parent images c =
     subst (λ (ns : List ImageNamed). AreImages ns holds A.images)
     (sym (ap (λ (m : Standing). m.images) c.copies ∙ c.forces.makes.beside.images ∙ c.serves.0.makes.beside.images)) images
 
-pub page_copied : (A : Inputs) (s : State) (old new : Standing) (holds : Option (List NamedFile)) (image : List ℕ) (j : Option (List ℕ)) (child parent : Page) (ds : List Due) → At A s old.kernel image
+pub page_copied : (A : Inputs) (s : State) (old new : Standing) (holds : Option (List NamedFile)) (image : List ℕ) (j : Option (List ℕ)) (child parent : Page) (ds : List Due)
+    → At A s old.kernel image
     → AreImages old.images holds A.images → s.place.due ≡ CopyOf child parent ∷ ds → CopiesPage child parent old new holds (Some image) j → LeadsTo A s old.kernel image ds new.kernel j
 page_copied A s old new holds image j child parent ds at images d c =
     let b : Brought A s old c.served holds image c.behind child parent ds = brought A s old c.served holds image c.behind child parent ds at images d c.serves in
@@ -79,7 +82,8 @@ page_copied A s old new holds image j child parent ds at images d c =
 
 -- All pages.
 
-pub all_copied : (ds : List Due) (A : Inputs) (s : State) (old new : Standing) (holds : Option (List NamedFile)) (image : List ℕ) (j : Option (List ℕ)) → At A s old.kernel image
+pub all_copied : (ds : List Due) (A : Inputs) (s : State) (old new : Standing) (holds : Option (List NamedFile)) (image : List ℕ) (j : Option (List ℕ))
+    → At A s old.kernel image
     → AreImages old.images holds A.images → s.place.due ≡ ds → CopiesAll ds old new holds (Some image) j → LeadsTo A s old.kernel image [] new.kernel j
 all_copied [] A s old new holds image j at images d c =
     subst (λ (m : Standing). LeadsTo A s old.kernel image [] m.kernel j) (sym c.0)
@@ -135,7 +139,8 @@ page_stops A s old new holds image j child parent ds stop at images d h = elim h
   | inr x ↦ behind_stops A s old new holds image j child parent ds stop at images d x
 ]
 
-pub copying_stops : (ds : List Due) (A : Inputs) (s : State) (old new : Standing) (holds : Option (List NamedFile)) (image : List ℕ) (j : Option (List ℕ)) (stop : Stop) → At A s old.kernel image
+pub copying_stops : (ds : List Due) (A : Inputs) (s : State) (old new : Standing) (holds : Option (List NamedFile)) (image : List ℕ) (j : Option (List ℕ)) (stop : Stop)
+    → At A s old.kernel image
     → AreImages old.images holds A.images → s.place.due ≡ ds → StopsCopying ds old new holds (Some image) j stop → StopLeads A s old.kernel image stop new j
 copying_stops [] A s old new holds image j stop at images d h = absurd h
 copying_stops (Start q ∷ ds) A s old new holds image j stop at images d h = absurd h

@@ -111,7 +111,8 @@ module _ (A : Inputs) (s : State) (old : Standing) (holds : Option (List NamedFi
       subst (λ (o : Option (List ℕ)). StepLeads A s old.kernel image 1 new.kernel o) (sym l.told)
       (leads_then A s l.state old.kernel l.kernel new.kernel image bytes (Some bytes) l.units 1 l.leads l.same.count l.same.lines l.same.mark led)
 
-  pub end_stops : (new : Standing) (j : Option (List ℕ)) (stop : Stop) → StopsAlive old new pid holds (Some image) j stop → StopLeads A s old.kernel image stop new j
+  pub end_stops : (new : Standing) (j : Option (List ℕ)) (stop : Stop) → StopsAlive old new pid holds (Some image) j stop
+      → StopLeads A s old.kernel image stop new j
   end_stops new j stop h = elim h [
     | inl y ↦ stops_leaving A s old holds image pid now p x m gives (entries.Ended pid status) new j stop ends.begins first tt y
     | inr y ↦ once y
@@ -148,7 +149,8 @@ unfolding exit_reply
 exit_gives regs = gives_any IsExit (argument regs 1) (λ code. Gives (Exits (code % 256 * 256))) (λ code. tt)
 
 -- what an exit asks of the memory
-exit_asked : (images : List NamedImage) (F : FlatState) (p : Process) (x : Space) (effect : Effect) → reply_asked images F p x system_calls.Exit effect ≡ exit_reply effect.regs
+exit_asked : (images : List NamedImage) (F : FlatState) (p : Process) (x : Space) (effect : Effect)
+    → reply_asked images F p x system_calls.Exit effect ≡ exit_reply effect.regs
 unfolding reply_of
 exit_asked images F p x effect = refl
 
@@ -189,7 +191,8 @@ module _ (A : Inputs) (s : State) (old new : Standing) (holds : Option (List Nam
           subst (λ (o : Option (List ℕ)). CallLeads A s old.kernel image x called new.kernel o) (sym c.1)
           (refusal A s old new holds image pid now p x effect system_calls.Exit refused called on makes (asked_is ∙ e) c.0)
 
-  pub exit_stops : (stop : Stop) → RefusedCallStops → StopsExit old new pid (run memory (exit_reply effect.regs)) holds (Some image) behind stop → StopLeads A s old.kernel image stop new behind
+  pub exit_stops : (stop : Stop) → RefusedCallStops → StopsExit old new pid (run memory (exit_reply effect.regs)) holds (Some image) behind stop
+      → StopLeads A s old.kernel image stop new behind
   exit_stops stop refusal h = go (run memory (exit_reply effect.regs)) refl h
     where
       ends : (reply : Reply) → IsExit reply → run memory (exit_reply effect.regs) ≡ Ok reply → StopsAlive old new pid holds (Some image) behind stop → StopLeads A s old.kernel image stop new behind

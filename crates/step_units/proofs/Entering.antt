@@ -51,10 +51,12 @@ use Rattle.step_units.proofs.Behind.{StepEnds, step_ends, KeepsDue, change_due}
 -- One unit of a process.
 
 -- the headers of a machine's images are those of the run's
-pub headers : (A : Inputs) (s : State) (m : Standing) (holds : Option (List NamedFile)) (image : List ℕ) → MachineAt A s m holds image → facts_named m.images ≡ facts_of A.images
+pub headers : (A : Inputs) (s : State) (m : Standing) (holds : Option (List NamedFile)) (image : List ℕ) → MachineAt A s m holds image
+    → facts_named m.images ≡ facts_of A.images
 headers A s m holds image h = headers_agree A (ground m holds []) h.images
 
-pub entry_leads : (A : Inputs) (s : State) (k l : Kernel) (image : List ℕ) (pid : ℕ) (now : Bool) (e : Entry) → Runs A s pid now → wanted A s ≡ None → act A s pid ≡ Some e
+pub entry_leads : (A : Inputs) (s : State) (k l : Kernel) (image : List ℕ) (pid : ℕ) (now : Bool) (e : Entry) → Runs A s pid now → wanted A s ≡ None
+    → act A s pid ≡ Some e
     → MadeAs A s k image e l (Some image) → Leads A s k image (e ∷ []) (after A s e) l (Some image)
 entry_leads A s k l image pid now e r w a m =
     let t : State = after A s e in
@@ -74,7 +76,8 @@ pub record IsComplete (A : Inputs) (s : State) (k l : Kernel) (image : List ℕ)
   pub between : IsBetween (after A s e).point.last
   pub ends : StepEnds A s pid e (after A s e)
 
-pub completes : (A : Inputs) (s : State) (k l : Kernel) (image : List ℕ) (pid : ℕ) (now : Bool) (e : Entry) → At A s k image → Runs A s pid now → wanted A s ≡ None → act A s pid ≡ Some e
+pub completes : (A : Inputs) (s : State) (k l : Kernel) (image : List ℕ) (pid : ℕ) (now : Bool) (e : Entry) → At A s k image → Runs A s pid now
+    → wanted A s ≡ None → act A s pid ≡ Some e
     → EndsStep pid e → due_at A s.point pid ≡ e ∷ [] → MadeAs A s k image e l (Some image) → l.place.due ≡ []
     → IsComplete A s k l image pid e
 completes A s k l image pid now e at r w a c d m clear =
@@ -90,7 +93,8 @@ completes A s k l image pid now e at r w a c d m clear =
       ends = ends;
     }
 
-abbrev pub complete_leads : (A : Inputs) (s : State) (k l : Kernel) (image : List ℕ) (pid : ℕ) (e : Entry) → IsComplete A s k l image pid e → StepLeads A s k image (counted e) l (Some image)
+abbrev pub complete_leads : (A : Inputs) (s : State) (k l : Kernel) (image : List ℕ) (pid : ℕ) (e : Entry) → IsComplete A s k l image pid e
+    → StepLeads A s k image (counted e) l (Some image)
 complete_leads A s k l image pid e h = record {
   units = e ∷ [];
   state = after A s e;
@@ -104,12 +108,14 @@ complete_leads A s k l image pid e h = record {
 
 -- Units behind others.
 
-pub leads_both : (A : Inputs) (s t r : State) (k l m : Kernel) (image mid : List ℕ) (j : Option (List ℕ)) (us vs : List Entry) → Leads A s k image us t l (Some mid) → Leads A t l mid vs r m j
+pub leads_both : (A : Inputs) (s t r : State) (k l m : Kernel) (image mid : List ℕ) (j : Option (List ℕ)) (us vs : List Entry)
+    → Leads A s k image us t l (Some mid) → Leads A t l mid vs r m j
     → Leads A s k image (us ++ vs) r m j
 leads_both A s t r k l m image mid j us vs a b =
     both_lead A s t r k l m image (Some mid) j us vs a (λ x e. subst (λ (i : List ℕ). Leads A t l i vs r m j) (same_Some mid x e) b)
 
-pub leads_then : (A : Inputs) (s t : State) (k l m : Kernel) (image mid : List ℕ) (j : Option (List ℕ)) (us : List Entry) (n : ℕ) → Leads A s k image us t l (Some mid)
+pub leads_then : (A : Inputs) (s t : State) (k l m : Kernel) (image mid : List ℕ) (j : Option (List ℕ)) (us : List Entry) (n : ℕ)
+    → Leads A s k image us t l (Some mid)
     → t.count ≡ s.count → t.lines ≡ s.lines → t.mark ≡ s.mark → StepLeads A t l mid n m j → StepLeads A s k image n m j
 leads_then A s t k l m image mid j us n a count lines mark b = record {
   units = us ++ b.units;
@@ -173,7 +179,8 @@ longer : (journal : List Entry) (e : Entry) → length journal < length (journal
 longer journal e = let h = length-append journal (e ∷ []) in omega (arith, h)
 
 -- where the journal is at its bound
-full_next : (A : Inputs) (s : State) (k : Kernel) (image : List ℕ) (e : Entry) (new : Standing) → next_unit A s ≡ Some e → IsOwn e → new.params.journal ≤ length k.journal
+full_next : (A : Inputs) (s : State) (k : Kernel) (image : List ℕ) (e : Entry) (new : Standing) → next_unit A s ≡ Some e → IsOwn e
+    → new.params.journal ≤ length k.journal
     → StopsNext A s k image stops.JournalFull new (Some image)
 full_next A s k image (entries.Out q bytes) new n o b = record { entry = entries.Out q bytes; next = n; full = λ _. (b, longer k.journal (entries.Out q bytes)); cause = inl refl; spoils = refl }
 full_next A s k image (entries.Grew q pages) new n o b = record { entry = entries.Grew q pages; next = n; full = λ _. (b, longer k.journal (entries.Grew q pages)); cause = inl refl; spoils = refl }
@@ -199,7 +206,8 @@ stops_in old new stop h = record {
   full = λ c. subst (λ (y : Params). y.journal ≤ length old.kernel.journal) (sym h.stopped.params) (h.full c);
 }
 
-stops_by : (A : Inputs) (s : State) (k : Kernel) (new : Standing) (image : List ℕ) (e : Entry) (stop : Stop) → next_unit A s ≡ Some e → IsOwn e → StopsIn k new stop
+stops_by : (A : Inputs) (s : State) (k : Kernel) (new : Standing) (image : List ℕ) (e : Entry) (stop : Stop) → next_unit A s ≡ Some e → IsOwn e
+    → StopsIn k new stop
     → StopsBy A s k image stop new (Some image)
 stops_by A s k new image e stop n o h = go h.cause
   where
@@ -207,7 +215,8 @@ stops_by A s k new image e stop n o h = go h.cause
     go (inl c) = subst (λ (z : Stop). StopsBy A s k image z new (Some image)) (sym c) (full_next A s k image e new n o (h.full c))
     go (inr c) = subst (λ (z : Stop). StopsBy A s k image z new (Some image)) (sym c) refl
 
-pub stopped_in : (A : Inputs) (s : State) (k : Kernel) (new : Standing) (image : List ℕ) (pid : ℕ) (now : Bool) (e : Entry) (stop : Stop) → Runs A s pid now → wanted A s ≡ None → act A s pid ≡ Some e
+pub stopped_in : (A : Inputs) (s : State) (k : Kernel) (new : Standing) (image : List ℕ) (pid : ℕ) (now : Bool) (e : Entry) (stop : Stop)
+    → Runs A s pid now → wanted A s ≡ None → act A s pid ≡ Some e
     → IsOwn e → StopsIn k new stop → StopLeads A s k image stop new (Some image)
 stopped_in A s k new image pid now e stop r w a o h = record {
   units = [];
@@ -221,7 +230,8 @@ stopped_in A s k new image pid now e stop r w a o h = record {
 }
 
 -- before an entry of a process the run stops where that entry is next
-pub stopped_before : (A : Inputs) (s : State) (old new : Standing) (image : List ℕ) (pid : ℕ) (now : Bool) (e : Entry) (stop : Stop) → Runs A s pid now → wanted A s ≡ None → act A s pid ≡ Some e
+pub stopped_before : (A : Inputs) (s : State) (old new : Standing) (image : List ℕ) (pid : ℕ) (now : Bool) (e : Entry) (stop : Stop)
+    → Runs A s pid now → wanted A s ≡ None → act A s pid ≡ Some e
     → IsOwn e → StopsBefore old new stop → StopLeads A s old.kernel image stop new (Some image)
 stopped_before A s old new image pid now e stop r w a o h = stopped_in A s old.kernel new image pid now e stop r w a o (stops_in old new stop h)
 
@@ -240,7 +250,8 @@ stopped_short A s old new image stop h c = record {
 }
 
 -- behind units
-pub stops_then : (A : Inputs) (s t : State) (k l : Kernel) (image mid : List ℕ) (j : Option (List ℕ)) (us : List Entry) (stop : Stop) (new : Standing) → Leads A s k image us t l (Some mid)
+pub stops_then : (A : Inputs) (s t : State) (k l : Kernel) (image mid : List ℕ) (j : Option (List ℕ)) (us : List Entry) (stop : Stop) (new : Standing)
+    → Leads A s k image us t l (Some mid)
     → StopLeads A t l mid stop new j → StopLeads A s k image stop new j
 stops_then A s t k l image mid j us stop new a b = record {
   units = us ++ b.units;

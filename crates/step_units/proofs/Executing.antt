@@ -64,7 +64,8 @@ module _ (A : Inputs) (s : State) (m : Standing) (holds : Option (List NamedFile
       (forced_fill A s m h.roomy holds image j (Start page) [] [] at images first (start_first s page first) h.forces)
 
   -- the run stops as a frame is forced, or at the fill
-  pub start_stops : (new : Standing) (j : Option (List ℕ)) (stop : Stop) → StopsStart page m new holds (Some image) j stop → StopLeads A s m.kernel image stop new j
+  pub start_stops : (new : Standing) (j : Option (List ℕ)) (stop : Stop) → StopsStart page m new holds (Some image) j stop
+      → StopLeads A s m.kernel image stop new j
   start_stops new j stop h = elim h [
     | inl x ↦ forcing_stops A s m new holds image j (entries.Zero page) [] stop at images (start_first s page first) x
     | inr x ↦ fill_stops A s m x.0 new holds image j j (entries.Zero page) [] stop at images (start_first s page first) x.1 x.2
@@ -151,7 +152,8 @@ module _ (A : Inputs) (s : State) (old : Standing) (holds : Option (List NamedFi
         refusal A s old holds image pid now p x (answered_step A.images s.point.flat p Execve [] after_regs (changes.Exec number top)) on called.unwanted step_is
         (ap (λ (r : Result Holdings ℕ). is_ok r) (sym (pieces_same A s old holds image pid number top on.machine)) ∙ none)
 
-    pub starts_made : (new : Standing) (j : Option (List ℕ)) → StartsBy (is_ok (image_found number old)) old new pid effect.regs after_regs number top holds (Some image) j
+    pub starts_made : (new : Standing) (j : Option (List ℕ))
+        → StartsBy (is_ok (image_found number old)) old new pid effect.regs after_regs number top holds (Some image) j
         → StepLeads A s old.kernel image 1 new.kernel j
     starts_made new j h = go (is_ok (image_found number old)) refl h
       where
@@ -194,7 +196,8 @@ module _ (A : Inputs) (s : State) (old : Standing) (holds : Option (List NamedFi
         ap (λ (r : Result Holdings ℕ). is_ok r) (sym (found_back old f.between number (is_ready old f.between pid holds (Some image) h.told f.left)) ∙ f.finds) in
         filled_stops h.between new h.told j stop (imaged A s old holds image pid now p x effect on makes after_regs number top reads h.between h.told ok h.started) h.stops
 
-    pub starts_stop : (new : Standing) (j : Option (List ℕ)) (stop : Stop) → StopsExec old new pid (Ok (Does after_regs (changes.Exec number top))) holds (Some image) j stop
+    pub starts_stop : (new : Standing) (j : Option (List ℕ)) (stop : Stop)
+        → StopsExec old new pid (Ok (Does after_regs (changes.Exec number top))) holds (Some image) j stop
         → StopLeads A s old.kernel image stop new j
     starts_stop new j stop h = elim h [
       | inl y ↦ elim y [ inl z ↦ finding_stops new j stop z | inr z ↦ without_stops new j stop z ]

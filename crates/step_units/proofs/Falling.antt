@@ -71,7 +71,8 @@ pub record Falls (A : Inputs) (s : State) (m : Standing) (pid : ℕ) (p : Proces
   pub size : data_count m.kernel.place x.sid ≡ data_pages_of x
   pub finds : fits A.swap_blocks s.holdings (asks A s.point.flat pid) ≡ is_ok (growth_found m pid (pages_down_to address))
 
-ready_for : (A : Inputs) (s : State) (k : Kernel) (image : List ℕ) (pid : ℕ) (now : Bool) (p : Process) (x : Space) (r : Result Effect Refused) → At A s k image → IsRunning A s pid now p x
+ready_for : (A : Inputs) (s : State) (k : Kernel) (image : List ℕ) (pid : ℕ) (now : Bool) (p : Process) (x : Space) (r : Result Effect Refused)
+    → At A s k image → IsRunning A s pid now p x
     → run (kernel_answers k x.sid) (instruction p.regs) ≡ r → IsWhole r → IsReadyFor A s p x r
 ready_for A s k image pid now p x r at i e w = subst (IsReadyFor A s p x) e (hit_ready A s k image pid now p x at i (subst IsWhole (sym e) w))
 
@@ -134,11 +135,13 @@ asks_growth A s m holds image pid now p x address write r f =
     ap (λ (spot : Spot). access_at x.sid (image_of m.kernel.place x.sid) address spot write)
     ((same_spots A s m.kernel image pid p x r.machine.at r.running.here r.running.holds).spots address ∙ f.below)
 
-pub low : (A : Inputs) (s : State) (m : Standing) (pid : ℕ) (p : Process) (x : Space) (address : ℕ) → Falls A s m pid p x address → address + length x.stack_bytes + 1 ≤ stack_top
+pub low : (A : Inputs) (s : State) (m : Standing) (pid : ℕ) (p : Process) (x : Space) (address : ℕ) → Falls A s m pid p x address
+    → address + length x.stack_bytes + 1 ≤ stack_top
 low A s m pid p x address f = spot_below (length x.text_bytes) (length x.data_bytes) (length x.stack_bytes) address f.below
 
 -- no page goes with growth
-keeps_pages : (x : Space) (b : Bool) (address : ℕ) → address + length x.stack_bytes + 1 ≤ stack_top → loses_pages x b (Resize (data_pages_of x) (pages_down_to address)) ≡ false
+keeps_pages : (x : Space) (b : Bool) (address : ℕ) → address + length x.stack_bytes + 1 ≤ stack_top
+    → loses_pages x b (Resize (data_pages_of x) (pages_down_to address)) ≡ false
 keeps_pages x b address l =
     ap (λ (c : Bool). c || nat_lt (pages_down_to address) (stack_pages_of x)) (same (data_pages_of x)) ∙ more
   where
@@ -154,7 +157,8 @@ keeps_pages x b address l =
     more : nat_lt (pages_down_to address) (stack_pages_of x) ≡ false
     more = above (stack_pages_of x) (pages_down_to address) most
 
-unsettled : (A : Inputs) (s : State) (m : Standing) (pid : ℕ) (now : Bool) (p : Process) (x : Space) (address : ℕ) → IsRunning A s pid now p x → Falls A s m pid p x address
+unsettled : (A : Inputs) (s : State) (m : Standing) (pid : ℕ) (now : Bool) (p : Process) (x : Space) (address : ℕ) → IsRunning A s pid now p x
+    → Falls A s m pid p x address
     → must_settle A s pid ≡ false
 unsettled A s m pid now p x address r f =
     let b : Bool = is_borrower s.point.flat.processes pid in

@@ -50,7 +50,8 @@ stays A s k image ds d = record {
 }
 
 -- behind units that lead to a state
-pub goes_on : (A : Inputs) (s t : State) (k l m : Kernel) (image behind : List ℕ) (j : Option (List ℕ)) (us : List Entry) (ds : List Due) → Leads A s k image us t l (Some behind)
+pub goes_on : (A : Inputs) (s t : State) (k l m : Kernel) (image behind : List ℕ) (j : Option (List ℕ)) (us : List Entry) (ds : List Due)
+    → Leads A s k image us t l (Some behind)
     → SameBut s t → LeadsTo A t l behind ds m j → LeadsTo A s k image ds m j
 goes_on A s t k l m image behind j us ds led same more = record {
   units = us ++ more.units;

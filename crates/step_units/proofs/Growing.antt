@@ -63,7 +63,8 @@ use Rattle.step_units.proofs.Serving.{WaitsFor, LeadsMore}
 
 -- A process that goes on as before, behind an entry that counts no instruction.
 
-goes_same : (A : Inputs) (s t : State) (pid : ℕ) (now : Bool) (m : Mark) → can_step t.point.flat pid ≡ can_step s.point.flat pid → t.count ≡ s.count → GoesOn A s m pid now → GoesOn A t m pid now
+goes_same : (A : Inputs) (s t : State) (pid : ℕ) (now : Bool) (m : Mark) → can_step t.point.flat pid ≡ can_step s.point.flat pid → t.count ≡ s.count
+    → GoesOn A s m pid now → GoesOn A t m pid now
 goes_same A s t pid false (marks.Dispatch p count since) e c h = (h.0, on)
   where
     on : goes_on A t pid (since + count) ≡ true
@@ -315,7 +316,8 @@ longer : (journal : List Entry) (u : Entry) → length journal < length (journal
 longer journal u = let k = length-append journal (u ∷ []) in omega arith
 
 -- neither is joined to another entry
-apart_next : (A : Inputs) (t : State) (k : Kernel) (image : List ℕ) (stop : Stop) (old new : Standing) (j : Option (List ℕ)) (pid n : ℕ) (u : Entry) → next_unit A t ≡ Some u
+apart_next : (A : Inputs) (t : State) (k : Kernel) (image : List ℕ) (stop : Stop) (old new : Standing) (j : Option (List ℕ)) (pid n : ℕ) (u : Entry)
+    → next_unit A t ≡ Some u
     → (u ≡ entries.Grew pid n) ⊎ (u ≡ entries.Refused pid) → (stop ≡ stops.JournalFull) ⊎ (stop ≡ stops.NoMemory) → (stop ≡ stops.JournalFull → new.params.journal ≤ length k.journal) → j ≡ Some image
     → StopsNext A t k image stop new j
 apart_next A t k image stop old new j pid n u next (inl e) c f i = record {

@@ -116,7 +116,8 @@ index_page : (a : ℕ) → stack_index a / 1024 ≡ pages_down_to a - 1
 index_page a = omega arith
 
 -- the new page is the last one that the stack has then
-new_page : (x : Space) (d a : ℕ) (regs : Regs) → Bigger x d (pages_down_to a) a → instruction_in x regs ≡ Err (Below a) → Reached Effect x d (pages_down_to a) a (instruction regs)
+new_page : (x : Space) (d a : ℕ) (regs : Regs) → Bigger x d (pages_down_to a) a → instruction_in x regs ≡ Err (Below a)
+    → Reached Effect x d (pages_down_to a) a (instruction regs)
     → grown_page x a ≡ Stack x.sid (pages_down_to a - 1)
 new_page x d a regs b e r =
     let t : ℕ = pages_down_to a in
@@ -175,7 +176,8 @@ pages_grown s d t a p after r =
 -- The process.
 
 -- once its stack has grown
-pub grown_process : (images : List NamedImage) (F : FlatState) (pid : ℕ) (q : Process) (s : Space) (regs : Regs) (d t : ℕ) → process_of F pid ≡ Some q → q.holding ≡ Holds s
+pub grown_process : (images : List NamedImage) (F : FlatState) (pid : ℕ) (q : Process) (s : Space) (regs : Regs) (d t : ℕ) → process_of F pid ≡ Some q
+    → q.holding ≡ Holds s
     → process_of (apply_change images (apply_writes F pid []) pid regs (Resize d t)) pid ≡ Some (record q { regs = regs; holding = Holds (resized s d t) })
 unfolding apply_change apply_writes
 grown_process images F pid q s regs d t e h =
@@ -194,7 +196,8 @@ grown_ready p x h = go p.asleep p.holding h
     go false h e = refl
 
 -- the sizes of a space and of one grown to a byte
-pub grown_sizes : (s : Space) (o : Option SpacePages) (a : ℕ) → Fits (Some s) o → a + length s.stack_bytes + 1 ≤ stack_top → Bigger s (data_pages_of s) (pages_down_to a) a
+pub grown_sizes : (s : Space) (o : Option SpacePages) (a : ℕ) → Fits (Some s) o → a + length s.stack_bytes + 1 ≤ stack_top
+    → Bigger s (data_pages_of s) (pages_down_to a) a
 grown_sizes s None a f l = absurd f
 grown_sizes s (Some x) a f l =
     let d = f.data_size in
@@ -212,7 +215,8 @@ all_accesses : (images : List NamedImage) (F : FlatState) (p : Process) (s : Spa
 unfolding step_accesses
 all_accesses images F p s = refl
 
-pub touched_grown : (A : Inputs) (F G : FlatState) (pid : ℕ) (p : Process) (x : Space) (d a : ℕ) → process_of F pid ≡ Some p → p.holding ≡ Holds x → is_ready p ≡ true
+pub touched_grown : (A : Inputs) (F G : FlatState) (pid : ℕ) (p : Process) (x : Space) (d a : ℕ) → process_of F pid ≡ Some p → p.holding ≡ Holds x
+    → is_ready p ≡ true
     → process_of G pid ≡ Some (record p { regs = p.regs; holding = Holds (resized x d (pages_down_to a)) }) → Bigger x d (pages_down_to a) a → instruction_in x p.regs ≡ Err (Below a)
     → (more : List Page) × (touched A G pid ≡ touched A F pid ++ Stack x.sid (pages_down_to a - 1) ∷ more)
 touched_grown A F G pid p x d a here holds ready there b e =

@@ -29,13 +29,15 @@ use Rattle.step_units.proofs.Entering.{IsOwn, stopped_before}
 
 -- What comes next.
 
-acts_as : (A : Inputs) (s : State) (pid : ℕ) (refused waits : Bool) → can_step s.point.flat pid ≡ true → must_refuse A s pid ≡ refused → must_settle A s pid ≡ waits
+acts_as : (A : Inputs) (s : State) (pid : ℕ) (refused waits : Bool) → can_step s.point.flat pid ≡ true → must_refuse A s pid ≡ refused
+    → must_settle A s pid ≡ waits
     → act A s pid ≡ act_by A s pid refused waits
 unfolding act
 acts_as A s pid refused waits c r t =
     ap (λ (b : Bool). act_if b A s pid) c ∙ ap (λ (b : Bool). act_by A s pid b (must_settle A s pid)) r ∙ ap (act_by A s pid refused) t
 
-first_comes : (A : Inputs) (s : State) (pid : ℕ) (e : Entry) (es : List Entry) → can_step s.point.flat pid ≡ true → due_at A s.point pid ≡ e ∷ es → next_of_step A s.point pid ≡ Some e
+first_comes : (A : Inputs) (s : State) (pid : ℕ) (e : Entry) (es : List Entry) → can_step s.point.flat pid ≡ true → due_at A s.point pid ≡ e ∷ es
+    → next_of_step A s.point pid ≡ Some e
 first_comes A s pid e es c d = ap (λ (b : Bool). first_if b (due_at A s.point pid)) c ∙ ap (first_if true) d
 
 -- Before the end of a transfer.
@@ -55,7 +57,8 @@ some_transfer p sid [] e h =
     absurd cc
 some_transfer p sid (t ∷ ts) e h = omega arith
 
-waits_for : (A : Inputs) (s : State) (pid : ℕ) (now : Bool) (p : Process) (x : Space) → IsRunning A s pid now p x → must_settle A s pid ≡ true → is_settled s.place x.sid ≡ false
+waits_for : (A : Inputs) (s : State) (pid : ℕ) (now : Bool) (p : Process) (x : Space) → IsRunning A s pid now p x → must_settle A s pid ≡ true
+    → is_settled s.place x.sid ≡ false
 waits_for A s pid now p x r t =
     let is : settled s.point.flat s.place pid ≡ is_settled s.place x.sid = ap (settled_if s.place) r.here ∙ ap (settled_in s.place) r.holds in
     sym is ∙ go (step_loses A s pid) (settled s.point.flat s.place pid) t
@@ -65,7 +68,8 @@ waits_for A s pid now p x r t =
     go true false h = refl
     go false b h = absurd cc
 
-stops_done : (A : Inputs) (s : State) (old new : Standing) (image : List ℕ) (stop : Stop) → next_unit A s ≡ Some entries.Done → 0 < length old.kernel.place.transfers → StopsBefore old new stop
+stops_done : (A : Inputs) (s : State) (old new : Standing) (image : List ℕ) (stop : Stop) → next_unit A s ≡ Some entries.Done
+    → 0 < length old.kernel.place.transfers → StopsBefore old new stop
     → StopsBy A s old.kernel image stop new (Some image)
 stops_done A s old new image stop n some h = go h.cause
   where

@@ -99,7 +99,8 @@ begins_due o pid es b = elim b [
   | inr e ↦ refused_due o pid es e
 ]
 
-acts_first : (A : Inputs) (s : State) (pid : ℕ) (e : Entry) (es : List Entry) → can_step s.point.flat pid ≡ true → must_refuse A s pid ≡ false → must_settle A s pid ≡ false
+acts_first : (A : Inputs) (s : State) (pid : ℕ) (e : Entry) (es : List Entry) → can_step s.point.flat pid ≡ true → must_refuse A s pid ≡ false
+    → must_settle A s pid ≡ false
     → due_at A s.point pid ≡ e ∷ es → act A s pid ≡ Some e
 unfolding act
 acts_first A s pid e es c r t d =
@@ -175,7 +176,8 @@ module _ (A : Inputs) (s : State) (old : Standing) (holds : Option (List NamedFi
     has_left h = by (has_lender old.kernel.processes pid) refl h
 
   -- The run stops as transfers of the space end, or before the entry of the step.
-  pub stops_leaving : (u : Entry) (new : Standing) (j : Option (List ℕ)) (stop : Stop) → Begins s.point.last pid → (step_at A s.point pid).entries ≡ u ∷ [] → IsOwn u
+  pub stops_leaving : (u : Entry) (new : Standing) (j : Option (List ℕ)) (stop : Stop) → Begins s.point.last pid
+      → (step_at A s.point pid).entries ≡ u ∷ [] → IsOwn u
       → StopsLeaving old new pid holds (Some image) j stop → StopLeads A s old.kernel image stop new j
   stops_leaving u new j stop b e own h = elim h [ inl y ↦ settling y | inr y ↦ lent y ]
     where
@@ -215,7 +217,8 @@ module _ (A : Inputs) (s : State) (old between : Standing) (image : List ℕ) (p
   left_acts u b e = acts_first A l.state pid u [] (on_steps A l.state l.state.mark pid now l.gives.running.runs.on) l.gives.fits l.ready (due_left u b e)
 
   -- The run stops before it.
-  pub left_stops : (u : Entry) (new : Standing) (stop : Stop) → Begins s.point.last pid → (step_at A s.point pid).entries ≡ u ∷ [] → IsOwn u → StopsBefore between new stop
+  pub left_stops : (u : Entry) (new : Standing) (stop : Stop) → Begins s.point.last pid → (step_at A s.point pid).entries ≡ u ∷ [] → IsOwn u
+      → StopsBefore between new stop
       → StopLeads A s old.kernel image stop new j
   left_stops u new stop b e own h =
       let journal : between.kernel.journal ≡ l.kernel.journal = ap (λ (k : Kernel). k.journal) l.back ∙ returned_journal (has_lender l.kernel.processes pid) l.kernel pid in
@@ -235,7 +238,8 @@ module _ (A : Inputs) (s : State) (old between : Standing) (image : List ℕ) (p
           subst (λ (k : Kernel). StaysPut k new) (l.back ∙ ap (λ (b : Bool). returned b l.kernel pid) e) (held_here stop between new h.stopped h.whole h.full f)
 
   -- The machine made it, with the pieces that were found for its change.
-  pub left_made : (new : Kernel) (u : Entry) (step : Step) (found : Holdings) → At A s old.kernel image → Completes pid u → step_at A s.point pid ≡ step → step.writes ≡ [] → GivesBack step.change
+  pub left_made : (new : Kernel) (u : Entry) (step : Step) (found : Holdings) → At A s old.kernel image → Completes pid u
+      → step_at A s.point pid ≡ step → step.writes ≡ [] → GivesBack step.change
       → place_all A.swap_blocks l.kernel.holdings (asked (facts_of A.images) l.kernel pid step.change) ≡ Ok found
       → new ≡ change_step (facts_of A.images) (with_holdings between.kernel found) pid step.regs u step.change
       → MadeAs A l.state l.kernel l.behind u new (Some l.behind)

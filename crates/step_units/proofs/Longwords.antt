@@ -36,7 +36,8 @@ next_entry A s u r n = go (next_or A s u r.flows.waits (kind_of A s u n))
     go (inl h) = plain_entry A s u h
     go (inr h) = next_flat A s u r.flows.says h
 
-one_stays : (A : Inputs) (s : State) (u : Entry) → AllImages A.images → IsRun A s → next_unit A s ≡ Some u → length A.first + 1 + s.count < 2 ^ 32 → HasLongwords A s → HasLongwords A (after A s u)
+one_stays : (A : Inputs) (s : State) (u : Entry) → AllImages A.images → IsRun A s → next_unit A s ≡ Some u → length A.first + 1 + s.count < 2 ^ 32
+    → HasLongwords A s → HasLongwords A (after A s u)
 one_stays A s u w r n l h =
     let e : flat_entry A s.point u ≡ Some (after A s u).point = next_entry A s u r n in
     record {
@@ -50,7 +51,8 @@ counts_on A [] s t k l image behind m = let e = ap (λ (x : State). x.count) m.0
 counts_on A (u ∷ us) s t k l image behind m =
     let c = after_count A s u in let d = counts_on A us (after A s u) t (unit_step A s k image m.1.0 u) l (unit_image k image u) behind m.1.2 in omega (arith, c, d)
 
-all_stay : (A : Inputs) (us : List Entry) (s t : State) (k l : Kernel) (image behind : List ℕ) → AllImages A.images → ImagesFit A.images → IsRun A s → Makes A s k image us t l behind
+all_stay : (A : Inputs) (us : List Entry) (s t : State) (k l : Kernel) (image behind : List ℕ) → AllImages A.images → ImagesFit A.images → IsRun A s
+    → Makes A s k image us t l behind
     → length A.first + 1 + t.count < 2 ^ 32 → HasLongwords A s → HasLongwords A t
 all_stay A [] s t k l image behind w f r m c h = subst (HasLongwords A) m.0 h
 all_stay A (u ∷ us) s t k l image behind w f r m c h =
@@ -58,6 +60,7 @@ all_stay A (u ∷ us) s t k l image behind w f r m c h =
     all_stay A us (after A s u) t (unit_step A s k image m.1.0 u) l (unit_image k image u) behind w f (run_on A s u f (execs_fit A) r m.0) m.1.2 c
     (one_stays A s u w r m.0 (omega (arith, low, c)) h)
 
-pub longwords_stay : (A : Inputs) (s t : State) (k l : Kernel) (image : List ℕ) (j : Option (List ℕ)) (us : List Entry) → AllImages A.images → At A s k image → Leads A s k image us t l j
+pub longwords_stay : (A : Inputs) (s t : State) (k l : Kernel) (image : List ℕ) (j : Option (List ℕ)) (us : List Entry) → AllImages A.images
+    → At A s k image → Leads A s k image us t l j
     → length A.first + 1 + t.count < 2 ^ 32 → HasLongwords A s → HasLongwords A t
 longwords_stay A s t k l image j us w at a c h = all_stay A us s t k l image a.behind w at.fit at.run a.makes c h

@@ -60,7 +60,8 @@ told_regs old effect = replied_both effect.regs old.kernel.next_pid 0
 abbrev child_answer : Bool → Standing → Effect → (ℕ → Change) → Result Reply Refused
 child_answer below old effect change = Ok (child_by below effect.regs old.kernel.next_pid (own_change old change))
 
-pub told_by : (A : Inputs) (s : State) (old : Standing) (p : Process) (x : Space) (effect : Effect) (call : SystemCall) (change : ℕ → Change) (below : Bool) → is_below_limit old.kernel ≡ below
+pub told_by : (A : Inputs) (s : State) (old : Standing) (p : Process) (x : Space) (effect : Effect) (call : SystemCall) (change : ℕ → Change) (below : Bool)
+    → is_below_limit old.kernel ≡ below
     → IsCalledFor A s p x call effect (Ok (child_told old.kernel effect.regs change)) → IsCalledFor A s p x call effect (Ok (child_by below effect.regs old.kernel.next_pid (own_change old change)))
 told_by A s old p x effect call change below b c =
     subst (λ (z : Bool). IsCalledFor A s p x call effect (Ok (child_by z effect.regs old.kernel.next_pid (own_change old change)))) b c
@@ -74,13 +75,15 @@ making_step A s old holds image pid now p x effect call change a b =
     called_step A s pid now p x effect call (Ok (Does (told_regs old effect) (own_change old change))) a.runs.running a.runs.between a.makes.names (told_by A s old p x effect call change true b a.called)
 
 -- what it asks for, of the machine and of the run
-pub same_pieces : (A : Inputs) (s : State) (old : Standing) (holds : Option (List NamedFile)) (image : List ℕ) (pid : ℕ) (change : Change) → MachineAt A s old holds image
+pub same_pieces : (A : Inputs) (s : State) (old : Standing) (holds : Option (List NamedFile)) (image : List ℕ) (pid : ℕ) (change : Change)
+    → MachineAt A s old holds image
     → place_all old.params.swap_blocks old.kernel.holdings (asked (facts_named old.images) old.kernel pid change) ≡ place_all A.swap_blocks old.kernel.holdings (asked (facts_of A.images) old.kernel pid change)
 same_pieces A s old holds image pid change h =
     ap (λ (n : ℕ). place_all n old.kernel.holdings (asked (facts_named old.images) old.kernel pid change)) h.blocks
     ∙ ap (λ (fs : List Image). place_all A.swap_blocks old.kernel.holdings (asked fs old.kernel pid change)) (headers A s old holds image h)
 
-none_found : (A : Inputs) (s : State) (old : Standing) (holds : Option (List NamedFile)) (image : List ℕ) (pid : ℕ) (change : ℕ → Change) → MachineAt A s old holds image
+none_found : (A : Inputs) (s : State) (old : Standing) (holds : Option (List NamedFile)) (image : List ℕ) (pid : ℕ) (change : ℕ → Change)
+    → MachineAt A s old holds image
     → finds_pieces old pid (own_change old change) ≡ false → is_ok (place_all A.swap_blocks old.kernel.holdings (asked (facts_of A.images) old.kernel pid (own_change old change))) ≡ false
 none_found A s old holds image pid change h f = ap (λ (o : Result Holdings ℕ). is_ok o) (sym (same_pieces A s old holds image pid (own_change old change) h)) ∙ f
 

@@ -71,7 +71,8 @@ with_self (x ∷ ks) p d e = go (with_self ks p d.1) (x.pid == p.pid) refl e
         ∙ ap (λ (l : List Proc). x ∷ l) (more (ap (λ (c : Bool). cond c (Some x) (numbered (λ (q : Proc). q.pid) p.pid ks)) (sym f) ∙ k))
 
 -- it is one that goes into the journal alone
-pub noted : (images : List Image) (k : Kernel) (pid : ℕ) (p : Process) (x : Space) (e : Entry) → AllDistinct (map (λ (q : Proc). q.pid) k.processes) → IsKept k pid p x
+pub noted : (images : List Image) (k : Kernel) (pid : ℕ) (p : Process) (x : Space) (e : Entry) → AllDistinct (map (λ (q : Proc). q.pid) k.processes)
+    → IsKept k pid p x
     → change_step images k pid (regs_of k pid) e changes.Keep ≡ note_step k e
 noted images k pid p x e d h =
     let number : h.proc.pid ≡ pid = ap (λ (o : Outline). o.pid) h.outline ∙ h.number in

@@ -76,7 +76,8 @@ parted (u ∷ us) vs at p pid sid r h =
     }
 
 -- a unit of paging leaves no place in the journal in the placement
-anywhere : (g : Ground) (e : Entry) (k l : Kernel) (i : Option (List ℕ)) (n m : ℕ) (p : Placement) → MadeBy g e k i l → place_entry [] n p e ≡ place_entry [] m p e
+anywhere : (g : Ground) (e : Entry) (k l : Kernel) (i : Option (List ℕ)) (n m : ℕ) (p : Placement) → MadeBy g e k i l
+    → place_entry [] n p e ≡ place_entry [] m p e
 anywhere g (entries.Zero q) k l i n m p h = refl
 anywhere g (entries.Copy q) k l i n m p h = refl
 anywhere g (entries.Get q lo c) k l i n m p h = refl
@@ -86,7 +87,8 @@ anywhere g (entries.Put q c) k l i n m p h = refl
 anywhere g entries.Done k l i n m p h = refl
 anywhere g _ k l i n m p h = absurd h
 
-made_place : (us : List Entry) (g : Ground) (k l : Kernel) (i j : Option (List ℕ)) (at pid sid : ℕ) (r : Placement) → g.locked ≡ [] → Made g us k i l j → PutsOut us at k.place pid sid r → r ≡ l.place
+made_place : (us : List Entry) (g : Ground) (k l : Kernel) (i j : Option (List ℕ)) (at pid sid : ℕ) (r : Placement) → g.locked ≡ []
+    → Made g us k i l j → PutsOut us at k.place pid sid r → r ≡ l.place
 made_place [] g k l i j at pid sid r e m h = sym h ∙ ap (λ (x : Kernel). x.place) m.0
 made_place (u ∷ us) g k l i j at pid sid r e m h =
     let here : place_entry [] (at + 1) k.place u ≡ m.next.place =
@@ -104,7 +106,8 @@ record Holder (flat : FlatState) (pid sid : ℕ) : Type 0 where
   holds : process.holding ≡ Holds space
   own : space.sid ≡ sid
 
-holder_by : (flat : FlatState) (pid sid : ℕ) (q : Process) (h : Holding) → process_of flat pid ≡ Some q → q.holding ≡ h → life_of h ≡ HoldsSpace sid → Holder flat pid sid
+holder_by : (flat : FlatState) (pid sid : ℕ) (q : Process) (h : Holding) → process_of flat pid ≡ Some q → q.holding ≡ h → life_of h ≡ HoldsSpace sid
+    → Holder flat pid sid
 holder_by flat pid sid q (Holds x) f e l = record { process = q; space = x; here = f; holds = e; own = cc }
 holder_by flat pid sid q (Lends x child) f e l = absurd cc
 holder_by flat pid sid q (Zombie status) f e l = absurd cc
@@ -133,7 +136,8 @@ fits_found (x ∷ qs) pid q h e = go (fits_found qs pid q h.1) (x.pid == pid) e
     go later true k = let same : x ≡ q = cc in subst (λ (y : Process). AreRegs y.regs) same h.0.0
     go later false k = later k
 
-kept_registers : (A : Inputs) (s : State) (k : Kernel) (image : List ℕ) (pid sid : ℕ) → At A s k image → Holder s.point.flat pid sid → is_out s.place pid ≡ false → AllFit s.point.flat.processes
+kept_registers : (A : Inputs) (s : State) (k : Kernel) (image : List ℕ) (pid sid : ℕ) → At A s k image → Holder s.point.flat pid sid
+    → is_out s.place pid ≡ false → AllFit s.point.flat.processes
     → (p : Proc) → proc_of k pid ≡ Some p → AreRegs p.regs
 kept_registers A s k image pid sid at h o fit p e =
     let number : h.process.pid ≡ pid = (found_at s.point.flat pid h.process h.here).0 in
@@ -144,7 +148,8 @@ kept_registers A s k image pid sid at h o fit p e =
 
 -- What the swapper does.
 
-nothing_made : (A : Inputs) (s : State) (old new : Standing) (image : List ℕ) (j : Option (List ℕ)) → IsClear s → s.mark ≡ marks.Over → new ≡ old → j ≡ Some image
+nothing_made : (A : Inputs) (s : State) (old new : Standing) (image : List ℕ) (j : Option (List ℕ)) → IsClear s → s.mark ≡ marks.Over → new ≡ old
+    → j ≡ Some image
     → LineLeads A s old.kernel image new.kernel j
 nothing_made A s old new image j c m e i = record {
   units = [];
@@ -157,7 +162,8 @@ nothing_made A s old new image j c m e i = record {
   unturned = ap last_turned m;
 }
 
-in_comes : (A : Inputs) (s : State) (old new : Standing) (image : List ℕ) (j : Option (List ℕ)) (pid : ℕ) → IsClear s → s.mark ≡ marks.BringIn pid → IsIn old.kernel new.kernel pid (Some image)
+in_comes : (A : Inputs) (s : State) (old new : Standing) (image : List ℕ) (j : Option (List ℕ)) (pid : ℕ) → IsClear s → s.mark ≡ marks.BringIn pid
+    → IsIn old.kernel new.kernel pid (Some image)
     → j ≡ Some image → LineLeads A s old.kernel image new.kernel j
 unfolding after
 in_comes A s old new image j pid c m i e =
@@ -178,7 +184,8 @@ puts_process : (s : State) (k : Kernel) (pid sid : ℕ) → IsClear s → s.mark
 puts_process s k pid sid c m h = record { mark = m; clear = c.clear; own = own_space s.point.flat pid sid h }
 
 -- behind the units that put a process out it goes out
-last_out : (A : Inputs) (s : State) (k l : Kernel) (image : List ℕ) (j : Option (List ℕ)) (pid sid : ℕ) → At A s k image → IsBetween s.point.last → PutsProcess s pid sid → Holder s.point.flat pid sid
+last_out : (A : Inputs) (s : State) (k l : Kernel) (image : List ℕ) (j : Option (List ℕ)) (pid sid : ℕ) → At A s k image → IsBetween s.point.last
+    → PutsProcess s pid sid → Holder s.point.flat pid sid
     → is_out s.place pid ≡ false → AllFit s.point.flat.processes → entries.SwapOut pid ≡ put_out_unit s.place pid sid → l ≡ out_step k pid → WritesU k pid (Some image) j → LineLeads A s k image l j
 unfolding after
 last_out A s k l image j pid sid at b p h o fit e step w =
@@ -196,7 +203,8 @@ last_out A s k l image j pid sid at b p h o fit e step w =
       unturned = ap (λ (x : Mark). last_turned (put_out x)) p.mark;
     }
 
-out_comes : (A : Inputs) (s : State) (old new : Standing) (holds : Option (List NamedFile)) (image : List ℕ) (j : Option (List ℕ)) (pid sid : ℕ) → MachineAt A s old holds image → IsClear s
+out_comes : (A : Inputs) (s : State) (old new : Standing) (holds : Option (List NamedFile)) (image : List ℕ) (j : Option (List ℕ)) (pid sid : ℕ)
+    → MachineAt A s old holds image → IsClear s
     → AllFit s.point.flat.processes → s.mark ≡ marks.PutOut pid → HoldsThere old.kernel pid sid → PutOut pid sid old new holds (Some image) j → LineLeads A s old.kernel image new.kernel j
 out_comes A s old new holds image j pid sid at c fit m there o =
     let g : Ground = ground old holds [] in
@@ -228,7 +236,8 @@ out_comes A s old new holds image j pid sid at c fit m there o =
       unturned = more.unturned;
     }
 
-pub swapper_made : (A : Inputs) (s : State) (old new : Standing) (holds : Option (List NamedFile)) (image : List ℕ) (j : Option (List ℕ)) (t : Turned) → MachineAt A s old holds image → IsClear s
+pub swapper_made : (A : Inputs) (s : State) (old new : Standing) (holds : Option (List NamedFile)) (image : List ℕ) (j : Option (List ℕ)) (t : Turned)
+    → MachineAt A s old holds image → IsClear s
     → AllFit s.point.flat.processes → s.mark ≡ swap_mark (swap_choice s.place (runners s.point.flat)) → choice_of t ≡ swap_choice old.kernel.place (runners_of old.kernel)
     → Turns t old new holds (Some image) j → LineLeads A s old.kernel image new.kernel j
 swapper_made A s old new holds image j turns.Nothing at c fit m e t = nothing_made A s old new image j c (chosen_mark A s old holds image turns.Nothing at m e) t.0 t.1
@@ -236,7 +245,8 @@ swapper_made A s old new holds image j (turns.In pid) at c fit m e t = in_comes 
 swapper_made A s old new holds image j (turns.Out pid) at c fit m e t =
     out_comes A s old new holds image j pid t.0 at c fit (chosen_mark A s old holds image (turns.Out pid) at m e) t.1 t.2
 
-pub swapper_stops : (A : Inputs) (s : State) (old new : Standing) (holds : Option (List NamedFile)) (image : List ℕ) (j : Option (List ℕ)) (t : Turned) (stop : Stop) → MachineAt A s old holds image
+pub swapper_stops : (A : Inputs) (s : State) (old new : Standing) (holds : Option (List NamedFile)) (image : List ℕ) (j : Option (List ℕ)) (t : Turned) (stop : Stop)
+    → MachineAt A s old holds image
     → IsClear s → s.mark ≡ swap_mark (swap_choice s.place (runners s.point.flat)) → choice_of t ≡ swap_choice old.kernel.place (runners_of old.kernel)
     → StopsTurning t old stop new holds (Some image) j
     → StopLeads A s old.kernel image stop new j

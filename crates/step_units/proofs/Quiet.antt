@@ -121,7 +121,8 @@ pub record FirstEntry (A : Inputs) (s : State) (k : Kernel) (pid : ℕ) (x : Spa
   pub found : place_all A.swap_blocks k.holdings (asked (facts_of A.images) k pid step.change) ≡ Ok k.holdings
   pub loses : loses_pages x (is_borrower s.point.flat.processes pid) step.change ≡ false
 
-pub first_entry : (A : Inputs) (s : State) (k : Kernel) (pid : ℕ) (p : Process) (x : Space) (effect : Effect) (call : SystemCall) (reply : Reply) → IsQuiet reply
+pub first_entry : (A : Inputs) (s : State) (k : Kernel) (pid : ℕ) (p : Process) (x : Space) (effect : Effect) (call : SystemCall) (reply : Reply)
+    → IsQuiet reply
     → FirstEntry A s k pid x (replied_step A.images s.point.flat p call effect reply)
 first_entry A s k pid p x effect call (Fails error) q = record { entry = _; rest = []; first = refl; own = tt; found = (none_asked A.swap_blocks k).0; loses = refl }
 first_entry A s k pid p x effect call (Does after changes.Keep) q = record { entry = _; rest = []; first = refl; own = tt; found = (none_asked A.swap_blocks k).0; loses = refl }

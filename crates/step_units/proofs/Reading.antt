@@ -20,7 +20,8 @@ OnlyReads (Refuses signal) = Unit {0}
 OnlyReads (Reads address next) = (byte : ℕ) → OnlyReads (next byte)
 OnlyReads (Tests address next) = ⊥
 
-pub missed_read : {A : Type 0} (memory : Answers) (p : Program A) (address : ℕ) (write : Bool) → OnlyReads p → run memory p ≡ Err (Miss address write) → write ≡ false
+pub missed_read : {A : Type 0} (memory : Answers) (p : Program A) (address : ℕ) (write : Bool) → OnlyReads p → run memory p ≡ Err (Miss address write)
+    → write ≡ false
 missed_read memory (Gives x) address write h e = absurd cc
 missed_read memory (Refuses signal) address write h e = absurd cc
 missed_read {A} memory (Reads at next) address write h e = go (λ byte k. missed_read memory (next byte) address write (h byte) k) (memory.read at) e
@@ -98,7 +99,8 @@ unfolding written_to
 written_reads true buffer count = both_read (bytes_from (min count write_limit) buffer) _ (bytes_read (min count write_limit) buffer) (λ bytes. tt)
 written_reads false buffer count = tt
 
-pub call_reads : (images : List NamedImage) (F : FlatState) (p : Process) (s : Space) (call : SystemCall) (regs : Regs) → OnlyReads (reply_of images F p s call regs)
+pub call_reads : (images : List NamedImage) (F : FlatState) (p : Process) (s : Space) (call : SystemCall) (regs : Regs)
+    → OnlyReads (reply_of images F p s call regs)
 unfolding reply_of exit_reply write_reply break_reply execve_reply
 call_reads images F p s system_calls.Exit regs = both_read (argument regs 1) _ (argument_reads regs 1) (λ code. tt)
 call_reads images F p s system_calls.Fork regs = tt

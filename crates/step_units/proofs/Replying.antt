@@ -51,7 +51,8 @@ process_self : (p : Process) (x : Space) → p.holding ≡ Holds x → written_p
 process_self p x h = ap (λ (y : Holding). let q : Process = record p { holding = y } in q) (sym h)
 
 -- where the instruction wrote nothing, the call asks of the memory as it was
-pub asked_here : (A : Inputs) (s : State) (pid : ℕ) (p : Process) (x : Space) (call : SystemCall) (effect : Effect) → process_of s.point.flat pid ≡ Some p → p.holding ≡ Holds x
+pub asked_here : (A : Inputs) (s : State) (pid : ℕ) (p : Process) (x : Space) (call : SystemCall) (effect : Effect)
+    → process_of s.point.flat pid ≡ Some p → p.holding ≡ Holds x
     → effect.writes ≡ [] → reply_asked A.images s.point.flat p x call effect ≡ reply_of A.images s.point.flat p x call effect.regs
 asked_here A s pid p x call effect here holds w =
     let F : FlatState = s.point.flat in
@@ -70,7 +71,8 @@ ready A s old holds image pid now p x effect call r h m e a =
     (call_ready A s old.kernel image pid now p x effect call h.machine.at h.running m.made m.names (subst IsAnswered (sym e) a))
 
 -- the same is so at a state with the same flat machine
-pub called_on : (A : Inputs) (s t : State) (p : Process) (x : Space) (effect : Effect) (call : SystemCall) (r : Result Reply Refused) → t.point.flat ≡ s.point.flat → wanted A t ≡ None
+pub called_on : (A : Inputs) (s t : State) (p : Process) (x : Space) (effect : Effect) (call : SystemCall) (r : Result Reply Refused)
+    → t.point.flat ≡ s.point.flat → wanted A t ≡ None
     → IsCalledFor A s p x call effect r → IsCalledFor A t p x call effect r
 called_on A s t p x effect call r f w h = record {
   unwanted = w;

@@ -91,10 +91,12 @@ step_out images flat pid at written change p n e =
     sym (touched_out written p n)
     ∙ change_out images (touch_all p written) pid (space_of_process (process_of flat pid)) (is_borrower flat.processes pid) flat.next_sid at change n e
 
-paging_out : (pages : List Page) (at : ℕ) (p : Placement) (u : Entry) (n : ℕ) → (Leaver u n → ⊥) → is_out (place_entry pages at p u) n ≡ true → is_out p n ≡ true
+paging_out : (pages : List Page) (at : ℕ) (p : Placement) (u : Entry) (n : ℕ) → (Leaver u n → ⊥) → is_out (place_entry pages at p u) n ≡ true
+    → is_out p n ≡ true
 paging_out pages at p u n f e = elim (entry_out pages at p u n e) [ inl k ↦ k | inr l ↦ absurd (f l) ]
 
-process_out : (A : Inputs) (s : State) (pid : ℕ) (u : Entry) (n : ℕ) → is_out (place_behind A s pid (step_at A s.point pid) u) n ≡ true → is_out s.place n ≡ true
+process_out : (A : Inputs) (s : State) (pid : ℕ) (u : Entry) (n : ℕ) → is_out (place_behind A s pid (step_at A s.point pid) u) n ≡ true
+    → is_out s.place n ≡ true
 process_out A s pid u n e =
     step_out (facts_of A.images) s.point.flat pid (place_at s u) (pages_written s.point.flat pid (step_at A s.point pid)) (step_at A s.point pid).change s.place n e
 
@@ -129,7 +131,8 @@ not_out p q n f h = go (is_out q n) refl
     go false e = refl
     go true e = let k = sym h ∙ f e in cc
 
-all_stay_in : (A : Inputs) (us : List Entry) (s t : State) (k l : Kernel) (image behind : List ℕ) (pid n : ℕ) → IsClosing A s pid → Makes A s k image us t l behind
+all_stay_in : (A : Inputs) (us : List Entry) (s t : State) (k l : Kernel) (image behind : List ℕ) (pid n : ℕ) → IsClosing A s pid
+    → Makes A s k image us t l behind
     → is_out s.place n ≡ false → is_out t.place n ≡ false
 all_stay_in A [] s t k l image behind pid n c m h = subst (λ (x : State). is_out x.place n ≡ false) m.0 h
 all_stay_in A (u ∷ us) s t k l image behind pid n c m h =
@@ -137,6 +140,7 @@ all_stay_in A (u ∷ us) s t k l image behind pid n c m h =
     all_stay_in A us (after A s u) t (unit_step A s k image m.1.0 u) l (unit_image k image u) behind d.0 n d.1 m.1.2
     (not_out s.place (after A s u).place n (out_before A s u n (none_leaves A s u pid n c m.0)) h)
 
-pub closing_stays_in : (A : Inputs) (s t : State) (k l : Kernel) (image : List ℕ) (j : Option (List ℕ)) (us : List Entry) (pid n : ℕ) → IsClosing A s pid → Leads A s k image us t l j
+pub closing_stays_in : (A : Inputs) (s t : State) (k l : Kernel) (image : List ℕ) (j : Option (List ℕ)) (us : List Entry) (pid n : ℕ)
+    → IsClosing A s pid → Leads A s k image us t l j
     → is_out s.place n ≡ false → is_out t.place n ≡ false
 closing_stays_in A s t k l image j us pid n c m h = all_stay_in A us s t k l image m.behind pid n c m.makes h

@@ -42,7 +42,8 @@ use Rattle.step_units.specs.Machines.{MachineAt}
 use Rattle.step_units.specs.Stepped.{StepLeads, MarkEnds, StopsBy, StopLeads}
 
 -- The space that the machine has for a process is the one that the process holds.
-pub same_space : (A : Inputs) (s : State) (k : Kernel) (image : List ℕ) (pid : ℕ) (now : Bool) (p : Process) (x : Space) → At A s k image → IsRunning A s pid now p x → space_held k pid ≡ x.sid
+pub same_space : (A : Inputs) (s : State) (k : Kernel) (image : List ℕ) (pid : ℕ) (now : Bool) (p : Process) (x : Space) → At A s k image
+    → IsRunning A s pid now p x → space_held k pid ≡ x.sid
 same_space A s k image pid now p x at r =
     let i : Stepping k s.point.flat pid p x = stepping k s.point.flat pid p x at.stands.keeps.coupled.tables r.here r.holds in
     ap space_of_life (ap life_of_proc i.kept ∙ i.life)
@@ -204,7 +205,8 @@ unspoiled entries.Done k i j h = h
 unspoiled _ k i j h = h
 
 -- a stop where a unit of the run comes next
-pub stops_by : (A : Inputs) (t : State) (k : Kernel) (behind : List ℕ) (stop : Stop) (entry : Entry) (new : Standing) (j : Option (List ℕ)) → next_unit A t ≡ Some entry
+pub stops_by : (A : Inputs) (t : State) (k : Kernel) (behind : List ℕ) (stop : Stop) (entry : Entry) (new : Standing) (j : Option (List ℕ))
+    → next_unit A t ≡ Some entry
     → StopsAt entry k (Some behind) stop new j → StopsBy A t k behind stop new j
 stops_by A t k behind stops.NoMemory entry new j n s = unspoiled entry k (Some behind) j s.image
 stops_by A t k behind stops.JournalFull entry new j n s = record { entry = entry; next = n; full = s.full.0; cause = s.cause; spoils = s.image }

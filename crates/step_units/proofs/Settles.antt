@@ -45,7 +45,8 @@ use Rattle.step_units.proofs.Begun.{fits_is, loses_is, none_unsettled}
 -- Before it does.
 
 -- a step whose pieces are found, or are refused already, and which gives up its space, or drops pages of it
-pub is_leaving : (A : Inputs) (s : State) (pid : ℕ) (now : Bool) (p : Process) (x : Space) (step : Step) → IsRunning A s pid now p x → wanted A s ≡ None → must_refuse A s pid ≡ false
+pub is_leaving : (A : Inputs) (s : State) (pid : ℕ) (now : Bool) (p : Process) (x : Space) (step : Step) → IsRunning A s pid now p x
+    → wanted A s ≡ None → must_refuse A s pid ≡ false
     → step_at A s.point pid ≡ step → loses_pages x (is_borrower s.point.flat.processes pid) step.change ≡ true → IsLeaving A s pid now x.sid
 is_leaving A s pid now p x step r w f is loses = record {
   runs = r.runs;
@@ -55,7 +56,8 @@ is_leaving A s pid now p x step r w f is loses = record {
   own = λ q. ap (settled_if q) r.here ∙ ap (settled_in q) r.holds;
 }
 
-pub none_refused : (A : Inputs) (s : State) (k : Kernel) (image : List ℕ) (pid : ℕ) (now : Bool) (p : Process) (x : Space) (step : Step) → At A s k image → IsRunning A s pid now p x
+pub none_refused : (A : Inputs) (s : State) (k : Kernel) (image : List ℕ) (pid : ℕ) (now : Bool) (p : Process) (x : Space) (step : Step)
+    → At A s k image → IsRunning A s pid now p x
     → is_refused s.point.last pid ≡ false → step_at A s.point pid ≡ step
     → is_ok (place_all A.swap_blocks k.holdings (asked (facts_of A.images) k pid step.change)) ≡ true → must_refuse A s pid ≡ false
 none_refused A s k image pid now p x step at r u is f =
@@ -82,7 +84,8 @@ pub record IsSettled (A : Inputs) (s : State) (old between : Standing) (holds : 
 
 module _ (A : Inputs) (s : State) (old : Standing) (holds : Option (List NamedFile)) (image : List ℕ) (pid : ℕ) (now : Bool) (p : Process) (x : Space)
     (h : MachineAt A s old holds image) (r : IsRunning A s pid now p x) (l : IsLeaving A s pid now x.sid) where
-  pub has_settled : (between : Standing) (j : Option (List ℕ)) → HasSettled old between x.sid holds (Some image) j → IsSettled A s old between holds image j pid now p x
+  pub has_settled : (between : Standing) (j : Option (List ℕ)) → HasSettled old between x.sid holds (Some image) j
+      → IsSettled A s old between holds image j pid now p x
   has_settled between j g =
       let led : LeadsLeaving A s old.kernel image pid now x.sid (replicate g.settled.count entries.Done) between.kernel j =
       settles g.settled.count A (ground old holds []) s old.kernel between.kernel image j pid now x.sid h.at h.images l g.settled.ends in
@@ -110,7 +113,8 @@ module _ (A : Inputs) (s : State) (old : Standing) (holds : Option (List NamedFi
       }
 
   -- the end of a transfer stops the run
-  pub stops_settling : (new : Standing) (j : Option (List ℕ)) (stop : Stop) → StopsSettling x.sid old new holds (Some image) j stop → StopLeads A s old.kernel image stop new j
+  pub stops_settling : (new : Standing) (j : Option (List ℕ)) (stop : Stop) → StopsSettling x.sid old new holds (Some image) j stop
+      → StopLeads A s old.kernel image stop new j
   stops_settling new j stop g =
       let led : LeadsLeaving A s old.kernel image pid now x.sid (replicate g.count entries.Done) g.between.kernel g.image =
       settles g.count A (ground old holds []) s old.kernel g.between.kernel image g.image pid now x.sid h.at h.images l g.ends in

@@ -52,11 +52,13 @@ over_by A s t (marks.Turn q since) pid true g c =
     ∙ ap (λ (b : Bool). when (b && (nat_lt t.count A.limit && nat_lt t.count (since + turn_instructions))) (turn_unit A t pid)) c
 over_by A s t _ pid now g c = absurd g
 
-pub mark_over : (A : Inputs) (s t : State) (pid : ℕ) (now : Bool) → GoesOn A s s.mark pid now → t.mark ≡ s.mark → can_step t.point.flat pid ≡ false → under A t t.mark ≡ None
+pub mark_over : (A : Inputs) (s t : State) (pid : ℕ) (now : Bool) → GoesOn A s s.mark pid now → t.mark ≡ s.mark → can_step t.point.flat pid ≡ false
+    → under A t t.mark ≡ None
 mark_over A s t pid now g m c = subst (λ (x : Mark). under A t x ≡ None) (sym m) (over_by A s t s.mark pid now g c)
 
 -- who fell asleep can't step
-asleep : (A : Inputs) (F : FlatState) (pid : ℕ) (p : Process) (x : Space) (effect : Effect) → process_of F pid ≡ Some p → p.holding ≡ Holds x → effect.writes ≡ []
+asleep : (A : Inputs) (F : FlatState) (pid : ℕ) (p : Process) (x : Space) (effect : Effect) → process_of F pid ≡ Some p → p.holding ≡ Holds x
+    → effect.writes ≡ []
     → can_step (apply_change A.images (apply_writes F p.pid effect.writes) p.pid p.regs changes.Sleep) pid ≡ false
 asleep A F pid p x effect here holds w =
     let number : p.pid ≡ pid = (found_at F pid p here).0 in

@@ -81,14 +81,16 @@ found_back m n image r =
     ∙ ap (place_all m.params.swap_blocks m.kernel.holdings) (wanted_back m n image r)
 
 -- behind a new image its stack page is due
-exec_due : (facts : List Image) (flat : FlatState) (pid at : ℕ) (written : List Page) (number : ℕ) (top : List ℕ) (q : Placement) (image : Image) → facts_numbered facts number ≡ Some image
+exec_due : (facts : List Image) (flat : FlatState) (pid at : ℕ) (written : List Page) (number : ℕ) (top : List ℕ) (q : Placement) (image : Image)
+    → facts_numbered facts number ≡ Some image
     → (place_step facts flat pid at written (Exec number top) q).due ≡ Start (Stack flat.next_sid 0) ∷ []
 exec_due facts flat pid at written number top q image e =
     unless_due (is_borrower flat.processes pid) (enter_image (touch_all q written) flat.next_sid number (facts_numbered facts number)) (space_of_process (process_of flat pid))
     ∙ ap (λ (o : Option Image). (enter_image (touch_all q written) flat.next_sid number o).due) e
 
 -- what an execve asks of the memory
-pub exec_asked : (images : List NamedImage) (F : FlatState) (p : Process) (x : Space) (effect : Effect) → reply_asked images F p x Execve effect ≡ execve_reply images effect.regs
+pub exec_asked : (images : List NamedImage) (F : FlatState) (p : Process) (x : Space) (effect : Effect)
+    → reply_asked images F p x Execve effect ≡ execve_reply images effect.regs
 unfolding reply_of
 exec_asked images F p x effect = refl
 
@@ -159,7 +161,8 @@ module _ (A : Inputs) (s : State) (old : Standing) (holds : Option (List NamedFi
     pub lines : state.lines ≡ s.lines
     pub mark : state.mark ≡ s.mark
 
-  pub imaged : (new : Standing) (j : Option (List ℕ)) → is_ok (image_found number old) ≡ true → HasStarted old new pid after_regs number top holds (Some image) j → IsImaged new j
+  pub imaged : (new : Standing) (j : Option (List ℕ)) → is_ok (image_found number old) ≡ true
+      → HasStarted old new pid after_regs number top holds (Some image) j → IsImaged new j
   imaged new j ok h =
       let f : LeavesFor (image_found number) old h.asked pid holds (Some image) j = h.finds in
       let between : Standing = f.between in

@@ -26,7 +26,8 @@ same_image entries.Done k i j h = h
 same_image (entries.SwapOut pid) k i j h = h
 same_image _ k i j h = h
 
-pub stops_by : (A : Inputs) (t : State) (k : Kernel) (image : List ℕ) (stop : Stop) (new : Standing) (j : Option (List ℕ)) → StopsNext A t k image stop new j → StopsBy A t k image stop new j
+pub stops_by : (A : Inputs) (t : State) (k : Kernel) (image : List ℕ) (stop : Stop) (new : Standing) (j : Option (List ℕ))
+    → StopsNext A t k image stop new j → StopsBy A t k image stop new j
 stops_by A t k image stops.NoMemory new j n = same_image n.entry k (Some image) j n.spoils
 stops_by A t k image _ new j n = n
 
@@ -77,7 +78,8 @@ note_spoils (entries.Refused pid) stop k i h = refl
 note_spoils (entries.Owners free used moving held) stop k i h = refl
 note_spoils _ stop k i h = absurd h
 
-pub note_stops : (A : Inputs) (s : State) (old new : Standing) (image : List ℕ) (stop : Stop) (e : Entry) → next_unit A s ≡ Some e → IsNote e → StopsNoting old new stop
+pub note_stops : (A : Inputs) (s : State) (old new : Standing) (image : List ℕ) (stop : Stop) (e : Entry) → next_unit A s ≡ Some e → IsNote e
+    → StopsNoting old new stop
     → StopLeads A s old.kernel image stop new (Some image)
 note_stops A s old new image stop e n h x = record {
   units = [];

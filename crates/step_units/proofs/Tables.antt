@@ -33,7 +33,8 @@ pub record IsKept (k : Kernel) (pid : ℕ) (p : Process) (x : Space) : Type 0 wh
   pub life : proc.life ≡ HoldsSpace x.sid
   pub regs : proc.regs ≡ p.regs
 
-pub is_kept : (A : Inputs) (s : State) (k : Kernel) (image : List ℕ) (pid : ℕ) (now : Bool) (p : Process) (x : Space) → At A s k image → IsRunning A s pid now p x → IsKept k pid p x
+pub is_kept : (A : Inputs) (s : State) (k : Kernel) (image : List ℕ) (pid : ℕ) (now : Bool) (p : Process) (x : Space) → At A s k image
+    → IsRunning A s pid now p x → IsKept k pid p x
 is_kept A s k image pid now p x at r =
     let flat : FlatState = s.point.flat in
     let tables : SameTables k flat = at.stands.keeps.coupled.tables in

@@ -64,7 +64,8 @@ fresh_goes A s pid steps l =
     all_so (can_step s.point.flat pid) (nat_lt s.count A.limit) (nat_lt s.count (s.count + turn_instructions)) steps (below s.count A.limit l)
     (below s.count (s.count + turn_instructions) (omega arith))
 
-pub turn_begins : (A : Inputs) (s : State) (old : Standing) (l : Kernel) (holds : Option (List NamedFile)) (image : List ℕ) (pid : ℕ) → MachineAt A s old holds image → TurnDue A s pid
+pub turn_begins : (A : Inputs) (s : State) (old : Standing) (l : Kernel) (holds : Option (List NamedFile)) (image : List ℕ) (pid : ℕ)
+    → MachineAt A s old holds image → TurnDue A s pid
     → l ≡ note_step old.kernel (entries.Turn pid) → TurnBegun A s old.kernel image pid l
 unfolding after
 turn_begins A s old l holds image pid at d m =
@@ -83,7 +84,8 @@ turn_begins A s old l holds image pid at d m =
 
 -- Coming in.
 
-moved_in : (rs : List Residence) (pid at : ℕ) → (residence_of (changed (λ (r : Residence). r.pid) pid (λ (r : Residence). record r { out = false; since = at }) rs) pid).out ≡ false
+moved_in : (rs : List Residence) (pid at : ℕ)
+    → (residence_of (changed (λ (r : Residence). r.pid) pid (λ (r : Residence). record r { out = false; since = at }) rs) pid).out ≡ false
 moved_in [] pid at = refl
 moved_in (r ∷ rs) pid at = go (moved_in rs pid at) (r.pid == pid) refl
   where
@@ -94,14 +96,16 @@ moved_in (r ∷ rs) pid at = go (moved_in rs pid at) (r.pid == pid) refl
     go later true e = ap (λ (b : Bool). Residence.out (cond b (record r { out = false; since = at }) (residence_of rs pid))) e
     go later false e = ap (λ (b : Bool). Residence.out (cond b r (residence_of more pid))) e ∙ later
 
-comes_next : (A : Inputs) (s : State) (pid since : ℕ) → IsClear s → s.mark ≡ marks.Turn pid since → goes_on A s pid (since + turn_instructions) ≡ true → is_out s.place pid ≡ true
+comes_next : (A : Inputs) (s : State) (pid since : ℕ) → IsClear s → s.mark ≡ marks.Turn pid since → goes_on A s pid (since + turn_instructions) ≡ true
+    → is_out s.place pid ≡ true
     → next_unit A s ≡ Some (entries.SwapIn pid)
 unfolding next_unit
 comes_next A s pid since c m g o =
     ap (λ (ds : List Due). or_else (due_unit s.place ds) (or_else (under A s s.mark) (next_mark A s))) c.clear
     ∙ ap (λ (x : Option Entry). or_else x (next_mark A s)) (ap (under A s) m ∙ ap (λ (b : Bool). when b (turn_unit A s pid)) g ∙ ap (turn_by A s pid) o)
 
-pub comes_in : (A : Inputs) (s : State) (old new : Standing) (holds : Option (List NamedFile)) (image : List ℕ) (pid since : ℕ) → MachineAt A s old holds image → IsClear s
+pub comes_in : (A : Inputs) (s : State) (old new : Standing) (holds : Option (List NamedFile)) (image : List ℕ) (pid since : ℕ)
+    → MachineAt A s old holds image → IsClear s
     → s.mark ≡ marks.Turn pid since → goes_on A s pid (since + turn_instructions) ≡ true → is_out s.place pid ≡ true → IsIn old.kernel new.kernel pid (Some image)
     → CameIn A s old.kernel image pid since new.kernel
 unfolding after

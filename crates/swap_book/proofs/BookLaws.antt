@@ -100,7 +100,8 @@ fit_within size hs n s found =
     (subst (IsLowestRoom (λ b. not (is_held hs b)) size n) found (lowest_room_gives (λ b. not (is_held hs b)) size n)).0
 
 -- the lengths of an owner's pieces with one more at the end
-pub lengths-push : (owner : Owner) (hs : List Held) (h : Held) → lengths owner (hs ++ h ∷ []) ≡ lengths owner hs ++ cond (same_owner h.owner owner) (h.length ∷ []) []
+pub lengths-push : (owner : Owner) (hs : List Held) (h : Held)
+    → lengths owner (hs ++ h ∷ []) ≡ lengths owner hs ++ cond (same_owner h.owner owner) (h.length ∷ []) []
 lengths-push owner hs h =
     ap (map (λ (g : Held). g.length)) (filter-append (λ (g : Held). same_owner g.owner owner) hs (h ∷ [])) ∙
     map-append (λ (g : Held). g.length) (of_owner owner hs) (of_owner owner (h ∷ [])) ∙

@@ -24,7 +24,8 @@ no_error : (hs new : List Held) → ◌≡◌ {A = Result (List Held) ℕ} (Ok h
 no_error hs new e = cc
 
 -- requests one after another are one request
-pub place_all-append : (size : ℕ) (hs : List Held) (vs ws : List Wanted) → place_all size hs (vs ++ ws) ≡ and_then (place_all size hs vs) (λ now. place_all size now ws)
+pub place_all-append : (size : ℕ) (hs : List Held) (vs ws : List Wanted)
+    → place_all size hs (vs ++ ws) ≡ and_then (place_all size hs vs) (λ now. place_all size now ws)
 unfolding place_all
 place_all-append size hs [] ws = refl
 place_all-append size hs (v ∷ vs) ws = go (placed_at hs v (fit size hs v.length)) (λ now. place_all-append size now vs ws)
@@ -75,7 +76,8 @@ lengths_wanted owner (g ∷ gs) (n ∷ ns) e =
     rests : (v w : Wanted) (vs ws : List Wanted) → v ∷ vs ≡ w ∷ ws → vs ≡ ws
     rests v w vs ws e = cc
 
-others_wanted : (owner other : Owner) (gs : List Held) (ns : List ℕ) → same_owner owner other ≡ false → map wanted_as gs ≡ wanted owner ns → of_owner other gs ≡ []
+others_wanted : (owner other : Owner) (gs : List Held) (ns : List ℕ) → same_owner owner other ≡ false → map wanted_as gs ≡ wanted owner ns
+    → of_owner other gs ≡ []
 others_wanted owner other [] ns not_one e = refl
 others_wanted owner other (g ∷ gs) [] not_one e = cc
 others_wanted owner other (g ∷ gs) (n ∷ ns) not_one e =

@@ -83,7 +83,8 @@ pub apart_gives : (g h : Held) (b : ℕ) → IsApart g h → is_in g b ≡ true 
 apart_gives g h b (inl before) i j = let x = in_high g b i in let y = in_low h b j in omega arith
 apart_gives g h b (inr after) i j = let x = in_low g b i in let y = in_high h b j in omega arith
 
-pub is_held-remove_in : (hs : List Held) (at b : ℕ) (d : Held) → AllPairs IsApart hs → at < length hs → is_in (get_or hs at d) b ≡ true → is_held (remove hs at) b ≡ false
+pub is_held-remove_in : (hs : List Held) (at b : ℕ) (d : Held) → AllPairs IsApart hs → at < length hs → is_in (get_or hs at d) b ≡ true
+    → is_held (remove hs at) b ≡ false
 is_held-remove_in hs at b d apart lt i =
     false_from_ne_true (is_held (remove hs at) b)
     (λ e. let r = holder_of (remove hs at) b e in
@@ -173,7 +174,8 @@ filter_both {X} p (z ∷ zs) (suc i) (suc j) x y lt e f = elim (cases_Bool (p z)
 ]
 
 -- without an element that isn't kept, and without the last one that is
-pub filter-remove_other : {X : Type 0} (p : X → Bool) (xs : List X) (at : ℕ) (d : X) → at < length xs → p (get_or xs at d) ≡ false → filter p (remove xs at) ≡ filter p xs
+pub filter-remove_other : {X : Type 0} (p : X → Bool) (xs : List X) (at : ℕ) (d : X) → at < length xs → p (get_or xs at d) ≡ false
+    → filter p (remove xs at) ≡ filter p xs
 filter-remove_other p [] at d lt o = absurd (omega arith)
 filter-remove_other p (y ∷ ys) zero d lt o = sym (filter_left p y ys o)
 filter-remove_other {X} p (y ∷ ys) (suc at) d lt o =
@@ -203,7 +205,8 @@ filter-remove_last {X} p (y ∷ ys) (suc at) d lt here last =
 
 -- ---- an owner's first pieces
 
-own_some : (owner : Owner) (hs : List Held) (at : ℕ) → at < length hs → ((d : Held) → same_owner (get_or hs at d).owner owner ≡ true) → 0 < length (of_owner owner hs)
+own_some : (owner : Owner) (hs : List Held) (at : ℕ) → at < length hs → ((d : Held) → same_owner (get_or hs at d).owner owner ≡ true)
+    → 0 < length (of_owner owner hs)
 own_some owner [] at lt own = absurd (omega arith)
 own_some owner (h ∷ hs) zero lt own =
     let l = ap (λ (gs : List Held). length gs) (filter_kept (λ (g : Held). same_owner g.owner owner) h hs (own h)) in omega arith

@@ -44,7 +44,8 @@ lengths-kept owner keep hs =
     ap (map (λ (h : Held). h.length)) (of_owner-kept owner keep hs) ∙ sym (take-map (λ (h : Held). h.length) keep (of_owner owner hs))
 
 -- and every other owner keeps all of its own
-pub of_owner-kept_other : (owner other : Owner) (keep : ℕ) (hs : List Held) → same_owner owner other ≡ false → of_owner other (kept owner keep hs) ≡ of_owner other hs
+pub of_owner-kept_other : (owner other : Owner) (keep : ℕ) (hs : List Held) → same_owner owner other ≡ false
+    → of_owner other (kept owner keep hs) ≡ of_owner other hs
 unfolding kept
 of_owner-kept_other owner other zero [] not_one = refl
 of_owner-kept_other owner other (suc n) [] not_one = refl

@@ -53,7 +53,8 @@ in_piece hs owner v block e = go (slice_get (of_owner owner hs) (spot_of owner v
       | inr past ↦ let n = sym (cond-false (nat_lt (spot_of owner v).1 h.length) (Some (h.start + (spot_of owner v).1)) None past) ∙ e in cc
     ]
 
-place_found : (hs : List Held) (owner : Owner) (blocks v : ℕ) → lengths owner hs ≡ pieces_of owner blocks → MayHold owner blocks → 2 * v < blocks → IsSome (block_in hs owner v)
+place_found : (hs : List Held) (owner : Owner) (blocks v : ℕ) → lengths owner hs ≡ pieces_of owner blocks → MayHold owner blocks → 2 * v < blocks
+    → IsSome (block_in hs owner v)
 place_found hs owner blocks v holds may lt =
     let f = spot_fits owner blocks v may lt in
     go (slice_get (of_owner owner hs) (spot_of owner v).0) f.length

@@ -170,7 +170,8 @@ drop_next ns i n found =
     drop_more ns i 0 (slice_get_within ns i n found) ∙ ap (λ (m : ℕ). m ∷ drop (i + 1) ns) (get_or_from_slice_get ns i n 0 found)
 
 -- with the next piece added, the owner's pieces are those of more blocks
-pub next_of : (hs : List Held) (owner : Owner) (blocks i n : ℕ) → lengths owner hs ≡ take i (pieces_of owner blocks) → slice_get (pieces_of owner blocks) i ≡ Some n
+pub next_of : (hs : List Held) (owner : Owner) (blocks i n : ℕ) → lengths owner hs ≡ take i (pieces_of owner blocks)
+    → slice_get (pieces_of owner blocks) i ≡ Some n
     → (more : ℕ) × (lengths owner hs ++ n ∷ [] ≡ pieces_of owner more)
 next_of hs owner blocks i n held found =
     let lt = slice_get_within (pieces_of owner blocks) i n found in
@@ -194,7 +195,8 @@ place_refused size hs owner ns i n found refused =
     ap (λ (ms : List ℕ). place_all size hs (wanted owner ms)) (drop_next ns i n found) ∙
     ap (λ (r : Result (List Held) ℕ). and_then r (λ now. place_all size now (wanted owner (drop (i + 1) ns)))) refused
 
-pub place_done : (size : ℕ) (hs : List Held) (owner : Owner) (ns : List ℕ) (i : ℕ) → slice_get ns i ≡ None → place_all size hs (wanted owner (drop i ns)) ≡ Ok hs
+pub place_done : (size : ℕ) (hs : List Held) (owner : Owner) (ns : List ℕ) (i : ℕ) → slice_get ns i ≡ None
+    → place_all size hs (wanted owner (drop i ns)) ≡ Ok hs
 unfolding place_all
 place_done size hs owner ns i none =
     ap (λ (ms : List ℕ). place_all size hs (wanted owner ms)) (drop_all i ns (past ns i none))

@@ -106,7 +106,8 @@ reached_is blocks i begun not_past =
     (lt-ltb blocks (chunk_start (suc i)) not_past)
     (λ k h. le-ltb blocks (chunk_start (suc k)) (omega (arith, chunk_start_after k i h)))
 
-pub spot_is : (v : ℕ) (reversed : Bool) (i walked : ℕ) → walked + chunk_start i ≡ 2 * v → walked < chunk i → spot v reversed ≡ (i, counted_from reversed (chunk i) walked)
+pub spot_is : (v : ℕ) (reversed : Bool) (i walked : ℕ) → walked + chunk_start i ≡ 2 * v → walked < chunk i
+    → spot v reversed ≡ (i, counted_from reversed (chunk i) walked)
 unfolding spot
 spot_is v reversed i walked total within =
     let left : 2 * v - chunk_start i ≡ walked = omega arith in

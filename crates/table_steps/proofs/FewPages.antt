@@ -18,7 +18,8 @@ use Rattle.kernel_tables.proofs.Shows.{hit, miss, length_map}
 use Rattle.kernel_tables.proofs.Knows.{text_low}
 use Rattle.table_steps.proofs.Residing.{Resides, seat_resides}
 
-data_few : (slots : List Token) (ss : List Places) (n : ℕ) → EachSpace HasFewPages ss → length (data_in (numbered space_number n (map (space_shown slots) ss))) ≤ 4096
+data_few : (slots : List Token) (ss : List Places) (n : ℕ) → EachSpace HasFewPages ss
+    → length (data_in (numbered space_number n (map (space_shown slots) ss))) ≤ 4096
 data_few slots [] n h = omega arith
 data_few slots (s ∷ ss) n h = elim (cases_eq s.sid n) [
   | inl e ↦
@@ -31,7 +32,8 @@ data_few slots (s ∷ ss) n h = elim (cases_eq s.sid n) [
       omega arith
 ]
 
-stack_few : (slots : List Token) (ss : List Places) (n : ℕ) → EachSpace HasFewPages ss → length (stack_in (numbered space_number n (map (space_shown slots) ss))) ≤ 512
+stack_few : (slots : List Token) (ss : List Places) (n : ℕ) → EachSpace HasFewPages ss
+    → length (stack_in (numbered space_number n (map (space_shown slots) ss))) ≤ 512
 stack_few slots [] n h = omega arith
 stack_few slots (s ∷ ss) n h = elim (cases_eq s.sid n) [
   | inl e ↦

@@ -150,7 +150,8 @@ token_bytes (tokens.Free token page) q o e = refl
 token_bytes (tokens.Resident token page dirty) q o e = refl
 token_bytes tokens.Away q o e = none_some q e
 
-forget_arrives : (t : Lists) (q : Page) (f : ℕ) (token : Frame) → MayForgetPage t q → frame_of (state_of (placement_of t) q) ≡ Some f → token_page (slot_at t.slots f) ≡ Some q
+forget_arrives : (t : Lists) (q : Page) (f : ℕ) (token : Frame) → MayForgetPage t q → frame_of (state_of (placement_of t) q) ≡ Some f
+    → token_page (slot_at t.slots f) ≡ Some q
     → Arrives t (forgotten t q f token) q f places.Zero
 forget_arrives t q f token m named held = record {
   differ = m.known.differ;
@@ -174,7 +175,8 @@ no_filling t q x m e z =
 zero_anywhere : (t n : Lists) (q : Page) → IsWritable q → page_shown n q places.Zero ≡ page_shown t q places.Zero
 zero_anywhere t n q w = zero_shown n q w ∙ sym (zero_shown t q w)
 
-forget_is : (t : Lists) (q : Page) (f : ℕ) (valid changed : Bool) (token : Frame) → MayForgetPage t q → entry_in t.spaces q ≡ Some (places.Frame f valid changed)
+forget_is : (t : Lists) (q : Page) (f : ℕ) (valid changed : Bool) (token : Frame) → MayForgetPage t q
+    → entry_in t.spaces q ≡ Some (places.Frame f valid changed)
     → placement_of (forgotten t q f token) ≡ drop_page (placement_of t) q
 forget_is t q f valid changed token m e =
     let p : Placement = placement_of t in
@@ -206,7 +208,8 @@ forget_frames t q f valid changed m e =
       | inr d ↦ ap (λ (y : Token). bytes_by y (flown_at t.flown g)) (get_or-set_other t.slots f g x tokens.Away d)
     ])
 
-forget_ties : (t : Lists) (q : Page) (f : ℕ) (valid changed : Bool) (token : Frame) → MayForgetPage t q → entry_in t.spaces q ≡ Some (places.Frame f valid changed)
+forget_ties : (t : Lists) (q : Page) (f : ℕ) (valid changed : Bool) (token : Frame) → MayForgetPage t q
+    → entry_in t.spaces q ≡ Some (places.Frame f valid changed)
     → Ties t (forgotten t q f token)
 forget_ties t q f valid changed token m e =
     let x : Token = tokens.Free token None in
@@ -284,7 +287,8 @@ unfilled_shown t (Stack n v) places.Swap w h = absurd h
 unfilled_shown t (Stack n v) (places.Frame f valid changed) w h = absurd h
 unfilled_shown t (Text i v) x w h = absurd w
 
-unfilled_is : (t : Lists) (q : Page) (x : Place) → MayForgetPage t q → entry_in t.spaces q ≡ Some x → IsUnfilledEntry x → placement_of t ≡ drop_page (placement_of t) q
+unfilled_is : (t : Lists) (q : Page) (x : Place) → MayForgetPage t q → entry_in t.spaces q ≡ Some x → IsUnfilledEntry x
+    → placement_of t ≡ drop_page (placement_of t) q
 unfilled_is t q x m e h =
     let p : Placement = placement_of t in
     let shown = page_is t q x m e in
@@ -346,7 +350,8 @@ forgotten_lists t u q f d =
     ∙ ap (λ (fs : List ℕ). record (lists_of t) { slots = set t.core.slots f (tokens.Free token None); free = fs; spaces = u.spaces }) d.free
     ∙ ap (λ (ss : List Places). record (forgotten (lists_of t) q f token) { spaces = ss }) d.spaces
 
-pub forgets_framed : (t u : Tables) (q : Page) (f : ℕ) (valid changed : Bool) → MayForgetPage (lists_of t) q → entry_in t.spaces q ≡ Some (places.Frame f valid changed)
+pub forgets_framed : (t u : Tables) (q : Page) (f : ℕ) (valid changed : Bool) → MayForgetPage (lists_of t) q
+    → entry_in t.spaces q ≡ Some (places.Frame f valid changed)
     → ForgotPage t u q f → Dropped t u (q ∷ [])
 forgets_framed t u q f valid changed m e d =
     let l : Lists = lists_of t in
@@ -364,7 +369,8 @@ forgets_swapped t u q m e is =
 pub no_entry : (t : Tables) (q : Page) → MayForgetPage (lists_of t) q → entry_in t.spaces q ≡ None → Dropped t t (q ∷ [])
 no_entry t q m e = absurd (let h = subst IsSome e (has_entry (lists_of t) q m) in cc)
 
-pub forgets_nothing : (t : Tables) (q : Page) (x : Place) → MayForgetPage (lists_of t) q → entry_in t.spaces q ≡ Some x → IsUnfilledEntry x → Dropped t t (q ∷ [])
+pub forgets_nothing : (t : Tables) (q : Page) (x : Place) → MayForgetPage (lists_of t) q → entry_in t.spaces q ≡ Some x → IsUnfilledEntry x
+    → Dropped t t (q ∷ [])
 forgets_nothing t q x m e h =
     let l : Lists = lists_of t in
     forgets t t q l m refl (unfilled_is l q x m e h) refl (record {
@@ -422,7 +428,8 @@ all_dropped_rests p [] w r = r
 all_dropped_rests p (q ∷ qs) w r = all_dropped_rests (drop_page p q) qs w (dropped_rests p q w r)
 
 -- a page that may be forgotten still may where others were
-pub still_may : (t u : Tables) (qs : List Page) (w : Page) → Dropped t u qs → IsWritable w → IsThere (placement_of (lists_of t)) w → AtRest (state_of (placement_of (lists_of t)) w)
+pub still_may : (t u : Tables) (qs : List Page) (w : Page) → Dropped t u qs → IsWritable w → IsThere (placement_of (lists_of t)) w
+    → AtRest (state_of (placement_of (lists_of t)) w)
     → MayForgetPage (lists_of u) w
 still_may t u qs w d k th r =
     let p : Placement = placement_of (lists_of t) in

@@ -50,7 +50,8 @@ begun_shared p e (Data i v) c = tt
 begun_shared p e (Stack i v) c = tt
 begun_shared p e (Text i v) c = c
 
-pub may_bring : (t : Tables) (s : Source) (q : Page) (lo n : ℕ) → Known (lists_of t) → CanBringIn (placement_of (lists_of t)) q lo n → MayBring (opened t [] s q) q lo n
+pub may_bring : (t : Tables) (s : Source) (q : Page) (lo n : ℕ) → Known (lists_of t) → CanBringIn (placement_of (lists_of t)) q lo n
+    → MayBring (opened t [] s q) q lo n
 may_bring t s q lo n k can =
     let p : Placement = placement_of (lists_of t) in
     let e : Errand = Reads s q in
@@ -129,7 +130,8 @@ began_read t u w ps x b q lo n g =
 
 -- The step.
 
-pub get_kernel : (t w : Tables) (q : Page) (lo n : ℕ) (journal : List Entry) (stopped : Bool) → BeganRead t w q lo n → kernel_by w (journal ++ entries.Get q lo n ∷ []) stopped ≡ get_step (kernel_by t journal stopped) q lo n
+pub get_kernel : (t w : Tables) (q : Page) (lo n : ℕ) (journal : List Entry) (stopped : Bool) → BeganRead t w q lo n
+    → kernel_by w (journal ++ entries.Get q lo n ∷ []) stopped ≡ get_step (kernel_by t journal stopped) q lo n
 get_kernel t w q lo n journal stopped g =
     let r = g.rest in
     kernel_ext (kernel_by w (journal ++ entries.Get q lo n ∷ []) stopped) (get_step (kernel_by t journal stopped) q lo n)

@@ -67,7 +67,8 @@ use Rattle.kernel_tables.specs.Steps.{dirty_shown}
 
 -- What the definitions say, by cases.
 
-expire_kept : (p : Placement) (locked : List Page) → ((q : Page) (f : ℕ) → page_of p p.front ≡ Some q → is_among q locked ≡ false → state_of p q ≡ Valid f → ⊥) → expire p locked ≡ p
+expire_kept : (p : Placement) (locked : List Page)
+    → ((q : Page) (f : ℕ) → page_of p p.front ≡ Some q → is_among q locked ≡ false → state_of p q ≡ Valid f → ⊥) → expire p locked ≡ p
 expire_kept p locked never = go (page_of p p.front) refl
   where
     to : (q : Page) (s : PageState) → page_of p p.front ≡ Some q → is_among q locked ≡ false → state_of p q ≡ s → expire_to p q s ≡ p
@@ -86,10 +87,13 @@ expire_kept p locked never = go (page_of p p.front) refl
     go None h = refl
     go (Some q) h = at q (is_among q locked) h refl
 
-expire_at : (p : Placement) (locked : List Page) (q : Page) (f : ℕ) → page_of p p.front ≡ Some q → is_among q locked ≡ false → state_of p q ≡ Valid f → expire p locked ≡ turn p q (Invalid f) (mark_of p q) p.free p.transfers
+expire_at : (p : Placement) (locked : List Page) (q : Page) (f : ℕ) → page_of p p.front ≡ Some q → is_among q locked ≡ false → state_of p q ≡ Valid f
+    → expire p locked ≡ turn p q (Invalid f) (mark_of p q) p.free p.transfers
 expire_at p locked q f h b e = ap (expire_of p locked) h ∙ ap (expire_if p q) b ∙ ap (expire_to p q) e
 
-sweep_kept : (p : Placement) (locked : List Page) → ((q : Page) (f : ℕ) → page_of p p.back ≡ Some q → is_among q locked ≡ false → state_of p q ≡ Invalid f → times p.back p.free ≡ 0 → ⊥) → sweep p locked ≡ p
+sweep_kept : (p : Placement) (locked : List Page)
+    → ((q : Page) (f : ℕ) → page_of p p.back ≡ Some q → is_among q locked ≡ false → state_of p q ≡ Invalid f → times p.back p.free ≡ 0 → ⊥)
+    → sweep p locked ≡ p
 sweep_kept p locked never = go (page_of p p.back) refl
   where
     to : (q : Page) (s : PageState) (n : ℕ) (b : Bool) → page_of p p.back ≡ Some q → is_among q locked ≡ b → state_of p q ≡ s → times p.back p.free ≡ n → sweep_to p locked q s n b ≡ p
@@ -106,12 +110,14 @@ sweep_kept p locked never = go (page_of p p.back) refl
     go None h = refl
     go (Some q) h = to q (state_of p q) (times p.back p.free) (is_among q locked) h refl refl refl
 
-sweep_at : (p : Placement) (locked : List Page) (q : Page) (f : ℕ) → page_of p p.back ≡ Some q → is_among q locked ≡ false → state_of p q ≡ Invalid f → times p.back p.free ≡ 0 → sweep p locked ≡ sweep_by p locked q (is_dirty p q)
+sweep_at : (p : Placement) (locked : List Page) (q : Page) (f : ℕ) → page_of p p.back ≡ Some q → is_among q locked ≡ false → state_of p q ≡ Invalid f
+    → times p.back p.free ≡ 0 → sweep p locked ≡ sweep_by p locked q (is_dirty p q)
 sweep_at p locked q f h b e z =
     ap (sweep_of p locked p.back) h ∙ ap (λ (s : PageState). sweep_to p locked q s (times p.back p.free) (is_among q locked)) e
     ∙ ap (λ (n : ℕ). sweep_to p locked q (Invalid f) n (is_among q locked)) z ∙ ap (sweep_to p locked q (Invalid f) zero) b
 
-write_at : (p : Placement) (locked : List Page) (q : Page) (f : ℕ) → page_of p p.back ≡ Some q → is_among q locked ≡ false → state_of p q ≡ Invalid f → times p.back p.free ≡ 0
+write_at : (p : Placement) (locked : List Page) (q : Page) (f : ℕ) → page_of p p.back ≡ Some q → is_among q locked ≡ false → state_of p q ≡ Invalid f
+    → times p.back p.free ≡ 0
     → write_of p locked p.back (page_of p p.back) ≡ write_by p locked q (is_dirty p q)
 write_at p locked q f h b e z =
     ap (write_of p locked p.back) h ∙ ap (λ (s : PageState). write_to p locked q s (times p.back p.free) (is_among q locked)) e
@@ -149,7 +155,8 @@ expired_kept t n locked k is e = record {
   known = subst Known (sym is) k;
 }
 
-mark_shown : (t : Lists) (q : Page) (f : ℕ) (v c : Bool) (x : Token) (m : Bool) → slot_at t.slots f ≡ x → is_away x ≡ false → m ≡ (page_shown t q (places.Frame f v c)).mark
+mark_shown : (t : Lists) (q : Page) (f : ℕ) (v c : Bool) (x : Token) (m : Bool) → slot_at t.slots f ≡ x → is_away x ≡ false
+    → m ≡ (page_shown t q (places.Frame f v c)).mark
     → page_shown t q (places.Frame f false c) ≡ record { state = Invalid f; mark = m; filling = Zeros }
 mark_shown t (Data n v) f b c x m e a h =
     ap (λ (s : Token). let z : Slot = record { state = idle_state f (is_away s) c; mark = c; filling = Zeros } in z) e
@@ -164,7 +171,8 @@ mark_shown t (Text i v) f b c x m e a h =
     ∙ ap (λ (d : Bool). record (page_shown t (Text i v) (places.Frame f false c)) { state = idle_state f d c }) a
     ∙ ap (λ (d : Bool). let z : Slot = record { state = Invalid f; mark = d; filling = Zeros } in z) (sym h)
 
-expired_mark : (ss : List Places) (ts : List SharedText) (f : ℕ) (b c : Bool) (q : Page) → entry_in ss q ≡ Some (places.Frame f b c) → dirty_shown ss ts q ≡ placed_mark ts (places.Frame f false c) q
+expired_mark : (ss : List Places) (ts : List SharedText) (f : ℕ) (b c : Bool) (q : Page) → entry_in ss q ≡ Some (places.Frame f b c)
+    → dirty_shown ss ts q ≡ placed_mark ts (places.Frame f false c) q
 expired_mark ss ts f b c (Data n v) e = ap changed_named e
 expired_mark ss ts f b c (Stack n v) e = ap changed_named e
 expired_mark ss ts f b c (Text i v) e = refl
@@ -200,7 +208,8 @@ expiring t q f k r = record {
     same_shown (Stack n v) h = h
     same_shown (Text i v) h = h
 
-expired_turn : (t n : Lists) (locked : List Page) (q : Page) (f : ℕ) → Known t → (r : Resides t q f) → t.front ≡ f → is_among q locked ≡ false → state_of (placement_of t) q ≡ Valid f
+expired_turn : (t n : Lists) (locked : List Page) (q : Page) (f : ℕ) → Known t → (r : Resides t q f) → t.front ≡ f → is_among q locked ≡ false
+    → state_of (placement_of t) q ≡ Valid f
     → n ≡ record t { spaces = map (placed q (places.Frame f false r.changed)) t.spaces } → Expired t n locked
 expired_turn t n locked q f k r at free valid is =
     let u : Lists = record t { spaces = map (placed q (places.Frame f false r.changed)) t.spaces } in
@@ -292,7 +301,8 @@ idle_back t locked q k e = go (slot_at t.slots t.back) refl
     go (tokens.Resident token w dirty) h =
         at token w dirty (is_among w locked) h refl (sym (ap (under_by t.spaces locked) h) ∙ e)
 
-pub sweep_rests : (t : Lists) (locked : List Page) → Known t → ((q : Page) → under t locked t.back ≡ Some (q, false) → ⊥) → sweep (placement_of t) locked ≡ placement_of t
+pub sweep_rests : (t : Lists) (locked : List Page) → Known t → ((q : Page) → under t locked t.back ≡ Some (q, false) → ⊥)
+    → sweep (placement_of t) locked ≡ placement_of t
 sweep_rests t locked k never = sweep_kept (placement_of t) locked (λ q f at a e z.
     let same : f ≡ t.back = same_Some f t.back (sym (ap frame_of e) ∙ k.owns.named t.back q at) in
     let i : state_of (placement_of t) q ≡ Invalid t.back = e ∙ ap (λ (n : ℕ). Invalid n) same in
@@ -317,7 +327,8 @@ may_some : (p : Placement) (q : Page) (lo n : ℕ) → 0 < n → MayWrite p q lo
 may_some p q lo zero l h = absurd (omega arith)
 may_some p q lo (suc m) l h = h
 
-puts_by : (p : Placement) (locked : List Page) (q : Page) (lo n : ℕ) (d : Bool) → is_dirty p q ≡ d → HasSeat p q → IsRunOf (write_by p locked q d) lo n → (0 < n → length p.transfers < 16) → Puts p q lo n (sweep_by p locked q d)
+puts_by : (p : Placement) (locked : List Page) (q : Page) (lo n : ℕ) (d : Bool) → is_dirty p q ≡ d → HasSeat p q
+    → IsRunOf (write_by p locked q d) lo n → (0 < n → length p.transfers < 16) → Puts p q lo n (sweep_by p locked q d)
 puts_by p locked q lo n true e seat run room =
     let r : Run = run_out p locked q in
     let w = widest_out p locked q in
@@ -335,7 +346,8 @@ puts_by p locked q lo n false e seat run room = record {
   is = ap (put_out p q lo) run;
 }
 
-pub sweep_puts : (t : Lists) (locked : List Page) (q : Page) (lo n : ℕ) → Known t → IdleBack t locked q → IsRunOf (write_of (placement_of t) locked t.back (page_of (placement_of t) t.back)) lo n → (0 < n → length t.transfers < 16)
+pub sweep_puts : (t : Lists) (locked : List Page) (q : Page) (lo n : ℕ) → Known t → IdleBack t locked q
+    → IsRunOf (write_of (placement_of t) locked t.back (page_of (placement_of t) t.back)) lo n → (0 < n → length t.transfers < 16)
     → Puts (placement_of t) q lo n (sweep (placement_of t) locked)
 sweep_puts t locked q lo n k i run room =
     let p : Placement = placement_of t in
@@ -351,7 +363,8 @@ moved_none t p k e = record { place = sym e; frames = refl; tied = k.tied; image
 
 -- The whole move.
 
-pub blocks_heads : (t n : Lists) (hs : Holdings) → map head_of n.spaces ≡ map head_of t.spaces → n.facts ≡ t.facts → HasBlocks (placement_of t) hs → HasBlocks (placement_of n) hs
+pub blocks_heads : (t n : Lists) (hs : Holdings) → map head_of n.spaces ≡ map head_of t.spaces → n.facts ≡ t.facts → HasBlocks (placement_of t) hs
+    → HasBlocks (placement_of n) hs
 blocks_heads t n hs h f b q there sh =
     b q (let e = lengths_same t n h f q in there_as q e there) (shared_as (placement_of n) (placement_of t) q (λ i. sym (sharers_heads n.slots t.slots n.spaces t.spaces i h)) sh)
   where
@@ -369,7 +382,8 @@ pub record Ready (t u : Tables) (locked : List Page) : Type 0 where
   pub heads : map head_of u.spaces ≡ map head_of t.spaces
   pub blocks : HasBlocks (placement_of (lists_of t)) t.book.holdings → HasBlocks (placement_of (lists_of u)) u.book.holdings
 
-pub ready : (t u : Tables) (locked : List Page) → Known (lists_of t) → lists_of u ≡ expired (lists_of t) locked → u ≡ record t { spaces = u.spaces } → Ready t u locked
+pub ready : (t u : Tables) (locked : List Page) → Known (lists_of t) → lists_of u ≡ expired (lists_of t) locked → u ≡ record t { spaces = u.spaces }
+    → Ready t u locked
 ready t u locked k is rest =
     let x : Expired (lists_of t) (expired (lists_of t) locked) locked = expired_is (lists_of t) locked k in
     let heads : map head_of u.spaces ≡ map head_of t.spaces = ap (λ (l : Lists). map head_of l.spaces) is ∙ x.heads in
@@ -390,7 +404,8 @@ frame_count t u e =
 pub hand_within : (t u : Tables) (f : ℕ) → frames_of (lists_of u) ≡ frames_of (lists_of t) → 1 ≤ f → f < length t.core.slots → f < length u.core.slots
 hand_within t u f e l m = let a = frame_count t u e in omega arith
 
-pub moved_hands : (t u v w : Tables) (locked : List Page) → Known (lists_of t) → lists_of u ≡ expired (lists_of t) locked → u ≡ record t { spaces = u.spaces } → MovedOn u v (sweep (placement_of (lists_of u)) locked)
+pub moved_hands : (t u v w : Tables) (locked : List Page) → Known (lists_of t) → lists_of u ≡ expired (lists_of t) locked
+    → u ≡ record t { spaces = u.spaces } → MovedOn u v (sweep (placement_of (lists_of u)) locked)
     → w.front ≡ next_frame (length v.core.slots - 1) v.front → w.back ≡ next_frame (length v.core.slots - 1) v.back → w ≡ record v { front = w.front; back = w.back } → MovedOn t w (hand_move (placement_of (lists_of t)) locked)
 moved_hands t u v w locked k is rest m ef eb rw =
     let p : Placement = placement_of (lists_of v) in
@@ -435,7 +450,8 @@ hands_low t h =
     quarter n l = omega arith
 
 -- at most 16 transfers are in flight then
-pub hand_few : (p : Placement) (locked : List Page) (lo n : ℕ) → IsRunOf (hand_run p locked) lo n → (0 < n → length p.transfers < 16) → length p.transfers ≤ 16 → length (hand_move p locked).transfers ≤ 16
+pub hand_few : (p : Placement) (locked : List Page) (lo n : ℕ) → IsRunOf (hand_run p locked) lo n → (0 < n → length p.transfers < 16)
+    → length p.transfers ≤ 16 → length (hand_move p locked).transfers ≤ 16
 hand_few p locked lo n run room l = go (hand_run p locked) refl run
   where
     go : (o : Option (Page × Run)) → hand_run p locked ≡ o → IsRunOf o lo n → length (hand_move p locked).transfers ≤ 16

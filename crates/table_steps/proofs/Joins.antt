@@ -188,7 +188,8 @@ module _ (says : Entry → Option ℕ) (counted : ℕ → Entry) (kind : IsKind 
   joined_joined [] count h = absurd cc
   joined_joined (e ∷ journal) count h = joined_after e journal count h ∙ ap (λ (k : ℕ). set (e ∷ journal) k (counted (count + 1))) (omega arith)
 
-  pub counts_joined : (journal : List Entry) (count : ℕ) → last_says says journal ≡ Some count → append journal (counted 1) ≡ set journal (length journal - 1) (counted (count + 1))
+  pub counts_joined : (journal : List Entry) (count : ℕ) → last_says says journal ≡ Some count
+      → append journal (counted 1) ≡ set journal (length journal - 1) (counted (count + 1))
   counts_joined journal count h = kind.unit journal ∙ joined_joined journal count h
 
   pub last_is : (journal : List Entry) (count : ℕ) → last_says says journal ≡ Some count → (before : List Entry) × (journal ≡ before ++ counted count ∷ [])
@@ -204,20 +205,23 @@ module _ (says : Entry → Option ℕ) (counted : ℕ → Entry) (kind : IsKind 
   length_joined journal count h = ap length (counts_joined journal count h) ∙ Rattle.std.proofs.lemmas.List.length-set journal (length journal - 1) (counted (count + 1))
 
   -- the journal stays within its limit
-  pub joined_within : (old new : List Entry) (limit : ℕ) → new ≡ append old (counted 1) → length old ≤ limit → (last_says says old ≡ None → length old < limit) → length new ≤ limit
+  pub joined_within : (old new : List Entry) (limit : ℕ) → new ≡ append old (counted 1) → length old ≤ limit
+      → (last_says says old ≡ None → length old < limit) → length new ≤ limit
   joined_within old new limit e l h = elim (says_or (last_says says old)) [
     | inl z ↦ let a = ap length e ∙ length_alone old z in let b = h z in omega arith
     | inr s ↦ let a = ap length e ∙ length_joined old s.0 s.1 in omega arith
   ]
 
   -- a last entry that counts such units makes the journal no longer
-  pub joined_not : (journal : List Entry) (o : Option ℕ) → o ≡ last_says says journal → is_some o ≡ true → length journal < length (append journal (counted 1)) → ⊥
+  pub joined_not : (journal : List Entry) (o : Option ℕ) → o ≡ last_says says journal → is_some o ≡ true
+      → length journal < length (append journal (counted 1)) → ⊥
   joined_not journal o e h l = elim (says_or (last_says says journal)) [
     | inl z ↦ absurd (let x : false ≡ true = sym (ap is_some (e ∙ z)) ∙ h in cc)
     | inr s ↦ absurd (let a = length_joined journal s.0 s.1 in omega arith)
   ]
 
-  pub alone_grows : (journal : List Entry) (o : Option ℕ) → o ≡ last_says says journal → is_some o ≡ false → length journal < length (append journal (counted 1))
+  pub alone_grows : (journal : List Entry) (o : Option ℕ) → o ≡ last_says says journal → is_some o ≡ false
+      → length journal < length (append journal (counted 1))
   alone_grows journal o e h = elim (says_or (last_says says journal)) [
     | inl z ↦ let a = length_alone journal z in omega arith
     | inr s ↦ absurd (let x : true ≡ false = sym (ap is_some (e ∙ s.1)) ∙ h in cc)

@@ -60,7 +60,8 @@ save_marked ts i v t l =
     ap (λ (x : SharedText). is_saved x v) (get_or-set_same ts (i - 1) (marked (text_of ts i) v true) unused_text (omega arith))
     ∙ get_or-set_same (text_of ts i).saved v true false (omega arith)
 
-pub save_others : (ts : List SharedText) (q : Page) (j w : ℕ) → ((i v : ℕ) → q ≡ Text i v → IsTable ts) → ((i v : ℕ) → q ≡ Text i v → (1 ≤ i) × (i ≤ 16) × (v < 2048)) → 1 ≤ j → Text j w ≢ q
+pub save_others : (ts : List SharedText) (q : Page) (j w : ℕ) → ((i v : ℕ) → q ≡ Text i v → IsTable ts)
+    → ((i v : ℕ) → q ≡ Text i v → (1 ≤ i) × (i ≤ 16) × (v < 2048)) → 1 ≤ j → Text j w ≢ q
     → is_saved (text_of (saved_texts ts q) j) w ≡ is_saved (text_of ts j) w
 save_others ts (Data n v) j w t l m d = refl
 save_others ts (Stack n v) j w t l m d = refl
@@ -79,7 +80,8 @@ save_others ts (Text i v) j w t l m d = elim (cases_eq j i) [
       ap (λ (x : SharedText). is_saved x w) (get_or-set_other ts (i - 1) (j - 1) (marked (text_of ts i) v true) unused_text (λ h. n (omega arith)))
 ]
 
-pub save_counts : (ts : List SharedText) (q : Page) → ((i v : ℕ) → q ≡ Text i v → (1 ≤ i) × (i ≤ 16) × (v < 2048)) → (j : ℕ) → (text_of (saved_texts ts q) j).sharers ≡ (text_of ts j).sharers
+pub save_counts : (ts : List SharedText) (q : Page) → ((i v : ℕ) → q ≡ Text i v → (1 ≤ i) × (i ≤ 16) × (v < 2048)) → (j : ℕ)
+    → (text_of (saved_texts ts q) j).sharers ≡ (text_of ts j).sharers
 save_counts ts (Data n v) l j = refl
 save_counts ts (Stack n v) l j = refl
 save_counts ts (Text i v) l j = elim (cases_eq (j - 1) (i - 1)) [
@@ -110,7 +112,8 @@ valid_shown n (Stack i v) f false m c t = ap (λ (x : Bool). let z : Slot = reco
 valid_shown n (Text i v) f true m c t = ap (λ (x : Bool). let z : Slot = record { state = Valid f; mark = x; filling = Zeros } in z) (sym (t i v refl))
 valid_shown n (Text i v) f false m c t = ap (λ (x : Bool). let z : Slot = record { state = Valid f; mark = x; filling = Zeros } in z) (sym (t i v refl))
 
-pub rested_shown : (n : Lists) (q : Page) (f : ℕ) (m : Bool) → is_away (slot_at n.slots f) ≡ false → is_marked_dirty q m ≡ false → ((i v : ℕ) → q ≡ Text i v → m ≡ is_saved (text_of n.texts i) v)
+pub rested_shown : (n : Lists) (q : Page) (f : ℕ) (m : Bool) → is_away (slot_at n.slots f) ≡ false → is_marked_dirty q m ≡ false
+    → ((i v : ℕ) → q ≡ Text i v → m ≡ is_saved (text_of n.texts i) v)
     → page_shown n q (places.Frame f false false) ≡ record { state = Invalid f; mark = m; filling = Zeros }
 rested_shown n (Data i v) f m a c t =
     ap (λ (x : Bool). let z : Slot = record { state = idle_state f x false; mark = false; filling = Zeros } in z) a
@@ -185,7 +188,8 @@ landed_by t u e xs q token fs x place texts free s m l is turns core rest heads 
     }
 
 -- what is known of the first page of the transfer
-first_flight : (t : Tables) (e : Errand) (xs : List Part) (q : Page) (token : Frame) (fs : List Flown) → Known (closing t e (record { page = q; frame = token.number } ∷ xs) (record { page = q; token = token } ∷ fs))
+first_flight : (t : Tables) (e : Errand) (xs : List Part) (q : Page) (token : Frame) (fs : List Flown)
+    → Known (closing t e (record { page = q; frame = token.number } ∷ xs) (record { page = q; token = token } ∷ fs))
     → InFlight (closing t e (record { page = q; frame = token.number } ∷ xs) (record { page = q; token = token } ∷ fs)) q token.number
 first_flight t e xs q token fs k =
     in_flight (closing t e (record { page = q; frame = token.number } ∷ xs) (record { page = q; token = token } ∷ fs)) q e token.number k
@@ -332,7 +336,8 @@ pub record MayLand (t : Tables) (q : Page) (f : ℕ) : Type 0 where
   pub small : f < 2 ^ 21
   pub texts : (image v : ℕ) → q ≡ Text image v → (1 ≤ image) × (image ≤ 16) × (v < 2048)
 
-may_land : (t : Tables) (e : Errand) (xs : List Part) (q : Page) (token : Frame) (fs : List Flown) → Known (closing t e (record { page = q; frame = token.number } ∷ xs) (record { page = q; token = token } ∷ fs)) → MayLand t q token.number
+may_land : (t : Tables) (e : Errand) (xs : List Part) (q : Page) (token : Frame) (fs : List Flown)
+    → Known (closing t e (record { page = q; frame = token.number } ∷ xs) (record { page = q; token = token } ∷ fs)) → MayLand t q token.number
 may_land t e xs q token fs k =
     let was : Lists = closing t e (record { page = q; frame = token.number } ∷ xs) (record { page = q; token = token } ∷ fs) in
     let g : InFlight was q token.number = first_flight t e xs q token fs k in
@@ -345,7 +350,8 @@ may_land t e xs q token fs k =
       texts = λ i v h. text_low was i v k (subst (IsThere (placement_of was)) h g.there);
     }
 
-pub may_read : (t : Tables) (b : Bool) (demanded : Page) (xs rest : List Inbound) (x : Inbound) → xs ≡ x ∷ rest → Known (closing_in t b demanded xs) → MayLand t x.page x.token.number
+pub may_read : (t : Tables) (b : Bool) (demanded : Page) (xs rest : List Inbound) (x : Inbound) → xs ≡ x ∷ rest → Known (closing_in t b demanded xs)
+    → MayLand t x.page x.token.number
 may_read t b demanded xs rest x e k = may_land t (Reads (source_by b) demanded) (map in_part rest) x.page x.token (map inbound_flown rest) (subst (λ (ys : List Inbound). Known (closing_in t b demanded ys)) e k)
 
 pub may_write : (t : Tables) (xs rest : List Outbound) (x : Outbound) → xs ≡ x ∷ rest → Known (closing_out t xs) → MayLand t x.page x.token.number
@@ -359,7 +365,8 @@ pub reads_step : (t u : Tables) (b : Bool) (demanded : Page) (xs rest : List Inb
 reads_step t u b demanded xs rest x e k l core =
     read_lands t u b demanded (map in_part rest) x.page x.token (map inbound_flown rest) (subst (λ (ys : List Inbound). Known (closing_in t b demanded ys)) e k) l core
 
-pub writes_step : (t u : Tables) (xs rest : List Outbound) (x : Outbound) → xs ≡ x ∷ rest → Known (closing_out t xs) → LandedOut t u x.token x.page → IsSound u.core.free u.core.slots
+pub writes_step : (t u : Tables) (xs rest : List Outbound) (x : Outbound) → xs ≡ x ∷ rest → Known (closing_out t xs) → LandedOut t u x.token x.page
+    → IsSound u.core.free u.core.slots
     → Landed t u Writes (out_part x) (map out_part rest) (outbound_flown x) (map outbound_flown rest)
 writes_step t u xs rest x e k l core =
     write_lands t u (map out_part rest) x.page x.token (map outbound_flown rest) (may_write t xs rest x e k).texts (subst (λ (ys : List Outbound). Known (closing_out t ys)) e k) l core
@@ -371,7 +378,8 @@ lands_place t u w e x xs y fs l h =
     h ∙ ap (λ (p : Placement). land_all p e xs (map transfer_shown u.ring)) l.place
     ∙ ap (λ (z : Tables). land_all (land (placement_of (closing t e (x ∷ xs) (y ∷ fs))) e x (record { errand = e; parts = xs } ∷ map transfer_shown t.ring)) e xs (map transfer_shown z.ring)) l.rest
 
-pub lands_all : (t u w : Tables) (e : Errand) (x : Part) (xs : List Part) (y : Flown) (fs : List Flown) → Landed t u e x xs y fs → LandedAll u w (closing u e xs fs) → LandedAll t w (closing t e (x ∷ xs) (y ∷ fs))
+pub lands_all : (t u w : Tables) (e : Errand) (x : Part) (xs : List Part) (y : Flown) (fs : List Flown) → Landed t u e x xs y fs
+    → LandedAll u w (closing u e xs fs) → LandedAll t w (closing t e (x ∷ xs) (y ∷ fs))
 lands_all t u w e x xs y fs l a = record {
   frames = a.frames ∙ l.frames;
   tied = a.tied;

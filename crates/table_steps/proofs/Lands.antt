@@ -48,7 +48,8 @@ pub record Landing (t : Lists) (q : Page) (f : ℕ) (token : Frame) (rest : List
   pub marks : (a : Frame) (r : Page) (mark : Bool) → x ≡ tokens.Resident a r mark → (r ≡ q) × (mark ≡ placed_mark texts place q)
   pub fits : FitsPage q place
   pub filling : (y : Filling) → filling_behind s y ≡ Zeros
-  pub shows : (free : List ℕ) (ts : List Transfer) → page_shown (landed t q f x place free texts ts rest) q place ≡ record { state = s; mark = m; filling = Zeros }
+  pub shows : (free : List ℕ) (ts : List Transfer)
+      → page_shown (landed t q f x place free texts ts rest) q place ≡ record { state = s; mark = m; filling = Zeros }
 
 hit : (y : Flown) (xs : List Flown) (f : ℕ) → flown_number y ≡ f → flown_at (y ∷ xs) f ≡ Some y
 hit y xs f e = grind (arith, nat_tests)

@@ -61,7 +61,8 @@ launched t q f token ts = record t {
 }
 
 -- a dirty page stays dirty, and text is saved or not as before
-going_shown : (t n : Lists) (q : Page) (f : ℕ) → n.texts ≡ t.texts → slot_at n.slots f ≡ tokens.Away → IsThere (placement_of t) q → is_dirty (placement_of t) q ≡ true
+going_shown : (t n : Lists) (q : Page) (f : ℕ) → n.texts ≡ t.texts → slot_at n.slots f ≡ tokens.Away → IsThere (placement_of t) q
+    → is_dirty (placement_of t) q ≡ true
     → page_shown n q (places.Frame f false true) ≡ record { state = Going f; mark = mark_of (placement_of t) q; filling = Zeros }
 going_shown t n (Data sid v) f e a there d =
     ap (λ (s : Token). let z : Slot = record { state = idle_state f (is_away s) true; mark = true; filling = Zeros } in z) a
@@ -132,7 +133,8 @@ seat_busy p q f c = elim c.state [
   | inr e ↦ subst (IsBusy p) (sym e.0) e.1
 ]
 
-pub launch_known : (t : Lists) (q : Page) (f : ℕ) → Known t → (r : Resides t q f) → is_dirty (placement_of t) q ≡ true → IsOpen t.transfers Writes → IsSound t.free (set t.slots f tokens.Away)
+pub launch_known : (t : Lists) (q : Page) (f : ℕ) → Known t → (r : Resides t q f) → is_dirty (placement_of t) q ≡ true → IsOpen t.transfers Writes
+    → IsSound t.free (set t.slots f tokens.Away)
     → Known (launched t q f r.token (join_last t.transfers Writes (record { page = q; frame = f })))
 launch_known t q f k r dirty latest core =
     let p : Placement = placement_of t in
@@ -156,7 +158,8 @@ launch_known t q f k r dirty latest core =
 
 -- The rest of the run.
 
-launch_dirty : (p : Placement) (q w : Page) (f : ℕ) (v : Bool) → state_of p q ≡ cond v (Valid f) (Invalid f) → w ≢ q → is_dirty p w ≡ true → is_dirty (launch p q) w ≡ true
+launch_dirty : (p : Placement) (q w : Page) (f : ℕ) (v : Bool) → state_of p q ≡ cond v (Valid f) (Invalid f) → w ≢ q → is_dirty p w ≡ true
+    → is_dirty (launch p q) w ≡ true
 launch_dirty p q w f v e n d =
     let same : slot_of (launch p q) w ≡ slot_of p w =
     ap (λ (x : Placement). slot_of x w) (launch_as p q f v e) ∙ put_other p q (Going f) (mark_of p q) w n in
@@ -172,7 +175,8 @@ part_is x q f a b = ap (λ (r : Page). let y : Part = record { page = r; frame =
 flown_is : (x : Outbound) (q : Page) (token : Frame) → x.page ≡ q → x.token ≡ token → outbound_flown x ≡ record { page = q; token = token }
 flown_is x q token a b = ap (λ (r : Page). let y : Flown = record { page = r; token = x.token } in y) a ∙ ap (λ (n : Frame). let y : Flown = record { page = q; token = n } in y) b
 
-pub launching_step : (t u : Tables) (xs : List Outbound) (q : Page) (f : ℕ) (x : Outbound) (r : Resides (launching t xs) q f) → LaunchedPage t u q f x → launching u (xs ++ x ∷ []) ≡ next_launch t xs q f r.token
+pub launching_step : (t u : Tables) (xs : List Outbound) (q : Page) (f : ℕ) (x : Outbound) (r : Resides (launching t xs) q f) → LaunchedPage t u q f x
+    → launching u (xs ++ x ∷ []) ≡ next_launch t xs q f r.token
 launching_step t u xs q f x r b =
     let e : x.token ≡ r.token = b.token ∙ ap token_of r.slot in
     let part : Part = record { page = q; frame = f } in
@@ -194,7 +198,8 @@ pub record Launched (t u : Tables) (xs : List Outbound) (q : Page) (x : Outbound
   pub may : MayLaunch (launching u (xs ++ x ∷ [])) q (lo + 1) m
   pub images : (sid : ℕ) → image_at u sid ≡ image_at t sid
 
-pub launched_by : (t u : Tables) (xs : List Outbound) (q : Page) (f : ℕ) (x : Outbound) (lo m : ℕ) → MayLaunch (launching t xs) q lo (suc m) → (r : Resides (launching t xs) (beside q lo) f)
+pub launched_by : (t u : Tables) (xs : List Outbound) (q : Page) (f : ℕ) (x : Outbound) (lo m : ℕ) → MayLaunch (launching t xs) q lo (suc m)
+    → (r : Resides (launching t xs) (beside q lo) f)
     → LaunchedPage t u (beside q lo) f x → IsSound u.core.free u.core.slots → Launched t u xs q x lo m
 launched_by t u xs q f x lo m may r b core =
     let l : Lists = launching t xs in
@@ -254,7 +259,8 @@ pub out_pages_snoc : (xs : List Outbound) (x : Outbound) → outbound_pages (xs 
 out_pages_snoc [] x = refl
 out_pages_snoc (y ∷ ys) x = ap (λ (qs : List Page). y.page ∷ qs) (out_pages_snoc ys x)
 
-pub blocks_snoc : (hs : Holdings) (xs : List Outbound) (x : Outbound) → HaveOwnBlocks hs xs → block_of hs x.page ≡ Some x.block → HaveOwnBlocks hs (xs ++ x ∷ [])
+pub blocks_snoc : (hs : Holdings) (xs : List Outbound) (x : Outbound) → HaveOwnBlocks hs xs → block_of hs x.page ≡ Some x.block
+    → HaveOwnBlocks hs (xs ++ x ∷ [])
 blocks_snoc hs [] x h o = (o, tt)
 blocks_snoc hs (y ∷ ys) x h o = (h.0, blocks_snoc hs ys x h.1 o)
 
@@ -263,13 +269,15 @@ blocks_snoc hs (y ∷ ys) x h o = (h.0, blocks_snoc hs ys x h.1 o)
 pub named_resides : (t : Lists) (q : Page) (f : ℕ) → Resides t q f → Resides t q (frame_named (entry_in t.spaces q))
 named_resides t q f r = subst (Resides t q) (sym (ap frame_named r.entry)) r
 
-pub first_resides : (t : Tables) (xs : List Outbound) (q v : Page) (lo n m : ℕ) → n ≡ suc m → v ≡ beside q lo → MayLaunch (launching t xs) q lo n → Resides (launching t xs) v (frame_named (entry_in t.spaces v))
+pub first_resides : (t : Tables) (xs : List Outbound) (q v : Page) (lo n m : ℕ) → n ≡ suc m → v ≡ beside q lo → MayLaunch (launching t xs) q lo n
+    → Resides (launching t xs) v (frame_named (entry_in t.spaces v))
 first_resides t xs q v lo n m e is may =
     let all : EachPage (HasSeat (placement_of (launching t xs))) (pages_from q lo (suc m)) = subst (λ (k : ℕ). EachPage (HasSeat (placement_of (launching t xs))) (pages_from q lo k)) e may.seats in
     let seat : HasSeat (placement_of (launching t xs)) v = subst (HasSeat (placement_of (launching t xs))) (sym is) all.0 in
     named_resides (launching t xs) v seat.frame (seat_resides (launching t xs) v seat.frame may.known seat.seat)
 
-pub launched_first : (t u : Tables) (xs : List Outbound) (q v : Page) (x : Outbound) (lo n m : ℕ) → n ≡ suc m → v ≡ beside q lo → MayLaunch (launching t xs) q lo n
+pub launched_first : (t u : Tables) (xs : List Outbound) (q v : Page) (x : Outbound) (lo n m : ℕ) → n ≡ suc m → v ≡ beside q lo
+    → MayLaunch (launching t xs) q lo n
     → LaunchedPage t u v (frame_named (entry_in t.spaces v)) x → IsSound u.core.free u.core.slots → Launched t u xs q x lo m
 launched_first t u xs q v x lo n m e is may b core =
     launched_by t u xs q (frame_named (entry_in t.spaces (beside q lo))) x lo m (subst (MayLaunch (launching t xs) q lo) e may)

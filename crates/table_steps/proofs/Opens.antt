@@ -26,7 +26,8 @@ use Rattle.kernel_tables.specs.Moves.{BroughtPage, opened}
 use Rattle.kernel_tables.proofs.Evicts.{Head}
 use Rattle.kernel_tables.proofs.Comes.{come_is, come_frames, come_known}
 
-pub join_snoc : (ts : List Transfer) (e : Errand) (ps : List Part) (x : Part) → join_last (ts ++ record { errand = e; parts = ps } ∷ []) e x ≡ ts ++ record { errand = e; parts = ps ++ x ∷ [] } ∷ []
+pub join_snoc : (ts : List Transfer) (e : Errand) (ps : List Part) (x : Part)
+    → join_last (ts ++ record { errand = e; parts = ps } ∷ []) e x ≡ ts ++ record { errand = e; parts = ps ++ x ∷ [] } ∷ []
 join_snoc [] e ps x = refl
 join_snoc (t ∷ []) e ps x = refl
 join_snoc (t ∷ u ∷ us) e ps x = ap (λ (l : List Transfer). t ∷ l) (join_snoc (u ∷ us) e ps x)
@@ -41,7 +42,8 @@ abbrev pub next_lists : Tables → Tables → List Inbound → Source → Page �
 next_lists t u xs s q x = coming (taken (opened t xs s q) x.token.number (token_page (slot_at t.core.slots x.token.number)) u.core.free) x.token x.page
     (join_last (opened t xs s q).transfers (Reads s q) (record { page = x.page; frame = x.token.number }))
 
-pub opened_step : (t u : Tables) (xs : List Inbound) (s : Source) (q : Page) (b : Bool) (x : Inbound) → BroughtPage t u x.page b x → opened u (xs ++ x ∷ []) s q ≡ next_lists t u xs s q x
+pub opened_step : (t u : Tables) (xs : List Inbound) (s : Source) (q : Page) (b : Bool) (x : Inbound) → BroughtPage t u x.page b x
+    → opened u (xs ++ x ∷ []) s q ≡ next_lists t u xs s q x
 opened_step t u xs s q c x b =
     let e : Errand = Reads s q in
     let y : Flown = record { page = x.page; token = x.token } in
@@ -64,7 +66,8 @@ pub record Brings (t u : Tables) (xs : List Inbound) (s : Source) (q : Page) (x 
   pub frames : frames_of (opened u (xs ++ x ∷ []) s q) ≡ frames_of (opened t xs s q)
   pub may : MayBring (opened u (xs ++ x ∷ []) s q) q (lo + 1) m
 
-pub brings : (t u : Tables) (xs : List Inbound) (s : Source) (q : Page) (b : Bool) (x : Inbound) (lo m : ℕ) → x.page ≡ beside q lo → BroughtPage t u x.page b x → IsSound u.core.free u.core.slots
+pub brings : (t u : Tables) (xs : List Inbound) (s : Source) (q : Page) (b : Bool) (x : Inbound) (lo m : ℕ) → x.page ≡ beside q lo
+    → BroughtPage t u x.page b x → IsSound u.core.free u.core.slots
     → MayBring (opened t xs s q) q lo (suc m) → Brings t u xs s q x lo m
 brings t u xs s q c x lo m is b core may =
     let l : Lists = opened t xs s q in

@@ -36,7 +36,8 @@ use Rattle.table_steps.proofs.Launchings.{begun_place, begun_frames, named_resid
 
 -- The rest of the tables, by what a call may have changed.
 
-pub rest_ring : (t u : Tables) (w : Tables) → u ≡ record t { core = u.core; spaces = u.spaces } → w ≡ record u { ring = w.ring } → w ≡ record t { core = w.core; spaces = w.spaces; ring = w.ring; front = w.front; back = w.back }
+pub rest_ring : (t u : Tables) (w : Tables) → u ≡ record t { core = u.core; spaces = u.spaces } → w ≡ record u { ring = w.ring }
+    → w ≡ record t { core = w.core; spaces = w.spaces; ring = w.ring; front = w.front; back = w.back }
 rest_ring t u w e r =
     let x : w ≡ record t { core = u.core; spaces = u.spaces; ring = w.ring } = r ∙ ap (λ (z : Tables). record z { ring = w.ring }) e in
     x
@@ -69,7 +70,8 @@ write_lists t u w ps x q lo n g =
     ∙ ap (λ (fs : List Flown). record (lists_of u) { transfers = map transfer_shown u.ring ++ record { errand = Writes; parts = map out_part ps } ∷ []; flown = fs })
     (ap flown g.ring ∙ flown-append u.ring (x ∷ []) ∙ ap (λ (fs : List Flown). flown u.ring ++ fs) (append-nil (flown_in x) ∙ g.flying))
 
-pub wrote_run : (t u w : Tables) (ps : List Outbound) (x : Flight) (q : Page) (lo n : ℕ) → WroteRun t u w ps x q lo n → MovedOn t w (launch_run (placement_of (lists_of t)) (pages_from q lo n))
+pub wrote_run : (t u w : Tables) (ps : List Outbound) (x : Flight) (q : Page) (lo n : ℕ) → WroteRun t u w ps x q lo n
+    → MovedOn t w (launch_run (placement_of (lists_of t)) (pages_from q lo n))
 wrote_run t u w ps x q lo n g =
     let is : lists_of w ≡ launching u ps = write_lists t u w ps x q lo n g in
     record {
@@ -101,7 +103,8 @@ pub moved_as : (t u : Tables) (p r : Placement) → p ≡ r → MovedOn t u p �
 moved_as t u p r e m = subst (MovedOn t u) e m
 
 -- pages that are seated have their blocks
-pub seats_blocks : (t : Lists) (hs : Holdings) (qs : List Page) → Known t → HasBlocks (placement_of t) hs → EachPage (HasSeat (placement_of t)) qs → EachPage (λ q. IsSome (block_of hs q)) qs
+pub seats_blocks : (t : Lists) (hs : Holdings) (qs : List Page) → Known t → HasBlocks (placement_of t) hs → EachPage (HasSeat (placement_of t)) qs
+    → EachPage (λ q. IsSome (block_of hs q)) qs
 seats_blocks t hs qs k b h = each_page_imp (HasSeat (placement_of t)) (λ q. IsSome (block_of hs q)) qs h
     (λ q s. let r : Resides t q s.frame = seat_resides t q s.frame k s.seat in b q r.there r.shared)
 
@@ -110,7 +113,8 @@ seat_named t q k s = named_resides t q s.frame (seat_resides t q s.frame k s.sea
 
 -- The step of `Put`.
 
-pub push_is : (p : Placement) (q : Page) (n : ℕ) (d : Bool) → is_dirty p q ≡ d → 0 < n → put_out p q (number_of q) (cond d n 0) ≡ put_step p q (pages_from q (number_of q) n)
+pub push_is : (p : Placement) (q : Page) (n : ℕ) (d : Bool) → is_dirty p q ≡ d → 0 < n
+    → put_out p q (number_of q) (cond d n 0) ≡ put_step p q (pages_from q (number_of q) n)
 push_is p q n true e l = put_some p q (number_of q) n l ∙ sym (ap (put_by p q (pages_from q (number_of q) n)) e)
 push_is p q n false e l = sym (ap (put_by p q (pages_from q (number_of q) n)) e)
 
@@ -131,7 +135,8 @@ push_may p q n true e can =
     put_may p q (number_of q) n can.some (record { seats = can.seats; dirty = a.0; most = can.most; room = a.1 })
 push_may p q n false e can = record { seat = push_seat p q n can; clean = clean_unmarked q (mark_of p q) e }
 
-pub push_few : (p : Placement) (q : Page) (n : ℕ) (d : Bool) → is_dirty p q ≡ d → CanPush p q n → length p.transfers ≤ 16 → length (Placement.transfers (put_out p q (number_of q) (cond d n 0))) ≤ 16
+pub push_few : (p : Placement) (q : Page) (n : ℕ) (d : Bool) → is_dirty p q ≡ d → CanPush p q n → length p.transfers ≤ 16
+    → length (Placement.transfers (put_out p q (number_of q) (cond d n 0))) ≤ 16
 push_few p q n true e can l =
     let a : AreAlike p q n true = subst (AreAlike p q n) e can.alike in
     let b = ap (λ (r : Placement). length r.transfers) (put_some p q (number_of q) n can.some) ∙ launch_run_count p (pages_from q (number_of q) n) in

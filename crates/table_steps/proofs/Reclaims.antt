@@ -54,7 +54,8 @@ pub record InvalidEntry (t : Lists) (q : Page) (f : ℕ) : Type 0 where
   pub held : token_page (slot_at t.slots f) ≡ Some q
   pub mark : page_shown t q (places.Frame f true (dirty_shown t.spaces t.texts q)) ≡ record { state = Valid f; mark = mark_of (placement_of t) q; filling = Zeros }
 
-idle_is : (slots : List Token) (x : Place) (f : ℕ) → state_shown slots x ≡ Invalid f → (c : Bool) × (x ≡ places.Frame f false c) × (is_away (slot_at slots f) ≡ false)
+idle_is : (slots : List Token) (x : Place) (f : ℕ) → state_shown slots x ≡ Invalid f
+    → (c : Bool) × (x ≡ places.Frame f false c) × (is_away (slot_at slots f) ≡ false)
 idle_is slots places.Zero f e = absurd cc
 idle_is slots (places.Image v) f e = absurd cc
 idle_is slots places.Swap f e = absurd cc
@@ -76,7 +77,8 @@ present tokens.Away o q a e = absurd (let k : true ≡ false = a in cc)
 not_away : (s : Token) → is_away s ≡ false → s ≢ tokens.Away
 not_away s e n = absurd (let k : true ≡ false = sym (ap is_away n) ∙ e in cc)
 
-pub held_is : (t : Lists) (q : Page) (f : ℕ) → Known t → state_of (placement_of t) q ≡ Invalid f → is_away (slot_at t.slots f) ≡ false → token_page (slot_at t.slots f) ≡ Some q
+pub held_is : (t : Lists) (q : Page) (f : ℕ) → Known t → state_of (placement_of t) q ≡ Invalid f → is_away (slot_at t.slots f) ≡ false
+    → token_page (slot_at t.slots f) ≡ Some q
 held_is t q f k e a =
     let n = not_away (slot_at t.slots f) a in
     present (slot_at t.slots f) (flown_at t.flown f) q a (sym (held_at t f (above_zero t.free t.slots f k.core n) (below_length t.slots f n)) ∙ k.owns.names q f (ap frame_of e))
@@ -173,7 +175,8 @@ reclaim_is t q f i k e =
     same_shown (Stack a v) x = refl
     same_shown (Text a v) x = refl
 
-pub reclaim_frames : (t : Lists) (q : Page) (f : ℕ) (c : Bool) → token_page (slot_at t.slots f) ≡ Some q → frames_of (reclaimed t q f (revived (slot_at t.slots f) q c) c) ≡ frames_of t
+pub reclaim_frames : (t : Lists) (q : Page) (f : ℕ) (c : Bool) → token_page (slot_at t.slots f) ≡ Some q
+    → frames_of (reclaimed t q f (revived (slot_at t.slots f) q c) c) ≡ frames_of t
 reclaim_frames t q f c e =
     let s : Token = revived (slot_at t.slots f) q c in
     let n : Lists = reclaimed t q f s c in
@@ -191,14 +194,16 @@ pub record Reclaiming (t u : Tables) (q : Page) (f : ℕ) : Type 0 where
   pub entry : InvalidEntry (lists_of t) q f
   pub revived_it : RevivedPage t u q f (dirty_shown t.spaces t.texts q)
 
-pub reclaiming_lists : (t u : Tables) (q : Page) (f : ℕ) (r : Reclaiming t u q f) → lists_of u ≡ reclaimed (lists_of t) q f (revived (slot_at t.core.slots f) q (dirty_shown t.spaces t.texts q)) (dirty_shown t.spaces t.texts q)
+pub reclaiming_lists : (t u : Tables) (q : Page) (f : ℕ) (r : Reclaiming t u q f)
+    → lists_of u ≡ reclaimed (lists_of t) q f (revived (slot_at t.core.slots f) q (dirty_shown t.spaces t.texts q)) (dirty_shown t.spaces t.texts q)
 reclaiming_lists t u q f r =
     ap lists_of r.revived_it.rest
     ∙ ap (λ (ss : List Token). record (lists_of t) { slots = ss; free = u.core.free; spaces = u.spaces }) r.revived_it.slots
     ∙ ap (λ (fs : List ℕ). record (lists_of t) { slots = set t.core.slots f (revived (slot_at t.core.slots f) q (dirty_shown t.spaces t.texts q)); free = fs; spaces = u.spaces }) r.revived_it.free
     ∙ ap (λ (ss : List Places). record (lists_of t) { slots = set t.core.slots f (revived (slot_at t.core.slots f) q (dirty_shown t.spaces t.texts q)); free = without f t.core.free; spaces = ss }) r.revived_it.spaces
 
-pub reclaim_kernel : (t u : Tables) (q : Page) (f : ℕ) (journal : List Entry) (stopped : Bool) → Reclaiming t u q f → kernel_by u (journal ++ entries.Reclaim q ∷ []) stopped ≡ reclaim_step (kernel_by t journal stopped) q
+pub reclaim_kernel : (t u : Tables) (q : Page) (f : ℕ) (journal : List Entry) (stopped : Bool) → Reclaiming t u q f
+    → kernel_by u (journal ++ entries.Reclaim q ∷ []) stopped ≡ reclaim_step (kernel_by t journal stopped) q
 reclaim_kernel t u q f journal stopped r =
     let l = reclaiming_lists t u q f r in
     let rest = r.revived_it.rest in
@@ -213,7 +218,8 @@ reclaim_kernel t u q f journal stopped r =
     refl
     refl
 
-pub revived_mark : (ss : List Places) (ts : List SharedText) (f : ℕ) (q : Page) → dirty_shown ss ts q ≡ placed_mark ts (places.Frame f true (dirty_shown ss ts q)) q
+pub revived_mark : (ss : List Places) (ts : List SharedText) (f : ℕ) (q : Page)
+    → dirty_shown ss ts q ≡ placed_mark ts (places.Frame f true (dirty_shown ss ts q)) q
 revived_mark ss ts f (Data n v) = refl
 revived_mark ss ts f (Stack n v) = refl
 revived_mark ss ts f (Text i v) = refl

@@ -34,7 +34,8 @@ use Rattle.kernel_tables.proofs.Comes.{shared_entry}
 
 -- What an entry shows of its page.
 
-pub entry_shown : (t : Lists) (q : Page) (x : Place) → AllDistinct (sids_of t.spaces) → IsThere (placement_of t) q → entry_in t.spaces q ≡ Some x → slot_of (placement_of t) q ≡ page_shown t q x
+pub entry_shown : (t : Lists) (q : Page) (x : Place) → AllDistinct (sids_of t.spaces) → IsThere (placement_of t) q → entry_in t.spaces q ≡ Some x
+    → slot_of (placement_of t) q ≡ page_shown t q x
 entry_shown t (Data n v) x d th e = data_shown t.slots t.spaces n v d ∙ ap (slot_or (slot_shown t.slots)) e
 entry_shown t (Stack n v) x d th e = stack_shown t.slots t.spaces n v d ∙ ap (slot_or (slot_shown t.slots)) e
 entry_shown t (Text i v) x d th e = text_at t i v (text_within t i v th) ∙ ap (λ (o : Option Place). text_shown t.slots (is_saved (text_of t.texts i) v) (text_place_by o t.slots (Text i v) v)) e
@@ -50,7 +51,8 @@ idle_frame g true true = refl
 idle_frame g true false = refl
 
 -- an entry whose state names a frame names it
-frame_entry : (slots : List Token) (x : Place) (f : ℕ) → frame_of (state_shown slots x) ≡ Some f → (valid : Bool) × (changed : Bool) × (x ≡ places.Frame f valid changed)
+frame_entry : (slots : List Token) (x : Place) (f : ℕ) → frame_of (state_shown slots x) ≡ Some f
+    → (valid : Bool) × (changed : Bool) × (x ≡ places.Frame f valid changed)
 frame_entry slots places.Zero f e = none_some f e
 frame_entry slots (places.Image v) f e = none_some f e
 frame_entry slots places.Swap f e = none_some f e
@@ -162,7 +164,8 @@ state_by : (slots : List Token) (f : ℕ) (token : Frame) (q : Page) (dirty vali
 state_by slots f token q dirty true changed h = refl
 state_by slots f token q dirty false changed h = ap (λ (s : Token). idle_state f (is_away s) changed) h
 
-pub resides_state : (t : Lists) (q : Page) (f : ℕ) (r : Resides t q f) → state_of (placement_of t) q ≡ Rattle.std.proofs.Common.cond r.valid (Valid f) (Invalid f)
+pub resides_state : (t : Lists) (q : Page) (f : ℕ) (r : Resides t q f)
+    → state_of (placement_of t) q ≡ Rattle.std.proofs.Common.cond r.valid (Valid f) (Invalid f)
 resides_state t q f r = ap (λ (s : Slot). s.state) r.shown ∙ shown_state t q (places.Frame f r.valid r.changed) ∙ state_by t.slots f r.token q r.dirty r.valid r.changed r.slot
 
 pub resides_seat : (t : Lists) (q : Page) (f : ℕ) (r : Resides t q f) → IsSeated (placement_of t) q f

@@ -69,11 +69,13 @@ retiring t q f k r clean =
       fits = frame_fits q f false false;
     }
 
-retire_as : (p : Placement) (q : Page) (f : ℕ) (v : Bool) → state_of p q ≡ cond v (Valid f) (Invalid f) → retire p q ≡ turn p q (Invalid f) (mark_of p q) (p.free ++ f ∷ []) p.transfers
+retire_as : (p : Placement) (q : Page) (f : ℕ) (v : Bool) → state_of p q ≡ cond v (Valid f) (Invalid f)
+    → retire p q ≡ turn p q (Invalid f) (mark_of p q) (p.free ++ f ∷ []) p.transfers
 retire_as p q f true e = ap (retire_to p q) e
 retire_as p q f false e = ap (retire_to p q) e
 
-pub retire_is : (t : Lists) (q : Page) (f : ℕ) → Known t → (r : Resides t q f) → is_marked_dirty q (mark_of (placement_of t) q) ≡ false → placement_of (retired t q f r.token) ≡ retire (placement_of t) q
+pub retire_is : (t : Lists) (q : Page) (f : ℕ) → Known t → (r : Resides t q f) → is_marked_dirty q (mark_of (placement_of t) q) ≡ false
+    → placement_of (retired t q f r.token) ≡ retire (placement_of t) q
 retire_is t q f k r clean =
     turn_is t (retired t q f r.token) q f (places.Frame f false false) (Invalid f) (mark_of (placement_of t) q) (retiring t q f k r clean)
     ∙ sym (retire_as (placement_of t) q f r.valid (resides_state t q f r))
@@ -85,7 +87,8 @@ retired_lists t u q f r m =
     ∙ ap (λ (fs : List ℕ). record (lists_of t) { slots = set t.core.slots f (tokens.Free r.token (Some q)); free = fs; spaces = u.spaces }) m.free
     ∙ ap (λ (ss : List Places). record (retired (lists_of t) q f r.token) { spaces = ss }) m.spaces
 
-pub retire_moves : (t u : Tables) (q : Page) (f : ℕ) → Known (lists_of t) → Resides (lists_of t) q f → is_marked_dirty q (mark_of (placement_of (lists_of t)) q) ≡ false → RetiredPage t u q f
+pub retire_moves : (t u : Tables) (q : Page) (f : ℕ) → Known (lists_of t) → Resides (lists_of t) q f
+    → is_marked_dirty q (mark_of (placement_of (lists_of t)) q) ≡ false → RetiredPage t u q f
     → MovedOn t u (retire (placement_of (lists_of t)) q)
 retire_moves t u q f k r clean m =
     let l : Lists = lists_of t in
@@ -109,7 +112,8 @@ retire_moves t u q f k r clean m =
         ∙ ap (λ (n : ℕ). record t { core = u.core; spaces = u.spaces; ring = u.ring; front = u.front; back = n }) (sym (ap (λ (x : Tables). x.back) e))
 
 -- From a frame that was lifted.
-pub retired_by : (t u : Tables) (core : Frames) (token given : Frame) (q : Page) (f g : ℕ) → g ≡ f → token ≡ token_of (slot_at t.core.slots g) → token.number ≡ g → core.free ≡ t.core.free
+pub retired_by : (t u : Tables) (core : Frames) (token given : Frame) (q : Page) (f g : ℕ) → g ≡ f → token ≡ token_of (slot_at t.core.slots g)
+    → token.number ≡ g → core.free ≡ t.core.free
     → core.slots ≡ set t.core.slots g tokens.Away → given ≡ token
     → RestedPage (record t { core = core }) u given q → RetiredPage t u q f
 retired_by t u core token given q f g e is number free slots same m =

@@ -35,19 +35,23 @@ names_append : (test : Page → Bool) (xs ys : List Moving) → names_page test 
 names_append test [] ys = refl
 names_append test (x ∷ xs) ys = ap (λ (b : Bool). test x.page || b) (names_append test xs ys) ∙ sym (or_assoc (test x.page) (names_page test xs) (names_page test ys))
 
-in_names : (o : Owner) (test : Page → Bool) (e : Errand) (xs : List Inbound) → ((q : Page) → is_page_of o q ≡ test q) → list_any (λ (x : Inbound). is_page_of o x.page) xs ≡ names_page test (map (moving e) (map in_part xs))
+in_names : (o : Owner) (test : Page → Bool) (e : Errand) (xs : List Inbound) → ((q : Page) → is_page_of o q ≡ test q)
+    → list_any (λ (x : Inbound). is_page_of o x.page) xs ≡ names_page test (map (moving e) (map in_part xs))
 in_names o test e [] h = refl
 in_names o test e (x ∷ xs) h = ap (λ (b : Bool). b || list_any (λ (y : Inbound). is_page_of o y.page) xs) (h x.page) ∙ ap (λ (b : Bool). test x.page || b) (in_names o test e xs h)
 
-out_names : (o : Owner) (test : Page → Bool) (e : Errand) (xs : List Outbound) → ((q : Page) → is_page_of o q ≡ test q) → list_any (λ (x : Outbound). is_page_of o x.page) xs ≡ names_page test (map (moving e) (map out_part xs))
+out_names : (o : Owner) (test : Page → Bool) (e : Errand) (xs : List Outbound) → ((q : Page) → is_page_of o q ≡ test q)
+    → list_any (λ (x : Outbound). is_page_of o x.page) xs ≡ names_page test (map (moving e) (map out_part xs))
 out_names o test e [] h = refl
 out_names o test e (x ∷ xs) h = ap (λ (b : Bool). b || list_any (λ (y : Outbound). is_page_of o y.page) xs) (h x.page) ∙ ap (λ (b : Bool). test x.page || b) (out_names o test e xs h)
 
-one_names : (o : Owner) (test : Page → Bool) (t : Flight) → ((q : Page) → is_page_of o q ≡ test q) → names_page_of o t ≡ names_page test (map (moving (transfer_shown t).errand) (transfer_shown t).parts)
+one_names : (o : Owner) (test : Page → Bool) (t : Flight) → ((q : Page) → is_page_of o q ≡ test q)
+    → names_page_of o t ≡ names_page test (map (moving (transfer_shown t).errand) (transfer_shown t).parts)
 one_names o test (flights.Read demanded parts) h = in_names o test (transfer_shown (flights.Read demanded parts)).errand parts.items h
 one_names o test (flights.Write parts) h = out_names o test (transfer_shown (flights.Write parts)).errand parts.items h
 
-ring_names : (o : Owner) (test : Page → Bool) (ts : List Flight) → ((q : Page) → is_page_of o q ≡ test q) → list_any (names_page_of o) ts ≡ names_page test (parts_of (map transfer_shown ts))
+ring_names : (o : Owner) (test : Page → Bool) (ts : List Flight) → ((q : Page) → is_page_of o q ≡ test q)
+    → list_any (names_page_of o) ts ≡ names_page test (parts_of (map transfer_shown ts))
 ring_names o test [] h = refl
 ring_names o test (t ∷ ts) h =
     ap (λ (b : Bool). b || list_any (names_page_of o) ts) (one_names o test t h)
@@ -132,13 +136,15 @@ settled_rest t sid e =
     ap (λ (b : Bool). not b && not ((sharers (placement_of (lists_of t)) (image_of (placement_of (lists_of t)) sid) == 1) && names_page (is_of_text (image_of (placement_of (lists_of t)) sid)) (parts_of (map transfer_shown t.ring))))
     (sym (ring_names (whose.Space sid) (is_of_space sid) t.ring (λ q. refl)) ∙ e)
 
-pub settled_none : (t : Tables) (sid : ℕ) → Tied (lists_of t) → list_any (names_space sid) t.ring ≡ false → image_found t.spaces sid ≡ None → is_settled (placement_of (lists_of t)) sid ≡ true
+pub settled_none : (t : Tables) (sid : ℕ) → Tied (lists_of t) → list_any (names_space sid) t.ring ≡ false → image_found t.spaces sid ≡ None
+    → is_settled (placement_of (lists_of t)) sid ≡ true
 settled_none t sid k e m =
     settled_rest t sid e
     ∙ ap (λ (i : ℕ). not ((sharers (placement_of (lists_of t)) i == 1) && names_page (is_of_text i) (parts_of (map transfer_shown t.ring)))) (found_is t.core.slots t.spaces sid ∙ ap or_zero m)
     ∙ ap (λ (n : ℕ). not ((n == 1) && names_page (is_of_text 0) (parts_of (map transfer_shown t.ring)))) (none_shares (lists_of t).facts t.core.slots t.spaces k.filled)
 
-pub settled_text : (t : Tables) (sid i count : ℕ) → Tied (lists_of t) → list_any (names_space sid) t.ring ≡ false → image_found t.spaces sid ≡ Some i → count ≡ (Rattle.text_table.specs.Texts.text_of t.texts i).sharers
+pub settled_text : (t : Tables) (sid i count : ℕ) → Tied (lists_of t) → list_any (names_space sid) t.ring ≡ false → image_found t.spaces sid ≡ Some i
+    → count ≡ (Rattle.text_table.specs.Texts.text_of t.texts i).sharers
     → is_settled (placement_of (lists_of t)) sid ≡ not ((count == 1) && list_any (names_text i) t.ring)
 settled_text t sid i count k e m c =
     let r = image_range t sid i k m in

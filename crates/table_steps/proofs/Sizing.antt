@@ -98,7 +98,8 @@ sized_length : (n : ℕ) (xs : List Place) → length (resized xs n) ≡ n
 sized_length n xs = ap length (resized_is n xs) ∙ by_length n xs
 
 -- a page that is still there is as it was, but for pages of zeros that came
-by_changed : (n v : ℕ) (xs : List Place) → IsSome (slice_get (resized_by n xs) v) → changed_named (slice_get (resized_by n xs) v) ≡ changed_named (slice_get xs v)
+by_changed : (n v : ℕ) (xs : List Place) → IsSome (slice_get (resized_by n xs) v)
+    → changed_named (slice_get (resized_by n xs) v) ≡ changed_named (slice_get xs v)
 by_changed zero v xs h = absurd cc
 by_changed (suc n) zero [] h = refl
 by_changed (suc n) (suc v) [] h = by_changed n v [] h
@@ -123,7 +124,8 @@ apart_at n m i [] h e k = absurd cc
 apart_at n m zero (k ∷ ns) h e i = h.0 (let same : k ≡ m = cc in same ∙ sym i)
 apart_at n m (suc i) (k ∷ ns) h e j = apart_at n m i ns h.1 e j
 
-changed_hit : (n : ℕ) (change : SpacePages → SpacePages) (x : SpacePages) (xs : List SpacePages) → x.sid ≡ n → changed space_number n change (x ∷ xs) ≡ change x ∷ xs
+changed_hit : (n : ℕ) (change : SpacePages → SpacePages) (x : SpacePages) (xs : List SpacePages) → x.sid ≡ n
+    → changed space_number n change (x ∷ xs) ≡ change x ∷ xs
 changed_hit n change x xs e = grind (arith, nat_tests)
 
 changed_miss : (n : ℕ) (change : SpacePages → SpacePages) (x : SpacePages) (xs : List SpacePages) → x.sid ≢ n
@@ -201,7 +203,8 @@ or_changed : (a b : Option Place) (o : Option Place) → (IsSome a → changed_n
 or_changed a b None k h = k h
 or_changed a b (Some x) k h = refl
 
-first_changed : (q : Page) (sid : ℕ) → IsOfSpace q sid → (a b : Option Place) (xs : List Places) → IsAbsent sid (sids_of xs) → (IsSome a → changed_named a ≡ changed_named b)
+first_changed : (q : Page) (sid : ℕ) → IsOfSpace q sid → (a b : Option Place) (xs : List Places) → IsAbsent sid (sids_of xs)
+    → (IsSome a → changed_named a ≡ changed_named b)
     → IsSome (or_else a (entry_in xs q)) → changed_named (or_else a (entry_in xs q)) ≡ changed_named (or_else b (entry_in xs q))
 first_changed q sid of a b xs h k some =
     let gone : entry_in xs q ≡ None = absent_entry q sid of xs h in
@@ -267,7 +270,8 @@ cut_marked t i d s k o f token q mark e =
     same (Stack n v) th = sizes_dirty t.spaces i d s (Stack n v) k.differ (stack_there t.slots (with_sizes_at t.spaces i d s) n v th)
     same (Text n v) th = refl
 
-cut_tied : (t : Lists) (i sid d s : ℕ) → Known t → slice_get (sids_of t.spaces) i ≡ Some sid → d ≤ 4096 → s ≤ 512 → OwnsFrames (placement_of (cut_lists t i d s))
+cut_tied : (t : Lists) (i sid d s : ℕ) → Known t → slice_get (sids_of t.spaces) i ≡ Some sid → d ≤ 4096 → s ≤ 512
+    → OwnsFrames (placement_of (cut_lists t i d s))
     → Tied (cut_lists t i d s)
 cut_tied t i sid d s k e a b o = record {
   few_frames = k.tied.few_frames;
@@ -284,7 +288,8 @@ cut_tied t i sid d s k e a b o = record {
   once = k.tied.once;
 }
 
-cut_known : (t : Lists) (i sid d s : ℕ) → Known t → slice_get (sids_of t.spaces) i ≡ Some sid → d ≤ 4096 → s ≤ 512 → OwnsFrames (cut_space (placement_of t) sid d s)
+cut_known : (t : Lists) (i sid d s : ℕ) → Known t → slice_get (sids_of t.spaces) i ≡ Some sid → d ≤ 4096 → s ≤ 512
+    → OwnsFrames (cut_space (placement_of t) sid d s)
     → TextAside (cut_space (placement_of t) sid d s) → Known (cut_lists t i d s)
 cut_known t i sid d s k e a b o x =
     let is = cut_is t i sid d s k.differ e in
@@ -299,7 +304,8 @@ cut_known t i sid d s k e a b o x =
     }
 
 -- the image of each space stays
-cut_image : (n sid d s : ℕ) (xs : List SpacePages) → image_in (numbered space_number n (changed space_number sid (cut d s) xs)) ≡ image_in (numbered space_number n xs)
+cut_image : (n sid d s : ℕ) (xs : List SpacePages)
+    → image_in (numbered space_number n (changed space_number sid (cut d s) xs)) ≡ image_in (numbered space_number n xs)
 cut_image n sid d s xs = elim (cases_eq n sid) [
   | inl e ↦ subst (λ (m : ℕ). image_in (numbered space_number m (changed space_number sid (cut d s) xs)) ≡ image_in (numbered space_number m xs)) (sym e)
       (ap image_in (changed_same space_number sid (cut d s) (λ x. refl) xs) ∙ go (numbered space_number sid xs))
@@ -398,7 +404,8 @@ beside_stack : (sid v w lo n : ℕ) → pages_from (Stack sid v) lo n ≡ pages_
 beside_stack sid v w lo zero = refl
 beside_stack sid v w lo (suc n) = ap (λ (qs : List Page). Stack sid lo ∷ qs) (beside_stack sid v w (lo + 1) n)
 
-pub data_go : (t : Tables) (index sid d s a b : ℕ) → Sizing t index sid d s a b → EachPage (IsThere (placement_of (lists_of t))) (pages_from (Data sid 0) d (a - d))
+pub data_go : (t : Tables) (index sid d s a b : ℕ) → Sizing t index sid d s a b
+    → EachPage (IsThere (placement_of (lists_of t))) (pages_from (Data sid 0) d (a - d))
 data_go t index sid d s a b z = let e = (sizing_counts t index sid d s a b z).0 in pages_from_each (IsThere (placement_of (lists_of t))) (Data sid 0) d (a - d) (λ w l m. omega arith)
 
 pub data_rest : (t : Tables) (index sid d s a b : ℕ) → Sizing t index sid d s a b
@@ -449,7 +456,8 @@ all_rest t index sid d s a b z =
     (pages_from_each (λ q. AtRest (state_of p q)) (Data sid d) d (data_count p sid - d) (λ w l m. (z.settled (inl (omega arith))).data_rests w))
     (pages_from_each (λ q. AtRest (state_of p q)) (Stack sid s) s (stack_count p sid - s) (λ w l m. (z.settled (inr (omega arith))).stack_rests w))
 
-pub sized_shows : (t v w : Tables) (index sid d s a b : ℕ) → Sizing t index sid d s a b → Dropped t v (dropped_pages (placement_of (lists_of t)) sid d s) → d ≤ 4096 → s ≤ 512
+pub sized_shows : (t v w : Tables) (index sid d s a b : ℕ) → Sizing t index sid d s a b
+    → Dropped t v (dropped_pages (placement_of (lists_of t)) sid d s) → d ≤ 4096 → s ≤ 512
     → lists_of w ≡ cut_lists (lists_of v) index d s
     → Shows t w (resize (placement_of (lists_of t)) sid d s)
 sized_shows t v w index sid d s a b z h l m is =

@@ -74,7 +74,8 @@ pages_facts k i (y ∷ more) l = elim (cases_eq k i) [
       (h.0, facts_miss k i y more d ∙ h.1, h.2 ∙ sym (pages_miss k i y more d))
 ]
 
-place_named : (k i : ℕ) (ns : List Named) (x : Image) → facts_in k i (map (λ (n : Named). n.facts) ns) ≡ Some x → (n : ImageNamed) × (slice_get (map image_shown ns) (i - k) ≡ Some n) × (n.facts ≡ x)
+place_named : (k i : ℕ) (ns : List Named) (x : Image) → facts_in k i (map (λ (n : Named). n.facts) ns) ≡ Some x
+    → (n : ImageNamed) × (slice_get (map image_shown ns) (i - k) ≡ Some n) × (n.facts ≡ x)
 place_named k i [] x e = absurd cc
 place_named k i (m ∷ ms) x e = elim (cases_eq k i) [
   | inl s ↦
@@ -89,14 +90,16 @@ place_named k i (m ∷ ms) x e = elim (cases_eq k i) [
       (h.0, ap (slice_get (map image_shown (m ∷ ms))) more ∙ h.1, h.2)
 ]
 
-pub image_named : (i : ℕ) (ns : List Named) (x : Image) → facts_in 1 i (map (λ (n : Named). n.facts) ns) ≡ Some x → (n : ImageNamed) × (named_at (map image_shown ns) i ≡ Some n) × (n.facts ≡ x)
+pub image_named : (i : ℕ) (ns : List Named) (x : Image) → facts_in 1 i (map (λ (n : Named). n.facts) ns) ≡ Some x
+    → (n : ImageNamed) × (named_at (map image_shown ns) i ≡ Some n) × (n.facts ≡ x)
 image_named i ns x e =
     let h = place_named 1 i ns x e in
     let low = (facts_low 1 i (map (λ (n : Named). n.facts) ns) x e).0 in
     let up : i ≡ suc (i - 1) = omega arith in
     (h.0, ap (named_at (map image_shown ns)) up ∙ h.1, h.2)
 
-image_page : (ns : List Named) (i : ℕ) (x : Image) (text : Bool) (v : ℕ) → AreSound (map (λ (n : Named). n.facts) ns) → facts_in 1 i (map (λ (n : Named). n.facts) ns) ≡ Some x → v < Rattle.aout_image.specs.Image.pages_of text x
+image_page : (ns : List Named) (i : ℕ) (x : Image) (text : Bool) (v : ℕ) → AreSound (map (λ (n : Named). n.facts) ns)
+    → facts_in 1 i (map (λ (n : Named). n.facts) ns) ≡ Some x → v < Rattle.aout_image.specs.Image.pages_of text x
     → IsImagePage (named_at (map image_shown ns) i) text v
 image_page ns i x text v so e l =
     let h = image_named i ns x e in
@@ -128,7 +131,8 @@ file_range ns f (Text i v) h = page_range ns i true v h
 
 -- The space of a page.
 
-home : (facts : List Image) (ss : List Places) (q : Page) (n : ℕ) (x : Place) → IsOfSpace q n → AllDistinct (sids_of ss) → EachSpace (IsFilled facts) ss → entry_in ss q ≡ Some x
+home : (facts : List Image) (ss : List Places) (q : Page) (n : ℕ) (x : Place) → IsOfSpace q n → AllDistinct (sids_of ss)
+    → EachSpace (IsFilled facts) ss → entry_in ss q ≡ Some x
     → (s : Places) × IsFilled facts s × (place_in s q ≡ Some x) × (image_found ss n ≡ Some s.image)
 home facts [] q n x of d f e = absurd cc
 home facts (s ∷ ss) q n x of d f e = elim (cases_eq s.sid n) [
@@ -147,7 +151,8 @@ filled_entry slots (Some places.Swap) e = absurd cc
 filled_entry slots (Some (places.Frame f valid changed)) e = absurd cc
 
 -- a page that is read from its file has a place there
-pub file_page : (t : Tables) (demanded q : Page) → Known (lists_of t) → IsThere (placement_of (lists_of t)) q → ReadsFrom (placement_of (lists_of t)) FromFile demanded q → IsFilePage (images_of t) (image_at t) q
+pub file_page : (t : Tables) (demanded q : Page) → Known (lists_of t) → IsThere (placement_of (lists_of t)) q
+    → ReadsFrom (placement_of (lists_of t)) FromFile demanded q → IsFilePage (images_of t) (image_at t) q
 file_page t demanded (Data n v) k there r =
     let l : Lists = lists_of t in
     let w = filled_entry l.slots (entry_in l.spaces (Data n v)) (sym (ap (λ (y : Slot). y.filling) (data_shown l.slots l.spaces n v k.differ)) ∙ r.1) in
@@ -179,7 +184,8 @@ swap_block size k q so e =
     places_found size (lives k.processes) k.place k.holdings q so.owner (ap (λ (s : PageState). needs_blocks_by q s (mark_of k.place q)) e ∙ swap_needs q (mark_of k.place q))
 
 -- all pages of a run have a source of the kind that they are read from
-pub run_sources : (t : Tables) (k : Kernel) (b : Bool) (demanded : Page) (qs : List Page) → Known (lists_of t) → Sound t.book.size k → k.place ≡ placement_of (lists_of t) → k.holdings ≡ t.book.holdings
+pub run_sources : (t : Tables) (k : Kernel) (b : Bool) (demanded : Page) (qs : List Page) → Known (lists_of t) → Sound t.book.size k
+    → k.place ≡ placement_of (lists_of t) → k.holdings ≡ t.book.holdings
     → EachPage (CanEnter (placement_of (lists_of t))) qs → EachPage (ReadsFrom (placement_of (lists_of t)) (source_by b) demanded) qs → EachPage (HasSource t b) qs
 run_sources t k b demanded qs known so e h c r =
     let p : Placement = placement_of (lists_of t) in
@@ -211,7 +217,8 @@ cached_source : (slots : List Token) (o : Option ℕ) (v : ℕ) → FromFile ≡
 cached_source slots None v = refl
 cached_source slots (Some f) v = idle_source f (is_away (slot_at slots f)) false
 
-pub source_is : (t : Lists) (q : Page) → Known t → IsThere (placement_of t) q → source_by (not (is_on_swap (entry_in t.spaces q))) ≡ source_for (state_of (placement_of t) q)
+pub source_is : (t : Lists) (q : Page) → Known t → IsThere (placement_of t) q
+    → source_by (not (is_on_swap (entry_in t.spaces q))) ≡ source_for (state_of (placement_of t) q)
 source_is t (Data n v) k there = entry_source t.slots (entry_in t.spaces (Data n v)) ∙ sym (ap (λ (y : Slot). source_for y.state) (data_shown t.slots t.spaces n v k.differ))
 source_is t (Stack n v) k there = entry_source t.slots (entry_in t.spaces (Stack n v)) ∙ sym (ap (λ (y : Slot). source_for y.state) (stack_shown t.slots t.spaces n v k.differ))
 source_is t (Text i v) k there = go (entry_in t.spaces (Text i v)) ∙ sym (ap (λ (y : Slot). source_for y.state) (text_at t i v (text_within t i v there)))
@@ -221,7 +228,8 @@ source_is t (Text i v) k there = go (entry_in t.spaces (Text i v)) ∙ sym (ap (
     go (Some x) = place_source t.slots x
 
 -- the demanded page is read from where the first page of its run is
-pub first_source : (p : Placement) (q first : Page) → ReadsFrom p (source_for (state_of p q)) q first → source_for (state_of p first) ≡ source_for (state_of p q)
+pub first_source : (p : Placement) (q first : Page) → ReadsFrom p (source_for (state_of p q)) q first
+    → source_for (state_of p first) ≡ source_for (state_of p q)
 first_source p q first r = go (source_for (state_of p q)) r
   where
     go : (s : Source) → ReadsFrom p s q first → source_for (state_of p first) ≡ s
@@ -244,7 +252,8 @@ sources_snoc : (xs : List Inbound) (x : Inbound) → AreSources xs → IsSource 
 sources_snoc [] x h n = (n, tt)
 sources_snoc (y ∷ ys) x h n = (h.0, sources_snoc ys x h.1 n)
 
-sourced_snoc : (ns : List ImageNamed) (f : ℕ → ℕ) (hs : Holdings) (size : ℕ) (s : Source) (xs : List Inbound) (x : Inbound) → AreSourcedIn ns f hs size s xs → source_of x.source ≡ s
+sourced_snoc : (ns : List ImageNamed) (f : ℕ → ℕ) (hs : Holdings) (size : ℕ) (s : Source) (xs : List Inbound) (x : Inbound)
+    → AreSourcedIn ns f hs size s xs → source_of x.source ≡ s
     → IsSourced ns f hs size x.page x.source → AreSourcedIn ns f hs size s (xs ++ x ∷ [])
 sourced_snoc ns f hs size s [] x h k n = (k, n, tt)
 sourced_snoc ns f hs size s (y ∷ ys) x h k n = (h.0, h.1, sourced_snoc ns f hs size s ys x h.2 k n)
@@ -283,7 +292,8 @@ has_still t u true q s h = subst (λ (ns : List ImageNamed). IsFilePage ns (imag
 has_still t u false q s h = subst (λ (x : Book). IsSome (block_of x.holdings q)) (sym s.book) h
 
 -- a read with a page is of the kind that its parts are
-pub shown_source : (ns : List ImageNamed) (f : ℕ → ℕ) (hs : Holdings) (size : ℕ) (s : Source) (xs : List Inbound) (q : Page) (lo n : ℕ) → 0 < n → inbound_pages xs ≡ pages_from q lo n → AreSourcedIn ns f hs size s xs → source_shown xs ≡ s
+pub shown_source : (ns : List ImageNamed) (f : ℕ → ℕ) (hs : Holdings) (size : ℕ) (s : Source) (xs : List Inbound) (q : Page) (lo n : ℕ) → 0 < n
+    → inbound_pages xs ≡ pages_from q lo n → AreSourcedIn ns f hs size s xs → source_shown xs ≡ s
 shown_source ns f hs size s xs q lo zero l e h = absurd (omega arith)
 shown_source ns f hs size s [] q lo (suc n) l e h = absurd cc
 shown_source ns f hs size s (x ∷ xs) q lo (suc n) l e h = h.0

@@ -56,10 +56,12 @@ pub record Turning (t n : Lists) (q : Page) (f : ℕ) (place : Place) (s : PageS
   pub back : n.back ≡ t.back
   pub shows : page_shown n q place ≡ record { state = s; mark = m; filling = Zeros }
   pub filling : (y : Filling) → filling_behind s y ≡ Zeros
-  pub marks : AreMarked t.slots t.spaces t.texts → (a : Frame) (r : Page) (mark : Rattle.std.proofs.Common.Bool) → slot_at n.slots f ≡ tokens.Resident a r mark → (r ≡ q) × (mark ≡ placed_mark t.texts place q)
+  pub marks : AreMarked t.slots t.spaces t.texts → (a : Frame) (r : Page) (mark : Rattle.std.proofs.Common.Bool)
+      → slot_at n.slots f ≡ tokens.Resident a r mark → (r ≡ q) × (mark ≡ placed_mark t.texts place q)
   pub fits : FitsPage q place
 
-pub turn_is : (t n : Lists) (q : Page) (f : ℕ) (place : Place) (s : PageState) (m : Rattle.std.proofs.Common.Bool) → Turning t n q f place s m → placement_of n ≡ turn (placement_of t) q s m n.free n.transfers
+pub turn_is : (t n : Lists) (q : Page) (f : ℕ) (place : Place) (s : PageState) (m : Rattle.std.proofs.Common.Bool) → Turning t n q f place s m
+    → placement_of n ≡ turn (placement_of t) q s m n.free n.transfers
 turn_is t n q f place s m d =
     let p : Placement = placement_of t in
     let holds : page_of p f ≡ Some q = d.known.owns.names q f d.named in
@@ -81,11 +83,13 @@ turn_is t n q f place s m d =
     (ap (λ (k : ℕ). map (page_held n) (range_with_len 1 (k - 1))) d.count ∙ frames_same (page_held t) (page_held n) (range_with_len 1 (length t.slots - 1)) d.held)
     refl refl d.front d.back d.residents (ap (map due_shown) d.fills)
 
-pub turn_frames : (t n : Lists) (q : Page) (f : ℕ) (place : Place) (s : PageState) (m : Rattle.std.proofs.Common.Bool) → Turning t n q f place s m → frames_of n ≡ frames_of t
+pub turn_frames : (t n : Lists) (q : Page) (f : ℕ) (place : Place) (s : PageState) (m : Rattle.std.proofs.Common.Bool) → Turning t n q f place s m
+    → frames_of n ≡ frames_of t
 turn_frames t n q f place s m d =
     ap (λ (k : ℕ). map (bytes_held n) (range_with_len 1 (k - 1))) d.count ∙ frames_same (bytes_held t) (bytes_held n) (range_with_len 1 (length t.slots - 1)) d.bytes
 
-pub turn_heads : (t n : Lists) (q : Page) (f : ℕ) (place : Place) (s : PageState) (m : Rattle.std.proofs.Common.Bool) → Turning t n q f place s m → map head_of n.spaces ≡ map head_of t.spaces
+pub turn_heads : (t n : Lists) (q : Page) (f : ℕ) (place : Place) (s : PageState) (m : Rattle.std.proofs.Common.Bool) → Turning t n q f place s m
+    → map head_of n.spaces ≡ map head_of t.spaces
 turn_heads t n q f place s m d = ap (map head_of) d.spaces ∙ placed_heads t.spaces q place
 
 pub turn_tied : (t n : Lists) (q : Page) (f : ℕ) (place : Place) (s : PageState) (m : Rattle.std.proofs.Common.Bool) → Turning t n q f place s m → Tied n

@@ -182,7 +182,8 @@ fn bring_all(
 pub fn read_run(tables: &mut Tables, mut parts: Vec<Inbound>, page: Page, lo: u32, n: u32)
     requires known { Known (lists_of tables.old) }
     requires can { CanBringIn (placement_of (lists_of tables.old)) page lo n }
-    requires has { (b : _) → source_by b ≡ source_for (state_of (placement_of (lists_of tables.old)) page) → EachPage (HasSource tables.old b) (pages_from page lo n) }
+    requires has { (b : _) → source_by b ≡ source_for (state_of (placement_of (lists_of tables.old)) page)
+        → EachPage (HasSource tables.old b) (pages_from page lo n) }
     requires book { IsBook tables.old.book.size tables.old.book.holdings }
     requires none { parts.items ≡ [] }
     requires room { n ≤ vec_capacity parts }

@@ -88,7 +88,8 @@ not_past a m n e f there = omega arith
 in_past : (a m n : ℕ) → m ≡ n → a < n → a < m
 in_past a m n e f = omega arith
 
-shows : (p : Placement) (slots : List Token) (q : Page) (make : Place → Slot) (xs : List Place) (o : Option Place) → slots_of p q ≡ map make xs → Found make xs (number_of q) o
+shows : (p : Placement) (slots : List Token) (q : Page) (make : Place → Slot) (xs : List Place) (o : Option Place) → slots_of p q ≡ map make xs
+    → Found make xs (number_of q) o
     → ((place : Place) → (make place).state ≡ state_shown slots place) → ((place : Place) → is_dirty_by q (make place).mark ≡ mark slots place)
     → ((place : Place) → o ≡ Some place → IsSeatedIfValid slots place) → ShowsPage p slots q o
 shows p slots q make xs None e f st dm g = not_past (number_of q) (length (slots_of p q)) (length (map make xs)) (ap length e) f

@@ -160,7 +160,8 @@ near_among s (start ∷ starts) x q (inl h) b = elim (near_block start x h b.low
       (among_is q (page_in s (second_block start)) (pages_of s starts) (b.page ∙ ap (page_in s) e))
 ]
 
-all_among : (s : Space) (starts : List ℕ) (list : List Access) (q : Page) → IsWhole s → AreNear starts list → is_among q (filter_map (page_of_access s) list) ≡ true → is_among q (pages_of s starts) ≡ true
+all_among : (s : Space) (starts : List ℕ) (list : List Access) (q : Page) → IsWhole s → AreNear starts list
+    → is_among q (filter_map (page_of_access s) list) ≡ true → is_among q (pages_of s starts) ≡ true
 all_among s starts [] q w h k = absurd cc
 all_among s starts (access ∷ list) q w h k = go (λ l. all_among s starts list q w h.1 l) (page_of_access s access) refl k
   where
@@ -173,7 +174,8 @@ all_among s starts (access ∷ list) q w h k = go (λ l. all_among s starts list
     go later (Some r) e l = here r e later (same_page q r) refl l
 
 -- accesses near so many starts are of twice as many pages at most
-pub few_pages : (s : Space) (starts : List ℕ) (list : List Access) → IsWhole s → AreNear starts list → length (distinct (filter_map (page_of_access s) list)) ≤ 2 * length starts
+pub few_pages : (s : Space) (starts : List ℕ) (list : List Access) → IsWhole s → AreNear starts list
+    → length (distinct (filter_map (page_of_access s) list)) ≤ 2 * length starts
 few_pages s starts list w h =
     let few = few_distinct (filter_map (page_of_access s) list) (pages_of s starts) (λ q k. all_among s starts list q w h k) in
     let n = pages_count s starts in

@@ -49,7 +49,8 @@ string_covered : (memory : Answers) (base address : ℕ) → Covered memory base
 string_covered memory base address = within_one memory base address (λ _. Unit {0}) (string_from string_limit address) (within_string string_limit address 0 address (at_self address) (omega arith))
 
 -- the pointers are near the first one, and each has its string
-pointers_covered : (memory : Answers) (left start most address : ℕ) → IsAt start most address → most + 4 * left + 4 ≤ 1024 → Covered memory start left (arguments_from left address)
+pointers_covered : (memory : Answers) (left start most address : ℕ) → IsAt start most address → most + 4 * left + 4 ≤ 1024
+    → Covered memory start left (arguments_from left address)
 unfolding arguments_from
 pointers_covered memory zero start most address h l =
     covered_behind memory start 0 (λ _. Unit {0}) (number_at 4 address) last_pointer (within_number 4 start most address h (omega arith)) (λ pointer _. go pointer)
@@ -110,7 +111,8 @@ unfolding break_reply
 break_covered memory base s regs = covered_bind memory base 1 0 (argument regs 1) _ (argument_covered memory base regs) (λ address e. covered_gives memory base 0 _)
 
 -- a call reads near eleven starts at most: an execve's arguments, path, pointers, and eight strings
-pub reply_covered : (memory : Answers) (base : ℕ) (images : List NamedImage) (F : FlatState) (p : Process) (s : Space) (call : SystemCall) (regs : Regs) → Covered memory base 11 (reply_of images F p s call regs)
+pub reply_covered : (memory : Answers) (base : ℕ) (images : List NamedImage) (F : FlatState) (p : Process) (s : Space) (call : SystemCall) (regs : Regs)
+    → Covered memory base 11 (reply_of images F p s call regs)
 unfolding reply_of
 reply_covered memory base images F p s calls.Exit regs = covered_more memory base 1 11 _ (omega arith) (exit_covered memory base regs)
 reply_covered memory base images F p s calls.Fork regs = covered_gives memory base 11 _

@@ -51,7 +51,8 @@ subroutine_light : (regs : Regs) → Yields IsLight (subroutine_return regs)
 unfolding subroutine_return
 subroutine_light regs = yields_bind (λ _. Unit {0}) IsLight (pop_into regs 15) _ (yields_any (pop_into regs 15)) (λ last _. plain_light last)
 
-call_modest : (start least : ℕ) (before : Effect) (counted : Bool) (ap target : ℕ) → 71 ≤ least → MayPush start least before → before.call ≡ None → IsModest (procedure_call before counted ap target)
+call_modest : (start least : ℕ) (before : Effect) (counted : Bool) (ap target : ℕ) → 71 ≤ least → MayPush start least before → before.call ≡ None
+    → IsModest (procedure_call before counted ap target)
 call_modest start least before counted ap target l h none = record {
   covered = λ memory base. covered_more memory base 1 2 _ (omega arith) (call_covered memory base before counted ap target);
   light = call_light start least before counted ap target l h none;

@@ -16,7 +16,8 @@ Within start Q (Refuses signal) = Unit {0}
 Within start Q (Reads address next) = IsAt start 1023 address × ((byte : ℕ) → Within start Q (next byte))
 Within start Q (Tests address next) = IsAt start 1023 address × Within start Q next
 
-pub within_bind : {A B : Type 0} (start : ℕ) (Q : A → Type 0) (R : B → Type 0) (p : Program A) (f : A → Program B) → Within start Q p → ((x : A) → Q x → Within start R (f x)) → Within start R (p >>= f)
+pub within_bind : {A B : Type 0} (start : ℕ) (Q : A → Type 0) (R : B → Type 0) (p : Program A) (f : A → Program B) → Within start Q p
+    → ((x : A) → Q x → Within start R (f x)) → Within start R (p >>= f)
 within_bind start Q R (Gives x) f h k = k x h
 within_bind start Q R (Refuses signal) f h k = tt
 within_bind start Q R (Reads address next) f h k = (h.0, λ byte. within_bind start Q R (next byte) f (h.1 byte) k)
@@ -29,7 +30,8 @@ Yields Q (Refuses signal) = Unit {0}
 Yields Q (Reads address next) = (byte : ℕ) → Yields Q (next byte)
 Yields Q (Tests address next) = Yields Q next
 
-pub yields_bind : {A B : Type 0} (Q : A → Type 0) (R : B → Type 0) (p : Program A) (f : A → Program B) → Yields Q p → ((x : A) → Q x → Yields R (f x)) → Yields R (p >>= f)
+pub yields_bind : {A B : Type 0} (Q : A → Type 0) (R : B → Type 0) (p : Program A) (f : A → Program B) → Yields Q p → ((x : A) → Q x → Yields R (f x))
+    → Yields R (p >>= f)
 yields_bind Q R (Gives x) f h k = k x h
 yields_bind Q R (Refuses signal) f h k = tt
 yields_bind Q R (Reads address next) f h k = λ byte. yields_bind Q R (next byte) f (h byte) k
@@ -72,7 +74,8 @@ abbrev accesses_then : {A B : Type 0} → Answers → Result A Refused → (A �
 accesses_then memory (Ok x) f = accesses memory (f x)
 accesses_then memory (Err refused) f = []
 
-accesses_bind : {A B : Type 0} (memory : Answers) (p : Program A) (f : A → Program B) → accesses memory (p >>= f) ≡ accesses memory p ++ accesses_then memory (run memory p) f
+accesses_bind : {A B : Type 0} (memory : Answers) (p : Program A) (f : A → Program B)
+    → accesses memory (p >>= f) ≡ accesses memory p ++ accesses_then memory (run memory p) f
 accesses_bind memory (Gives x) f = refl
 accesses_bind memory (Refuses signal) f = refl
 accesses_bind memory (Reads address next) f = ap (λ (list : List Access). ReadOf address ∷ list) (go (λ byte. accesses_bind memory (next byte) f) (memory.read address))
@@ -114,7 +117,8 @@ pub record Covered {A : Type 0} (memory : Answers) (base most : ℕ) (p : Progra
   pub few : length starts ≤ most
   pub near : AreNear (base ∷ starts) (accesses memory p)
 
-within_accesses : {A : Type 0} (memory : Answers) (start : ℕ) (more : List ℕ) (Q : A → Type 0) (p : Program A) → Within start Q p → AreNear (start ∷ more) (accesses memory p)
+within_accesses : {A : Type 0} (memory : Answers) (start : ℕ) (more : List ℕ) (Q : A → Type 0) (p : Program A) → Within start Q p
+    → AreNear (start ∷ more) (accesses memory p)
 within_accesses memory start more Q (Gives x) h = tt
 within_accesses memory start more Q (Refuses signal) h = tt
 within_accesses memory start more Q (Reads address next) h = (inl h.0, go (λ byte. within_accesses memory start more Q (next byte) (h.1 byte)) (memory.read address))
@@ -162,7 +166,8 @@ pub behind : (base : ℕ) (some more : List ℕ) (y : ℕ) → IsNear (base ∷ 
 behind base some more y (inl n) = inl n
 behind base some more y (inr n) = inr (near_right some more y n)
 
-pub covered_along : {A B : Type 0} (memory : Answers) (base a b : ℕ) (p : Program A) (f : A → Program B) (x : A) → run memory p ≡ Ok x → Covered memory base a p → Covered memory base b (f x) → Covered memory base (a + b) (p >>= f)
+pub covered_along : {A B : Type 0} (memory : Answers) (base a b : ℕ) (p : Program A) (f : A → Program B) (x : A) → run memory p ≡ Ok x
+    → Covered memory base a p → Covered memory base b (f x) → Covered memory base (a + b) (p >>= f)
 covered_along {A = A} memory base a b p f x e h last = record {
   starts = h.starts ++ last.starts;
   few = (let l = h.few in let m = last.few in let n = length-append h.starts last.starts in omega arith);
@@ -173,7 +178,8 @@ covered_along {A = A} memory base a b p f x e h last = record {
       (all_near_more (base ∷ last.starts) (base ∷ (h.starts ++ last.starts)) (behind base h.starts last.starts) (accesses memory (f x)) last.near));
 }
 
-covered_refused : {A B : Type 0} (memory : Answers) (base most : ℕ) (p : Program A) (f : A → Program B) (refused : Refused) → run memory p ≡ Err refused → Covered memory base most p → Covered memory base most (p >>= f)
+covered_refused : {A B : Type 0} (memory : Answers) (base most : ℕ) (p : Program A) (f : A → Program B) (refused : Refused)
+    → run memory p ≡ Err refused → Covered memory base most p → Covered memory base most (p >>= f)
 covered_refused {A = A} memory base most p f refused e h = record {
   starts = h.starts;
   few = h.few;
@@ -182,7 +188,8 @@ covered_refused {A = A} memory base most p f refused e h = record {
       (all_near_append (base ∷ h.starts) (accesses memory p) [] h.near tt);
 }
 
-pub covered_bind : {A B : Type 0} (memory : Answers) (base a b : ℕ) (p : Program A) (f : A → Program B) → Covered memory base a p → ((x : A) → run memory p ≡ Ok x → Covered memory base b (f x)) → Covered memory base (a + b) (p >>= f)
+pub covered_bind : {A B : Type 0} (memory : Answers) (base a b : ℕ) (p : Program A) (f : A → Program B) → Covered memory base a p
+    → ((x : A) → run memory p ≡ Ok x → Covered memory base b (f x)) → Covered memory base (a + b) (p >>= f)
 covered_bind {A = A} {B = B} memory base a b p f h k = go (run memory p) refl
   where
     go : (result : Result A Refused) → run memory p ≡ result → Covered memory base (a + b) (p >>= f)
@@ -190,6 +197,7 @@ covered_bind {A = A} {B = B} memory base a b p f h k = go (run memory p) refl
     go (Err refused) e = covered_more memory base a (a + b) (p >>= f) (omega arith) (covered_refused memory base a p f refused e h)
 
 -- a part near the base, and what follows what it gives
-pub covered_behind : {A B : Type 0} (memory : Answers) (base b : ℕ) (Q : A → Type 0) (p : Program A) (f : A → Program B) → Within base Q p → ((x : A) → Q x → Covered memory base b (f x)) → Covered memory base b (p >>= f)
+pub covered_behind : {A B : Type 0} (memory : Answers) (base b : ℕ) (Q : A → Type 0) (p : Program A) (f : A → Program B) → Within base Q p
+    → ((x : A) → Q x → Covered memory base b (f x)) → Covered memory base b (p >>= f)
 covered_behind memory base b Q p f h k =
     covered_more memory base (0 + b) b (p >>= f) (omega arith) (covered_bind memory base 0 b p f (within_base memory base Q p h) (λ x e. k x (yields_ok memory Q p x (within_yields base Q p h) e)))

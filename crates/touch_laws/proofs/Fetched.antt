@@ -85,7 +85,8 @@ address_covered memory base regs size (bases.Disp reg by false) = covered_gives 
 address_covered memory base regs size (bases.Disp reg by true) =
     covered_bind memory base 1 0 (number_at 4 _) _ (number_covered memory base 4 _ (omega arith)) (λ address e. covered_gives memory base 0 _)
 
-evaluated_covered : (memory : Answers) (base : ℕ) (slot : Slot) (regs : Regs) (address : ℕ) → slot.size ≤ 1024 → Covered memory base 1 (evaluation_at slot regs address)
+evaluated_covered : (memory : Answers) (base : ℕ) (slot : Slot) (regs : Regs) (address : ℕ) → slot.size ≤ 1024
+    → Covered memory base 1 (evaluation_at slot regs address)
 unfolding evaluation_at
 evaluated_covered memory base slot regs address l = go slot.access slot.size l
   where
@@ -96,13 +97,15 @@ evaluated_covered memory base slot regs address l = go slot.access slot.size l
     go accesses.Address size k = covered_gives memory base 1 _
     go accesses.Branch size k = covered_gives memory base 1 _
 
-through_covered : (memory : Answers) (base : ℕ) (slot : Slot) (regs : Regs) (b : Base) → slot.size ≤ 1024 → Covered memory base 2 (evaluation_through slot regs b)
+through_covered : (memory : Answers) (base : ℕ) (slot : Slot) (regs : Regs) (b : Base) → slot.size ≤ 1024
+    → Covered memory base 2 (evaluation_through slot regs b)
 unfolding evaluation_through
 through_covered memory base slot regs b l =
     covered_bind memory base 1 1 (address_of regs slot.size b) _ (address_covered memory base regs slot.size b) (λ found e. evaluated_covered memory base slot found.0 found.1 l)
 
 -- an operand reads a pointer, and what it points to
-operand_covered : (memory : Answers) (base : ℕ) (slot : Slot) (regs : Regs) (operand : Operand) → slot.size ≤ 1024 → Covered memory base 2 (evaluation slot regs operand)
+operand_covered : (memory : Answers) (base : ℕ) (slot : Slot) (regs : Regs) (operand : Operand) → slot.size ≤ 1024
+    → Covered memory base 2 (evaluation slot regs operand)
 unfolding evaluation
 operand_covered memory base slot regs (operands.Literal value) l = covered_gives memory base 2 _
 operand_covered memory base slot regs (operands.Immediate value) l = covered_gives memory base 2 _
@@ -117,7 +120,8 @@ operand_covered memory base slot regs (operands.Disp reg by deferred) l = throug
 operand_covered memory base slot regs (operands.Indexed index b) l =
     covered_bind memory base 1 1 (address_of regs slot.size b) _ (address_covered memory base regs slot.size b) (λ found e. evaluated_covered memory base slot found.0 (past found.1 (slot.size * register found.0 index)) l)
 
-literal_covered : (memory : Answers) (base : ℕ) (slot : Slot) (regs : Regs) (operand : Operand) → operand ≡ operands.Literal 0 → Covered memory base 0 (evaluation slot regs operand)
+literal_covered : (memory : Answers) (base : ℕ) (slot : Slot) (regs : Regs) (operand : Operand) → operand ≡ operands.Literal 0
+    → Covered memory base 0 (evaluation slot regs operand)
 unfolding evaluation
 literal_covered memory base slot regs operand e =
     subst (λ (o : Operand). Covered memory base 0 (evaluation slot regs o)) (sym e) (covered_gives memory base 0 _)
@@ -134,7 +138,8 @@ evaluations_covered memory base row regs instr =
     covered_gives memory base 0 _)))
 
 -- where the last two places are filled alone
-pub evaluation_covered : (memory : Answers) (base : ℕ) (row : Row) (regs : Regs) (instr : Instr) → instr.b ≡ operands.Literal 0 → instr.c ≡ operands.Literal 0 → Covered memory base 2 (evaluations row regs instr)
+pub evaluation_covered : (memory : Answers) (base : ℕ) (row : Row) (regs : Regs) (instr : Instr) → instr.b ≡ operands.Literal 0
+    → instr.c ≡ operands.Literal 0 → Covered memory base 2 (evaluations row regs instr)
 unfolding evaluations
 evaluation_covered memory base row regs instr no_b no_c =
     covered_bind memory base 2 0 (evaluation (slot_in row 0) regs instr.a) _ (operand_covered memory base (slot_in row 0) regs instr.a (slot_small row 0)) (λ a e.

@@ -39,7 +39,8 @@ alone memory base p h = record {
 }
 
 -- an instruction, and its call
-both : {A B : Type 0} (memory other : Answers) (base : ℕ) (p : Program A) (q : Program B) → Covered memory base 2 p → Covered other base 11 q → AreFew (accesses memory p ++ accesses other q)
+both : {A B : Type 0} (memory other : Answers) (base : ℕ) (p : Program A) (q : Program B) → Covered memory base 2 p → Covered other base 11 q
+    → AreFew (accesses memory p ++ accesses other q)
 both memory other base p q h k = record {
   starts = (base ∷ h.starts) ++ k.starts;
   few = (let l = h.few in let m = k.few in let n = length-append (base ∷ h.starts) k.starts in omega arith);

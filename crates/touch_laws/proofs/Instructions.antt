@@ -26,7 +26,8 @@ tested_covered memory base start effect h =
     covered_bind memory base 1 0 (write_tests effect.writes) _ (within_one memory base start (λ _. Unit {0}) (write_tests effect.writes) (within_tests start effect.writes h)) (λ _ e. covered_gives memory base 0 effect)
 
 -- what an instruction other than a call computes, and the tests of its bytes
-modest_covered : (memory : Answers) (base : ℕ) (name : Name) (regs : Regs) (a b c : Evaluated) → is_chmk name ≡ false → Covered memory base 3 (computation name regs a b c >>= tested_effect)
+modest_covered : (memory : Answers) (base : ℕ) (name : Name) (regs : Regs) (a b c : Evaluated) → is_chmk name ≡ false
+    → Covered memory base 3 (computation name regs a b c >>= tested_effect)
 modest_covered memory base name regs a b c other =
     let modest = computation_modest name regs a b c other in
     covered_bind memory base 2 1 (computation name regs a b c) tested_effect (modest.covered memory base) (λ effect e.
@@ -34,12 +35,14 @@ modest_covered memory base name regs a b c other =
     tested_covered memory base light.start effect light.near)
 
 -- a call computes nothing of memory
-call_covered : (memory : Answers) (base : ℕ) (name : Name) (regs : Regs) (a b c : Evaluated) → is_chmk name ≡ true → Covered memory base 0 (computation name regs a b c >>= tested_effect)
+call_covered : (memory : Answers) (base : ℕ) (name : Name) (regs : Regs) (a b c : Evaluated) → is_chmk name ≡ true
+    → Covered memory base 0 (computation name regs a b c >>= tested_effect)
 unfolding computation tested_effect write_tests
 call_covered memory base names.Chmk regs a b c chmk = covered_gives memory base 0 _
 call_covered memory base _ regs a b c chmk = absurd cc
 
-computed_covered : (memory : Answers) (base : ℕ) (name : Name) (regs : Regs) (a b c : Evaluated) → Covered memory base 3 (computation name regs a b c >>= tested_effect)
+computed_covered : (memory : Answers) (base : ℕ) (name : Name) (regs : Regs) (a b c : Evaluated)
+    → Covered memory base 3 (computation name regs a b c >>= tested_effect)
 computed_covered memory base name regs a b c = go (is_chmk name) refl
   where
     go : (chmk : Bool) → is_chmk name ≡ chmk → Covered memory base 3 (computation name regs a b c >>= tested_effect)
@@ -74,7 +77,8 @@ tested_same memory given effect k =
     let parts = ok_of_bind memory (write_tests given.writes) (λ _. Gives given) effect k in
     let last = parts.2 in cc
 
-calls_alone : (memory : Answers) (name : Name) (regs : Regs) (a b c : Evaluated) (effect : Effect) (number : ℤ) → run memory (computation name regs a b c >>= tested_effect) ≡ Ok effect → effect.call ≡ Some number → is_chmk name ≡ true
+calls_alone : (memory : Answers) (name : Name) (regs : Regs) (a b c : Evaluated) (effect : Effect) (number : ℤ)
+    → run memory (computation name regs a b c >>= tested_effect) ≡ Ok effect → effect.call ≡ Some number → is_chmk name ≡ true
 calls_alone memory name regs a b c effect number h calls = go (is_chmk name) refl
   where
     go : (b : Bool) → is_chmk name ≡ b → is_chmk name ≡ true
@@ -84,7 +88,8 @@ calls_alone memory name regs a b c effect number h calls = go (is_chmk name) ref
         let light : IsLight parts.0 = yields_ok memory IsLight (computation name regs a b c) parts.0 (computation_modest name regs a b c e).light parts.1 in
         absurd (none_some effect.call number (sym (ap (λ (x : Effect). x.call) (tested_same memory parts.0 effect parts.2)) ∙ light.call) calls)
 
-call_execution : (memory : Answers) (base : ℕ) (row : Row) (regs : Regs) (instr : Instr) (effect : Effect) (number : ℤ) → IsFetched instr → row_for instr.op ≡ Some row
+call_execution : (memory : Answers) (base : ℕ) (row : Row) (regs : Regs) (instr : Instr) (effect : Effect) (number : ℤ) → IsFetched instr
+    → row_for instr.op ≡ Some row
     → run memory (execution row regs instr) ≡ Ok effect → effect.call ≡ Some number → Covered memory base 2 (execution row regs instr)
 unfolding execution
 call_execution memory base row regs instr effect number fetched listed h calls =
@@ -95,7 +100,8 @@ call_execution memory base row regs instr effect number fetched listed h calls =
     (evaluation_covered memory base row regs instr filled.0 filled.1)
     (call_covered memory base row.name parts.0.0 parts.0.1 parts.0.2 parts.0.3 chmk)
 
-call_by : (memory : Answers) (base : ℕ) (row : Option Row) (regs : Regs) (instr : Instr) (effect : Effect) (number : ℤ) → IsFetched instr → row_for instr.op ≡ row
+call_by : (memory : Answers) (base : ℕ) (row : Option Row) (regs : Regs) (instr : Instr) (effect : Effect) (number : ℤ) → IsFetched instr
+    → row_for instr.op ≡ row
     → run memory (execution_by row regs instr) ≡ Ok effect → effect.call ≡ Some number → Covered memory base 2 (execution_by row regs instr)
 unfolding execution_by
 call_by memory base None regs instr effect number fetched listed h calls = absurd cc
@@ -103,7 +109,8 @@ call_by memory base (Some row) regs instr effect number fetched listed h calls =
     call_execution memory base row (with_register regs 15 (past (register regs 15) instr.length)) instr effect number fetched listed h calls
 
 -- where it makes a call, near PC or one of two starts
-pub call_instruction_covered : (memory : Answers) (regs : Regs) (effect : Effect) (number : ℤ) → run memory (instruction regs) ≡ Ok effect → effect.call ≡ Some number → Covered memory (register regs 15) 2 (instruction regs)
+pub call_instruction_covered : (memory : Answers) (regs : Regs) (effect : Effect) (number : ℤ) → run memory (instruction regs) ≡ Ok effect
+    → effect.call ≡ Some number → Covered memory (register regs 15) 2 (instruction regs)
 unfolding instruction
 call_instruction_covered memory regs effect number h calls =
     let parts = ok_of_bind memory (fetch 20 (register regs 15) []) (λ instr. execution_by (row_for instr.op) regs instr) effect h in

@@ -117,7 +117,8 @@ ended_sized F p s status h k =
     (sized_filter (λ q. not (is_zombie_child p.pid q)) _
     (sized_returned p.pid s (replaced F.processes record p { holding = Zombie status }) (sized_replaced F.processes (record p { holding = Zombie status }) h tt) k)))
 
-entered_sized : (images : List NamedImage) (F : FlatState) (p : Process) (s : Space) (number : ℕ) (o : Option NamedImage) (top : List ℕ) → ImagesWhole images → image_numbered images number ≡ o
+entered_sized : (images : List NamedImage) (F : FlatState) (p : Process) (s : Space) (number : ℕ) (o : Option NamedImage) (top : List ℕ)
+    → ImagesWhole images → image_numbered images number ≡ o
     → AllSized F.processes → IsSized s → AllSized (entered F p s number o top).processes
 entered_sized images F p s number None top w e h k = h
 entered_sized images F p s number (Some named) top w e h k =
@@ -126,7 +127,8 @@ entered_sized images F p s number (Some named) top w e h k =
     loaded : ImageWhole named → IsSized (record { sid = F.next_sid; image = number; text_bytes = named.image.text; data_bytes = named.image.data; stack_bytes = top })
     loaded fits = let a = fits.text in let b = fits.text_fits in let c = fits.data in let d = fits.data_fits in record { text = omega arith; text_fits = omega arith; «data» = omega arith; data_fits = omega arith }
 
-changed_sized : (images : List NamedImage) (F : FlatState) (p : Process) (s : Space) (change : Change) → ImagesWhole images → MayResize change → AllSized F.processes → p.holding ≡ Holds s → IsSized s
+changed_sized : (images : List NamedImage) (F : FlatState) (p : Process) (s : Space) (change : Change) → ImagesWhole images → MayResize change
+    → AllSized F.processes → p.holding ≡ Holds s → IsSized s
     → AllSized (changed images F p s change).processes
 changed_sized images F p s Keep w may h e k = sized_replaced F.processes p h (subst HasSize (sym e) k)
 changed_sized images F p s (Resize data_pages stack_pages) w may h e k = sized_replaced F.processes _ h (resized_sized s data_pages stack_pages may k)
@@ -140,7 +142,8 @@ changed_sized images F p s (Reap child) w may h e k =
 changed_sized images F p s Sleep w may h e k = sized_replaced F.processes _ h (subst HasSize (sym e) k)
 changed_sized images F p s (End status) w may h e k = ended_sized F p s status h k
 
-change_sized : (images : List NamedImage) (F : FlatState) (pid : ℕ) (regs : Regs) (change : Change) → ImagesWhole images → MayResize change → AllSized F.processes → AllSized (apply_change images F pid regs change).processes
+change_sized : (images : List NamedImage) (F : FlatState) (pid : ℕ) (regs : Regs) (change : Change) → ImagesWhole images → MayResize change
+    → AllSized F.processes → AllSized (apply_change images F pid regs change).processes
 unfolding apply_change
 change_sized images F pid regs change w may h = go (process_of F pid) refl
   where
@@ -198,7 +201,8 @@ wait_resizes None zombie regs = tt
 wait_resizes (Some child) None regs = tt
 wait_resizes (Some child) (Some z) regs = tt
 
-all_resize : (images : List NamedImage) (F : FlatState) (p : Process) (s : Space) (call : SystemCall) (regs : Regs) → Yields ReplyResizes (reply_of images F p s call regs)
+all_resize : (images : List NamedImage) (F : FlatState) (p : Process) (s : Space) (call : SystemCall) (regs : Regs)
+    → Yields ReplyResizes (reply_of images F p s call regs)
 unfolding reply_of exit_reply write_reply break_reply execve_reply
 all_resize images F p s calls.Exit regs = yields_bind (λ _. Unit {0}) ReplyResizes (argument regs 1) _ (yields_any (argument regs 1)) (λ code _. tt)
 all_resize images F p s calls.Fork regs = (child_resizes (nat_lt (length F.processes) process_limit) regs F.next_pid).0
@@ -233,11 +237,13 @@ refused_resizes true (replies.Exits status) h = tt
 
 -- Steps.
 
-after_sized : (images : List NamedImage) (F : FlatState) (p : Process) (ws : List ByteWrite) (regs : Regs) (change : Change) → ImagesWhole images → MayResize change → AllSized F.processes
+after_sized : (images : List NamedImage) (F : FlatState) (p : Process) (ws : List ByteWrite) (regs : Regs) (change : Change) → ImagesWhole images
+    → MayResize change → AllSized F.processes
     → AllSized (apply_change images (apply_writes F p.pid ws) p.pid regs change).processes
 after_sized images F p ws regs change w may h = change_sized images (apply_writes F p.pid ws) p.pid regs change w may (writes_sized F p.pid ws h)
 
-replied_sized : (images : List NamedImage) (F : FlatState) (p : Process) (call : SystemCall) (effect : Effect) (reply : Reply) → ImagesWhole images → ReplyResizes reply → AllSized F.processes
+replied_sized : (images : List NamedImage) (F : FlatState) (p : Process) (call : SystemCall) (effect : Effect) (reply : Reply) → ImagesWhole images
+    → ReplyResizes reply → AllSized F.processes
     → AllSized (replied_step images F p call effect reply).after.processes
 replied_sized images F p call effect (replies.Fails error) w fits h = after_sized images F p effect.writes _ Keep w tt h
 replied_sized images F p call effect (replies.Does regs change) w fits h = after_sized images F p effect.writes regs change w fits h
@@ -245,7 +251,8 @@ replied_sized images F p call effect (replies.Writes bytes) w fits h = after_siz
 replied_sized images F p call effect replies.Waits w fits h = after_sized images F p effect.writes p.regs Sleep w tt h
 replied_sized images F p call effect (replies.Exits status) w fits h = after_sized images F p effect.writes p.regs (End status) w tt h
 
-called_sized : (images : List NamedImage) (F : FlatState) (p : Process) (t : Space) (refused : Bool) (effect : Effect) (call : Option SystemCall) → ImagesWhole images → AllSized F.processes
+called_sized : (images : List NamedImage) (F : FlatState) (p : Process) (t : Space) (refused : Bool) (effect : Effect) (call : Option SystemCall)
+    → ImagesWhole images → AllSized F.processes
     → AllSized (called_step images F p t refused effect call).after.processes
 called_sized images F p t refused effect None w h = after_sized images F p effect.writes p.regs (End 12) w tt h
 called_sized images F p t refused effect (Some call) w h =
@@ -255,12 +262,14 @@ called_sized images F p t refused effect (Some call) w h =
     (all_resize images (apply_writes F p.pid effect.writes) (written_process p t effect.writes) (puts t effect.writes) call effect.regs)))
     h
 
-behind_sized : (images : List NamedImage) (F : FlatState) (p : Process) (t : Space) (refused : Bool) (effect : Effect) (number : Option ℤ) → ImagesWhole images → AllSized F.processes
+behind_sized : (images : List NamedImage) (F : FlatState) (p : Process) (t : Space) (refused : Bool) (effect : Effect) (number : Option ℤ)
+    → ImagesWhole images → AllSized F.processes
     → AllSized (step_behind images F p t refused effect number).after.processes
 behind_sized images F p t refused effect None w h = after_sized images F p effect.writes effect.regs Keep w tt h
 behind_sized images F p t refused effect (Some number) w h = called_sized images F p t refused effect (call_of number) w h
 
-of_sized : (images : List NamedImage) (F : FlatState) (p : Process) (t : Space) (refused : Bool) (result : Result Effect Refusal) → ImagesWhole images → IsSized t → AllSized F.processes
+of_sized : (images : List NamedImage) (F : FlatState) (p : Process) (t : Space) (refused : Bool) (result : Result Effect Refusal) → ImagesWhole images
+    → IsSized t → AllSized F.processes
     → AllSized (step_of images F p t refused result).after.processes
 of_sized images F p t refused (Ok effect) w k h = behind_sized images F p t refused effect effect.call w h
 of_sized images F p t refused (Err (Miss a b)) w k h = h
@@ -268,7 +277,8 @@ of_sized images F p t true (Err (Below a)) w k h = after_sized images F p [] p.r
 of_sized images F p t false (Err (Below a)) w k h = after_sized images F p [] p.regs _ w (let l = k.data_fits in omega arith) h
 of_sized images F p t refused (Err (Signal n)) w k h = after_sized images F p [] p.regs (End n) w tt h
 
-pub step_sized : (A : Inputs) (F : FlatState) (pid : ℕ) (refused : Bool) → ImagesWhole A.images → AllSized F.processes → AllSized (flat_step A F pid refused).after.processes
+pub step_sized : (A : Inputs) (F : FlatState) (pid : ℕ) (refused : Bool) → ImagesWhole A.images → AllSized F.processes
+    → AllSized (flat_step A F pid refused).after.processes
 unfolding flat_step
 step_sized A F pid refused w h = go (process_of F pid) refl
   where
@@ -299,7 +309,8 @@ started_sized images (number ∷ more) n w = go (image_numbered images number) r
 
 -- Runs.
 
-behind_stays : (point : Point) (after : FlatState) (es : List Entry) → AllSized point.flat.processes → AllSized after.processes → AllSized (behind point after es).flat.processes
+behind_stays : (point : Point) (after : FlatState) (es : List Entry) → AllSized point.flat.processes → AllSized after.processes
+    → AllSized (behind point after es).flat.processes
 behind_stays point after [] h k = h
 behind_stays point after (e ∷ []) h k = k
 behind_stays point after (e ∷ f ∷ es) h k = h
@@ -308,25 +319,30 @@ where_sized : (b : Bool) (p q : Point) → where_so b p ≡ Some q → AllSized 
 where_sized true p q e h = let same : p ≡ q = cc in subst (λ (x : Point). AllSized x.flat.processes) same h
 where_sized false p q e h = absurd cc
 
-of_point : (A : Inputs) (point q : Point) (pid : ℕ) (e : Entry) → ImagesWhole A.images → flat_entry_of A point pid e ≡ Some q → AllSized point.flat.processes → AllSized q.flat.processes
+of_point : (A : Inputs) (point q : Point) (pid : ℕ) (e : Entry) → ImagesWhole A.images → flat_entry_of A point pid e ≡ Some q
+    → AllSized point.flat.processes → AllSized q.flat.processes
 of_point A point q pid (Refused p) w h k = where_sized (can_step point.flat pid) (record point { last = Some (Refused p) }) q h k
 of_point A point q pid e w h k =
     where_sized (same_as (act A point pid) e) (point_after A point pid) q h
     (behind_stays point (step_at A point pid).after (due_at A point pid) k (step_sized A point.flat pid (Rattle.flat_model.specs.Run.is_refused point.last pid) w k))
 
-if_point : (b : Bool) (A : Inputs) (point q : Point) (pid : ℕ) (e : Entry) → ImagesWhole A.images → flat_entry_if b A point pid e ≡ Some q → AllSized point.flat.processes → AllSized q.flat.processes
+if_point : (b : Bool) (A : Inputs) (point q : Point) (pid : ℕ) (e : Entry) → ImagesWhole A.images → flat_entry_if b A point pid e ≡ Some q
+    → AllSized point.flat.processes → AllSized q.flat.processes
 if_point true A point q pid e w h k = of_point A point q pid e w h k
 if_point false A point q pid e w h k = absurd cc
 
-by_point : (A : Inputs) (point q : Point) (o : Option ℕ) (e : Entry) → ImagesWhole A.images → flat_entry_by A point o e ≡ Some q → AllSized point.flat.processes → AllSized q.flat.processes
+by_point : (A : Inputs) (point q : Point) (o : Option ℕ) (e : Entry) → ImagesWhole A.images → flat_entry_by A point o e ≡ Some q
+    → AllSized point.flat.processes → AllSized q.flat.processes
 by_point A point q None e w h k = where_sized true point q h k
 by_point A point q (Some pid) e w h k = if_point (may_follow point.last e) A point q pid e w h k
 
-entry_sized : (A : Inputs) (point q : Point) (e : Entry) → ImagesWhole A.images → flat_entry A point e ≡ Some q → AllSized point.flat.processes → AllSized q.flat.processes
+entry_sized : (A : Inputs) (point q : Point) (e : Entry) → ImagesWhole A.images → flat_entry A point e ≡ Some q → AllSized point.flat.processes
+    → AllSized q.flat.processes
 unfolding flat_entry
 entry_sized A point q e w h k = by_point A point q (process_of_entry e) e w h k
 
-units_sized : (A : Inputs) (us : List Entry) (point q : Point) → ImagesWhole A.images → flat_units A (Some point) us ≡ Some q → AllSized point.flat.processes → AllSized q.flat.processes
+units_sized : (A : Inputs) (us : List Entry) (point q : Point) → ImagesWhole A.images → flat_units A (Some point) us ≡ Some q
+    → AllSized point.flat.processes → AllSized q.flat.processes
 unfolding flat_units
 units_sized A [] point q w h k = where_sized true point q h k
 units_sized A (u ∷ us) point q w h k = go (λ next l m. units_sized A us next q w l m) (flat_entry A point u) refl h

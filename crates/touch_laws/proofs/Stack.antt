@@ -35,19 +35,22 @@ sp_kept regs reg value other = get_or-set_other regs.r reg 14 value 0 (λ e. oth
 
 -- Pops.
 
-pub within_pop : (start most : ℕ) (regs : Regs) → IsAt start most (sp regs) → most + 4 ≤ 1024 → Within start (λ (r : Regs × ℕ). IsAt start (most + 4) (sp r.0)) (pop regs)
+pub within_pop : (start most : ℕ) (regs : Regs) → IsAt start most (sp regs) → most + 4 ≤ 1024
+    → Within start (λ (r : Regs × ℕ). IsAt start (most + 4) (sp r.0)) (pop regs)
 unfolding pop
 within_pop start most regs h l =
     within_bind start (λ _. Unit {0}) (λ (r : Regs × ℕ). IsAt start (most + 4) (sp r.0)) (number_at 4 (sp regs)) _ (within_number 4 start most (sp regs) h l)
     (λ value _. sp_put (λ (x : ℕ). IsAt start (most + 4) x) regs (past (sp regs) 4) (at_past start most 4 (sp regs) h) (at_more start most (most + 4) (sp regs) (omega arith) h))
 
-pub within_pop_into : (start most : ℕ) (regs : Regs) (reg : ℕ) → reg ≢ 14 → IsAt start most (sp regs) → most + 4 ≤ 1024 → Within start (λ (r : Regs). IsAt start (most + 4) (sp r)) (pop_into regs reg)
+pub within_pop_into : (start most : ℕ) (regs : Regs) (reg : ℕ) → reg ≢ 14 → IsAt start most (sp regs) → most + 4 ≤ 1024
+    → Within start (λ (r : Regs). IsAt start (most + 4) (sp r)) (pop_into regs reg)
 unfolding pop_into
 within_pop_into start most regs reg other h l =
     within_bind start (λ (r : Regs × ℕ). IsAt start (most + 4) (sp r.0)) (λ (r : Regs). IsAt start (most + 4) (sp r)) (pop regs) _ (within_pop start most regs h l)
     (λ r k. subst (λ (x : ℕ). IsAt start (most + 4) x) (sym (sp_kept r.0 reg r.1 other)) k)
 
-within_restored : (more mask start most : ℕ) (regs : Regs) → IsAt start most (sp regs) → most + 4 * more ≤ 1020 → Within start (λ _. Unit {0}) (restored more mask regs)
+within_restored : (more mask start most : ℕ) (regs : Regs) → IsAt start most (sp regs) → most + 4 * more ≤ 1020
+    → Within start (λ _. Unit {0}) (restored more mask regs)
 unfolding restored
 within_restored zero mask start most regs h l = tt
 within_restored (suc more) mask start most regs h l =
@@ -59,7 +62,8 @@ within_restored (suc more) mask start most regs h l =
     go true = within_pop_into start most regs (11 - more) (λ e. absurd (omega (arith, e))) h (omega (arith, l))
     go false = at_more start most (most + 4) (sp regs) (omega arith) h
 
-within_linkage : (start most : ℕ) (regs : Regs) → IsAt start most (sp regs) → most + 12 ≤ 1024 → Within start (λ (r : Regs). IsAt start (most + 4 + 4 + 4) (sp r)) (linkage regs)
+within_linkage : (start most : ℕ) (regs : Regs) → IsAt start most (sp regs) → most + 12 ≤ 1024
+    → Within start (λ (r : Regs). IsAt start (most + 4 + 4 + 4) (sp r)) (linkage regs)
 unfolding linkage
 within_linkage start most regs h l =
     within_bind start (λ (r : Regs). IsAt start (most + 4) (sp r)) (λ (r : Regs). IsAt start (most + 4 + 4 + 4) (sp r)) (pop_into regs 12) _ (within_pop_into start most regs 12 (λ e. absurd (omega (arith, e))) h (omega arith)) (λ r k.
@@ -159,7 +163,8 @@ frame_few regs counted mask =
     let m = saved_few 12 regs.r mask in
     omega arith
 
-frame_near : (start least : ℕ) (before : Effect) (counted : Bool) (mask : ℕ) → 71 ≤ least → MayPush start least before → AreWrittenAt start (with_frame before counted mask).writes
+frame_near : (start least : ℕ) (before : Effect) (counted : Bool) (mask : ℕ) → 71 ≤ least → MayPush start least before
+    → AreWrittenAt start (with_frame before counted mask).writes
 unfolding with_frame
 frame_near start least before counted mask l h =
     let n = frame_few before.regs counted mask in
@@ -205,7 +210,8 @@ pub push_light : (regs : Regs) (value : ℕ) → IsLight (push_effect regs value
 unfolding push_onto
 push_light regs value = record { start = back (sp regs) 200; near = (may_push_again regs value).written; call = refl }
 
-pub call_covered : (memory : Answers) (base : ℕ) (before : Effect) (counted : Bool) (ap target : ℕ) → Covered memory base 1 (procedure_call before counted ap target)
+pub call_covered : (memory : Answers) (base : ℕ) (before : Effect) (counted : Bool) (ap target : ℕ)
+    → Covered memory base 1 (procedure_call before counted ap target)
 unfolding procedure_call
 call_covered memory base before counted ap target =
     covered_bind memory base 1 0 (number_at 2 target) _ (number_covered memory base 2 target (omega arith)) (λ mask e. go mask _)
@@ -214,7 +220,8 @@ call_covered memory base before counted ap target =
     go mask true = covered_refuses memory base 0 4
     go mask false = covered_gives memory base 0 _
 
-pub call_light : (start least : ℕ) (before : Effect) (counted : Bool) (ap target : ℕ) → 71 ≤ least → MayPush start least before → before.call ≡ None → Yields IsLight (procedure_call before counted ap target)
+pub call_light : (start least : ℕ) (before : Effect) (counted : Bool) (ap target : ℕ) → 71 ≤ least → MayPush start least before → before.call ≡ None
+    → Yields IsLight (procedure_call before counted ap target)
 unfolding procedure_call
 call_light start least before counted ap target l h none =
     yields_bind (λ _. Unit {0}) IsLight (number_at 2 target) _ (yields_any (number_at 2 target)) (λ mask _. go mask _)

@@ -34,7 +34,8 @@ module _ (known : List NamedImage) (F : FlatState) (p : Process) (s : Space) (me
   step_missed (Err (Below a)) address write e = absurd cc
   step_missed (Err (Signal n)) address write e = absurd cc
 
-  pub byte_missed : (address : ℕ) (write : Bool) → steps.Miss address write ≡ answer_of (run memory (instruction regs)) → Some address ≡ first_missed known F p s memory regs
+  pub byte_missed : (address : ℕ) (write : Bool) → steps.Miss address write ≡ answer_of (run memory (instruction regs))
+      → Some address ≡ first_missed known F p s memory regs
   byte_missed address write e = step_missed (run memory (instruction regs)) address write e
 
   step_called : (r : Result Effect Refused) (number : ℤ) (after : Regs) → steps.Call number ≡ answer_of r → after ≡ registers_after regs r
@@ -48,7 +49,8 @@ module _ (known : List NamedImage) (F : FlatState) (p : Process) (s : Space) (me
   step_called (Err (Below a)) number after e g = absurd cc
   step_called (Err (Signal n)) number after e g = absurd cc
 
-  pub call_missed : (number : ℤ) (call : Option SystemCall) (after : Regs) (r : Result (Option ℕ) NoMemory) → steps.Call number ≡ answer_of (run memory (instruction regs)) → after ≡ registers_after regs (run memory (instruction regs))
+  pub call_missed : (number : ℤ) (call : Option SystemCall) (after : Regs) (r : Result (Option ℕ) NoMemory)
+      → steps.Call number ≡ answer_of (run memory (instruction regs)) → after ≡ registers_after regs (run memory (instruction regs))
       → call ≡ call_of number → IfOk r (λ byte. byte ≡ missed_by_call known F p s memory after call) → IfOk r (λ byte. byte ≡ first_missed known F p s memory regs)
   call_missed number call after r e g names h =
       subst (λ (o : Option ℕ). IfOk r (λ byte. byte ≡ o)) (ap (missed_by_call known F p s memory after) names ∙ step_called (run memory (instruction regs)) number after e g) h

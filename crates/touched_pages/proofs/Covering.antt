@@ -45,14 +45,16 @@ covers_self : (memory : Answers) → Covers memory memory
 covers_self memory = record { reads = λ a. inr refl; tests = λ a. inr refl }
 
 -- an instruction that writes nothing writes nothing then either
-pub still_quiet : (k : Kernel) (sid : ℕ) (pages : List Page) (regs : Regs) → writes_of (run (kernel_answers k sid) (instruction regs)) ≡ [] → writes_of (run (shown_in k sid pages) (instruction regs)) ≡ []
+pub still_quiet : (k : Kernel) (sid : ℕ) (pages : List Page) (regs : Regs) → writes_of (run (kernel_answers k sid) (instruction regs)) ≡ []
+    → writes_of (run (shown_in k sid pages) (instruction regs)) ≡ []
 still_quiet k sid pages regs h =
     elim (same_or_misses (shown_in k sid pages) (kernel_answers k sid) (instruction regs) (only_covers k.place sid pages (kernel_answers k sid) (kernel_answers k sid) (covers_self (kernel_answers k sid)))) [
       | inl e ↦ ap writes_of e.0 ∙ h
       | inr m ↦ ap writes_of m.2
     ]
 
-pub quiet_step : (old n : Standing) (pid sid : ℕ) (pages : List Page) (regs : Regs) → n ≡ old → life_in old.kernel pid ≡ HoldsSpace sid → WritesNothing old.kernel pid regs
+pub quiet_step : (old n : Standing) (pid sid : ℕ) (pages : List Page) (regs : Regs) → n ≡ old → life_in old.kernel pid ≡ HoldsSpace sid
+    → WritesNothing old.kernel pid regs
     → writes_of (run (shown_in n.kernel sid pages) (instruction regs)) ≡ []
 quiet_step old n pid sid pages regs same holds quiet =
     still_quiet n.kernel sid pages regs
@@ -60,6 +62,7 @@ quiet_step old n pid sid pages regs same holds quiet =
     ∙ ap (λ (i : ℕ). writes_of (run (kernel_answers old.kernel i) (instruction regs))) (sym (ap space_of_life holds)) ∙ quiet)
 
 -- where nothing is written the machine behind the reference is as before
-pub kept_through : (old : Standing) (m n : MutBor Standing) (l k : Layout) (ps qs : List Page) (ws : List ByteWrite) → WroteShown m l ps ws n k qs → ws ≡ [] → m.now ≡ old → n.now ≡ old
+pub kept_through : (old : Standing) (m n : MutBor Standing) (l k : Layout) (ps qs : List Page) (ws : List ByteWrite) → WroteShown m l ps ws n k qs
+    → ws ≡ [] → m.now ≡ old → n.now ≡ old
 kept_through old m n l k ps qs ws h none same =
     h.through.2.machine ∙ ap (λ (xs : List ByteWrite). record m.now { kernel = writes_in m.now.kernel l.sid xs }) none ∙ same

@@ -95,7 +95,8 @@ left_behind pages (p ∷ front) back h =
     ∙ left_behind pages front back h.1
 
 -- where the first isn't there, it comes first
-left_first : (pages back : List Page) (p : Page) → is_among p pages ≡ false → filter (left pages) (distinct (p ∷ back)) ≡ p ∷ filter (left (pages ++ p ∷ [])) (distinct back)
+left_first : (pages back : List Page) (p : Page) → is_among p pages ≡ false
+    → filter (left pages) (distinct (p ∷ back)) ≡ p ∷ filter (left (pages ++ p ∷ [])) (distinct back)
 unfolding distinct
 left_first pages back p h =
     ap (λ (b : Bool). cond (not b) (p ∷ filter (left pages) (filter (λ q. not (same_page p q)) (distinct back))) (filter (left pages) (filter (λ q. not (same_page p q)) (distinct back)))) h

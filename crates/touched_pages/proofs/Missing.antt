@@ -76,7 +76,8 @@ tests_page k x spots.Below q e = absurd cc
 tests_page k x spots.Outside q e = absurd cc
 
 -- the page of a test that misses since it is hidden
-hidden_test : (k : Kernel) (x : Space) (spot : Spot) → may_where false (may_write_spot k.place x.sid spot) ≡ tests.Miss → (q : Page) × (page_tested x spot ≡ Some q)
+hidden_test : (k : Kernel) (x : Space) (spot : Spot) → may_where false (may_write_spot k.place x.sid spot) ≡ tests.Miss
+    → (q : Page) × (page_tested x spot ≡ Some q)
 hidden_test k x (spots.Text i) e = absurd cc
 hidden_test k x (spots.Data i) e = (pages.Data x.sid (i / 1024), refl)
 hidden_test k x (spots.Stack i) e = (pages.Stack x.sid (i / 1024), refl)
@@ -88,7 +89,8 @@ hidden_test k x spots.Outside e = absurd cc
 shown_of : (ps : List Page) (o : Option Page) (q : Page) → o ≡ Some q → is_shown ps o ≡ true → is_among q ps ≡ true
 shown_of ps o q e h = sym (ap (is_shown ps) e) ∙ h
 
-access_among : (k : Kernel) (x : Space) (e : SameSpots k x) (ps : List Page) (a : Access) (q : Page) → IsHit (refusal (shown_in k x.sid ps) a) → page_of_access x a ≡ Some q → is_among q ps ≡ true
+access_among : (k : Kernel) (x : Space) (e : SameSpots k x) (ps : List Page) (a : Access) (q : Page) → IsHit (refusal (shown_in k x.sid ps) a)
+    → page_of_access x a ≡ Some q → is_among q ps ≡ true
 access_among k x e ps (ReadOf a) q h p =
     let at : page_in k.place x.sid a ≡ Some q =
     ap (page_at_spot k.place x.sid) (e.spots a) ∙ sym (read_page_is k x e.image (address_in x a)) ∙ p in
@@ -107,7 +109,8 @@ access_among k x e ps (TestOf a) q h p =
     go true m n = refl
     go false m n = absurd (subst (λ (answer : MayWrite). IsHit (test_refusal answer a)) m n)
 
-pub hit_among : (k : Kernel) (x : Space) (e : SameSpots k x) (ps : List Page) (list : List Access) → AllHit (shown_in k x.sid ps) list → AllAmong ps (filter_map (page_of_access x) list)
+pub hit_among : (k : Kernel) (x : Space) (e : SameSpots k x) (ps : List Page) (list : List Access) → AllHit (shown_in k x.sid ps) list
+    → AllAmong ps (filter_map (page_of_access x) list)
 hit_among k x e ps [] h = tt
 hit_among k x e ps (a ∷ list) h = go (page_of_access x a) refl (hit_among k x e ps list h.1)
   where
@@ -127,7 +130,8 @@ not_shown ps None e = absurd cc
 not_shown ps (Some q) e = (q, refl, e)
 
 -- a page that is shown is valid, so it doesn't miss
-shown_valid : (k : Kernel) (x : Space) (ps : List Page) (o : Option Page) (spot : Spot) → AllValid k.place ps → is_shown ps (page_at_spot k.place x.sid spot) ≡ true → Missing k x o spot → ⊥
+shown_valid : (k : Kernel) (x : Space) (ps : List Page) (o : Option Page) (spot : Spot) → AllValid k.place ps
+    → is_shown ps (page_at_spot k.place x.sid spot) ≡ true → Missing k x o spot → ⊥
 shown_valid k x ps o spot v h m =
     let valid : is_valid (state_of k.place m.page) ≡ true = among_valid k.place ps m.page v (shown_of ps (page_at_spot k.place x.sid spot) m.page m.of_spot h) in
     let absent = m.absent in
@@ -192,7 +196,8 @@ pub record NextAt (k : Kernel) (x : Space) (ps : List Page) (list : List Access)
   pub new : is_among page ps ≡ false
   pub at : page_in k.place x.sid address ≡ Some page
 
-next_at : (k : Kernel) (x : Space) (e : SameSpots k x) (ps : List Page) (list front rest : List Access) (last : Access) (address : ℕ) (write : Bool) → AllValid k.place ps
+next_at : (k : Kernel) (x : Space) (e : SameSpots k x) (ps : List Page) (list front rest : List Access) (last : Access) (address : ℕ) (write : Bool)
+    → AllValid k.place ps
     → list ≡ front ++ last ∷ rest → AllHit (shown_in k x.sid ps) front → refusal (shown_in k x.sid ps) last ≡ Some (Miss address write) → NextAt k x ps list address
 next_at k x e ps list front rest last address write v whole hits miss =
     let b : Beyond k x ps last address = beyond k x e ps last address write v miss in
@@ -221,7 +226,8 @@ hit_both memory [] ys h k = k
 hit_both memory (x ∷ xs) ys h k = (h.0, hit_both memory xs ys h.1 k)
 
 -- a computation that misses, behind accesses that don't, and before others
-pub program_misses : {B : Type 0} (k : Kernel) (x : Space) (e : SameSpots k x) (ps : List Page) (q : Program B) (before after : List Access) (address : ℕ) (write : Bool) → AllValid k.place ps
+pub program_misses : {B : Type 0} (k : Kernel) (x : Space) (e : SameSpots k x) (ps : List Page) (q : Program B) (before after : List Access) (address : ℕ) (write : Bool)
+    → AllValid k.place ps
     → Covers (shown_in k x.sid ps) (answers_of x) → AllHit (shown_in k x.sid ps) before → run (shown_in k x.sid ps) q ≡ Err (Miss address write)
     → NextAt k x ps (before ++ (accesses (answers_of x) q ++ after)) address
 program_misses k x e ps q before after address write v c hits m =

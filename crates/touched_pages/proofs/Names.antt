@@ -43,7 +43,8 @@ abbrev pub by_path : Answers → List NamedImage → ℕ → Result (Option (Lis
 by_path memory known argv (Err refused) = Err refused
 by_path memory known argv (Ok path) = refusal_of (run memory (execve_of argv (path_image known path)))
 
-pub path_reads : (memory : Answers) (known : List NamedImage) (path argv : ℕ) → refusal_of (run memory (execve_from known path argv)) ≡ by_path memory known argv (run memory (string_from string_limit path))
+pub path_reads : (memory : Answers) (known : List NamedImage) (path argv : ℕ)
+    → refusal_of (run memory (execve_from known path argv)) ≡ by_path memory known argv (run memory (string_from string_limit path))
 path_reads memory known path argv =
     ap refusal_of (run_bind memory (string_from string_limit path) (λ name. execve_of argv (path_image known name))) ∙ go (run memory (string_from string_limit path))
   where
@@ -51,7 +52,8 @@ path_reads memory known path argv =
     go (Ok name) = refl
     go (Err refused) = refl
 
-pub named_reads : (memory : Answers) (argv : ℕ) (known : List NamedImage) (named : List ImageNamed) (name : List ℕ) (b : Bool) → AreNamed known named → has_name name named ≡ b
+pub named_reads : (memory : Answers) (argv : ℕ) (known : List NamedImage) (named : List ImageNamed) (name : List ℕ) (b : Bool) → AreNamed known named
+    → has_name name named ≡ b
     → by_path memory known argv (Ok (Some name)) ≡ reads_if b (refusal_of (run memory (arguments_at argv)))
 named_reads memory argv known named name b h e =
     found_reads memory argv 1 known named name h ∙ ap (λ (c : Bool). reads_if c (refusal_of (run memory (arguments_at argv)))) e
@@ -78,11 +80,13 @@ module _ (m : Standing) (pid : ℕ) (pages : List Page) (known : List NamedImage
   pub long_path : Ok None ≡ run memory (string_from string_limit path) → Ok tt ≡ reads
   long_path e = sym (path_reads memory known path argv ∙ ap (by_path memory known argv) (sym e))
 
-  pub other_path : (name : List ℕ) → Ok (Some name) ≡ run memory (string_from string_limit path) → AreNamed known m.images → has_name name m.images ≡ false → Ok tt ≡ reads
+  pub other_path : (name : List ℕ) → Ok (Some name) ≡ run memory (string_from string_limit path) → AreNamed known m.images
+      → has_name name m.images ≡ false → Ok tt ≡ reads
   other_path name e h f =
       sym (path_reads memory known path argv ∙ ap (by_path memory known argv) (sym e) ∙ named_reads memory argv known m.images name false h f)
 
-  pub image_path : (n : Standing) (name : List ℕ) (r : Result (Result (Unit {0}) Refused) NoMemory) → n ≡ m → Ok (Some name) ≡ run memory (string_from string_limit path) → AreNamed known m.images
+  pub image_path : (n : Standing) (name : List ℕ) (r : Result (Result (Unit {0}) Refused) NoMemory) → n ≡ m
+      → Ok (Some name) ≡ run memory (string_from string_limit path) → AreNamed known m.images
       → has_name name m.images ≡ true → IfOk r (λ asked. asked ≡ refusal_of (run (shown_in n.kernel (space_held n.kernel pid) pages) (arguments_at argv))) → IfOk r (λ asked. asked ≡ reads)
   image_path n name r same e h f k =
       subst (λ (y : Result (Unit {0}) Refused). IfOk r (λ asked. asked ≡ y))

@@ -46,7 +46,8 @@ use Rattle.touched_pages.proofs.Nexts.{NextOf, step_next}
 
 -- It holds its space, and over the frames this answers as the flat one does, or misses.
 
-held_is : (A : Inputs) (s : State) (k : Kernel) (image : List ℕ) (pid : ℕ) (now : Bool) (p : Process) (x : Space) → At A s k image → IsRunning A s pid now p x → space_held k pid ≡ x.sid
+held_is : (A : Inputs) (s : State) (k : Kernel) (image : List ℕ) (pid : ℕ) (now : Bool) (p : Process) (x : Space) → At A s k image
+    → IsRunning A s pid now p x → space_held k pid ≡ x.sid
 held_is A s k image pid now p x at r =
     let flat : FlatState = s.point.flat in
     let tables : SameTables k flat = at.stands.keeps.coupled.tables in
@@ -55,7 +56,8 @@ held_is A s k image pid now p x at r =
     let outline : outline_kept kept.0 ≡ outline_of p = outline_at k.processes flat.processes tables.processes pid kept.0 p kept.1 found.1 in
     ap space_of_life (ap life_of_proc kept.1 ∙ ap (λ (o : Outline). o.life) outline ∙ ap life_of r.holds)
 
-frames_cover : (A : Inputs) (s : State) (k : Kernel) (image : List ℕ) (pid : ℕ) (now : Bool) (p : Process) (x : Space) → At A s k image → IsRunning A s pid now p x
+frames_cover : (A : Inputs) (s : State) (k : Kernel) (image : List ℕ) (pid : ℕ) (now : Bool) (p : Process) (x : Space) → At A s k image
+    → IsRunning A s pid now p x
     → Covers (kernel_answers k x.sid) (answers_of x)
 frames_cover A s k image pid now p x at r = memory_covers A.images k image flat x keeps.coupled keeps.stands.texts own (text.same ∙ sym (ap text_of text.image))
   where

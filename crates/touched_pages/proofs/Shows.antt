@@ -98,13 +98,15 @@ only_put p sid ps memory w there = λ i. record {
     read_same a (inr d) = by (is_shown ps (page_in p sid a)) (a == w.address) (memory.read a) (λ h. absurd (let none : false ≡ (a == w.address) = grind (arith, nat_tests) in cc))
 
 -- only the page of each address counts
-only_same : (p r : Placement) (sid : ℕ) (ps : List Page) (memory : Answers) → ((a : ℕ) → page_in r sid a ≡ page_in p sid a) → only r sid ps memory ≡ only p sid ps memory
+only_same : (p r : Placement) (sid : ℕ) (ps : List Page) (memory : Answers) → ((a : ℕ) → page_in r sid a ≡ page_in p sid a)
+    → only r sid ps memory ≡ only p sid ps memory
 only_same p r sid ps memory h = λ i. record {
   read = λ a. read_where (is_shown ps (h a i)) (memory.read a);
   may_write = λ a. may_where (is_shown ps (h a i)) (memory.may_write a);
 }
 
-written_shown : (k : Kernel) (sid : ℕ) (ps : List Page) (w : ByteWrite) → kernel_answers (write_in k sid w) sid ≡ put (kernel_answers k sid) w → is_shown ps (page_in k.place sid w.address) ≡ true
+written_shown : (k : Kernel) (sid : ℕ) (ps : List Page) (w : ByteWrite) → kernel_answers (write_in k sid w) sid ≡ put (kernel_answers k sid) w
+    → is_shown ps (page_in k.place sid w.address) ≡ true
     → shown_in (write_in k sid w) sid ps ≡ put (shown_in k sid ps) w
 written_shown k sid ps w e there =
     only_same k.place (write_in k sid w).place sid ps (kernel_answers (write_in k sid w) sid) (λ a. spot_written k sid w.byte a (spot_in k.place sid w.address))

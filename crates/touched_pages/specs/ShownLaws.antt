@@ -12,7 +12,8 @@ use Rattle.touched_pages.specs.Shown.{shown_in, WroteShown}
 pub shown_none : (m : MutBor Standing) (l : Layout) (pages : List Page) → WroteShown m l pages [] m l pages
 shown_none m l pages = record { through = through_none m l; kept = refl; answers = refl }
 
-pub shown_more : (a b c : MutBor Standing) (x y z : Layout) (ps qs rs : List Page) (xs ys : List ByteWrite) → WroteShown a x ps xs b y qs → WroteShown b y qs ys c z rs
+pub shown_more : (a b c : MutBor Standing) (x y z : Layout) (ps qs rs : List Page) (xs ys : List ByteWrite) → WroteShown a x ps xs b y qs
+    → WroteShown b y qs ys c z rs
     → WroteShown a x ps (xs ++ ys) c z rs
 shown_more a b c x y z ps qs rs xs ys h k = record {
   through = through_more a b c x y z xs ys h.through k.through;

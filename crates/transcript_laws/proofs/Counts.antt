@@ -112,7 +112,8 @@ acted_counts A s pid u (Steps f g e) =
     first_counts (can_step s.point.flat pid) (due_at A s.point pid) u
     (due_counts s.point.last pid (step_at A s.point pid).entries (step_counts A s.point.flat pid (is_refused s.point.last pid))) e
 
-flat_counts : (A : Inputs) (s : State) (u : Entry) (pid : ℕ) → ImagesFit A.images → IsRun A s → next_unit A s ≡ Some u → process_of_entry u ≡ Some pid → CountsOne u
+flat_counts : (A : Inputs) (s : State) (u : Entry) (pid : ℕ) → ImagesFit A.images → IsRun A s → next_unit A s ≡ Some u → process_of_entry u ≡ Some pid
+    → CountsOne u
 flat_counts A s u pid images run next of = elim (all_next A (u ∷ []) s (after A s u) images (execs_fit A) run (next, refl)).0 [
   | inl none ↦ absurd (let z : None ≡ Some pid = sym none ∙ of in cc)
   | inr is ↦ (let n : IsNext A s u = is in acted_counts A s n.pid u (acted A s n.pid u n.next))

@@ -24,7 +24,8 @@ front_run A entries q k h = front_some A (units_of (take k entries)) (units_of (
 front_count : (entries : List Entry) (k : ℕ) → instructions_of (take k entries) ≤ instructions_of entries
 front_count entries k = let a = count-append (take k entries) (drop k entries) in let b : instructions_of (take k entries ++ drop k entries) ≡ instructions_of entries = ap instructions_of (take-append-drop k entries) in omega arith
 
-pub none_is_bad : (A : Inputs) (entries : List Entry) (q : Point) → flat_run A entries ≡ Some q → instructions_of entries ≤ instruction_limit → first_bad A entries ≡ None
+pub none_is_bad : (A : Inputs) (entries : List Entry) (q : Point) → flat_run A entries ≡ Some q → instructions_of entries ≤ instruction_limit
+    → first_bad A entries ≡ None
 none_is_bad A entries q h l = none_bad A entries (length entries) (omega arith) (λ k m.
     ap (λ (b : Bool). b && leb (instructions_of (take k entries)) instruction_limit) (front_run A entries q k h)
     ∙ le-leb (instructions_of (take k entries)) instruction_limit (let c = front_count entries k in omega arith))

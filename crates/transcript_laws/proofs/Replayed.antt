@@ -44,7 +44,8 @@ accepted : (A : Inputs) (entries : List Entry) (t : Transcript) → first_bad A 
 accepted A entries (Is read) n r = (r, ap (first_bad A) r ∙ n)
 accepted A entries (BadLine m) n r = r
 
-pub replayed : (traced : Bool) (A : Inputs) (journal : List Entry) (s : State) (text : List ℕ) (read : Transcript) → IsTranscriptOf traced A journal s text → IsReadTranscript text read → IsAccepted A (entries_shown traced journal) read
+pub replayed : (traced : Bool) (A : Inputs) (journal : List Entry) (s : State) (text : List ℕ) (read : Transcript)
+    → IsTranscriptOf traced A journal s text → IsReadTranscript text read → IsAccepted A (entries_shown traced journal) read
 replayed traced A journal s text read t r = let c = t.count in let d = l.count in let e = shown_count traced journal in accepted A (entries_shown traced journal) read
     (none_is_bad A (entries_shown traced journal) s.point (shown_run traced A journal ∙ l.flat) (omega arith))
     (written_is_read (entries_shown traced journal) text read (shown_within traced journal (omega arith) t.within) (t.is ∙ text_lines traced journal) r (small_line text read t.short r))

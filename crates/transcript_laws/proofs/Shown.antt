@@ -16,7 +16,8 @@ repeated_sum : (u : Entry) (m n : ℕ) (us : List Entry) → repeated u (m + n) 
 repeated_sum u zero n us = let e : 0 + n ≡ n = omega arith in ap (λ (k : ℕ). repeated u k us) e
 repeated_sum u (suc m) n us = let e : suc m + n ≡ suc (m + n) = omega arith in ap (λ (k : ℕ). repeated u k us) e ∙ ap (λ (x : List Entry). u ∷ x) (repeated_sum u m n us)
 
-ran_units : (b : Bool) (p m q n : ℕ) (es : List Entry) → (p == q) ≡ b → units_of (join_ran b p m q n es) ≡ repeated (Ran p 1) m (repeated (Ran q 1) n (units_of es))
+ran_units : (b : Bool) (p m q n : ℕ) (es : List Entry) → (p == q) ≡ b
+    → units_of (join_ran b p m q n es) ≡ repeated (Ran p 1) m (repeated (Ran q 1) n (units_of es))
 ran_units true p m q n es e = repeated_sum (Ran p 1) m n (units_of es) ∙ ap (λ (x : ℕ). repeated (Ran p 1) m (repeated (Ran x 1) n (units_of es))) (eqb-true p q e)
 ran_units false p m q n es e = refl
 
@@ -145,7 +146,8 @@ without_within (e ∷ es) h = go (is_paging e) (without_within es h.1)
     go true k = k
     go false k = (h.0, k)
 
-ran_within : (b : Bool) (p m q n : ℕ) (es : List Entry) → m + (n + instructions_of es) < 4294967296 → IsWithin (Ran p m) → AreWithin (Ran q n ∷ es) → AreWithin (join_ran b p m q n es)
+ran_within : (b : Bool) (p m q n : ℕ) (es : List Entry) → m + (n + instructions_of es) < 4294967296 → IsWithin (Ran p m) → AreWithin (Ran q n ∷ es)
+    → AreWithin (join_ran b p m q n es)
 ran_within true p m q n es l h k = (((h.0.0, (omega arith, tt)), (let a = h.1 in omega arith)), k.1)
 ran_within false p m q n es l h k = (h, k)
 

@@ -36,7 +36,8 @@ begins_with (e ∷ es) rest h =
     let more : BeginsWith es (lines_of es) rest = begins_with es rest h.1 in
     record { lines = line_of e ∷ more.lines; are = ((h.0, refl), more.are); cut = first_line e es rest h.0 ∙ ap (λ (ls : List (List ℕ)). line_of e ∷ ls) more.cut }
 
-pub text_flat : (A : Inputs) (hs : Holdings) (journal : List Entry) (s : State) (traced : Bool) → CanRun A hs → IsLawful A journal s → A.limit ≤ instruction_limit → HaveNumbers journal → IsFlatText A traced journal
+pub text_flat : (A : Inputs) (hs : Holdings) (journal : List Entry) (s : State) (traced : Bool) → CanRun A hs → IsLawful A journal s
+    → A.limit ≤ instruction_limit → HaveNumbers journal → IsFlatText A traced journal
 text_flat A hs journal s traced can lawful limit numbers =
     let r : Reaches A journal s = lawful.reaches in
     let run : IsRun A (start A r.holdings) = start_run A r.holdings (record { images = can.images; first = can.first; frames = can.frames; pieces = r.found }) in

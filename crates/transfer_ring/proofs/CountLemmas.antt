@@ -36,7 +36,8 @@ pub all-append : (xs ys : List Transfer) → pages_of_all (xs ++ ys) ≡ pages_o
 all-append [] ys = omega arith
 all-append (x ∷ xs) ys = omega (arith, all-append xs ys)
 
-pub all-in_flight : (slots : List (Option Transfer)) (xs ys order : List ℕ) → xs ++ ys ≡ order → pages_of_all (in_flight slots order) ≡ pages_of_all (in_flight slots xs) + pages_of_all (in_flight slots ys)
+pub all-in_flight : (slots : List (Option Transfer)) (xs ys order : List ℕ) → xs ++ ys ≡ order
+    → pages_of_all (in_flight slots order) ≡ pages_of_all (in_flight slots xs) + pages_of_all (in_flight slots ys)
 all-in_flight slots xs ys order e =
     ap (λ (all : List ℕ). pages_of_all (in_flight slots all)) (sym e)
     ∙ ap pages_of_all (in_flight-append slots xs ys)

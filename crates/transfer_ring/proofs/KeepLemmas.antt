@@ -20,7 +20,8 @@ pub times_push_other : (n x : ℕ) (xs : List ℕ) → (x ≡ n → ⊥) → tim
 times_push_other n x xs ne = omega (arith, times-append n xs (x ∷ []), times_other n x [] ne)
 
 -- a slot that isn't in the order may change
-pub unlisted : (slots : List (Option Transfer)) (slot : ℕ) (held : Option Transfer) (order : List ℕ) → times slot order ≡ 0 → in_flight (set slots slot held) order ≡ in_flight slots order
+pub unlisted : (slots : List (Option Transfer)) (slot : ℕ) (held : Option Transfer) (order : List ℕ) → times slot order ≡ 0
+    → in_flight (set slots slot held) order ≡ in_flight slots order
 unlisted slots slot held [] h = refl
 unlisted slots slot held (x ∷ rest) h = elim (cases_eq x slot) [
   | inl e ↦ absurd (grind (arith, nat_tests))
@@ -38,7 +39,8 @@ in_flight-append slots [] ys = refl
 in_flight-append slots (x ∷ xs) ys = ap (put_first (slot_at slots x)) (in_flight-append slots xs ys) ∙ put_first-append (slot_at slots x) (in_flight slots xs) (in_flight slots ys)
 
 -- a transfer that is put into a slot outside the order, behind the others
-pub put_behind : (slots : List (Option Transfer)) (slot : ℕ) (t : Transfer) (order : List ℕ) → slot < length slots → times slot order ≡ 0 → in_flight (set slots slot (Some t)) (order ++ slot ∷ []) ≡ in_flight slots order ++ t ∷ []
+pub put_behind : (slots : List (Option Transfer)) (slot : ℕ) (t : Transfer) (order : List ℕ) → slot < length slots → times slot order ≡ 0
+    → in_flight (set slots slot (Some t)) (order ++ slot ∷ []) ≡ in_flight slots order ++ t ∷ []
 put_behind slots slot t order low none =
     in_flight-append (set slots slot (Some t)) order (slot ∷ [])
     ∙ ap₂ ◌++◌ (unlisted slots slot (Some t) order none) (ap (λ (held : Option Transfer). put_first held []) (get_or-set_same slots slot (Some t) None low))
@@ -47,14 +49,16 @@ length-put_first : (held : Option Transfer) (xs : List Transfer) → 0 < listing
 length-put_first None xs h = absurd (omega arith)
 length-put_first (Some t) xs h = omega arith
 
-pub length-in_flight : (slots : List (Option Transfer)) (order : List ℕ) → ((slot : ℕ) → 0 < times slot order → 0 < listings (slot_at slots slot)) → length (in_flight slots order) ≡ length order
+pub length-in_flight : (slots : List (Option Transfer)) (order : List ℕ) → ((slot : ℕ) → 0 < times slot order → 0 < listings (slot_at slots slot))
+    → length (in_flight slots order) ≡ length order
 length-in_flight slots [] used = refl
 length-in_flight slots (x ∷ rest) used =
     let first = length-put_first (slot_at slots x) (in_flight slots rest) (used x (omega (arith, times_head x rest))) in
     let more = length-in_flight slots rest (λ slot h. used slot (grind (arith, nat_tests))) in
     omega (arith, first, more)
 
-pub kept_used : (slots : List (Option Transfer)) (order spare : List ℕ) → IsKept slots order spare → (slot : ℕ) → 0 < times slot order → 0 < listings (slot_at slots slot)
+pub kept_used : (slots : List (Option Transfer)) (order spare : List ℕ) → IsKept slots order spare → (slot : ℕ) → 0 < times slot order
+    → 0 < listings (slot_at slots slot)
 kept_used slots order spare k slot h = omega (arith, k.listed slot)
 
 pub kept_length : (slots : List (Option Transfer)) (order spare : List ℕ) → IsKept slots order spare → length (in_flight slots order) ≡ length order
@@ -84,7 +88,8 @@ is_spare slots order spare slot k =
       empty = is_none (slot_at slots slot) (omega (arith, k.listed slot));
     }
 
-pub kept_begin : (slots : List (Option Transfer)) (order spare : List ℕ) (slot : ℕ) (t : Transfer) → IsFlight t → IsKept slots order (spare ++ slot ∷ []) → IsKept (set slots slot (Some t)) (order ++ slot ∷ []) spare
+pub kept_begin : (slots : List (Option Transfer)) (order spare : List ℕ) (slot : ℕ) (t : Transfer) → IsFlight t
+    → IsKept slots order (spare ++ slot ∷ []) → IsKept (set slots slot (Some t)) (order ++ slot ∷ []) spare
 kept_begin slots order spare slot t flight k =
     let free = is_spare slots order spare slot k in
     let there = get_or-set_same slots slot (Some t) None free.below in
@@ -134,7 +139,8 @@ is_oldest slots rest spare slot k =
       used = used;
     }
 
-pub kept_abandon : (slots : List (Option Transfer)) (rest spare : List ℕ) (slot : ℕ) → IsKept slots (slot ∷ rest) spare → IsKept (set slots slot None) rest (spare ++ slot ∷ [])
+pub kept_abandon : (slots : List (Option Transfer)) (rest spare : List ℕ) (slot : ℕ) → IsKept slots (slot ∷ rest) spare
+    → IsKept (set slots slot None) rest (spare ++ slot ∷ [])
 kept_abandon slots rest spare slot k =
     let old = is_oldest slots rest spare slot k in
     let there = get_or-set_same slots slot None None old.below in
@@ -182,7 +188,8 @@ empty_push slots slot e = elim (cases_lt slot (length slots)) [
   ]
 ]
 
-pub fresh_more : (n : ℕ) (slots slots' : List (Option Transfer)) (spare spare' : List ℕ) → IsFresh n slots spare → slots' ≡ slots ++ None ∷ [] → spare' ≡ spare ++ n ∷ [] → IsFresh (n + 1) slots' spare'
+pub fresh_more : (n : ℕ) (slots slots' : List (Option Transfer)) (spare spare' : List ℕ) → IsFresh n slots spare → slots' ≡ slots ++ None ∷ []
+    → spare' ≡ spare ++ n ∷ [] → IsFresh (n + 1) slots' spare'
 fresh_more n slots slots' spare spare' f more_slots more_spare = record {
   slots_count = ap (λ (l : List (Option Transfer)). length l) more_slots ∙ length_push slots None ∙ ap (λ (k : ℕ). k + 1) f.slots_count;
   spare_count = ap (λ (l : List ℕ). length l) more_spare ∙ length_push spare n ∙ ap (λ (k : ℕ). k + 1) f.spare_count;
@@ -203,7 +210,8 @@ no_items (x ∷ xs) h = absurd (omega (arith, h))
 pub closed_order : (slots : List (Option Transfer)) (order spare : List ℕ) → IsKept slots order spare → in_flight slots order ≡ [] → order ≡ []
 closed_order slots order spare k none = no_items order (sym (kept_length slots order spare k) ∙ ap (λ (l : List Transfer). length l) none)
 
-pub closed_slots : (slots : List (Option Transfer)) (order spare : List ℕ) → IsKept slots order spare → in_flight slots order ≡ [] → (slot : ℕ) → slot_at slots slot ≡ None
+pub closed_slots : (slots : List (Option Transfer)) (order spare : List ℕ) → IsKept slots order spare → in_flight slots order ≡ [] → (slot : ℕ)
+    → slot_at slots slot ≡ None
 closed_slots slots order spare k none slot =
     is_none (slot_at slots slot) (sym (k.listed slot) ∙ ap (λ (l : List ℕ). times slot l) (closed_order slots order spare k none))
 
@@ -211,22 +219,27 @@ drop_none : (xs : List ℕ) (n : ℕ) → n ≡ 0 → drop n xs ≡ xs
 drop_none xs n e = ap (λ (k : ℕ). drop k xs) e
 
 -- the order after one more slot, where there is room
-pub pushed_items : (old new : Buffer ℕ) (slot : ℕ) → old.capacity ≡ 16 → length old.items < 16 → new ≡ buffer (keep_last old.capacity (old.items ++ slot ∷ [])) old.capacity → new.items ≡ old.items ++ slot ∷ []
+pub pushed_items : (old new : Buffer ℕ) (slot : ℕ) → old.capacity ≡ 16 → length old.items < 16
+    → new ≡ buffer (keep_last old.capacity (old.items ++ slot ∷ [])) old.capacity → new.items ≡ old.items ++ slot ∷ []
 pushed_items old new slot room low e =
     ap (λ (b : Buffer ℕ). b.items) e ∙ drop_none (old.items ++ slot ∷ []) (length (old.items ++ slot ∷ []) - old.capacity) (omega (arith, length_push old.items slot, room, low))
 
-pub order_room : (slots : List (Option Transfer)) (order spare rest : List ℕ) (slot : ℕ) → IsKept slots order spare → spare ≡ rest ++ slot ∷ [] → length order < 16
+pub order_room : (slots : List (Option Transfer)) (order spare rest : List ℕ) (slot : ℕ) → IsKept slots order spare → spare ≡ rest ++ slot ∷ []
+    → length order < 16
 order_room slots order spare rest slot k e = omega (arith, k.count, ap (λ (l : List ℕ). length l) e, length_push rest slot)
 
-pub begin_spare : (slots : List (Option Transfer)) (order spare rest : List ℕ) (slot : ℕ) → IsKept slots order spare → spare ≡ rest ++ slot ∷ [] → IsSpare slots order slot
+pub begin_spare : (slots : List (Option Transfer)) (order spare rest : List ℕ) (slot : ℕ) → IsKept slots order spare → spare ≡ rest ++ slot ∷ []
+    → IsSpare slots order slot
 begin_spare slots order spare rest slot k e = is_spare slots order rest slot (subst (λ (l : List ℕ). IsKept slots order l) e k)
 
-pub begin_kept : (slots slots' : List (Option Transfer)) (order order' spare rest : List ℕ) (slot : ℕ) (t : Transfer) → IsFlight t → IsKept slots order spare → spare ≡ rest ++ slot ∷ []
+pub begin_kept : (slots slots' : List (Option Transfer)) (order order' spare rest : List ℕ) (slot : ℕ) (t : Transfer) → IsFlight t
+    → IsKept slots order spare → spare ≡ rest ++ slot ∷ []
     → slots' ≡ set slots slot (Some t) → order' ≡ order ++ slot ∷ [] → IsKept slots' order' rest
 begin_kept slots slots' order order' spare rest slot t flight k e now now_order =
     subst (λ (l : List (Option Transfer)). IsKept l order' rest) (sym now) (subst (λ (l : List ℕ). IsKept (set slots slot (Some t)) l rest) (sym now_order) (kept_begin slots order rest slot t flight (subst (λ (l : List ℕ). IsKept slots order l) e k)))
 
-pub begin_view : (slots slots' : List (Option Transfer)) (order order' spare rest : List ℕ) (slot : ℕ) (t : Transfer) → IsKept slots order spare → spare ≡ rest ++ slot ∷ []
+pub begin_view : (slots slots' : List (Option Transfer)) (order order' spare rest : List ℕ) (slot : ℕ) (t : Transfer) → IsKept slots order spare
+    → spare ≡ rest ++ slot ∷ []
     → slots' ≡ set slots slot (Some t) → order' ≡ order ++ slot ∷ [] → in_flight slots' order' ≡ in_flight slots order ++ t ∷ []
 begin_view slots slots' order order' spare rest slot t k e now now_order =
     let free = begin_spare slots order spare rest slot k e in
@@ -237,12 +250,14 @@ pub head_of : (xs : List ℕ) (x : ℕ) → Some x ≡ slice_get xs 0 → xs ≡
 head_of [] x e = absurd (none-some x (sym e))
 head_of (y ∷ ys) x e = ap (λ (n : ℕ). n ∷ ys) (sym (same_Some x y e))
 
-pub abandon_kept : (slots slots' : List (Option Transfer)) (order order' spare spare' : List ℕ) (slot : ℕ) → IsKept slots order spare → order ≡ slot ∷ order' → slots' ≡ set slots slot None
+pub abandon_kept : (slots slots' : List (Option Transfer)) (order order' spare spare' : List ℕ) (slot : ℕ) → IsKept slots order spare
+    → order ≡ slot ∷ order' → slots' ≡ set slots slot None
     → spare' ≡ spare ++ slot ∷ [] → IsKept slots' order' spare'
 abandon_kept slots slots' order order' spare spare' slot k e now now_spare =
     subst (λ (l : List (Option Transfer)). IsKept l order' spare') (sym now) (subst (λ (l : List ℕ). IsKept (set slots slot None) order' l) (sym now_spare) (kept_abandon slots order' spare slot (subst (λ (l : List ℕ). IsKept slots l spare) e k)))
 
-pub abandon_view : (slots slots' : List (Option Transfer)) (order order' spare : List ℕ) (slot : ℕ) (t : Transfer) → IsKept slots order spare → order ≡ slot ∷ order' → slots' ≡ set slots slot None
+pub abandon_view : (slots slots' : List (Option Transfer)) (order order' spare : List ℕ) (slot : ℕ) (t : Transfer) → IsKept slots order spare
+    → order ≡ slot ∷ order' → slots' ≡ set slots slot None
     → slot_at slots slot ≡ Some t → in_flight slots' order' ≡ drop 1 (in_flight slots order)
 abandon_view slots slots' order order' spare slot t k e now was =
     let old = is_oldest slots order' spare slot (subst (λ (l : List ℕ). IsKept slots l spare) e k) in
@@ -255,10 +270,12 @@ either_false true b e = absurd (false≢true (sym e))
 either_false false b e = refl
 
 -- what the first of two parts settles, and what the second does where the first doesn't
-pub first_part : (test : Transfer → Bool) (slots : List (Option Transfer)) (xs ys order : List ℕ) → xs ++ ys ≡ order → list_any test (in_flight slots xs) ≡ true → list_any test (in_flight slots order) ≡ true
+pub first_part : (test : Transfer → Bool) (slots : List (Option Transfer)) (xs ys order : List ℕ) → xs ++ ys ≡ order
+    → list_any test (in_flight slots xs) ≡ true → list_any test (in_flight slots order) ≡ true
 first_part test slots xs ys order e hit = list_any-in_flight test slots xs ys order e ∙ or_left (list_any test (in_flight slots xs)) (list_any test (in_flight slots ys)) hit
 
-pub second_part : (test : Transfer → Bool) (slots : List (Option Transfer)) (xs ys order : List ℕ) → xs ++ ys ≡ order → list_any test (in_flight slots xs) ≡ false → list_any test (in_flight slots order) ≡ list_any test (in_flight slots ys)
+pub second_part : (test : Transfer → Bool) (slots : List (Option Transfer)) (xs ys order : List ℕ) → xs ++ ys ≡ order
+    → list_any test (in_flight slots xs) ≡ false → list_any test (in_flight slots order) ≡ list_any test (in_flight slots ys)
 second_part test slots xs ys order e miss = list_any-in_flight test slots xs ys order e ∙ either_false (list_any test (in_flight slots xs)) (list_any test (in_flight slots ys)) miss
 
 get-put_first_zero : (held : Option Transfer) (xs : List Transfer) → 0 < listings held → slice_get (put_first held xs) 0 ≡ held
@@ -270,7 +287,9 @@ get-put_first_suc None xs n h = absurd (omega arith)
 get-put_first_suc (Some t) xs n h = refl
 
 -- where each slot of the order is used, the transfer at a place stands in the slot at that place
-pub get-in_flight : (slots : List (Option Transfer)) (order : List ℕ) (place slot : ℕ) → ((slot : ℕ) → 0 < times slot order → 0 < listings (slot_at slots slot)) → slice_get order place ≡ Some slot → slice_get (in_flight slots order) place ≡ slot_at slots slot
+pub get-in_flight : (slots : List (Option Transfer)) (order : List ℕ) (place slot : ℕ)
+    → ((slot : ℕ) → 0 < times slot order → 0 < listings (slot_at slots slot)) → slice_get order place ≡ Some slot
+    → slice_get (in_flight slots order) place ≡ slot_at slots slot
 get-in_flight slots [] place slot used is = absurd (none-some slot is)
 get-in_flight slots (x ∷ rest) zero slot used is =
     get-put_first_zero (slot_at slots x) (in_flight slots rest) (used x (omega (arith, times_head x rest)))
@@ -280,7 +299,9 @@ get-in_flight slots (x ∷ rest) (suc n) slot used is =
     ∙ get-in_flight slots rest n slot (λ s h. used s (grind (arith, nat_tests))) is
 
 -- and past the order's end there is none
-pub get-in_flight_past : (slots : List (Option Transfer)) (order : List ℕ) (place : ℕ) → ((slot : ℕ) → 0 < times slot order → 0 < listings (slot_at slots slot)) → slice_get order place ≡ None → slice_get (in_flight slots order) place ≡ None
+pub get-in_flight_past : (slots : List (Option Transfer)) (order : List ℕ) (place : ℕ)
+    → ((slot : ℕ) → 0 < times slot order → 0 < listings (slot_at slots slot)) → slice_get order place ≡ None
+    → slice_get (in_flight slots order) place ≡ None
 get-in_flight_past slots [] place used is = refl
 get-in_flight_past slots (x ∷ rest) zero used is = absurd (none-some x (sym is))
 get-in_flight_past slots (x ∷ rest) (suc n) used is =

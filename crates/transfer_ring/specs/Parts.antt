@@ -52,4 +52,5 @@ WritesParts (part ∷ rest) old new = (next : Option (List ℕ)) × WritesPage o
 -- weren't tried
 abbrev pub SpoilsParts : List Outbound → Option (List ℕ) → Option (List ℕ) → Type 0
 SpoilsParts [] old new = ⊥
-SpoilsParts (part ∷ rest) old new = SpoilsPage old part.block new ⊎ ((next : Option (List ℕ)) × WritesPage old part.block part.token.bytes next × SpoilsParts rest next new)
+SpoilsParts (part ∷ rest) old new =
+    SpoilsPage old part.block new ⊎ ((next : Option (List ℕ)) × WritesPage old part.block part.token.bytes next × SpoilsParts rest next new)

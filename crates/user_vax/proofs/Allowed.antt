@@ -21,14 +21,16 @@ tested_allowed memory given effect h =
     let same : given ≡ effect = cc in
     subst (λ (e : Effect). MayAll memory e.writes) same (tested_may memory given.writes parts.1)
 
-execution_allowed : (memory : Answers) (row : Row) (regs : Regs) (instr : Instr) (effect : Effect) → run memory (execution row regs instr) ≡ Ok effect → MayAll memory effect.writes
+execution_allowed : (memory : Answers) (row : Row) (regs : Regs) (instr : Instr) (effect : Effect) → run memory (execution row regs instr) ≡ Ok effect
+    → MayAll memory effect.writes
 unfolding execution
 execution_allowed memory row regs instr effect h =
     let one = ok_of_bind memory (evaluations row regs instr) (λ all. computation row.name all.0 all.1 all.2 all.3 >>= tested_effect) effect h in
     let two = ok_of_bind memory (computation row.name one.0.0 one.0.1 one.0.2 one.0.3) tested_effect effect one.2 in
     tested_allowed memory two.0 effect two.2
 
-execution_by_allowed : (memory : Answers) (row : Option Row) (regs : Regs) (instr : Instr) (effect : Effect) → run memory (execution_by row regs instr) ≡ Ok effect → MayAll memory effect.writes
+execution_by_allowed : (memory : Answers) (row : Option Row) (regs : Regs) (instr : Instr) (effect : Effect)
+    → run memory (execution_by row regs instr) ≡ Ok effect → MayAll memory effect.writes
 unfolding execution_by
 execution_by_allowed memory None regs instr effect h = absurd (cc)
 execution_by_allowed memory (Some row) regs instr effect h =

@@ -27,7 +27,8 @@ past-none address small = grind arith
 abbrev one : ℕ → Result ℕ Refused
 one byte = Ok byte
 
-reads_by : (answer : ByteRead) (address : ℕ) (next : Result (Unit {0}) Refused) → after_read answer address (λ byte. next) ≡ then (after_read answer address one) (λ _. next)
+reads_by : (answer : ByteRead) (address : ℕ) (next : Result (Unit {0}) Refused)
+    → after_read answer address (λ byte. next) ≡ then (after_read answer address one) (λ _. next)
 reads_by (bytes.Is byte) address next = refl
 reads_by bytes.Miss address next = refl
 reads_by bytes.Below address next = refl
@@ -38,7 +39,8 @@ abbrev left_from : Answers → ℕ → ℕ → Result (Unit {0}) Refused
 left_from memory pc count = run memory (reads_from (past pc count) (20 - count))
 
 -- reading so many bytes is reading one, and then the others
-pub reads_more : (memory : Answers) (pc count : ℕ) → count < 20 → left_from memory pc count ≡ then (run memory (Reads (past pc count) (λ b. Gives b))) (λ _. left_from memory pc (count + 1))
+pub reads_more : (memory : Answers) (pc count : ℕ) → count < 20
+    → left_from memory pc count ≡ then (run memory (Reads (past pc count) (λ b. Gives b))) (λ _. left_from memory pc (count + 1))
 unfolding reads_from
 reads_more memory pc count below =
     let left : 20 - count ≡ suc (19 - count) = omega arith in
@@ -51,13 +53,15 @@ reads_all memory pc small = ap (λ (address : ℕ). run memory (reads_from addre
 
 -- ---- what bytes settle
 
-settles : (memory : Answers) (found : Decoded) (more : Program Instr) (next : Result Instr Refused) → run memory more ≡ next → run memory (on_decoded found more) ≡ settled found next
+settles : (memory : Answers) (found : Decoded) (more : Program Instr) (next : Result Instr Refused) → run memory more ≡ next
+    → run memory (on_decoded found more) ≡ settled found next
 settles memory (decodings.Is instr) more next h = refl
 settles memory decodings.Reserved more next h = refl
 settles memory decodings.NeedMore more next h = h
 
 -- what the first bytes settle, more of them settle alike
-settled_on : (bytes more : List ℕ) (found : Decoded) (next : Result Instr Refused) → decoded bytes ≡ found → settled found (settled (decoded (bytes ++ more)) next) ≡ settled (decoded (bytes ++ more)) next
+settled_on : (bytes more : List ℕ) (found : Decoded) (next : Result Instr Refused) → decoded bytes ≡ found
+    → settled found (settled (decoded (bytes ++ more)) next) ≡ settled (decoded (bytes ++ more)) next
 settled_on bytes more (decodings.Is instr) next e = ap (λ (d : Decoded). settled d next) (sym (decoded_extends bytes more instr e))
 settled_on bytes more decodings.Reserved next e = ap (λ (d : Decoded). settled d next) (sym (decoded_stuck bytes more e))
 settled_on bytes more decodings.NeedMore next e = refl
@@ -115,7 +119,8 @@ last_by bytes.Below address = refl
 last_by bytes.Outside address = refl
 
 -- one byte more is there
-further : (memory : Answers) (pc more b : ℕ) (front : List ℕ) → IsFetched memory pc more (longer front b) → settled (decoded front) (fetching memory pc more (longer front b)) ≡ comes_by memory (bytes.Is b) (behind pc front) more front
+further : (memory : Answers) (pc more b : ℕ) (front : List ℕ) → IsFetched memory pc more (longer front b)
+    → settled (decoded front) (fetching memory pc more (longer front b)) ≡ comes_by memory (bytes.Is b) (behind pc front) more front
 further memory pc more b front h =
     let next : ℕ = past (behind pc front) 1 in
     let long : length (longer front b) ≡ length front + 1 = length-append front (b ∷ []) in

@@ -21,7 +21,8 @@ Ends memory list result =
     (AllGranted memory list × NotByAccess result)
     ⊎ ((refused : Refused) × (result ≡ Err refused) × EndsRefused memory list refused)
 
-after_one : {A : Type 0} (memory : Answers) (access : Access) (list : List Access) (result : Result A Refused) → refusal memory access ≡ None → Ends memory list result → Ends memory (access ∷ list) result
+after_one : {A : Type 0} (memory : Answers) (access : Access) (list : List Access) (result : Result A Refused) → refusal memory access ≡ None
+    → Ends memory list result → Ends memory (access ∷ list) result
 after_one memory access list result here (inl all) = inl ((here, all.0), all.1)
 after_one memory access list result here (inr last) =
     inr (last.0, last.1, (access ∷ last.2.0, last.2.1, ap (λ (l : List Access). access ∷ l) last.2.2, (here, last.2.3), last.2.4))
@@ -45,18 +46,21 @@ ends memory (Tests address next) =
       | tests.Outside ↦ λ e. inr (Signal sigsegv, refl, ([], TestOf address, refl, tt, ap (λ answer. test_refusal answer address) e))
     ]) refl
 
-gives_of : {A : Type 0} (memory : Answers) (list : List Access) (result : Result A Refused) (x : A) → Ends memory list result → result ≡ Ok x → AllGranted memory list
+gives_of : {A : Type 0} (memory : Answers) (list : List Access) (result : Result A Refused) (x : A) → Ends memory list result → result ≡ Ok x
+    → AllGranted memory list
 gives_of memory list result x (inl all) h = all.0
 gives_of memory list result x (inr last) h = let e = last.1 in absurd (cc)
 
-misses_of : {A : Type 0} (memory : Answers) (list : List Access) (result : Result A Refused) (address : ℕ) (write : Bool) → Ends memory list result → result ≡ Err (Miss address write) → EndsRefused memory list (Miss address write)
+misses_of : {A : Type 0} (memory : Answers) (list : List Access) (result : Result A Refused) (address : ℕ) (write : Bool) → Ends memory list result
+    → result ≡ Err (Miss address write) → EndsRefused memory list (Miss address write)
 misses_of {A = A} memory list result address write (inl all) h = absurd (subst (λ (r : Result A Refused). NotByAccess r) h all.1)
 misses_of memory list result address write (inr last) h =
     let e = last.1 in
     let same : last.0 ≡ Miss address write = cc in
     subst (λ (refused : Refused). EndsRefused memory list refused) same last.2
 
-falls_of : {A : Type 0} (memory : Answers) (list : List Access) (result : Result A Refused) (address : ℕ) → Ends memory list result → result ≡ Err (Below address) → EndsRefused memory list (Below address)
+falls_of : {A : Type 0} (memory : Answers) (list : List Access) (result : Result A Refused) (address : ℕ) → Ends memory list result
+    → result ≡ Err (Below address) → EndsRefused memory list (Below address)
 falls_of {A = A} memory list result address (inl all) h = absurd (subst (λ (r : Result A Refused). NotByAccess r) h all.1)
 falls_of memory list result address (inr last) h =
     let e = last.1 in

@@ -8,13 +8,15 @@ use Rattle.vm_facts.specs.Answers.{ByteWrite}
 use Rattle.user_vax.specs.declared.outcome.Write.{Write}
 use Rattle.user_vax.specs.Outcomes.{IsSize, bytes_of, all_bytes}
 
-pub all_bytes_more : (writes : List Write) (count : ℕ) (write : Write) → count < length writes → all_bytes (take (count + 1) (set writes count write)) ≡ all_bytes (take count writes) ++ bytes_of write
+pub all_bytes_more : (writes : List Write) (count : ℕ) (write : Write) → count < length writes
+    → all_bytes (take (count + 1) (set writes count write)) ≡ all_bytes (take count writes) ++ bytes_of write
 all_bytes_more writes count write within =
     ap all_bytes (take_more_set writes count write within)
     ∙ flat_map-append bytes_of (take count writes) (write ∷ [])
     ∙ ap (λ (bytes : List ByteWrite). all_bytes (take count writes) ++ bytes) (append-nil (bytes_of write))
 
-pub sizes_more : (writes : List Write) (count : ℕ) (write : Write) → count < length writes → All (λ w. IsSize w.size) (take count writes) → IsSize write.size → All (λ w. IsSize w.size) (take (count + 1) (set writes count write))
+pub sizes_more : (writes : List Write) (count : ℕ) (write : Write) → count < length writes → All (λ w. IsSize w.size) (take count writes)
+    → IsSize write.size → All (λ w. IsSize w.size) (take (count + 1) (set writes count write))
 sizes_more writes count write within sizes size =
     subst (λ (ws : List Write). All (λ w. IsSize w.size) ws) (sym (take_more_set writes count write within)) (All-append (λ w. IsSize w.size) (take count writes) (write ∷ []) sizes (All-from_recursion (λ w. IsSize w.size) (write ∷ []) (size, tt)))
 

@@ -35,5 +35,6 @@ then_ok (Ok x) next y h = (x, refl, h)
 then_ok (Err e) next y h = absurd (cc)
 
 -- a sequence that gives something gave something at each part
-pub ok_of_bind : {A B : Type 0} (memory : Answers) (p : Program A) (f : A → Program B) (y : B) → run memory (p >>= f) ≡ Ok y → (x : A) × (run memory p ≡ Ok x) × (run memory (f x) ≡ Ok y)
+pub ok_of_bind : {A B : Type 0} (memory : Answers) (p : Program A) (f : A → Program B) (y : B) → run memory (p >>= f) ≡ Ok y
+    → (x : A) × (run memory p ≡ Ok x) × (run memory (f x) ≡ Ok y)
 ok_of_bind memory p f y h = then_ok (run memory p) (λ x. run memory (f x)) y (sym (run_bind memory p f) ∙ h)

@@ -23,23 +23,27 @@ unfolding write_tests
 write_tests-append [] ys = refl
 write_tests-append (x ∷ xs) ys = ap (λ (p : Program (Unit {0})). Tests x.address p) (write_tests-append xs ys)
 
-pub run-write_tests-append : (memory : Answers) (xs ys : List ByteWrite) → run memory (write_tests (xs ++ ys)) ≡ then (run memory (write_tests xs)) (λ _. run memory (write_tests ys))
+pub run-write_tests-append : (memory : Answers) (xs ys : List ByteWrite)
+    → run memory (write_tests (xs ++ ys)) ≡ then (run memory (write_tests xs)) (λ _. run memory (write_tests ys))
 run-write_tests-append memory xs ys =
     ap (λ (p : Program (Unit {0})). run memory p) (write_tests-append xs ys) ∙ run_bind memory (write_tests xs) (λ _. write_tests ys)
 
-pub tests_more : (memory : Answers) (writes : List Write) (i : ℕ) → i < length writes → run memory (write_tests (all_bytes (drop i writes))) ≡ then (run memory (write_tests (bytes_of (get_or writes i no_write)))) (λ _. run memory (write_tests (all_bytes (drop (i + 1) writes))))
+pub tests_more : (memory : Answers) (writes : List Write) (i : ℕ) → i < length writes
+    → run memory (write_tests (all_bytes (drop i writes))) ≡ then (run memory (write_tests (bytes_of (get_or writes i no_write)))) (λ _. run memory (write_tests (all_bytes (drop (i + 1) writes))))
 tests_more memory writes i within =
     at_drop_more (λ rest. run memory (write_tests (all_bytes rest))) writes i no_write within
     ∙ run-write_tests-append memory (bytes_of (get_or writes i no_write)) (all_bytes (drop (i + 1) writes))
 
 -- the bytes of one more number come behind those so far
-pub bytes_more : (writes : List Write) (i : ℕ) → i < length writes → all_bytes (take (i + 1) writes) ≡ all_bytes (take i writes) ++ bytes_of (get_or writes i no_write)
+pub bytes_more : (writes : List Write) (i : ℕ) → i < length writes
+    → all_bytes (take (i + 1) writes) ≡ all_bytes (take i writes) ++ bytes_of (get_or writes i no_write)
 bytes_more writes i within =
     ap all_bytes (take_more writes i no_write within)
     ∙ flat_map-append bytes_of (take i writes) (get_or writes i no_write ∷ [])
     ∙ ap (λ (bytes : List ByteWrite). all_bytes (take i writes) ++ bytes) (append-nil (bytes_of (get_or writes i no_write)))
 
-may_first : (answer : MayWrite) (address : ℕ) (next : Result (Unit {0}) Refused) → after_test answer address next ≡ Ok tt → (answer ≡ tests.May) × (next ≡ Ok tt)
+may_first : (answer : MayWrite) (address : ℕ) (next : Result (Unit {0}) Refused) → after_test answer address next ≡ Ok tt
+    → (answer ≡ tests.May) × (next ≡ Ok tt)
 may_first tests.May address next h = (refl, h)
 may_first tests.Miss address next h = absurd (cc)
 may_first tests.Below address next h = absurd (cc)
@@ -62,7 +66,8 @@ may_along some other (write ∷ writes) e h = (sym (ap (λ test. test write.addr
 pub ready_along : (some other : Answers) (write : Write) → some.may_write ≡ other.may_write → IsReady some write → IsReady other write
 ready_along some other write e h = record { size = h.size; may = may_along some other (bytes_of write) e h.may }
 
-each_ready : (memory : Answers) (writes : List Write) → AllByRecursion (λ write. IsSize write.size) writes → run memory (write_tests (all_bytes writes)) ≡ Ok tt → AllByRecursion (IsReady memory) writes
+each_ready : (memory : Answers) (writes : List Write) → AllByRecursion (λ write. IsSize write.size) writes
+    → run memory (write_tests (all_bytes writes)) ≡ Ok tt → AllByRecursion (IsReady memory) writes
 unfolding write_tests
 each_ready memory [] sizes h = tt
 each_ready memory (write ∷ writes) sizes h =
@@ -70,5 +75,6 @@ each_ready memory (write ∷ writes) sizes h =
     (record { size = sizes.0; may = tested_may memory (bytes_of write) parts.1 }, each_ready memory writes sizes.1 parts.2)
 
 -- numbers that were tested may be written
-pub all_ready : (memory : Answers) (writes : List Write) → All (λ write. IsSize write.size) writes → run memory (write_tests (all_bytes writes)) ≡ Ok tt → All (IsReady memory) writes
+pub all_ready : (memory : Answers) (writes : List Write) → All (λ write. IsSize write.size) writes
+    → run memory (write_tests (all_bytes writes)) ≡ Ok tt → All (IsReady memory) writes
 all_ready memory writes sizes h = All-from_recursion (IsReady memory) writes (each_ready memory writes (recursion_from_All (λ write. IsSize write.size) writes sizes) h)

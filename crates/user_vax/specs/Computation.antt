@@ -38,8 +38,10 @@ computation names.Bcc regs a b c = Gives (jump_effect (not regs.c) regs a.value)
 computation names.Bcs regs a b c = Gives (jump_effect regs.c regs a.value)
 computation names.Blbs regs a b c = Gives (jump_effect (a.value % 2 == 1) regs b.value)
 computation names.Blbc regs a b c = Gives (jump_effect (a.value % 2 == 0) regs b.value)
-computation names.Aoblss regs a b c = Gives (let next = sum_of b.value 1 in count_effect regs b.place next (int_lt (signed next.value) (signed a.value)) c.value)
-computation names.Aobleq regs a b c = Gives (let next = sum_of b.value 1 in count_effect regs b.place next (int_le (signed next.value) (signed a.value)) c.value)
+computation names.Aoblss regs a b c =
+    Gives (let next = sum_of b.value 1 in count_effect regs b.place next (int_lt (signed next.value) (signed a.value)) c.value)
+computation names.Aobleq regs a b c =
+    Gives (let next = sum_of b.value 1 in count_effect regs b.place next (int_le (signed next.value) (signed a.value)) c.value)
 computation names.Sobgeq regs a b c = Gives (let next = difference_of a.value 1 in count_effect regs a.place next (not next.n) b.value)
 computation names.Sobgtr regs a b c = Gives (let next = difference_of a.value 1 in count_effect regs a.place next (not (next.n || next.z)) b.value)
 computation names.Movb regs a b c = Gives (move_effect regs 1 b.place a.value)

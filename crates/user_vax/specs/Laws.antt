@@ -34,7 +34,8 @@ AllGranted memory (access ∷ more) = (refusal memory access ≡ None) × AllGra
 
 -- all are granted but the last, which is refused so
 abbrev pub EndsRefused : Answers → List Access → Refused → Type 0
-EndsRefused memory list refused = (front : List Access) × (last : Access) × (list ≡ front ++ last ∷ []) × AllGranted memory front × (refusal memory last ≡ Some refused)
+EndsRefused memory list refused =
+    (front : List Access) × (last : Access) × (list ≡ front ++ last ∷ []) × AllGranted memory front × (refusal memory last ≡ Some refused)
 
 -- A signal comes of the last access, which was refused so: SIGBUS and SIGSEGV. Or each access was granted and the
 -- instruction itself is at fault: SIGILL and SIGFPE.

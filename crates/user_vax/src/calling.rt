@@ -16,7 +16,8 @@ use vm_facts::{Memory, Regs};
 fn push_if(pushes: &mut Pushes, regs: &mut Regs, test: bool, value: u32)
     requires room { pushes.old.count < 18 }
     requires sound { ArePushes pushes.old }
-    ensures pushed { (values : List ℕ) → push_all (pushing regs.new pushes.new) values ≡ push_all (pushing regs.old pushes.old) (if test then value ∷ values else values) }
+    ensures pushed { (values : List ℕ)
+        → push_all (pushing regs.new pushes.new) values ≡ push_all (pushing regs.old pushes.old) (if test then value ∷ values else values) }
     ensures sound { ArePushes pushes.new }
     ensures count { pushes.new.count ≤ pushes.old.count + 1 }
 {
@@ -30,7 +31,8 @@ fn push_if(pushes: &mut Pushes, regs: &mut Regs, test: bool, value: u32)
 fn save(pushes: &mut Pushes, regs: &mut Regs, registers: &[u32; 16], mask: u32)
     requires room { pushes.old.count ≤ 1 }
     requires sound { ArePushes pushes.old }
-    ensures pushed { (values : List ℕ) → push_all (pushing regs.new pushes.new) values ≡ push_all (pushing regs.old pushes.old) (saved 12 registers.now mask ++ values) }
+    ensures pushed { (values : List ℕ)
+        → push_all (pushing regs.new pushes.new) values ≡ push_all (pushing regs.old pushes.old) (saved 12 registers.now mask ++ values) }
     ensures sound { ArePushes pushes.new }
     ensures count { pushes.new.count ≤ pushes.old.count + 12 }
 {

@@ -47,18 +47,21 @@ or_none_is : (a b : Option Reason) → is_none (option_or a b) ≡ (is_none a &&
 or_none_is None b = refl
 or_none_is (Some reason) b = refl
 
-choice : (t : Bool) (a b : Option Reason) (o p : Option (List ℕ)) → is_none a ≡ is_some o → is_none b ≡ is_some p → is_none (if t then a else b) ≡ is_some (if t then o else p)
+choice : (t : Bool) (a b : Option Reason) (o p : Option (List ℕ)) → is_none a ≡ is_some o → is_none b ≡ is_some p
+    → is_none (if t then a else b) ≡ is_some (if t then o else p)
 choice true a b o p e f = e
 choice false a b o p e f = f
 
 -- one reason after another, and one value by another
-chain : (a b : Option Reason) (o : Option (List ℕ)) (f : List ℕ → Option (List ℕ)) → is_none a ≡ is_some o → ((x : List ℕ) → o ≡ Some x → is_none b ≡ is_some (f x)) → is_none (option_or a b) ≡ is_some (o >>= f)
+chain : (a b : Option Reason) (o : Option (List ℕ)) (f : List ℕ → Option (List ℕ)) → is_none a ≡ is_some o
+    → ((x : List ℕ) → o ≡ Some x → is_none b ≡ is_some (f x)) → is_none (option_or a b) ≡ is_some (o >>= f)
 chain a b None f e g = or_none_is a b ∙ ap (λ (t : Bool). t && is_none b) e
 chain a b (Some x) f e g = or_none_is a b ∙ ap (λ (t : Bool). t && is_none b) e ∙ g x refl
 
 -- ---- operands
 
-address_agrees : (size : ℕ) (label : Label) (o : Option Definition) → is_none (address_reason size label o) ≡ is_some ((o >>= λ definition. Some (record { negative = false; magnitude = definition.address })) >>= value_bits size)
+address_agrees : (size : ℕ) (label : Label) (o : Option Definition)
+    → is_none (address_reason size label o) ≡ is_some ((o >>= λ definition. Some (record { negative = false; magnitude = definition.address })) >>= value_bits size)
 address_agrees size label None = refl
 address_agrees size label (Some definition) = unless_is (is_some (value_bits size (record { negative = false; magnitude = definition.address }))) reasons.ValueOutOfRange
 
@@ -70,7 +73,8 @@ value_agrees labels size (values.Label label) = address_agrees size label (found
 register_agrees : (mode reg : ℕ) → is_none (register_reason reg) ≡ is_some (plain_specifier mode reg)
 register_agrees mode reg = unless_if (nat_lt reg 15) reasons.OperandRefused (specifier mode reg ∷ [])
 
-displaced_agrees : (size reg : ℕ) (by : Number) (deferred : Bool) → is_none (unless (is_some (displacement_bits size by)) reasons.ValueOutOfRange) ≡ is_some (displaced_bytes size reg by deferred)
+displaced_agrees : (size reg : ℕ) (by : Number) (deferred : Bool)
+    → is_none (unless (is_some (displacement_bits size by)) reasons.ValueOutOfRange) ≡ is_some (displaced_bytes size reg by deferred)
 unfolding displaced_bytes
 displaced_agrees size reg by deferred =
     unless_is (is_some (displacement_bits size by)) reasons.ValueOutOfRange ∙ sym (bind_some_is (displacement_bits size by) (λ bits. with_number (specifier (displacement_mode size deferred) reg) size bits))
@@ -95,12 +99,14 @@ bind_and : (o : Option ℕ) (f : ℕ → Option (List ℕ)) → (is_some o && is
 bind_and None f = refl
 bind_and (Some x) f = refl
 
-bits_first : (labels : List Definition) (from : ℕ) (slot : Slot) (target : Value) → (is_some (bits_of_value labels 4 target) && is_some (target_bytes labels from slot target)) ≡ is_some (target_bytes labels from slot target)
+bits_first : (labels : List Definition) (from : ℕ) (slot : Slot) (target : Value)
+    → (is_some (bits_of_value labels 4 target) && is_some (target_bytes labels from slot target)) ≡ is_some (target_bytes labels from slot target)
 unfolding target_bytes
 bits_first labels from slot target =
     bind_and (bits_of_value labels 4 target) (λ address. branch_bits slot.size (distance address (from + slot.size)) >>= λ bits. Some (to_le_bytes (width_of slot.size) bits))
 
-target_agrees : (labels : List Definition) (from : ℕ) (slot : Slot) (target : Value) → is_none (target_reason labels from slot target) ≡ is_some (target_bytes labels from slot target)
+target_agrees : (labels : List Definition) (from : ℕ) (slot : Slot) (target : Value)
+    → is_none (target_reason labels from slot target) ≡ is_some (target_bytes labels from slot target)
 unfolding target_reason
 target_agrees labels from slot target =
     or_none_is (value_reason labels 4 target) (unless (is_some (target_bytes labels from slot target)) reasons.BranchOutOfRange) ∙
@@ -108,7 +114,8 @@ target_agrees labels from slot target =
     ap (λ (t : Bool). is_some (bits_of_value labels 4 target) && t) (unless_is (is_some (target_bytes labels from slot target)) reasons.BranchOutOfRange) ∙
     bits_first labels from slot target
 
-branch_agrees : (labels : List Definition) (from : ℕ) (slot : Slot) (written : Written) → is_none (branch_reason labels from slot written) ≡ is_some (branch_bytes labels from slot written)
+branch_agrees : (labels : List Definition) (from : ℕ) (slot : Slot) (written : Written)
+    → is_none (branch_reason labels from slot written) ≡ is_some (branch_bytes labels from slot written)
 unfolding branch_reason branch_bytes
 branch_agrees labels from slot writtens.Absent = refl
 branch_agrees labels from slot (writtens.Literal number) = refl
@@ -119,11 +126,13 @@ branch_agrees labels from slot (writtens.Indexed index base) = refl
 branch_agrees labels from slot (writtens.Misindexed immediate) = refl
 branch_agrees labels from slot (writtens.Target target) = target_agrees labels from slot target
 
-immediate_agrees : (labels : List Definition) (slot : Slot) (value : Value) → is_none (value_reason labels slot.size value) ≡ is_some (immediate_bytes labels slot value)
+immediate_agrees : (labels : List Definition) (slot : Slot) (value : Value)
+    → is_none (value_reason labels slot.size value) ≡ is_some (immediate_bytes labels slot value)
 unfolding immediate_bytes
 immediate_agrees labels slot value = value_agrees labels slot.size value ∙ sym (bind_some_is (bits_of_value labels slot.size value) (λ bits. with_number 143 slot.size bits))
 
-specifier_agrees : (labels : List Definition) (slot : Slot) (written : Written) → is_none (specifier_reason labels slot written) ≡ is_some (specifier_bytes labels slot written)
+specifier_agrees : (labels : List Definition) (slot : Slot) (written : Written)
+    → is_none (specifier_reason labels slot written) ≡ is_some (specifier_bytes labels slot written)
 unfolding specifier_reason specifier_bytes
 specifier_agrees labels slot writtens.Absent = refl
 specifier_agrees labels slot (writtens.Literal number) =
@@ -151,7 +160,8 @@ two_choices : (t u : Bool) (a b d : Option Reason) (o p q : Option (List ℕ)) �
     → is_none (if t then (if u then a else b) else d) ≡ is_some (if t then (if u then o else p) else q)
 two_choices t u a b d o p q e f g = choice t (if u then a else b) d (if u then o else p) q (choice u a b o p e f) g
 
-operand_agrees : (labels : List Definition) (from : ℕ) (row : Row) (place : ℕ) (written : Written) → is_none (operand_reason labels from row place written) ≡ is_some (operand_bytes labels from row place written)
+operand_agrees : (labels : List Definition) (from : ℕ) (row : Row) (place : ℕ) (written : Written)
+    → is_none (operand_reason labels from row place written) ≡ is_some (operand_bytes labels from row place written)
 unfolding operand_reason operand_bytes
 operand_agrees labels from row place written =
     two_choices (nat_lt place row.count) (is_branch (slot_in row place).access)
@@ -192,13 +202,15 @@ value_bytes_agree : (labels : List Definition) (size : ℕ) (value : Value) → 
 unfolding value_bytes
 value_bytes_agree labels size value = value_agrees labels size value ∙ sym (bind_some_is (bits_of_value labels size value) (λ bits. to_le_bytes (width_of size) bits))
 
-bss_agrees : (with_bss small : Bool) → is_none (option_or (unless small reasons.ValueOutOfRange) (unless (not with_bss) reasons.SecondBss)) ≡ is_some {T = List ℕ} (if not with_bss && small then Some [] else None)
+bss_agrees : (with_bss small : Bool)
+    → is_none (option_or (unless small reasons.ValueOutOfRange) (unless (not with_bss) reasons.SecondBss)) ≡ is_some {T = List ℕ} (if not with_bss && small then Some [] else None)
 bss_agrees true true = refl
 bss_agrees true false = refl
 bss_agrees false true = refl
 bss_agrees false false = refl
 
-statement_agrees : (labels : List Definition) (with_bss : Bool) (at : ℕ) (statement : Statement) → is_none (statement_reason labels with_bss at statement) ≡ is_some (statement_bytes labels with_bss at statement)
+statement_agrees : (labels : List Definition) (with_bss : Bool) (at : ℕ) (statement : Statement)
+    → is_none (statement_reason labels with_bss at statement) ≡ is_some (statement_bytes labels with_bss at statement)
 unfolding statement_reason statement_bytes
 statement_agrees labels with_bss at (statements.Byte value) = value_bytes_agree labels 1 value
 statement_agrees labels with_bss at (statements.Word value) = value_bytes_agree labels 2 value
@@ -207,7 +219,8 @@ statement_agrees labels with_bss at (statements.Space number) = unless_if (is_up
 statement_agrees labels with_bss at (statements.Bss number) = bss_agrees with_bss (is_up_to 4194304 number)
 statement_agrees labels with_bss at (statements.Instruction sentence) = sentence_agrees labels at sentence
 
-optional_agrees : (labels : List Definition) (with_bss : Bool) (at : ℕ) (statement : Option Statement) → is_none (optional_reason labels with_bss at statement) ≡ is_some (optional_bytes labels with_bss at statement)
+optional_agrees : (labels : List Definition) (with_bss : Bool) (at : ℕ) (statement : Option Statement)
+    → is_none (optional_reason labels with_bss at statement) ≡ is_some (optional_bytes labels with_bss at statement)
 optional_agrees labels with_bss at None = refl
 optional_agrees labels with_bss at (Some statement) = statement_agrees labels with_bss at statement
 
@@ -230,7 +243,8 @@ abbrev behind_label : List Definition → Bool → ℕ → Option Statement → 
 behind_label labels with_bss at statement =
     option_or (optional_reason labels with_bss at statement) (unless (nat_le (at + optional_size statement) 65536) reasons.ProgramTooLong)
 
-pub line_agrees : (labels earlier : List Definition) (with_bss : Bool) (at : ℕ) (line : SourceLine) → is_none (line_reason labels earlier with_bss at line) ≡ is_some (bytes_behind labels earlier with_bss at line)
+pub line_agrees : (labels earlier : List Definition) (with_bss : Bool) (at : ℕ) (line : SourceLine)
+    → is_none (line_reason labels earlier with_bss at line) ≡ is_some (bytes_behind labels earlier with_bss at line)
 unfolding line_reason
 line_agrees labels earlier with_bss at line =
     or_none_is (label_reason earlier line.label) (behind_label labels with_bss at line.statement) ∙

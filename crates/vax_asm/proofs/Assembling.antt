@@ -19,7 +19,8 @@ unfolding items_in lines_in
 no_items [] e = refl
 no_items (byte ∷ rest) e = absurd (omega (arith, e))
 
-pub labels_end : (labels : List Definition) (at left : ℕ) (rest : List ℕ) (all : List Definition) → (length rest ≡ 0) ⊎ (left ≡ 0) → labels ++ definitions at (take left (items_in rest)) ≡ all → labels ≡ all
+pub labels_end : (labels : List Definition) (at left : ℕ) (rest : List ℕ) (all : List Definition) → (length rest ≡ 0) ⊎ (left ≡ 0)
+    → labels ++ definitions at (take left (items_in rest)) ≡ all → labels ≡ all
 labels_end labels at left rest all (inl e) h =
     let none : take left (items_in rest) ≡ [] = ap (take left) (no_items rest e) ∙ take_none left in
     sym (append-nil labels) ∙ ap (λ (l : List (Option SourceLine)). labels ++ definitions at l) (sym none) ∙ h
@@ -37,7 +38,9 @@ labels_end labels at left rest all (inr e) h =
 
 -- ---- one more line
 
-pub labels_step : (labels labels' : List Definition) (at left size : ℕ) (rest more : List ℕ) (item : Option SourceLine) (all : List Definition) → labels' ≡ labels ++ item_definition at item → size ≡ item_size item → 0 < left → items_in rest ≡ item ∷ items_in more → labels ++ definitions at (take left (items_in rest)) ≡ all → labels' ++ definitions (at + size) (take (left - 1) (items_in more)) ≡ all
+pub labels_step : (labels labels' : List Definition) (at left size : ℕ) (rest more : List ℕ) (item : Option SourceLine) (all : List Definition)
+    → labels' ≡ labels ++ item_definition at item → size ≡ item_size item → 0 < left → items_in rest ≡ item ∷ items_in more
+    → labels ++ definitions at (take left (items_in rest)) ≡ all → labels' ++ definitions (at + size) (take (left - 1) (items_in more)) ≡ all
 labels_step labels labels' at zero size rest more item all e sized some next h = absurd (omega (arith, some))
 labels_step labels labels' at (suc left) size rest more item all e sized some next h =
     let one_less : suc left - 1 ≡ left = omega arith in
@@ -54,7 +57,8 @@ address_append (x ∷ before) item = (let more : address_after (before ++ item �
     sums : (x a b i : ℕ) → a ≡ b + i → x + a ≡ x + b + i
     sums x a b i e = omega arith
 
-definitions_append : (at : ℕ) (before : List (Option SourceLine)) (item : Option SourceLine) → definitions at (before ++ item ∷ []) ≡ definitions at before ++ item_definition (at + address_after before) item
+definitions_append : (at : ℕ) (before : List (Option SourceLine)) (item : Option SourceLine)
+    → definitions at (before ++ item ∷ []) ≡ definitions at before ++ item_definition (at + address_after before) item
 definitions_append at [] item = append-nil (item_definition at item) ∙ ap (λ (n : ℕ). item_definition n item) (zero_more at)
   where
     zero_more : (n : ℕ) → n ≡ n + 0
@@ -81,7 +85,9 @@ bss_append (x ∷ before) item = ap (first_of (item_bss x)) (bss_append before i
 bind_is : {A B : Type 0} (o : Option A) (f : A → Option B) (x : A) → o ≡ Some x → (o >>= f) ≡ f x
 bind_is {A} o f x e = ap (λ (p : Option A). p >>= f) e
 
-laid_append : (labels : List Definition) (outer before : List (Option SourceLine)) (item : Option SourceLine) (bytes own : List ℕ) → laid labels outer before ≡ Some bytes → line_bytes labels (outer ++ before) item ≡ Some own → laid labels outer (before ++ item ∷ []) ≡ Some (bytes ++ own)
+laid_append : (labels : List Definition) (outer before : List (Option SourceLine)) (item : Option SourceLine) (bytes own : List ℕ)
+    → laid labels outer before ≡ Some bytes → line_bytes labels (outer ++ before) item ≡ Some own
+    → laid labels outer (before ++ item ∷ []) ≡ Some (bytes ++ own)
 laid_append labels outer [] item bytes own e f =
     let none : [] ≡ bytes = some_same _ _ e in
     let here : line_bytes labels outer item ≡ Some own = ap (λ (l : List (Option SourceLine)). line_bytes labels l item) (sym (append-nil outer)) ∙ f in
@@ -119,14 +125,20 @@ pub puts_false : (old new : List ℕ) (o : Option (List ℕ)) → Puts false old
 puts_false old new None h = refl
 puts_false old new (Some own) h = absurd h
 
-behind_is : (labels earlier : List Definition) (before : List (Option SourceLine)) (at : ℕ) (bss : Option ℕ) (line : SourceLine) → definitions 0 before ≡ earlier → bss_found before ≡ bss → address_after before ≡ at → line_bytes labels before (Some line) ≡ bytes_behind labels earlier (is_some bss) at line
+behind_is : (labels earlier : List Definition) (before : List (Option SourceLine)) (at : ℕ) (bss : Option ℕ) (line : SourceLine)
+    → definitions 0 before ≡ earlier → bss_found before ≡ bss → address_after before ≡ at
+    → line_bytes labels before (Some line) ≡ bytes_behind labels earlier (is_some bss) at line
 unfolding line_bytes
 behind_is labels earlier before at bss line e f g =
     ap (λ (l : List Definition). bytes_behind labels l (is_some (bss_found before)) (address_after before) line) e ∙
     ap (λ (o : Option ℕ). bytes_behind labels earlier (is_some o) (address_after before) line) f ∙
     ap (λ (n : ℕ). bytes_behind labels earlier (is_some bss) n line) g
 
-pub progress_step : (labels : List Definition) (source rest more : List ℕ) (number : ℕ) (bytes bytes' : List ℕ) (earlier earlier' : List Definition) (bss bss' : Option ℕ) (line : SourceLine) → Progress labels source rest number bytes earlier bss → items_in rest ≡ Some line ∷ items_in more → Puts true bytes (bytes_behind labels earlier (is_some bss) (length bytes) line) bytes' → earlier' ≡ earlier ++ item_definition (length bytes) (Some line) → bss' ≡ first_of bss (bss_in line.statement) → Progress labels source more (number + 1) bytes' earlier' bss'
+pub progress_step : (labels : List Definition) (source rest more : List ℕ) (number : ℕ) (bytes bytes' : List ℕ) (earlier earlier' : List Definition) (bss bss' : Option ℕ) (line : SourceLine)
+    → Progress labels source rest number bytes earlier bss → items_in rest ≡ Some line ∷ items_in more
+    → Puts true bytes (bytes_behind labels earlier (is_some bss) (length bytes) line) bytes'
+    → earlier' ≡ earlier ++ item_definition (length bytes) (Some line) → bss' ≡ first_of bss (bss_in line.statement)
+    → Progress labels source more (number + 1) bytes' earlier' bss'
 progress_step labels source rest more number bytes bytes' earlier earlier' bss bss' line h next put defined' found' =
     let p = puts_true bytes bytes' (bytes_behind labels earlier (is_some bss) (length bytes) line) put in
     let own : line_bytes labels h.before (Some line) ≡ Some p.0 = behind_is labels earlier h.before (length bytes) bss line h.defined h.bss_so_far h.address ∙ p.1 in
@@ -147,7 +159,10 @@ progress_step labels source rest more number bytes bytes' earlier earlier' bss b
     zero_and n = omega arith
 
 -- the next line is bad
-pub progress_bad : (labels : List Definition) (source rest : List ℕ) (others : List (Option SourceLine)) (number : ℕ) (bytes : List ℕ) (earlier : List Definition) (bss : Option ℕ) (item : Option SourceLine) → labels ≡ labels_of source → Progress labels source rest number bytes earlier bss → items_in rest ≡ item ∷ others → number ≤ 4097 → ((before : List (Option SourceLine)) → definitions 0 before ≡ earlier → bss_found before ≡ bss → address_after before ≡ length bytes → number ≤ 4096 → line_bytes labels before item ≡ None) → IsFirstBad source number
+pub progress_bad : (labels : List Definition) (source rest : List ℕ) (others : List (Option SourceLine)) (number : ℕ) (bytes : List ℕ) (earlier : List Definition) (bss : Option ℕ) (item : Option SourceLine)
+    → labels ≡ labels_of source → Progress labels source rest number bytes earlier bss → items_in rest ≡ item ∷ others → number ≤ 4097
+    → ((before : List (Option SourceLine)) → definitions 0 before ≡ earlier → bss_found before ≡ bss → address_after before ≡ length bytes → number ≤ 4096 → line_bytes labels before item ≡ None)
+    → IsFirstBad source number
 progress_bad labels source rest others number bytes earlier bss item is h next few fault = record {
   before = h.before;
   bad = item;
@@ -166,11 +181,14 @@ unfolding line_bytes
 none_bad labels before = refl
 
 -- a line whose bytes can't be put
-pub put_bad : (labels earlier : List Definition) (before : List (Option SourceLine)) (bytes bytes' : List ℕ) (bss : Option ℕ) (line : SourceLine) → Puts false bytes (bytes_behind labels earlier (is_some bss) (length bytes) line) bytes' → definitions 0 before ≡ earlier → bss_found before ≡ bss → address_after before ≡ length bytes → line_bytes labels before (Some line) ≡ None
+pub put_bad : (labels earlier : List Definition) (before : List (Option SourceLine)) (bytes bytes' : List ℕ) (bss : Option ℕ) (line : SourceLine)
+    → Puts false bytes (bytes_behind labels earlier (is_some bss) (length bytes) line) bytes' → definitions 0 before ≡ earlier
+    → bss_found before ≡ bss → address_after before ≡ length bytes → line_bytes labels before (Some line) ≡ None
 put_bad labels earlier before bytes bytes' bss line put e f g =
     behind_is labels earlier before (length bytes) bss line e f g ∙ puts_false bytes bytes' (bytes_behind labels earlier (is_some bss) (length bytes) line) put
 
-pub room_after : (labels earlier : List Definition) (with_bss : Bool) (bytes bytes' : List ℕ) (line : SourceLine) → Puts true bytes (bytes_behind labels earlier with_bss (length bytes) line) bytes' → length bytes' ≤ 65536
+pub room_after : (labels earlier : List Definition) (with_bss : Bool) (bytes bytes' : List ℕ) (line : SourceLine)
+    → Puts true bytes (bytes_behind labels earlier with_bss (length bytes) line) bytes' → length bytes' ≤ 65536
 room_after labels earlier with_bss bytes bytes' line put =
     let p = puts_true bytes bytes' (bytes_behind labels earlier with_bss (length bytes) line) put in
     let few : length bytes + length p.0 ≤ 65536 = behind_within labels earlier with_bss (length bytes) line p.0 p.1 in
@@ -182,7 +200,8 @@ put_some byte [] = (None, [], refl)
 put_some byte (None ∷ lines) = (None, lines, refl)
 put_some byte (Some line ∷ lines) = (Some (byte ∷ line), lines, refl)
 
-line_some : (byte : ℕ) (rest : List ℕ) (t : Bool) → (line : Option (List ℕ)) × (others : List (Option (List ℕ))) × ((if t then Some [] ∷ lines_in rest else put_before byte (lines_in rest)) ≡ line ∷ others)
+line_some : (byte : ℕ) (rest : List ℕ) (t : Bool)
+    → (line : Option (List ℕ)) × (others : List (Option (List ℕ))) × ((if t then Some [] ∷ lines_in rest else put_before byte (lines_in rest)) ≡ line ∷ others)
 line_some byte rest true = (Some [], lines_in rest, refl)
 line_some byte rest false = put_some byte (lines_in rest)
 
@@ -195,7 +214,9 @@ some_item (byte ∷ rest) h =
 
 -- ---- the end
 
-pub progress_end : (labels : List Definition) (source rest : List ℕ) (number : ℕ) (bytes : List ℕ) (earlier : List Definition) (bss : Option ℕ) → labels ≡ labels_of source → Progress labels source rest number bytes earlier bss → length rest ≡ 0 → number ≤ 4097 → (length (items_in source) ≤ 4096) × (laid (labels_of source) [] (items_in source) ≡ Some bytes) × (length bytes ≡ address_after (items_in source)) × (or_zero bss ≡ or_zero (bss_found (items_in source)))
+pub progress_end : (labels : List Definition) (source rest : List ℕ) (number : ℕ) (bytes : List ℕ) (earlier : List Definition) (bss : Option ℕ)
+    → labels ≡ labels_of source → Progress labels source rest number bytes earlier bss → length rest ≡ 0 → number ≤ 4097
+    → (length (items_in source) ≤ 4096) × (laid (labels_of source) [] (items_in source) ≡ Some bytes) × (length bytes ≡ address_after (items_in source)) × (or_zero bss ≡ or_zero (bss_found (items_in source)))
 progress_end labels source rest number bytes earlier bss is h none few =
     let all : items_in source ≡ h.before = h.split ∙ ap (λ (l : List (Option SourceLine)). h.before ++ l) (no_items rest none) ∙ append-nil h.before in
     let lengths : length (items_in source) ≡ length h.before = ap length all in
@@ -207,7 +228,9 @@ progress_end labels source rest number bytes earlier bss is h none few =
     )
 
 -- what was put, by what is known of the labels and the `.bss` so far
-pub put_as : (put t : Bool) (bytes bytes' : List ℕ) (labels earlier given : List Definition) (bss : Option ℕ) (with_bss : Bool) (line : SourceLine) → put ≡ t → given ≡ earlier → with_bss ≡ is_some bss → Puts put bytes (bytes_behind labels given with_bss (length bytes) line) bytes' → Puts t bytes (bytes_behind labels earlier (is_some bss) (length bytes) line) bytes'
+pub put_as : (put t : Bool) (bytes bytes' : List ℕ) (labels earlier given : List Definition) (bss : Option ℕ) (with_bss : Bool) (line : SourceLine)
+    → put ≡ t → given ≡ earlier → with_bss ≡ is_some bss → Puts put bytes (bytes_behind labels given with_bss (length bytes) line) bytes'
+    → Puts t bytes (bytes_behind labels earlier (is_some bss) (length bytes) line) bytes'
 put_as put t bytes bytes' labels earlier given bss with_bss line e f g h =
     subst (λ (p : Bool). Puts p bytes (bytes_behind labels earlier (is_some bss) (length bytes) line) bytes') e
     (subst (λ (l : List Definition). Puts put bytes (bytes_behind labels l (is_some bss) (length bytes) line) bytes') f

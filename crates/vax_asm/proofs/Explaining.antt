@@ -102,7 +102,8 @@ walked_too_many labels source rest number at earlier bss is h few many some =
     )
 
 -- a line outside the grammar
-pub walked_outside : (labels : List Definition) (source rest more : List ℕ) (number at : ℕ) (earlier : List Definition) (bss : Option ℕ) (text : Option (List ℕ)) → labels ≡ labels_of source
+pub walked_outside : (labels : List Definition) (source rest more : List ℕ) (number at : ℕ) (earlier : List Definition) (bss : Option ℕ) (text : Option (List ℕ))
+    → labels ≡ labels_of source
     → Walked labels source rest number at earlier bss → number ≤ 4096 → lines_in rest ≡ text ∷ lines_in more → item_of text ≡ None → IsFirstBad source number × (reason_of source number ≡ Some (outside_reason text))
 unfolding reason_behind
 walked_outside labels source rest more number at earlier bss text is h few next says = (

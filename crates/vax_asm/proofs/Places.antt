@@ -18,13 +18,15 @@ pub found_none : (label : Label) → found [] label ≡ None
 unfolding found
 found_none label = refl
 
-later_is : (definition : Definition) (definitions : List Definition) (place : ℕ) → slice_get (definition ∷ definitions) (place + 1) ≡ slice_get definitions place
+later_is : (definition : Definition) (definitions : List Definition) (place : ℕ)
+    → slice_get (definition ∷ definitions) (place + 1) ≡ slice_get definitions place
 later_is definition definitions place = ap (slice_get (definition ∷ definitions)) (one_more place)
   where
     one_more : (n : ℕ) → n + 1 ≡ suc n
     one_more n = omega arith
 
-found_later : (definition : Definition) (definitions : List Definition) (first : Option Definition) (place : Option ℕ) (t : Bool) → first ≡ (place >>= slice_get definitions)
+found_later : (definition : Definition) (definitions : List Definition) (first : Option Definition) (place : Option ℕ) (t : Bool)
+    → first ≡ (place >>= slice_get definitions)
     → (if t then Some definition else first) ≡ ((if t then Some 0 else one_later place) >>= slice_get (definition ∷ definitions))
 found_later definition definitions first place true e = refl
 found_later definition definitions first None false e = e
@@ -36,7 +38,8 @@ unfolding found
 found_at [] label = refl
 found_at (definition ∷ definitions) label = found_later definition definitions (found definitions label) (place_in definitions label.bytes) (pointwise nat_eq definition.label.bytes label.bytes) (found_at definitions label)
 
-later_or : (place : Option ℕ) (n : ℕ) (t : Bool) → one_later (option_or place (if t then Some n else None)) ≡ option_or (one_later place) (if t then Some (suc n) else None)
+later_or : (place : Option ℕ) (n : ℕ) (t : Bool)
+    → one_later (option_or place (if t then Some n else None)) ≡ option_or (one_later place) (if t then Some (suc n) else None)
 later_or (Some place) n t = refl
 later_or None n true = ap (λ (k : ℕ). Some k) (one_more n)
   where
@@ -66,7 +69,8 @@ or_none None = refl
 or_none (Some place) = refl
 
 -- a label that has no place yet is put at the next one
-pub places_put : (definitions : List Definition) (definition : Definition) (places places' : HashMap (List ℕ) ℕ (BuildHasherDefault FoldHasher)) (place : ℕ) → ArePlaces definitions places
+pub places_put : (definitions : List Definition) (definition : Definition) (places places' : HashMap (List ℕ) ℕ (BuildHasherDefault FoldHasher)) (place : ℕ)
+    → ArePlaces definitions places
     → get (pointwise nat_eq) places definition.label.bytes ≡ None → place ≡ length definitions → Updates (pointwise nat_eq) places places' definition.label.bytes (Some place) → ArePlaces (definitions ++ definition ∷ []) places'
 places_put definitions definition places places' place are none last updates = λ bytes. updates.0 bytes ∙ ap
     (λ (n : ℕ). cond (pointwise nat_eq definition.label.bytes bytes) (Some n) (get (pointwise nat_eq) places bytes)) last ∙ by_test bytes (pointwise nat_eq definition.label.bytes bytes) refl ∙ sym
@@ -80,7 +84,8 @@ places_put definitions definition places places' place are none last updates = �
     by_test bytes false e = are bytes ∙ sym (or_none (place_in definitions bytes))
 
 -- a label that has a place keeps it
-pub places_kept : (definitions : List Definition) (definition : Definition) (places : HashMap (List ℕ) ℕ (BuildHasherDefault FoldHasher)) → ArePlaces definitions places
+pub places_kept : (definitions : List Definition) (definition : Definition) (places : HashMap (List ℕ) ℕ (BuildHasherDefault FoldHasher))
+    → ArePlaces definitions places
     → is_some (get (pointwise nat_eq) places definition.label.bytes) ≡ true → ArePlaces (definitions ++ definition ∷ []) places
 places_kept definitions definition places are some = λ bytes. are bytes ∙ by_test bytes (pointwise nat_eq definition.label.bytes bytes) refl ∙ sym (place_append definitions definition bytes)
   where
@@ -97,10 +102,12 @@ places_kept definitions definition places are some = λ bytes. are bytes ∙ by_
 pub none_found : (definitions : List Definition) (label : Label) → place_in definitions label.bytes ≡ None → found definitions label ≡ None
 none_found definitions label none = found_at definitions label ∙ ap (λ (o : Option ℕ). o >>= slice_get definitions) none
 
-pub some_found : (definitions : List Definition) (label : Label) (place : ℕ) → place_in definitions label.bytes ≡ Some place → found definitions label ≡ slice_get definitions place
+pub some_found : (definitions : List Definition) (label : Label) (place : ℕ) → place_in definitions label.bytes ≡ Some place
+    → found definitions label ≡ slice_get definitions place
 some_found definitions label place there = found_at definitions label ∙ ap (λ (o : Option ℕ). o >>= slice_get definitions) there
 
-pub same_places : (definitions definitions' : List Definition) (places places' : HashMap (List ℕ) ℕ (BuildHasherDefault FoldHasher)) → definitions ≡ definitions' → places ≡ places'
+pub same_places : (definitions definitions' : List Definition) (places places' : HashMap (List ℕ) ℕ (BuildHasherDefault FoldHasher))
+    → definitions ≡ definitions' → places ≡ places'
     → ArePlaces definitions places → ArePlaces definitions' places'
 same_places definitions definitions' places places' e f h = subst (λ (m : HashMap (List ℕ) ℕ (BuildHasherDefault FoldHasher)). ArePlaces definitions' m) f (subst (λ (l : List Definition). ArePlaces l places) e h)
 

@@ -50,7 +50,8 @@ plain_long mode reg bytes e =
     let p = some_if (nat_lt reg 15) (Some (specifier mode reg ∷ [])) bytes e in
     ap length (sym (some_same _ _ p.1))
 
-displaced_long : (size reg : ℕ) (by : Number) (deferred : Bool) (bytes : List ℕ) → displaced_bytes size reg by deferred ≡ Some bytes → length bytes ≡ 1 + number_size size
+displaced_long : (size reg : ℕ) (by : Number) (deferred : Bool) (bytes : List ℕ) → displaced_bytes size reg by deferred ≡ Some bytes
+    → length bytes ≡ 1 + number_size size
 unfolding displaced_bytes
 displaced_long size reg by deferred bytes e =
     let b = bind_some (displacement_bits size by) (λ bits. Some (with_number (specifier (displacement_mode size deferred) reg) size bits)) bytes e in
@@ -68,7 +69,8 @@ place_long labels (places.Absolute address) bytes e =
 place_long labels (places.Disp size reg by deferred) bytes e =
     displaced_long size reg by deferred bytes (some_if (nat_lt reg 16) (displaced_bytes size reg by deferred) bytes e).1
 
-indexed_long : (labels : List Definition) (index : ℕ) (place : Place) (bytes : List ℕ) → indexed_bytes labels index place ≡ Some bytes → length bytes ≡ 1 + place_size place
+indexed_long : (labels : List Definition) (index : ℕ) (place : Place) (bytes : List ℕ) → indexed_bytes labels index place ≡ Some bytes
+    → length bytes ≡ 1 + place_size place
 unfolding indexed_bytes
 indexed_long labels index place bytes e =
     let p = some_if (nat_lt index 15 && leaves_index index place) (place_bytes labels place >>= λ bytes. Some (specifier 4 index ∷ bytes)) bytes e in
@@ -83,21 +85,24 @@ literal_long slot number bytes e =
     let q = some_if (not number.negative && nat_lt number.magnitude 64) (Some (number.magnitude ∷ [])) bytes p.1 in
     ap length (sym (some_same _ _ q.1))
 
-immediate_long : (labels : List Definition) (slot : Slot) (value : Value) (bytes : List ℕ) → number_size slot.size ≡ slot.size → (if is_read slot.access then immediate_bytes labels slot value else None) ≡ Some bytes → length bytes ≡ 1 + slot.size
+immediate_long : (labels : List Definition) (slot : Slot) (value : Value) (bytes : List ℕ) → number_size slot.size ≡ slot.size
+    → (if is_read slot.access then immediate_bytes labels slot value else None) ≡ Some bytes → length bytes ≡ 1 + slot.size
 unfolding immediate_bytes
 immediate_long labels slot value bytes sized e =
     let p = some_if (is_read slot.access) (bits_of_value labels slot.size value >>= λ bits. Some (with_number 143 slot.size bits)) bytes e in
     let b = bind_some (bits_of_value labels slot.size value) (λ bits. Some (with_number 143 slot.size bits)) bytes p.1 in
     ap length (sym (some_same _ _ b.2)) ∙ with_number_long 143 slot.size b.0 ∙ ap (λ (n : ℕ). 1 + n) sized
 
-target_long : (labels : List Definition) (from : ℕ) (slot : Slot) (target : Value) (bytes : List ℕ) → number_size slot.size ≡ slot.size → target_bytes labels from slot target ≡ Some bytes → length bytes ≡ slot.size
+target_long : (labels : List Definition) (from : ℕ) (slot : Slot) (target : Value) (bytes : List ℕ) → number_size slot.size ≡ slot.size
+    → target_bytes labels from slot target ≡ Some bytes → length bytes ≡ slot.size
 unfolding target_bytes
 target_long labels from slot target bytes sized e =
     let a = bind_some (bits_of_value labels 4 target) (λ address. branch_bits slot.size (distance address (from + slot.size)) >>= λ bits. Some (to_le_bytes (width_of slot.size) bits)) bytes e in
     let b = bind_some (branch_bits slot.size (distance a.0 (from + slot.size))) (λ bits. Some (to_le_bytes (width_of slot.size) bits)) bytes a.2 in
     ap length (sym (some_same _ _ b.2)) ∙ number_long slot.size b.0 ∙ sized
 
-specifier_long : (labels : List Definition) (row : Row) (place : ℕ) (written : Written) (bytes : List ℕ) → specifier_bytes labels (slot_in row place) written ≡ Some bytes → length bytes ≡ operand_size row place written
+specifier_long : (labels : List Definition) (row : Row) (place : ℕ) (written : Written) (bytes : List ℕ)
+    → specifier_bytes labels (slot_in row place) written ≡ Some bytes → length bytes ≡ operand_size row place written
 unfolding specifier_bytes
 specifier_long labels row place writtens.Absent bytes e = absurd (cc)
 specifier_long labels row place (writtens.Literal number) bytes e = literal_long (slot_in row place) number bytes e
@@ -108,7 +113,8 @@ specifier_long labels row place (writtens.Indexed index base) bytes e = indexed_
 specifier_long labels row place (writtens.Misindexed immediate) bytes e = absurd (cc)
 specifier_long labels row place (writtens.Target target) bytes e = absurd (cc)
 
-branch_long : (labels : List Definition) (from : ℕ) (row : Row) (place : ℕ) (written : Written) (bytes : List ℕ) → branch_bytes labels from (slot_in row place) written ≡ Some bytes → length bytes ≡ operand_size row place written
+branch_long : (labels : List Definition) (from : ℕ) (row : Row) (place : ℕ) (written : Written) (bytes : List ℕ)
+    → branch_bytes labels from (slot_in row place) written ≡ Some bytes → length bytes ≡ operand_size row place written
 unfolding branch_bytes
 branch_long labels from row place writtens.Absent bytes e = absurd (cc)
 branch_long labels from row place (writtens.Literal number) bytes e = absurd (cc)
@@ -129,15 +135,20 @@ absent_long row place (writtens.Indexed index base) bytes e = absurd (cc)
 absent_long row place (writtens.Misindexed immediate) bytes e = absurd (cc)
 absent_long row place (writtens.Target target) bytes e = absurd (cc)
 
-by_branch : (labels : List Definition) (from : ℕ) (row : Row) (place : ℕ) (written : Written) (bytes : List ℕ) (branch : Bool) → (if branch then branch_bytes labels from (slot_in row place) written else specifier_bytes labels (slot_in row place) written) ≡ Some bytes → length bytes ≡ operand_size row place written
+by_branch : (labels : List Definition) (from : ℕ) (row : Row) (place : ℕ) (written : Written) (bytes : List ℕ) (branch : Bool)
+    → (if branch then branch_bytes labels from (slot_in row place) written else specifier_bytes labels (slot_in row place) written) ≡ Some bytes
+    → length bytes ≡ operand_size row place written
 by_branch labels from row place written bytes true e = branch_long labels from row place written bytes e
 by_branch labels from row place written bytes false e = specifier_long labels row place written bytes e
 
-by_place : (labels : List Definition) (from : ℕ) (row : Row) (place : ℕ) (written : Written) (bytes : List ℕ) (here : Bool) → (if here then (if is_branch (slot_in row place).access then branch_bytes labels from (slot_in row place) written else specifier_bytes labels (slot_in row place) written) else absent_bytes written) ≡ Some bytes → length bytes ≡ operand_size row place written
+by_place : (labels : List Definition) (from : ℕ) (row : Row) (place : ℕ) (written : Written) (bytes : List ℕ) (here : Bool)
+    → (if here then (if is_branch (slot_in row place).access then branch_bytes labels from (slot_in row place) written else specifier_bytes labels (slot_in row place) written) else absent_bytes written) ≡ Some bytes
+    → length bytes ≡ operand_size row place written
 by_place labels from row place written bytes true e = by_branch labels from row place written bytes (is_branch (slot_in row place).access) e
 by_place labels from row place written bytes false e = absent_long row place written bytes e
 
-pub operand_long : (labels : List Definition) (from : ℕ) (row : Row) (place : ℕ) (written : Written) (bytes : List ℕ) → operand_bytes labels from row place written ≡ Some bytes → length bytes ≡ operand_size row place written
+pub operand_long : (labels : List Definition) (from : ℕ) (row : Row) (place : ℕ) (written : Written) (bytes : List ℕ)
+    → operand_bytes labels from row place written ≡ Some bytes → length bytes ≡ operand_size row place written
 unfolding operand_bytes
 operand_long labels from row place written bytes e = by_place labels from row place written bytes (nat_lt place row.count) e
 
@@ -163,7 +174,8 @@ sentence_long labels at s bytes e =
 
 -- ---- statements
 
-value_long : (labels : List Definition) (size : ℕ) (value : Value) (bytes : List ℕ) → value_bytes labels size value ≡ Some bytes → length bytes ≡ number_size size
+value_long : (labels : List Definition) (size : ℕ) (value : Value) (bytes : List ℕ) → value_bytes labels size value ≡ Some bytes
+    → length bytes ≡ number_size size
 unfolding value_bytes
 value_long labels size value bytes e =
     let b = bind_some (bits_of_value labels size value) (λ bits. Some (to_le_bytes (width_of size) bits)) bytes e in
@@ -175,7 +187,8 @@ zeros n = replicate n 0
 zeros_long : (n : ℕ) → length (zeros n) ≡ n
 zeros_long n = length-replicate n 0
 
-statement_long : (labels : List Definition) (with_bss : Bool) (at : ℕ) (statement : Statement) (bytes : List ℕ) → statement_bytes labels with_bss at statement ≡ Some bytes → length bytes ≡ statement_size statement
+statement_long : (labels : List Definition) (with_bss : Bool) (at : ℕ) (statement : Statement) (bytes : List ℕ)
+    → statement_bytes labels with_bss at statement ≡ Some bytes → length bytes ≡ statement_size statement
 unfolding statement_bytes statement_size
 statement_long labels with_bss at (statements.Byte value) bytes e = value_long labels 1 value bytes e
 statement_long labels with_bss at (statements.Word value) bytes e = value_long labels 2 value bytes e
@@ -188,12 +201,15 @@ statement_long labels with_bss at (statements.Bss number) bytes e =
     ap length (sym (some_same _ _ p.1))
 statement_long labels with_bss at (statements.Instruction sentence) bytes e = sentence_long labels at sentence bytes e
 
-pub optional_long : (labels : List Definition) (with_bss : Bool) (at : ℕ) (statement : Option Statement) (bytes : List ℕ) → optional_bytes labels with_bss at statement ≡ Some bytes → length bytes ≡ optional_size statement
+pub optional_long : (labels : List Definition) (with_bss : Bool) (at : ℕ) (statement : Option Statement) (bytes : List ℕ)
+    → optional_bytes labels with_bss at statement ≡ Some bytes → length bytes ≡ optional_size statement
 optional_long labels with_bss at None bytes e = ap length (sym (some_same _ _ e))
 optional_long labels with_bss at (Some statement) bytes e = statement_long labels with_bss at statement bytes e
 
 -- what a line that has no fault has
-pub behind_parts : (labels earlier : List Definition) (with_bss : Bool) (at : ℕ) (line : SourceLine) (own : List ℕ) → bytes_behind labels earlier with_bss at line ≡ Some own → (optional_bytes labels with_bss at line.statement ≡ Some own) × (length own ≡ optional_size line.statement)
+pub behind_parts : (labels earlier : List Definition) (with_bss : Bool) (at : ℕ) (line : SourceLine) (own : List ℕ)
+    → bytes_behind labels earlier with_bss at line ≡ Some own
+    → (optional_bytes labels with_bss at line.statement ≡ Some own) × (length own ≡ optional_size line.statement)
 behind_parts labels earlier with_bss at line own e =
     let p = some_if (is_new earlier line.label) (bounded at (optional_bytes labels with_bss at line.statement)) own e in
     let b = bind_some (optional_bytes labels with_bss at line.statement) (within at) own p.1 in
@@ -202,7 +218,8 @@ behind_parts labels earlier with_bss at line own e =
     let is : optional_bytes labels with_bss at line.statement ≡ Some own = b.1 ∙ ap (λ (l : List ℕ). Some l) same in
     (is, optional_long labels with_bss at line.statement own is)
 
-pub behind_within : (labels earlier : List Definition) (with_bss : Bool) (at : ℕ) (line : SourceLine) (own : List ℕ) → bytes_behind labels earlier with_bss at line ≡ Some own → at + length own ≤ 65536
+pub behind_within : (labels earlier : List Definition) (with_bss : Bool) (at : ℕ) (line : SourceLine) (own : List ℕ)
+    → bytes_behind labels earlier with_bss at line ≡ Some own → at + length own ≤ 65536
 behind_within labels earlier with_bss at line own e =
     let p = some_if (is_new earlier line.label) (bounded at (optional_bytes labels with_bss at line.statement)) own e in
     let b = bind_some (optional_bytes labels with_bss at line.statement) (within at) own p.1 in
@@ -210,7 +227,8 @@ behind_within labels earlier with_bss at line own e =
     let same : b.0 ≡ own = some_same _ _ q.1 in
     subst (λ (l : List ℕ). at + length l ≤ 65536) same (le_of (at + length b.0) 65536 q.0)
 
-pub line_long : (labels : List Definition) (before : List (Option SourceLine)) (item : Option SourceLine) (own : List ℕ) → line_bytes labels before item ≡ Some own → length own ≡ item_size item
+pub line_long : (labels : List Definition) (before : List (Option SourceLine)) (item : Option SourceLine) (own : List ℕ)
+    → line_bytes labels before item ≡ Some own → length own ≡ item_size item
 unfolding line_bytes
 line_long labels before None own e = absurd (cc)
 line_long labels before (Some line) own e = (behind_parts labels (definitions 0 before) (is_some (bss_found before)) (address_after before) line own e).1

@@ -68,7 +68,8 @@ instruction_sentence text sentence e = by_sentence (sentence_of text) e
     by_sentence None f = absurd (cc)
     by_sentence (Some s) f = f
 
-statement_listed_by : (first : ℕ) (rest : List ℕ) (sentence : Sentence) (t : Bool) → instruction_in (if t then directive_of rest else instruction_of (first ∷ rest)) ≡ Some sentence → row_for sentence.row.op ≡ Some sentence.row
+statement_listed_by : (first : ℕ) (rest : List ℕ) (sentence : Sentence) (t : Bool)
+    → instruction_in (if t then directive_of rest else instruction_of (first ∷ rest)) ≡ Some sentence → row_for sentence.row.op ≡ Some sentence.row
 statement_listed_by first rest sentence true e = (let none : instruction_in (directive_of rest) ≡ None = directives_none rest in absurd (cc))
 statement_listed_by first rest sentence false e = sentence_listed (first ∷ rest) sentence (instruction_sentence (first ∷ rest) sentence e)
 
@@ -82,43 +83,54 @@ abbrev statement_in : Option SourceLine → Option Statement
 statement_in None = None
 statement_in (Some line) = line.statement
 
-by_statement : (o : Option Statement) (f : Statement → SourceLine) (sentence : Sentence) → ((s : Statement) → (f s).statement ≡ Some s) → instruction_in (statement_in (o >>= λ s. Some (f s))) ≡ Some sentence → instruction_in o ≡ Some sentence
+by_statement : (o : Option Statement) (f : Statement → SourceLine) (sentence : Sentence) → ((s : Statement) → (f s).statement ≡ Some s)
+    → instruction_in (statement_in (o >>= λ s. Some (f s))) ≡ Some sentence → instruction_in o ≡ Some sentence
 by_statement None f sentence h e = e
 by_statement (Some s) f sentence h e = ap instruction_in (sym (h s)) ∙ e
 
-behind_listed_by : (label : Label) (rest : List ℕ) (sentence : Sentence) (t : Bool) → instruction_in (statement_in (if t then (statement_of rest >>= λ statement. Some (labelled label statement)) else None)) ≡ Some sentence → row_for sentence.row.op ≡ Some sentence.row
+behind_listed_by : (label : Label) (rest : List ℕ) (sentence : Sentence) (t : Bool)
+    → instruction_in (statement_in (if t then (statement_of rest >>= λ statement. Some (labelled label statement)) else None)) ≡ Some sentence
+    → row_for sentence.row.op ≡ Some sentence.row
 behind_listed_by label rest sentence true e = statement_listed rest sentence (by_statement (statement_of rest) (labelled label) sentence (λ s. refl) e)
 behind_listed_by label rest sentence false e = absurd (cc)
 
-behind_listed : (label : Label) (text : List ℕ) (sentence : Sentence) → instruction_in (statement_in (behind_label label text)) ≡ Some sentence → row_for sentence.row.op ≡ Some sentence.row
+behind_listed : (label : Label) (text : List ℕ) (sentence : Sentence) → instruction_in (statement_in (behind_label label text)) ≡ Some sentence
+    → row_for sentence.row.op ≡ Some sentence.row
 unfolding behind_label
 behind_listed label [] sentence e = absurd (cc)
 behind_listed label (first ∷ rest) sentence e = behind_listed_by label rest sentence (first == 32) e
 
-label_listed : (text : List ℕ) (o : Option (Label × List ℕ)) (sentence : Sentence) → instruction_in (statement_in (by_label text o)) ≡ Some sentence → row_for sentence.row.op ≡ Some sentence.row
+label_listed : (text : List ℕ) (o : Option (Label × List ℕ)) (sentence : Sentence) → instruction_in (statement_in (by_label text o)) ≡ Some sentence
+    → row_for sentence.row.op ≡ Some sentence.row
 label_listed text None sentence e = statement_listed text sentence (by_statement (statement_of text) unlabelled sentence (λ s. refl) e)
 label_listed text (Some label) sentence e = behind_listed label.0 label.1 sentence e
 
-comment_listed : (first : ℕ) (rest : List ℕ) (sentence : Sentence) (t : Bool) → instruction_in (statement_in (if t then Some empty_line else by_label (first ∷ rest) (label_before (first ∷ rest)))) ≡ Some sentence → row_for sentence.row.op ≡ Some sentence.row
+comment_listed : (first : ℕ) (rest : List ℕ) (sentence : Sentence) (t : Bool)
+    → instruction_in (statement_in (if t then Some empty_line else by_label (first ∷ rest) (label_before (first ∷ rest)))) ≡ Some sentence
+    → row_for sentence.row.op ≡ Some sentence.row
 comment_listed first rest sentence true e = absurd (cc)
 comment_listed first rest sentence false e = label_listed (first ∷ rest) (label_before (first ∷ rest)) sentence e
 
-line_by_listed : (text : List ℕ) (sentence : Sentence) → instruction_in (statement_in (line_by text)) ≡ Some sentence → row_for sentence.row.op ≡ Some sentence.row
+line_by_listed : (text : List ℕ) (sentence : Sentence) → instruction_in (statement_in (line_by text)) ≡ Some sentence
+    → row_for sentence.row.op ≡ Some sentence.row
 unfolding line_by
 line_by_listed [] sentence e = absurd (cc)
 line_by_listed (first ∷ rest) sentence e = comment_listed first rest sentence (first == 35) e
 
-short_listed : (text : List ℕ) (sentence : Sentence) (t : Bool) → instruction_in (statement_in (if t then line_by text else None)) ≡ Some sentence → row_for sentence.row.op ≡ Some sentence.row
+short_listed : (text : List ℕ) (sentence : Sentence) (t : Bool) → instruction_in (statement_in (if t then line_by text else None)) ≡ Some sentence
+    → row_for sentence.row.op ≡ Some sentence.row
 short_listed text sentence true e = line_by_listed text sentence e
 short_listed text sentence false e = absurd (cc)
 
-item_listed : (line : Option (List ℕ)) (sentence : Sentence) → instruction_in (statement_in (item_of line)) ≡ Some sentence → row_for sentence.row.op ≡ Some sentence.row
+item_listed : (line : Option (List ℕ)) (sentence : Sentence) → instruction_in (statement_in (item_of line)) ≡ Some sentence
+    → row_for sentence.row.op ≡ Some sentence.row
 unfolding line_of
 item_listed None sentence e = absurd (cc)
 item_listed (Some text) sentence e = short_listed text sentence (is_short text) e
 
 -- an item among others comes of a line
-from_line : (lines : List (Option (List ℕ))) (before : List (Option SourceLine)) (item : Option SourceLine) (others : List (Option SourceLine)) → map item_of lines ≡ before ++ item ∷ others → (line : Option (List ℕ)) × (item_of line ≡ item)
+from_line : (lines : List (Option (List ℕ))) (before : List (Option SourceLine)) (item : Option SourceLine) (others : List (Option SourceLine))
+    → map item_of lines ≡ before ++ item ∷ others → (line : Option (List ℕ)) × (item_of line ≡ item)
 from_line [] [] item others e = absurd (cc)
 from_line [] (x ∷ before) item others e = absurd (cc)
 from_line (line ∷ lines) [] item others e = (line, heads (item_of line) item (map item_of lines) others e)
@@ -130,7 +142,9 @@ from_line (line ∷ lines) (x ∷ before) item others e = from_line lines before
     tails : (x y : Option SourceLine) (xs ys : List (Option SourceLine)) → x ∷ xs ≡ y ∷ ys → xs ≡ ys
     tails x y xs ys e = cc
 
-source_listed : (source : List ℕ) (before : List (Option SourceLine)) (item : Option SourceLine) (others : List (Option SourceLine)) (label : Option Label) (sentence : Sentence) → items_in source ≡ before ++ item ∷ others → item ≡ Some (record { label = label; statement = Some (statements.Instruction sentence) }) → row_for sentence.row.op ≡ Some sentence.row
+source_listed : (source : List ℕ) (before : List (Option SourceLine)) (item : Option SourceLine) (others : List (Option SourceLine)) (label : Option Label) (sentence : Sentence)
+    → items_in source ≡ before ++ item ∷ others → item ≡ Some (record { label = label; statement = Some (statements.Instruction sentence) })
+    → row_for sentence.row.op ≡ Some sentence.row
 unfolding items_in
 source_listed source before item others label sentence e is =
     let l = from_line (lines_in source) before item others e in
@@ -147,7 +161,8 @@ record Stands (labels : List Definition) (outer before : List (Option SourceLine
   place : length front ≡ address_after before
   own_bytes : line_bytes labels (outer ++ before) item ≡ Some own
 
-stands : (labels : List Definition) (outer before : List (Option SourceLine)) (item : Option SourceLine) (others : List (Option SourceLine)) (bytes : List ℕ) → laid labels outer (before ++ item ∷ others) ≡ Some bytes → Stands labels outer before item bytes
+stands : (labels : List Definition) (outer before : List (Option SourceLine)) (item : Option SourceLine) (others : List (Option SourceLine)) (bytes : List ℕ)
+    → laid labels outer (before ++ item ∷ others) ≡ Some bytes → Stands labels outer before item bytes
 stands labels outer [] item others bytes e =
     let a = bind_some (line_bytes labels outer item) (λ own. laid labels (outer ++ item ∷ []) others >>= λ rest. Some (own ++ rest)) bytes e in
     let b = bind_some (laid labels (outer ++ item ∷ []) others) (λ rest. Some (a.0 ++ rest)) bytes a.2 in
@@ -184,12 +199,16 @@ take_front [] [] = refl
 take_front [] (y ∷ ys) = refl
 take_front (x ∷ xs) ys = ap (λ (l : List ℕ). x ∷ l) (take_front xs ys)
 
-instruction_bytes : (labels : List Definition) (before : List (Option SourceLine)) (label : Option Label) (sentence : Sentence) (own : List ℕ) → line_bytes labels before (Some (record { label = label; statement = Some (statements.Instruction sentence) })) ≡ Some own → sentence_bytes labels (address_after before) sentence ≡ Some own
+instruction_bytes : (labels : List Definition) (before : List (Option SourceLine)) (label : Option Label) (sentence : Sentence) (own : List ℕ)
+    → line_bytes labels before (Some (record { label = label; statement = Some (statements.Instruction sentence) })) ≡ Some own
+    → sentence_bytes labels (address_after before) sentence ≡ Some own
 unfolding line_bytes statement_bytes
 instruction_bytes labels before label sentence own e =
     (behind_parts labels (definitions 0 before) (is_some (bss_found before)) (address_after before) (record { label = label; statement = Some (statements.Instruction sentence) }) own e).0
 
-pub stands_at : (source : List ℕ) (labels : List Definition) (bytes : List ℕ) → laid labels [] (items_in source) ≡ Some bytes → (before : List (Option SourceLine)) (item : Option SourceLine) (others : List (Option SourceLine)) → items_in source ≡ before ++ item ∷ others → StandsAt labels before item bytes
+pub stands_at : (source : List ℕ) (labels : List Definition) (bytes : List ℕ) → laid labels [] (items_in source) ≡ Some bytes
+    → (before : List (Option SourceLine)) (item : Option SourceLine) (others : List (Option SourceLine)) → items_in source ≡ before ++ item ∷ others
+    → StandsAt labels before item bytes
 stands_at source labels bytes whole before item others e =
     let s = stands labels [] before item others bytes (ap (laid labels []) (sym e) ∙ whole) in
     let left : drop (address_after before) bytes ≡ s.own ++ s.back = ap (λ (n : ℕ). drop n bytes) (sym s.place) ∙ ap (drop (length s.front)) s.split ∙ drop_front s.front (s.own ++ s.back) in

@@ -180,14 +180,17 @@ pub record StandsAt (labels : List Definition) (before : List (Option SourceLine
   pub own_bytes : line_bytes labels before item ≡ Some own
   pub stands : take (length own) (drop (address_after before) bytes) ≡ own
   pub sized : length own ≡ item_size item
-  pub decodes : (label : Option Label) (sentence : Sentence) → item ≡ Some (record { label = label; statement = Some (statements.Instruction sentence) }) → (instr : Instr) × (sentence_instruction labels (address_after before) sentence ≡ Some instr) × (decoded (drop (address_after before) bytes) ≡ decodings.Is instr)
+  pub decodes : (label : Option Label) (sentence : Sentence)
+      → item ≡ Some (record { label = label; statement = Some (statements.Instruction sentence) })
+      → (instr : Instr) × (sentence_instruction labels (address_after before) sentence ≡ Some instr) × (decoded (drop (address_after before) bytes) ≡ decodings.Is instr)
 
 -- Each line has no fault; its bytes stand at its address, one after another from 0, and nothing stands behind the last.
 pub record IsProgramOf (source : List ℕ) (bytes : List ℕ) (bss : ℕ) : Type 0 where
   pub few : length (items_in source) ≤ 4096
   pub whole : laid (labels_of source) [] (items_in source) ≡ Some bytes
   pub sized : length bytes ≡ address_after (items_in source)
-  pub each : (before : List (Option SourceLine)) (item : Option SourceLine) (others : List (Option SourceLine)) → items_in source ≡ before ++ item ∷ others → StandsAt (labels_of source) before item bytes
+  pub each : (before : List (Option SourceLine)) (item : Option SourceLine) (others : List (Option SourceLine))
+      → items_in source ≡ before ++ item ∷ others → StandsAt (labels_of source) before item bytes
   pub bss_is : bss ≡ or_zero (bss_found (items_in source))
 
 -- Line n, counted from 1, is the lowest bad one: those before it have no fault, and it has one, or stands behind 4,096

@@ -29,7 +29,8 @@ one_operand op row h chmk =
     let passed = found_passes (λ r. r.op == op) has_one all_rows row refl h in
     eqb-true row.count 1 (sym (ap (λ (b : Bool). not b || (row.count == 1)) chmk) ∙ passed)
 
-place_filled : (row : Row) (place : ℕ) (bytes : List ℕ) (x : Spelled × List ℕ) → nat_lt place row.count ≡ false → place_at row place bytes ≡ Ok x → x.0.operand ≡ operands.Literal 0
+place_filled : (row : Row) (place : ℕ) (bytes : List ℕ) (x : Spelled × List ℕ) → nat_lt place row.count ≡ false → place_at row place bytes ≡ Ok x
+    → x.0.operand ≡ operands.Literal 0
 unfolding place_at
 place_filled row place bytes x none h = go (nat_lt place row.count) none h
   where
@@ -38,17 +39,21 @@ place_filled row place bytes x none h = go (nat_lt place row.count) none h
     go false e k = let same : (record { operand = operands.Literal 0; size = 0 }, bytes) ≡ x = cc in sym (ap (λ (y : Spelled × List ℕ). y.0.operand) same)
 
 -- what is assembled of an opcode and fillers
-made_filled : (op : ℕ) (row : Row) (a b c : Spelled) (rest : List ℕ) (x : Instr × List ℕ) → (let read : Read Instr = Ok (assembled op row a b c, rest) in read) ≡ Ok x → b.operand ≡ operands.Literal 0 → c.operand ≡ operands.Literal 0 → (x.0.b ≡ operands.Literal 0) × (x.0.c ≡ operands.Literal 0)
+made_filled : (op : ℕ) (row : Row) (a b c : Spelled) (rest : List ℕ) (x : Instr × List ℕ)
+    → (let read : Read Instr = Ok (assembled op row a b c, rest) in read) ≡ Ok x → b.operand ≡ operands.Literal 0 → c.operand ≡ operands.Literal 0
+    → (x.0.b ≡ operands.Literal 0) × (x.0.c ≡ operands.Literal 0)
 made_filled op row a b c rest x h second third =
     let same : (assembled op row a b c, rest) ≡ x = cc in
     (sym (ap (λ (y : Instr × List ℕ). y.0.b) same) ∙ ap (from_end c.size) second, sym (ap (λ (y : Instr × List ℕ). y.0.c) same) ∙ third)
 
-made_op : (op : ℕ) (row : Row) (a b c : Spelled) (rest : List ℕ) (x : Instr × List ℕ) → (let read : Read Instr = Ok (assembled op row a b c, rest) in read) ≡ Ok x → x.0.op ≡ op
+made_op : (op : ℕ) (row : Row) (a b c : Spelled) (rest : List ℕ) (x : Instr × List ℕ)
+    → (let read : Read Instr = Ok (assembled op row a b c, rest) in read) ≡ Ok x → x.0.op ≡ op
 made_op op row a b c rest x h =
     let same : (assembled op row a b c, rest) ≡ x = cc in
     sym (ap (λ (y : Instr × List ℕ). y.0.op) same)
 
-operands_filled : (op : ℕ) (row : Row) (bytes : List ℕ) (x : Instr × List ℕ) → row.count ≡ 1 → operands_at op row bytes ≡ Ok x → (x.0.b ≡ operands.Literal 0) × (x.0.c ≡ operands.Literal 0)
+operands_filled : (op : ℕ) (row : Row) (bytes : List ℕ) (x : Instr × List ℕ) → row.count ≡ 1 → operands_at op row bytes ≡ Ok x
+    → (x.0.b ≡ operands.Literal 0) × (x.0.c ≡ operands.Literal 0)
 unfolding operands_at
 operands_filled op row bytes x one h =
     let a = bind_ok (place_at row 0 bytes) _ x h in
@@ -68,7 +73,8 @@ row_is : (o : Option Row) (row : Row) → row_or_bad o ≡ Ok row → o ≡ Some
 row_is None row h = absurd cc
 row_is (Some r) row h = let same : r ≡ row = cc in ap (λ (x : Row). Some x) same
 
-read_filled : (bytes : List ℕ) (x : Instr × List ℕ) (row : Row) → instruction_at bytes ≡ Ok x → row_for x.0.op ≡ Some row → is_chmk row.name ≡ true → (x.0.b ≡ operands.Literal 0) × (x.0.c ≡ operands.Literal 0)
+read_filled : (bytes : List ℕ) (x : Instr × List ℕ) (row : Row) → instruction_at bytes ≡ Ok x → row_for x.0.op ≡ Some row → is_chmk row.name ≡ true
+    → (x.0.b ≡ operands.Literal 0) × (x.0.c ≡ operands.Literal 0)
 unfolding instruction_at
 read_filled bytes x row h listed chmk =
     let first = bind_ok (byte_at bytes) _ x h in
@@ -85,7 +91,8 @@ decoding_read (Ok x) instr h = let same : x.0 ≡ instr = cc in (x.1, ap (λ (i 
 decoding_read (Err Short) instr h = absurd cc
 decoding_read (Err Bad) instr h = absurd cc
 
-pub call_filled : (bytes : List ℕ) (instr : Instr) (row : Row) → decoded bytes ≡ decodings.Is instr → row_for instr.op ≡ Some row → is_chmk row.name ≡ true → (instr.b ≡ operands.Literal 0) × (instr.c ≡ operands.Literal 0)
+pub call_filled : (bytes : List ℕ) (instr : Instr) (row : Row) → decoded bytes ≡ decodings.Is instr → row_for instr.op ≡ Some row
+    → is_chmk row.name ≡ true → (instr.b ≡ operands.Literal 0) × (instr.c ≡ operands.Literal 0)
 unfolding decoded
 call_filled bytes instr row h listed chmk =
     let read = decoding_read (instruction_at bytes) instr h in

@@ -78,7 +78,8 @@ nothing_after : (rest more : List ℕ) → rest ++ more ≡ [] → more ≡ []
 nothing_after [] more h = h
 nothing_after (b ∷ bs) more h = absurd (cc)
 
-unfinished : (read : Read Instr) (bytes more : List ℕ) (instr : Instr) → instruction_at bytes ≡ read → more ≢ [] → instruction_at (bytes ++ more) ≡ Ok (instr, []) → read ≡ Err Short
+unfinished : (read : Read Instr) (bytes more : List ℕ) (instr : Instr) → instruction_at bytes ≡ read → more ≢ []
+    → instruction_at (bytes ++ more) ≡ Ok (instr, []) → read ≡ Err Short
 unfinished (Ok x) bytes more instr e some h =
     let longer = instruction_reader.extends bytes more x.0 x.1 e in
     absurd (some (nothing_after x.1 more (parts x.0 instr (x.1 ++ more) [] (sym longer ∙ h)).1))
@@ -93,12 +94,14 @@ needs_more bytes h =
 
 -- ---- Reserved
 
-judged : (bytes : List ℕ) (found : Decoded) → decoded bytes ≡ found → ((instr : Instr) → BeginsWith bytes instr → ⊥) → (IsProperPrefix bytes → ⊥) → AreOctets bytes → found ≡ decodings.Reserved
+judged : (bytes : List ℕ) (found : Decoded) → decoded bytes ≡ found → ((instr : Instr) → BeginsWith bytes instr → ⊥) → (IsProperPrefix bytes → ⊥)
+    → AreOctets bytes → found ≡ decodings.Reserved
 judged bytes (decodings.Is instr) e no_front no_more octets = absurd (no_front instr (begins bytes instr octets e))
 judged bytes decodings.NeedMore e no_front no_more octets = absurd (no_more (prefix bytes octets e))
 judged bytes decodings.Reserved e no_front no_more octets = refl
 
-is_reserved : (bytes : List ℕ) → AreOctets bytes → ((instr : Instr) → BeginsWith bytes instr → ⊥) × (IsProperPrefix bytes → ⊥) → decoded bytes ≡ decodings.Reserved
+is_reserved : (bytes : List ℕ) → AreOctets bytes → ((instr : Instr) → BeginsWith bytes instr → ⊥) × (IsProperPrefix bytes → ⊥)
+    → decoded bytes ≡ decodings.Reserved
 is_reserved bytes octets h = judged bytes (decoded bytes) refl h.0 h.1 octets
 
 nothing : (bytes : List ℕ) → decoded bytes ≡ decodings.Reserved → ((instr : Instr) → BeginsWith bytes instr → ⊥) × (IsProperPrefix bytes → ⊥)

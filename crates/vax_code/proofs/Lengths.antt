@@ -85,7 +85,8 @@ kind_size kinds.Wb = omega arith
 kind_size kinds.Wl = omega arith
 kind_size kinds.Ww = omega arith
 
-place_length : (present : Bool) (row : Row) (place : ℕ) (operand : Operand) (bytes : List ℕ) → SpellsPlace present (slot_in row place) operand bytes → length bytes ≤ 6
+place_length : (present : Bool) (row : Row) (place : ℕ) (operand : Operand) (bytes : List ℕ) → SpellsPlace present (slot_in row place) operand bytes
+    → length bytes ≤ 6
 place_length true row place operand bytes h =
     operand_length (is_branch (slot_in row place).access) (slot_in row place) operand bytes (kind_size (cond (place == 0) row.a (cond (place == 1) row.b row.c))) h
 place_length false row place operand bytes h = omega (arith, ap length h.1)

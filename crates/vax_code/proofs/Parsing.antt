@@ -59,7 +59,8 @@ absolute_9 : (address : ℕ) (digits : List ℕ) → SpellsNumber 4 address digi
 unfolding base_at
 absolute_9 address digits h = rw (number_read 4 address digits h) refl
 
-displaced_read : (mode size reg : ℕ) (by : ℤ) (digits : List ℕ) → cond (nat_lt mode 12) 1 (cond (nat_lt mode 14) 2 4) ≡ size → SpellsSigned size by digits → displacement_at mode reg digits ≡ Ok (bases.Disp reg by (mode % 2 == 1), [])
+displaced_read : (mode size reg : ℕ) (by : ℤ) (digits : List ℕ) → cond (nat_lt mode 12) 1 (cond (nat_lt mode 14) 2 4) ≡ size
+    → SpellsSigned size by digits → displacement_at mode reg digits ≡ Ok (bases.Disp reg by (mode % 2 == 1), [])
 unfolding displacement_at
 displaced_read mode size reg by digits e h = rw (e, signed_read size by digits h) refl
 
@@ -74,7 +75,8 @@ displaced_free index mode reg h = grind (arith, nat_tests)
 above_8 : (mode : ℕ) → 9 < mode → (mode == 8) ≡ false
 above_8 mode h = grind (arith, nat_tests)
 
-displaced_begun : (mode size reg : ℕ) (by : ℤ) (bytes : List ℕ) → 9 < mode → cond (nat_lt mode 12) 1 (cond (nat_lt mode 14) 2 4) ≡ size → SpellsDisplaced mode size reg by bytes → BaseBegun (bases.Disp reg by (mode % 2 == 1)) bytes
+displaced_begun : (mode size reg : ℕ) (by : ℤ) (bytes : List ℕ) → 9 < mode → cond (nat_lt mode 12) 1 (cond (nat_lt mode 14) 2 4) ≡ size
+    → SpellsDisplaced mode size reg by bytes → BaseBegun (bases.Disp reg by (mode % 2 == 1)) bytes
 displaced_begun mode size reg by bytes high e h = record {
   mode = mode;
   reg = reg;
@@ -153,7 +155,8 @@ base_begun (bases.Disp reg by true) bytes (inr (inr h)) = displaced_begun 15 4 r
 
 -- ---- specifiers
 
-indexed_read : (index : ℕ) (base : Base) (bytes : List ℕ) → index < 15 → LeavesIndex index base → SpellsBase base bytes → indexed_at index bytes ≡ Ok (operands.Indexed index base, [])
+indexed_read : (index : ℕ) (base : Base) (bytes : List ℕ) → index < 15 → LeavesIndex index base → SpellsBase base bytes
+    → indexed_at index bytes ≡ Ok (operands.Indexed index base, [])
 unfolding indexed_at byte_at changes
 indexed_read index base bytes small leaves h =
     let b = base_begun base bytes h in
@@ -171,7 +174,8 @@ record SpecifierBegun (slot : Slot) (operand : Operand) (bytes : List ℕ) : Typ
 isnt : (mode other : ℕ) → other < mode → (mode == other) ≡ false
 isnt mode other h = grind (arith, nat_tests)
 
-base_specifier : (slot : Slot) (mode reg : ℕ) (rest : List ℕ) → 5 < mode → ((mode == 8) && (reg == 15)) ≡ false → specifier_at slot mode reg rest ≡ (base_at mode reg rest >>= mapping operand_of)
+base_specifier : (slot : Slot) (mode reg : ℕ) (rest : List ℕ) → 5 < mode → ((mode == 8) && (reg == 15)) ≡ false
+    → specifier_at slot mode reg rest ≡ (base_at mode reg rest >>= mapping operand_of)
 unfolding specifier_at
 base_specifier slot mode reg rest high h =
     rw (le-ltb mode 4 (omega arith), isnt mode 4 (omega arith), isnt mode 5 (omega arith), h) refl
@@ -188,7 +192,8 @@ base_begins slot base bytes h =
       reads = base_specifier slot b.mode b.reg b.rest b.above b.not_immediate ∙ ap (λ (r : Read Base). r >>= mapping operand_of) b.reads;
     }
 
-literal_read : (slot : Slot) (value : ℕ) → is_read slot.access ≡ true → value < 64 → specifier_at slot (value / 16) (value % 16) [] ≡ Ok (operands.Literal value, [])
+literal_read : (slot : Slot) (value : ℕ) → is_read slot.access ≡ true → value < 64
+    → specifier_at slot (value / 16) (value % 16) [] ≡ Ok (operands.Literal value, [])
 unfolding specifier_at
 literal_read slot value reads small =
     let low : value / 16 < 4 = omega arith in
@@ -199,11 +204,13 @@ register_read : (slot : Slot) (reg : ℕ) → IsTrue (not (is_address slot.acces
 unfolding specifier_at
 register_read slot reg value small = rw (not_pc reg small, not-true (is_address slot.access) value) refl
 
-immediate_read : (slot : Slot) (number : ℕ) (digits : List ℕ) → is_read slot.access ≡ true → SpellsNumber slot.size number digits → specifier_at slot 8 15 digits ≡ Ok (operands.Immediate number, [])
+immediate_read : (slot : Slot) (number : ℕ) (digits : List ℕ) → is_read slot.access ≡ true → SpellsNumber slot.size number digits
+    → specifier_at slot 8 15 digits ≡ Ok (operands.Immediate number, [])
 unfolding specifier_at
 immediate_read slot number digits reads h = rw (reads, number_read slot.size number digits h) refl
 
-mode_4_read : (slot : Slot) (index : ℕ) (base : Base) (rest : List ℕ) → index < 15 → LeavesIndex index base → SpellsBase base rest → specifier_at slot 4 index rest ≡ Ok (operands.Indexed index base, [])
+mode_4_read : (slot : Slot) (index : ℕ) (base : Base) (rest : List ℕ) → index < 15 → LeavesIndex index base → SpellsBase base rest
+    → specifier_at slot 4 index rest ≡ Ok (operands.Indexed index base, [])
 unfolding specifier_at
 mode_4_read slot index base rest small leaves h = rw (not_pc index small) (indexed_read index base rest small leaves h)
 
@@ -250,7 +257,8 @@ specifier_begun slot (operands.Branch by) bytes h = absurd h
 
 -- ---- operands and places
 
-branch_read : (slot : Slot) (operand : Operand) (bytes : List ℕ) → SpellsBranch slot operand bytes → (signed_at slot.size bytes >>= mapping operands.Branch) ≡ Ok (operand, [])
+branch_read : (slot : Slot) (operand : Operand) (bytes : List ℕ) → SpellsBranch slot operand bytes
+    → (signed_at slot.size bytes >>= mapping operands.Branch) ≡ Ok (operand, [])
 branch_read slot (operands.Branch by) bytes h = ap (λ (r : Read ℤ). r >>= mapping operands.Branch) (signed_read slot.size by bytes h)
 branch_read slot (operands.Literal value) bytes h = absurd h
 branch_read slot (operands.Register reg) bytes h = absurd h
@@ -263,40 +271,48 @@ branch_read slot (operands.Absolute address) bytes h = absurd h
 branch_read slot (operands.Disp reg by deferred) bytes h = absurd h
 branch_read slot (operands.Indexed index base) bytes h = absurd h
 
-specifier_read : (slot : Slot) (operand : Operand) (bytes : List ℕ) → SpellsSpecifier slot operand bytes → (byte_at bytes >>= λ first. specifier_at slot (first.0 / 16) (first.0 % 16) first.1) ≡ Ok (operand, [])
+specifier_read : (slot : Slot) (operand : Operand) (bytes : List ℕ) → SpellsSpecifier slot operand bytes
+    → (byte_at bytes >>= λ first. specifier_at slot (first.0 / 16) (first.0 % 16) first.1) ≡ Ok (operand, [])
 unfolding byte_at
 specifier_read slot operand bytes h =
     let s = specifier_begun slot operand bytes h in
     rw (s.split, high_half s.mode s.reg s.register, low_half s.mode s.reg s.register) s.reads
 
-either_read : (branch : Bool) (slot : Slot) (operand : Operand) (bytes : List ℕ) → SpellsOperand branch slot operand bytes → cond branch (signed_at slot.size bytes >>= mapping operands.Branch) (byte_at bytes >>= λ first. specifier_at slot (first.0 / 16) (first.0 % 16) first.1) ≡ Ok (operand, [])
+either_read : (branch : Bool) (slot : Slot) (operand : Operand) (bytes : List ℕ) → SpellsOperand branch slot operand bytes
+    → cond branch (signed_at slot.size bytes >>= mapping operands.Branch) (byte_at bytes >>= λ first. specifier_at slot (first.0 / 16) (first.0 % 16) first.1) ≡ Ok (operand, [])
 either_read true slot operand bytes h = branch_read slot operand bytes h
 either_read false slot operand bytes h = specifier_read slot operand bytes h
 
-operand_read : (slot : Slot) (operand : Operand) (bytes : List ℕ) → SpellsOperand (is_branch slot.access) slot operand bytes → operand_at slot bytes ≡ Ok (operand, [])
+operand_read : (slot : Slot) (operand : Operand) (bytes : List ℕ) → SpellsOperand (is_branch slot.access) slot operand bytes
+    → operand_at slot bytes ≡ Ok (operand, [])
 unfolding operand_at
 operand_read slot operand bytes h = either_read (is_branch slot.access) slot operand bytes h
 
-counted_read : (slot : Slot) (operand : Operand) (bytes : List ℕ) → SpellsOperand (is_branch slot.access) slot operand bytes → counted (operand_at slot) bytes ≡ Ok (spelled operand bytes, [])
+counted_read : (slot : Slot) (operand : Operand) (bytes : List ℕ) → SpellsOperand (is_branch slot.access) slot operand bytes
+    → counted (operand_at slot) bytes ≡ Ok (spelled operand bytes, [])
 counted_read slot operand bytes h =
     let none : List ℕ = [] in
     let size : length bytes - length none ≡ length bytes = omega arith in
     counted_ok (operand_at slot) bytes operand [] (operand_read slot operand bytes h) ∙ ap (λ (n : ℕ). Ok (with_size operand n, [])) size
 
-filled_read : (operand : Operand) (bytes : List ℕ) → operand ≡ operands.Literal 0 → bytes ≡ [] → (let read : Read Spelled = Ok (record { operand = operands.Literal 0; size = 0 }, bytes) in read) ≡ Ok (spelled operand bytes, [])
+filled_read : (operand : Operand) (bytes : List ℕ) → operand ≡ operands.Literal 0 → bytes ≡ []
+    → (let read : Read Spelled = Ok (record { operand = operands.Literal 0; size = 0 }, bytes) in read) ≡ Ok (spelled operand bytes, [])
 filled_read operand bytes e f = rw (e, f) refl
 
-present_read : (present : Bool) (slot : Slot) (operand : Operand) (bytes : List ℕ) → SpellsPlace present slot operand bytes → cond present (counted (operand_at slot) bytes) (Ok (record { operand = operands.Literal 0; size = 0 }, bytes)) ≡ Ok (spelled operand bytes, [])
+present_read : (present : Bool) (slot : Slot) (operand : Operand) (bytes : List ℕ) → SpellsPlace present slot operand bytes
+    → cond present (counted (operand_at slot) bytes) (Ok (record { operand = operands.Literal 0; size = 0 }, bytes)) ≡ Ok (spelled operand bytes, [])
 present_read true slot operand bytes h = counted_read slot operand bytes h
 present_read false slot operand bytes h = filled_read operand bytes h.0 h.1
 
-place_read : (row : Row) (place : ℕ) (operand : Operand) (bytes : List ℕ) → SpellsPlace (nat_lt place row.count) (slot_in row place) operand bytes → place_at row place bytes ≡ Ok (spelled operand bytes, [])
+place_read : (row : Row) (place : ℕ) (operand : Operand) (bytes : List ℕ) → SpellsPlace (nat_lt place row.count) (slot_in row place) operand bytes
+    → place_at row place bytes ≡ Ok (spelled operand bytes, [])
 unfolding place_at
 place_read row place operand bytes h = present_read (nat_lt place row.count) (slot_in row place) operand bytes h
 
 -- ---- instructions
 
-front_read : (row : Row) (place : ℕ) (operand : Operand) (front rest : List ℕ) → SpellsPlace (nat_lt place row.count) (slot_in row place) operand front → place_at row place (front ++ rest) ≡ Ok (spelled operand front, rest)
+front_read : (row : Row) (place : ℕ) (operand : Operand) (front rest : List ℕ)
+    → SpellsPlace (nat_lt place row.count) (slot_in row place) operand front → place_at row place (front ++ rest) ≡ Ok (spelled operand front, rest)
 front_read row place operand front rest h =
     (place_reader row place).extends front rest (spelled operand front) [] (place_read row place operand front h)
 

@@ -36,7 +36,9 @@ bind_ok (Ok x) f y h = (x, refl, h)
 bind_ok (Err e) f y h = absurd (cc)
 
 -- one reading after another, where it is known how to complete the first
-bind_with : {A B : Type 0} {p : List ℕ → Read A} {f : A → List ℕ → Read B} → IsReader p → ((x : A) → IsReader (f x)) → ((bytes : List ℕ) → p bytes ≡ Err Short → Completion (λ bytes. p bytes >>= λ r. f r.0 r.1) bytes) → IsReader (λ bytes. p bytes >>= λ r. f r.0 r.1)
+bind_with : {A B : Type 0} {p : List ℕ → Read A} {f : A → List ℕ → Read B} → IsReader p → ((x : A) → IsReader (f x))
+    → ((bytes : List ℕ) → p bytes ≡ Err Short → Completion (λ bytes. p bytes >>= λ r. f r.0 r.1) bytes)
+    → IsReader (λ bytes. p bytes >>= λ r. f r.0 r.1)
 bind_with {A = A} {B = B} {p = p} {f = f} first then from_short = record {
   extends = λ bytes more y rest h.
       let parts = bind_ok (p bytes) (λ r. f r.0 r.1) (y, rest) h in
@@ -69,7 +71,8 @@ bind_with {A = A} {B = B} {p = p} {f = f} first then from_short = record {
 }
 
 -- a first reading completed, and a second one begun behind it
-pub joined : {A B : Type 0} {p : List ℕ → Read A} {f : A → List ℕ → Read B} (bytes : List ℕ) → IsReader p → Completion p bytes → ((x : A) → Completion (f x) []) → Completion (λ bytes. p bytes >>= λ r. f r.0 r.1) bytes
+pub joined : {A B : Type 0} {p : List ℕ → Read A} {f : A → List ℕ → Read B} (bytes : List ℕ) → IsReader p → Completion p bytes
+    → ((x : A) → Completion (f x) []) → Completion (λ bytes. p bytes >>= λ r. f r.0 r.1) bytes
 joined {p = p} {f = f} bytes first one begins =
     let two = begins one.value in
     record {
@@ -79,7 +82,8 @@ joined {p = p} {f = f} bytes first one begins =
       reads = rw (← append_assoc bytes one.more two.more) (rw (first.extends (bytes ++ one.more) two.more one.value [] one.reads) two.reads);
     }
 
-pub bind_reader : {A B : Type 0} {p : List ℕ → Read A} {f : A → List ℕ → Read B} → IsReader p → ((x : A) → IsReader (f x)) → ((x : A) → Completion (f x) []) → IsReader (λ bytes. p bytes >>= λ r. f r.0 r.1)
+pub bind_reader : {A B : Type 0} {p : List ℕ → Read A} {f : A → List ℕ → Read B} → IsReader p → ((x : A) → IsReader (f x))
+    → ((x : A) → Completion (f x) []) → IsReader (λ bytes. p bytes >>= λ r. f r.0 r.1)
 bind_reader {p = p} {f = f} first then begins = bind_with first then (λ bytes h. joined bytes first (first.completes bytes h) begins)
 
 -- the value and the rest of what was read, or what is given
@@ -128,11 +132,13 @@ byte_reader = record {
     completes (b ∷ bs) h = absurd (cc)
 
 -- a byte, and something that one byte at least can begin
-pub begins_byte : {B : Type 0} (f : ℕ → List ℕ → Read B) (byte : ℕ) → byte < 256 → Completion (f byte) [] → Completion (λ bytes. byte_at bytes >>= λ r. f r.0 r.1) []
+pub begins_byte : {B : Type 0} (f : ℕ → List ℕ → Read B) (byte : ℕ) → byte < 256 → Completion (f byte) []
+    → Completion (λ bytes. byte_at bytes >>= λ r. f r.0 r.1) []
 unfolding byte_at
 begins_byte f byte small tail = record { more = byte ∷ tail.more; octets = (small, tail.octets); value = tail.value; reads = tail.reads }
 
-pub byte_then : {B : Type 0} {f : ℕ → List ℕ → Read B} → ((byte : ℕ) → IsReader (f byte)) → Completion (λ bytes. byte_at bytes >>= λ r. f r.0 r.1) [] → IsReader (λ bytes. byte_at bytes >>= λ r. f r.0 r.1)
+pub byte_then : {B : Type 0} {f : ℕ → List ℕ → Read B} → ((byte : ℕ) → IsReader (f byte)) → Completion (λ bytes. byte_at bytes >>= λ r. f r.0 r.1) []
+    → IsReader (λ bytes. byte_at bytes >>= λ r. f r.0 r.1)
 unfolding byte_at
 byte_then {f = f} then begins = bind_with byte_reader then none_left
   where
@@ -166,7 +172,8 @@ pub if_reader : {A : Type 0} {p q : List ℕ → Read A} (test : Bool) → IsRea
 if_reader true first second = first
 if_reader false first second = second
 
-number_front : (size : ℕ) (bytes more : List ℕ) → size ≤ length bytes → number_at size (bytes ++ more) ≡ Ok (from_le_bytes (width_of size) (take size bytes), drop size bytes ++ more)
+number_front : (size : ℕ) (bytes more : List ℕ) → size ≤ length bytes
+    → number_at size (bytes ++ more) ≡ Ok (from_le_bytes (width_of size) (take size bytes), drop size bytes ++ more)
 unfolding number_at
 number_front size bytes more h = grind (arith, common_steps)
 
@@ -175,7 +182,8 @@ choice : {A : Type 0} (short : Bool) (x : Read A) (y : Read A) → ((short ≡ f
 choice true x y = inr (refl, refl)
 choice false x y = inl (refl, refl)
 
-number_cases : (size : ℕ) (bytes : List ℕ) → ((size ≤ length bytes) × (number_at size bytes ≡ Ok (from_le_bytes (width_of size) (take size bytes), drop size bytes))) ⊎ ((length bytes < size) × (number_at size bytes ≡ Err Short))
+number_cases : (size : ℕ) (bytes : List ℕ)
+    → ((size ≤ length bytes) × (number_at size bytes ≡ Ok (from_le_bytes (width_of size) (take size bytes), drop size bytes))) ⊎ ((length bytes < size) × (number_at size bytes ≡ Err Short))
 unfolding number_at
 number_cases size bytes =
     let found : Read ℕ = Ok (from_le_bytes (width_of size) (take size bytes), drop size bytes) in
@@ -184,13 +192,15 @@ number_cases size bytes =
       | inr short ↦ inr (ltb-true (length bytes) size short.0, short.1)
     ]
 
-pub number_long : (size : ℕ) (bytes : List ℕ) (x : ℕ) (rest : List ℕ) → number_at size bytes ≡ Ok (x, rest) → (size ≤ length bytes) × (x ≡ from_le_bytes (width_of size) (take size bytes)) × (rest ≡ drop size bytes)
+pub number_long : (size : ℕ) (bytes : List ℕ) (x : ℕ) (rest : List ℕ) → number_at size bytes ≡ Ok (x, rest)
+    → (size ≤ length bytes) × (x ≡ from_le_bytes (width_of size) (take size bytes)) × (rest ≡ drop size bytes)
 number_long size bytes x rest h = elim (number_cases size bytes) [
   | inl long ↦ (long.0, ap (value_of 0) (sym h ∙ long.1), ap (rest_of []) (sym h ∙ long.1))
   | inr short ↦ absurd (cc (h, short.1))
 ]
 
-pub number_whole : (size : ℕ) (bytes : List ℕ) → size ≤ length bytes → number_at size (take size bytes) ≡ Ok (from_le_bytes (width_of size) (take size bytes), [])
+pub number_whole : (size : ℕ) (bytes : List ℕ) → size ≤ length bytes
+    → number_at size (take size bytes) ≡ Ok (from_le_bytes (width_of size) (take size bytes), [])
 unfolding number_at
 number_whole size bytes h = grind (arith, common_steps)
 
@@ -255,11 +265,14 @@ with_size operand size = record { operand = operand; size = size }
 abbrev pub sized : ℕ → Operand × List ℕ → Read Spelled
 sized n operand = Ok (with_size operand.0 (n - length operand.1), operand.1)
 
-pub counted_ok : (read : List ℕ → Read Operand) (bytes : List ℕ) (operand : Operand) (rest : List ℕ) → read bytes ≡ Ok (operand, rest) → counted read bytes ≡ Ok (with_size operand (length bytes - length rest), rest)
+pub counted_ok : (read : List ℕ → Read Operand) (bytes : List ℕ) (operand : Operand) (rest : List ℕ) → read bytes ≡ Ok (operand, rest)
+    → counted read bytes ≡ Ok (with_size operand (length bytes - length rest), rest)
 unfolding counted
 counted_ok read bytes operand rest h = rw h refl
 
-settled : (bytes : List ℕ) (read : Read Operand) (operand : Operand) (tail : List ℕ) (x : Spelled) (rest : List ℕ) → read ≡ Ok (operand, tail) → sized (length bytes) (operand, tail) ≡ Ok (x, rest) → (operand' : Operand) × (read ≡ Ok (operand', rest)) × (x ≡ with_size operand' (length bytes - length rest))
+settled : (bytes : List ℕ) (read : Read Operand) (operand : Operand) (tail : List ℕ) (x : Spelled) (rest : List ℕ) → read ≡ Ok (operand, tail)
+    → sized (length bytes) (operand, tail) ≡ Ok (x, rest)
+    → (operand' : Operand) × (read ≡ Ok (operand', rest)) × (x ≡ with_size operand' (length bytes - length rest))
 settled bytes read operand tail x rest h k =
     let same : tail ≡ rest = ap (rest_of rest) k in (
       operand,
@@ -267,7 +280,8 @@ settled bytes read operand tail x rest h k =
       sym (ap (value_of x) k) ∙ ap (λ (l : List ℕ). with_size operand (length bytes - length l)) same,
     )
 
-pub counted_parts : (read : List ℕ → Read Operand) (bytes : List ℕ) (x : Spelled) (rest : List ℕ) → counted read bytes ≡ Ok (x, rest) → (operand : Operand) × (read bytes ≡ Ok (operand, rest)) × (x ≡ with_size operand (length bytes - length rest))
+pub counted_parts : (read : List ℕ → Read Operand) (bytes : List ℕ) (x : Spelled) (rest : List ℕ) → counted read bytes ≡ Ok (x, rest)
+    → (operand : Operand) × (read bytes ≡ Ok (operand, rest)) × (x ≡ with_size operand (length bytes - length rest))
 unfolding counted
 counted_parts read bytes x rest h =
     let parts = bind_ok (read bytes) (sized (length bytes)) (x, rest) h in
@@ -293,16 +307,19 @@ counted_completion {read = read} bytes one = let none : List ℕ = [] in record 
   reads = counted_ok read (bytes ++ one.more) one.value [] one.reads;
 }
 
-counted_as : (read : List ℕ → Read Operand) (bytes : List ℕ) (operand : Operand) (rest : List ℕ) (n : ℕ) (x : Spelled) → read bytes ≡ Ok (operand, rest) → length bytes - length rest ≡ n → x ≡ with_size operand n → counted read bytes ≡ Ok (x, rest)
+counted_as : (read : List ℕ → Read Operand) (bytes : List ℕ) (operand : Operand) (rest : List ℕ) (n : ℕ) (x : Spelled)
+    → read bytes ≡ Ok (operand, rest) → length bytes - length rest ≡ n → x ≡ with_size operand n → counted read bytes ≡ Ok (x, rest)
 unfolding counted
 counted_as read bytes operand rest n x h size e = rw (h, size, e) refl
 
-counted_extends : (read : List ℕ → Read Operand) → IsReader read → (bytes more : List ℕ) (x : Spelled) (rest : List ℕ) (operand : Operand) → read bytes ≡ Ok (operand, rest) → x ≡ with_size operand (length bytes - length rest) → counted read (bytes ++ more) ≡ Ok (x, rest ++ more)
+counted_extends : (read : List ℕ → Read Operand) → IsReader read → (bytes more : List ℕ) (x : Spelled) (rest : List ℕ) (operand : Operand)
+    → read bytes ≡ Ok (operand, rest) → x ≡ with_size operand (length bytes - length rest) → counted read (bytes ++ more) ≡ Ok (x, rest ++ more)
 counted_extends read first bytes more x rest operand h e =
     counted_as read (bytes ++ more) operand (rest ++ more) (length bytes - length rest) x (first.extends bytes more operand rest h)
     (omega (arith, length-append bytes more, length-append rest more)) e
 
-counted_front : (read : List ℕ → Read Operand) (bytes front rest : List ℕ) (x : Spelled) (operand : Operand) → bytes ≡ front ++ rest → read front ≡ Ok (operand, []) → x ≡ with_size operand (length bytes - length rest) → counted read front ≡ Ok (x, [])
+counted_front : (read : List ℕ → Read Operand) (bytes front rest : List ℕ) (x : Spelled) (operand : Operand) → bytes ≡ front ++ rest
+    → read front ≡ Ok (operand, []) → x ≡ with_size operand (length bytes - length rest) → counted read front ≡ Ok (x, [])
 counted_front read bytes front rest x operand split h e =
     let long : length bytes ≡ length front + length rest = ap length split ∙ length-append front rest in
     let none : List ℕ = [] in

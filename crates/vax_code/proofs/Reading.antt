@@ -99,10 +99,12 @@ last_reader op row a b = mapped (λ c. assembled op row a b c) (place_reader row
 begins_last : (op : ℕ) (row : Row) (a b : Spelled) → Completion (λ bytes. place_at row 2 bytes >>= λ c. Ok (assembled op row a b c.0, c.1)) []
 begins_last op row a b = begins_mapped (λ c. assembled op row a b c) (begins_place row 2)
 
-later_reader : (op : ℕ) (row : Row) (a : Spelled) → IsReader (λ bytes. place_at row 1 bytes >>= λ b. place_at row 2 b.1 >>= λ c. Ok (assembled op row a b.0 c.0, c.1))
+later_reader : (op : ℕ) (row : Row) (a : Spelled)
+    → IsReader (λ bytes. place_at row 1 bytes >>= λ b. place_at row 2 b.1 >>= λ c. Ok (assembled op row a b.0 c.0, c.1))
 later_reader op row a = bind_reader (place_reader row 1) (last_reader op row a) (begins_last op row a)
 
-begins_later : (op : ℕ) (row : Row) (a : Spelled) → Completion (λ bytes. place_at row 1 bytes >>= λ b. place_at row 2 b.1 >>= λ c. Ok (assembled op row a b.0 c.0, c.1)) []
+begins_later : (op : ℕ) (row : Row) (a : Spelled)
+    → Completion (λ bytes. place_at row 1 bytes >>= λ b. place_at row 2 b.1 >>= λ c. Ok (assembled op row a b.0 c.0, c.1)) []
 begins_later op row a = joined [] (place_reader row 1) (begins_place row 1) (begins_last op row a)
 
 pub operands_reader : (op : ℕ) (row : Row) → IsReader (operands_at op row)

@@ -31,7 +31,8 @@ by_test false h on_true on_false = on_false refl h
 abbrev pub mapping : {A B : Type 0} → (A → B) → A × List ℕ → Read B
 mapping g r = Ok (g r.0, r.1)
 
-pub mapped_parts : {A B : Type 0} (read : Read A) (g : A → B) (y : B) (rest : List ℕ) → (read >>= mapping g) ≡ Ok (y, rest) → (x : A) × (read ≡ Ok (x, rest)) × (y ≡ g x)
+pub mapped_parts : {A B : Type 0} (read : Read A) (g : A → B) (y : B) (rest : List ℕ) → (read >>= mapping g) ≡ Ok (y, rest)
+    → (x : A) × (read ≡ Ok (x, rest)) × (y ≡ g x)
 mapped_parts (Ok x) g y rest h =
     let both = parts (g x.0) y x.1 rest h in (x.0, ap (λ (l : List ℕ). Ok (x.0, l)) both.1, sym both.0)
 mapped_parts (Err e) g y rest h = absurd (cc)
@@ -66,7 +67,8 @@ signed_read size by bytes h = rw (number_exact size bytes h.sized) (ap (λ (b : 
 
 -- ---- bases, as they are read
 
-base_leaf : (found base : Base) (first : ℕ) (tail : List ℕ) → (let read : Read Base = Ok (found, tail) in read) ≡ Ok (base, []) → SpellsBase found (first ∷ []) → SpellsBase base (first ∷ tail)
+base_leaf : (found base : Base) (first : ℕ) (tail : List ℕ) → (let read : Read Base = Ok (found, tail) in read) ≡ Ok (base, [])
+    → SpellsBase found (first ∷ []) → SpellsBase base (first ∷ tail)
 base_leaf found base first tail h spells =
     let both = parts found base tail [] h in
     subst (λ (b : Base). SpellsBase b (first ∷ tail)) both.0 (subst (λ (l : List ℕ). SpellsBase found (first ∷ l)) (sym both.1) spells)
@@ -114,7 +116,8 @@ displaces reg tail = by_mode (Displaces reg tail)
     (λ by small s. inr (inr (displaced 14 4 reg by tail small s)))
     (λ by small s. inr (inr (displaced 15 4 reg by tail small s)))
 
-displacement_spelled : (mode reg : ℕ) (tail : List ℕ) (base : Base) → 9 < mode → mode < 16 → reg < 16 → displacement_at mode reg tail ≡ Ok (base, []) → SpellsBase base (specifier mode reg ∷ tail)
+displacement_spelled : (mode reg : ℕ) (tail : List ℕ) (base : Base) → 9 < mode → mode < 16 → reg < 16 → displacement_at mode reg tail ≡ Ok (base, [])
+    → SpellsBase base (specifier mode reg ∷ tail)
 unfolding displacement_at Displaces
 displacement_spelled mode reg tail base low high small h =
     let size = cond (nat_lt mode 12) 1 (cond (nat_lt mode 14) 2 4) in
@@ -122,18 +125,22 @@ displacement_spelled mode reg tail base low high small h =
     subst (λ (b : Base). SpellsBase b (specifier mode reg ∷ tail)) (sym by.2)
     (displaces reg tail mode low high by.0 small (signed_spelled size by.0 tail by.1))
 
-number_leaf : (mode number : ℕ) (tail : List ℕ) (reg known size : ℕ) → mode ≡ known → reg ≡ 15 → SpellsNumber size number tail → SpellsOnPc known size number (specifier mode reg ∷ tail)
+number_leaf : (mode number : ℕ) (tail : List ℕ) (reg known size : ℕ) → mode ≡ known → reg ≡ 15 → SpellsNumber size number tail
+    → SpellsOnPc known size number (specifier mode reg ∷ tail)
 number_leaf mode number tail reg known size e f spells =
     record { digits = tail; split = ap (λ (m : ℕ). specifier m reg ∷ tail) e ∙ ap (λ (r : ℕ). specifier known r ∷ tail) f; spells = spells }
 
-absolute_spelled : (mode reg : ℕ) (tail : List ℕ) (base : Base) → ((mode == 9) && (reg == 15)) ≡ true → (number_at 4 tail >>= mapping bases.Absolute) ≡ Ok (base, []) → SpellsBase base (specifier mode reg ∷ tail)
+absolute_spelled : (mode reg : ℕ) (tail : List ℕ) (base : Base) → ((mode == 9) && (reg == 15)) ≡ true
+    → (number_at 4 tail >>= mapping bases.Absolute) ≡ Ok (base, []) → SpellsBase base (specifier mode reg ∷ tail)
 absolute_spelled mode reg tail base test h =
     let both = and_parts (mode == 9) (reg == 15) test in
     let number = mapped_parts (number_at 4 tail) bases.Absolute base [] h in
     subst (λ (b : Base). SpellsBase b (specifier mode reg ∷ tail)) (sym number.2)
     (number_leaf mode number.0 tail reg 9 4 (eqb-true mode 9 both.0) (eqb-true reg 15 both.1) (number_spelled 4 number.0 tail number.1))
 
-plain_spelled : (mode reg : ℕ) (tail : List ℕ) (base : Base) → 5 < mode → mode < 10 → reg < 15 → cond (mode == 6) (Ok (bases.Deferred reg, tail)) (cond (mode == 7) (Ok (bases.AutoDec reg, tail)) (cond (mode == 8) (Ok (bases.AutoInc reg, tail)) (Ok (bases.AutoIncDef reg, tail)))) ≡ (let read : Read Base = Ok (base, []) in read) → SpellsBase base (specifier mode reg ∷ tail)
+plain_spelled : (mode reg : ℕ) (tail : List ℕ) (base : Base) → 5 < mode → mode < 10 → reg < 15
+    → cond (mode == 6) (Ok (bases.Deferred reg, tail)) (cond (mode == 7) (Ok (bases.AutoDec reg, tail)) (cond (mode == 8) (Ok (bases.AutoInc reg, tail)) (Ok (bases.AutoIncDef reg, tail)))) ≡ (let read : Read Base = Ok (base, []) in read)
+    → SpellsBase base (specifier mode reg ∷ tail)
 plain_spelled mode reg tail base low high small h =
     by_test (mode == 6) h
     (λ six k. base_leaf (bases.Deferred reg) base (specifier mode reg) tail k (plain mode 6 reg (eqb-true mode 6 six) small))
@@ -144,7 +151,8 @@ plain_spelled mode reg tail base low high small h =
     (λ not_eight k. let nine : mode ≡ 9 = grind (arith, nat_tests) in
     base_leaf (bases.AutoIncDef reg) base (specifier mode reg) tail k (plain mode 9 reg nine small))))
 
-base_spelled : (mode reg : ℕ) (tail : List ℕ) (base : Base) → mode < 16 → reg < 16 → base_at mode reg tail ≡ Ok (base, []) → SpellsBase base (specifier mode reg ∷ tail)
+base_spelled : (mode reg : ℕ) (tail : List ℕ) (base : Base) → mode < 16 → reg < 16 → base_at mode reg tail ≡ Ok (base, [])
+    → SpellsBase base (specifier mode reg ∷ tail)
 unfolding base_at
 base_spelled mode reg tail base high small h =
     by_test (nat_lt mode 6) h
@@ -176,10 +184,12 @@ changed : (index mode known reg named : ℕ) → changes index mode reg ≡ fals
 unfolding changes
 changed index mode known reg named h low high e f same = grind (arith, nat_tests)
 
-byte_modes : (mode reg known named : ℕ) (tail rest : List ℕ) → reg < 16 → named < 15 → specifier mode reg ∷ tail ≡ specifier known named ∷ rest → (mode ≡ known) × (reg ≡ named)
+byte_modes : (mode reg known named : ℕ) (tail rest : List ℕ) → reg < 16 → named < 15 → specifier mode reg ∷ tail ≡ specifier known named ∷ rest
+    → (mode ≡ known) × (reg ≡ named)
 byte_modes mode reg known named tail rest small below h = let e : specifier mode reg ≡ specifier known named = cc in (omega arith, omega arith)
 
-leaves_index : (index mode reg : ℕ) (tail : List ℕ) (base : Base) → reg < 16 → changes index mode reg ≡ false → SpellsBase base (specifier mode reg ∷ tail) → LeavesIndex index base
+leaves_index : (index mode reg : ℕ) (tail : List ℕ) (base : Base) → reg < 16 → changes index mode reg ≡ false
+    → SpellsBase base (specifier mode reg ∷ tail) → LeavesIndex index base
 leaves_index index mode reg tail (bases.Deferred r) small h s = tt
 leaves_index index mode reg tail (bases.AutoDec r) small h s =
     let e = byte_modes mode reg 7 r tail [] small s.register s.split in changed index mode 7 reg r h (omega arith) (omega arith) e.0 e.1
@@ -190,7 +200,9 @@ leaves_index index mode reg tail (bases.AutoIncDef r) small h s =
 leaves_index index mode reg tail (bases.Absolute address) small h s = tt
 leaves_index index mode reg tail (bases.Disp r by deferred) small h s = tt
 
-index_rest : (index byte : ℕ) (tail : List ℕ) (operand : Operand) → index < 15 → byte < 256 → changes index (byte / 16) (byte % 16) ≡ false → (base_at (byte / 16) (byte % 16) tail >>= mapping (operands.Indexed index)) ≡ Ok (operand, []) → (base : Base) × (operand ≡ operands.Indexed index base) × SpellsIndexed index base (specifier 4 index ∷ (byte ∷ tail))
+index_rest : (index byte : ℕ) (tail : List ℕ) (operand : Operand) → index < 15 → byte < 256 → changes index (byte / 16) (byte % 16) ≡ false
+    → (base_at (byte / 16) (byte % 16) tail >>= mapping (operands.Indexed index)) ≡ Ok (operand, [])
+    → (base : Base) × (operand ≡ operands.Indexed index base) × SpellsIndexed index base (specifier 4 index ∷ (byte ∷ tail))
 index_rest index byte tail operand small octet test h =
     let base = mapped_parts (base_at (byte / 16) (byte % 16) tail) (operands.Indexed index) operand [] h in
     let spells = base_spelled (byte / 16) (byte % 16) tail base.0 (omega arith) (omega arith) base.1 in (
@@ -205,7 +217,8 @@ index_rest index byte tail operand small octet test h =
       },
     )
 
-indexed_spelled : (index : ℕ) (tail : List ℕ) (operand : Operand) → index < 15 → AreOctets tail → indexed_at index tail ≡ Ok (operand, []) → (base : Base) × (operand ≡ operands.Indexed index base) × SpellsIndexed index base (specifier 4 index ∷ tail)
+indexed_spelled : (index : ℕ) (tail : List ℕ) (operand : Operand) → index < 15 → AreOctets tail → indexed_at index tail ≡ Ok (operand, [])
+    → (base : Base) × (operand ≡ operands.Indexed index base) × SpellsIndexed index base (specifier 4 index ∷ tail)
 unfolding indexed_at byte_at changes
 indexed_spelled index [] operand small octets h = absurd (cc)
 indexed_spelled index (byte ∷ tail) operand small octets h =
@@ -215,12 +228,15 @@ indexed_spelled index (byte ∷ tail) operand small octets h =
 
 -- ---- specifiers, as they are read
 
-operand_leaf : (slot : Slot) (found operand : Operand) (first : ℕ) (tail : List ℕ) → (let read : Read Operand = Ok (found, tail) in read) ≡ Ok (operand, []) → SpellsSpecifier slot found (first ∷ []) → SpellsSpecifier slot operand (first ∷ tail)
+operand_leaf : (slot : Slot) (found operand : Operand) (first : ℕ) (tail : List ℕ)
+    → (let read : Read Operand = Ok (found, tail) in read) ≡ Ok (operand, []) → SpellsSpecifier slot found (first ∷ [])
+    → SpellsSpecifier slot operand (first ∷ tail)
 operand_leaf slot found operand first tail h spells =
     let both = parts found operand tail [] h in
     subst (λ (o : Operand). SpellsSpecifier slot o (first ∷ tail)) both.0 (subst (λ (l : List ℕ). SpellsSpecifier slot found (first ∷ l)) (sym both.1) spells)
 
-index_leaf : (slot : Slot) (mode reg : ℕ) (tail : List ℕ) (operand : Operand) (base : Base) → mode ≡ 4 → operand ≡ operands.Indexed reg base → SpellsIndexed reg base (specifier 4 reg ∷ tail) → SpellsSpecifier slot operand (specifier mode reg ∷ tail)
+index_leaf : (slot : Slot) (mode reg : ℕ) (tail : List ℕ) (operand : Operand) (base : Base) → mode ≡ 4 → operand ≡ operands.Indexed reg base
+    → SpellsIndexed reg base (specifier 4 reg ∷ tail) → SpellsSpecifier slot operand (specifier mode reg ∷ tail)
 index_leaf slot mode reg tail operand base e f spells =
     subst (λ (o : Operand). SpellsSpecifier slot o (specifier mode reg ∷ tail)) (sym f)
     (subst (λ (m : ℕ). SpellsIndexed reg base (specifier m reg ∷ tail)) (sym e) spells)
@@ -229,7 +245,9 @@ not_true : (a : Bool) → a ≡ false → IsTrue (not a)
 not_true true h = absurd (cc)
 not_true false h = refl
 
-immediate_spelled : (slot : Slot) (mode reg : ℕ) (tail : List ℕ) (operand : Operand) → ((mode == 8) && (reg == 15)) ≡ true → is_read slot.access ≡ true → (number_at slot.size tail >>= mapping operands.Immediate) ≡ Ok (operand, []) → SpellsSpecifier slot operand (specifier mode reg ∷ tail)
+immediate_spelled : (slot : Slot) (mode reg : ℕ) (tail : List ℕ) (operand : Operand) → ((mode == 8) && (reg == 15)) ≡ true
+    → is_read slot.access ≡ true → (number_at slot.size tail >>= mapping operands.Immediate) ≡ Ok (operand, [])
+    → SpellsSpecifier slot operand (specifier mode reg ∷ tail)
 immediate_spelled slot mode reg tail operand test reads h =
     let both = and_parts (mode == 8) (reg == 15) test in
     let number = mapped_parts (number_at slot.size tail) operands.Immediate operand [] h in
@@ -244,7 +262,8 @@ of_base slot (bases.AutoIncDef reg) bytes h = h
 of_base slot (bases.Absolute address) bytes h = h
 of_base slot (bases.Disp reg by deferred) bytes h = h
 
-specifier_spelled : (slot : Slot) (mode reg : ℕ) (tail : List ℕ) (operand : Operand) → mode < 16 → reg < 16 → AreOctets tail → specifier_at slot mode reg tail ≡ Ok (operand, []) → SpellsSpecifier slot operand (specifier mode reg ∷ tail)
+specifier_spelled : (slot : Slot) (mode reg : ℕ) (tail : List ℕ) (operand : Operand) → mode < 16 → reg < 16 → AreOctets tail
+    → specifier_at slot mode reg tail ≡ Ok (operand, []) → SpellsSpecifier slot operand (specifier mode reg ∷ tail)
 unfolding specifier_at
 specifier_spelled slot mode reg tail operand high small octets h =
     by_test (nat_lt mode 4) h
@@ -274,24 +293,28 @@ specifier_spelled slot mode reg tail operand high small octets h =
     subst (λ (o : Operand). SpellsSpecifier slot o (specifier mode reg ∷ tail)) (sym base.2)
     (of_base slot base.0 (specifier mode reg ∷ tail) (base_spelled mode reg tail base.0 high small base.1))))))
 
-with_specifier : (slot : Slot) (byte : ℕ) (tail : List ℕ) (operand : Operand) → byte < 256 → AreOctets tail → specifier_at slot (byte / 16) (byte % 16) tail ≡ Ok (operand, []) → SpellsSpecifier slot operand (byte ∷ tail)
+with_specifier : (slot : Slot) (byte : ℕ) (tail : List ℕ) (operand : Operand) → byte < 256 → AreOctets tail
+    → specifier_at slot (byte / 16) (byte % 16) tail ≡ Ok (operand, []) → SpellsSpecifier slot operand (byte ∷ tail)
 with_specifier slot byte tail operand octet octets h =
     subst (λ (b : ℕ). SpellsSpecifier slot operand (b ∷ tail)) (halves byte)
     (specifier_spelled slot (byte / 16) (byte % 16) tail operand (omega arith) (omega arith) octets h)
 
 -- ---- operands and places, as they are read
 
-branch_spelled : (slot : Slot) (bytes : List ℕ) (operand : Operand) → (signed_at slot.size bytes >>= mapping operands.Branch) ≡ Ok (operand, []) → SpellsBranch slot operand bytes
+branch_spelled : (slot : Slot) (bytes : List ℕ) (operand : Operand) → (signed_at slot.size bytes >>= mapping operands.Branch) ≡ Ok (operand, [])
+    → SpellsBranch slot operand bytes
 branch_spelled slot bytes operand h =
     let by = mapped_parts (signed_at slot.size bytes) operands.Branch operand [] h in
     subst (λ (o : Operand). SpellsBranch slot o bytes) (sym by.2) (signed_spelled slot.size by.0 bytes by.1)
 
-specified : (slot : Slot) (bytes : List ℕ) (operand : Operand) → AreOctets bytes → (byte_at bytes >>= λ first. specifier_at slot (first.0 / 16) (first.0 % 16) first.1) ≡ Ok (operand, []) → SpellsSpecifier slot operand bytes
+specified : (slot : Slot) (bytes : List ℕ) (operand : Operand) → AreOctets bytes
+    → (byte_at bytes >>= λ first. specifier_at slot (first.0 / 16) (first.0 % 16) first.1) ≡ Ok (operand, []) → SpellsSpecifier slot operand bytes
 unfolding byte_at
 specified slot [] operand octets h = absurd (cc)
 specified slot (byte ∷ tail) operand octets h = with_specifier slot byte tail operand octets.0 octets.1 h
 
-operand_spelled : (slot : Slot) (bytes : List ℕ) (operand : Operand) → AreOctets bytes → operand_at slot bytes ≡ Ok (operand, []) → SpellsOperand (is_branch slot.access) slot operand bytes
+operand_spelled : (slot : Slot) (bytes : List ℕ) (operand : Operand) → AreOctets bytes → operand_at slot bytes ≡ Ok (operand, [])
+    → SpellsOperand (is_branch slot.access) slot operand bytes
 unfolding operand_at
 operand_spelled slot bytes operand octets h =
     by_test (is_branch slot.access) h
@@ -304,7 +327,8 @@ record Placed (row : Row) (place : ℕ) (found : Spelled) (bytes : List ℕ) : T
   pub sized : found ≡ spelled operand bytes
   pub spells : SpellsPlace (nat_lt place row.count) (slot_in row place) operand bytes
 
-counted_place : (row : Row) (place : ℕ) (bytes : List ℕ) (found : Spelled) → AreOctets bytes → nat_lt place row.count ≡ true → counted (operand_at (slot_in row place)) bytes ≡ Ok (found, []) → Placed row place found bytes
+counted_place : (row : Row) (place : ℕ) (bytes : List ℕ) (found : Spelled) → AreOctets bytes → nat_lt place row.count ≡ true
+    → counted (operand_at (slot_in row place)) bytes ≡ Ok (found, []) → Placed row place found bytes
 counted_place row place bytes found octets is h =
     let slot = slot_in row place in
     let read = counted_parts (operand_at slot) bytes found [] h in
@@ -316,7 +340,9 @@ counted_place row place bytes found octets is h =
       spells = subst (λ (b : Bool). SpellsPlace b slot read.0 bytes) (sym is) (operand_spelled slot bytes read.0 octets read.1);
     }
 
-empty_place : (row : Row) (place : ℕ) (bytes : List ℕ) (found : Spelled) → nat_lt place row.count ≡ false → (let read : Read Spelled = Ok (record { operand = operands.Literal 0; size = 0 }, bytes) in read) ≡ Ok (found, []) → Placed row place found bytes
+empty_place : (row : Row) (place : ℕ) (bytes : List ℕ) (found : Spelled) → nat_lt place row.count ≡ false
+    → (let read : Read Spelled = Ok (record { operand = operands.Literal 0; size = 0 }, bytes) in read) ≡ Ok (found, [])
+    → Placed row place found bytes
 empty_place row place bytes found is h =
     let both = parts (record { operand = operands.Literal 0; size = 0 }) found bytes [] h in
     record {
@@ -325,7 +351,8 @@ empty_place row place bytes found is h =
       spells = subst (λ (b : Bool). SpellsPlace b (slot_in row place) (operands.Literal 0) bytes) (sym is) (refl, both.1);
     }
 
-place_spelled : (row : Row) (place : ℕ) (bytes : List ℕ) (found : Spelled) → AreOctets bytes → place_at row place bytes ≡ Ok (found, []) → Placed row place found bytes
+place_spelled : (row : Row) (place : ℕ) (bytes : List ℕ) (found : Spelled) → AreOctets bytes → place_at row place bytes ≡ Ok (found, [])
+    → Placed row place found bytes
 unfolding place_at
 place_spelled row place bytes found octets h =
     by_test (nat_lt place row.count) h
@@ -347,7 +374,8 @@ octets_rest : (xs ys : List ℕ) → AreOctets (xs ++ ys) → AreOctets ys
 octets_rest [] ys h = h
 octets_rest (x ∷ xs) ys h = octets_rest xs ys h.1
 
-front_spelled : (row : Row) (place : ℕ) (bytes rest : List ℕ) (found : Spelled) → AreOctets bytes → place_at row place bytes ≡ Ok (found, rest) → Fronted row place found bytes rest
+front_spelled : (row : Row) (place : ℕ) (bytes rest : List ℕ) (found : Spelled) → AreOctets bytes → place_at row place bytes ≡ Ok (found, rest)
+    → Fronted row place found bytes rest
 front_spelled row place bytes rest found octets h =
     let front = (place_reader row place).fronts bytes found rest h in
     let both = subst (λ (l : List ℕ). AreOctets l) front.1 octets in
@@ -360,7 +388,9 @@ front_spelled row place bytes rest found octets h =
 
 -- ---- instructions, as they are read
 
-whole : (op : ℕ) (row : Row) (a b c : Spelled) (bytes after_a after_b : List ℕ) (instr : Instr) → row_for op ≡ Some row → Fronted row 0 a bytes after_a → Fronted row 1 b after_a after_b → Placed row 2 c after_b → instr ≡ assembled op row a b c → IsInstruction (op ∷ bytes) instr
+whole : (op : ℕ) (row : Row) (a b c : Spelled) (bytes after_a after_b : List ℕ) (instr : Instr) → row_for op ≡ Some row
+    → Fronted row 0 a bytes after_a → Fronted row 1 b after_a after_b → Placed row 2 c after_b → instr ≡ assembled op row a b c
+    → IsInstruction (op ∷ bytes) instr
 whole op row a b c bytes after_a after_b instr listed one two three made = record {
   op = op;
   row = row;
@@ -386,7 +416,8 @@ last_at op row a b = place_at row 2 b.1 >>= mapping (λ c. assembled op row a b.
 abbrev later_at : ℕ → Row → Spelled × List ℕ → Read Instr
 later_at op row a = place_at row 1 a.1 >>= last_at op row a.0
 
-operands_spelled : (op : ℕ) (row : Row) (bytes : List ℕ) (instr : Instr) → row_for op ≡ Some row → AreOctets bytes → operands_at op row bytes ≡ Ok (instr, []) → IsInstruction (op ∷ bytes) instr
+operands_spelled : (op : ℕ) (row : Row) (bytes : List ℕ) (instr : Instr) → row_for op ≡ Some row → AreOctets bytes
+    → operands_at op row bytes ≡ Ok (instr, []) → IsInstruction (op ∷ bytes) instr
 unfolding operands_at
 operands_spelled op row bytes instr listed octets h =
     let a = bind_ok (place_at row 0 bytes) (later_at op row) (instr, []) h in
@@ -397,7 +428,8 @@ operands_spelled op row bytes instr listed octets h =
     let three = place_spelled row 2 b.0.1 c.0 two.octets c.1 in
     whole op row a.0.0 b.0.0 c.0 bytes a.0.1 b.0.1 instr listed one two three c.2
 
-listed_spelled : (op : ℕ) (found : Option Row) (bytes : List ℕ) (instr : Instr) → row_for op ≡ found → AreOctets bytes → (row_or_bad found >>= λ row. operands_at op row bytes) ≡ Ok (instr, []) → IsInstruction (op ∷ bytes) instr
+listed_spelled : (op : ℕ) (found : Option Row) (bytes : List ℕ) (instr : Instr) → row_for op ≡ found → AreOctets bytes
+    → (row_or_bad found >>= λ row. operands_at op row bytes) ≡ Ok (instr, []) → IsInstruction (op ∷ bytes) instr
 listed_spelled op None bytes instr listed octets h = absurd (cc)
 listed_spelled op (Some row) bytes instr listed octets h = operands_spelled op row bytes instr listed octets h
 

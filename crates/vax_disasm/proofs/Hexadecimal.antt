@@ -20,7 +20,8 @@ hexadecimal_last (suc places) number some small =
     let same : number ≡ number % 16 = omega arith in
     rw (lt_is number 16 small) (ap (λ (n : ℕ). hexadecimal_digit n ∷ []) same)
 
-pub hexadecimal_step : (places number : ℕ) → 0 < places → 16 ≤ number → hexadecimal places number ≡ hexadecimal (places - 1) (number / 16) ++ (hexadecimal_digit (number % 16) ∷ [])
+pub hexadecimal_step : (places number : ℕ) → 0 < places → 16 ≤ number
+    → hexadecimal places number ≡ hexadecimal (places - 1) (number / 16) ++ (hexadecimal_digit (number % 16) ∷ [])
 hexadecimal_step zero number some large = absurd (omega arith)
 hexadecimal_step (suc places) number some large =
     let same : places ≡ suc places - 1 = omega arith in

@@ -53,7 +53,8 @@ push_digits : (ds : List ℕ) (d : ℕ) → AreDigits 16 ds → IsTrue (is_digit
 push_digits [] d h k = (k, tt)
 push_digits (x ∷ ds) d h k = (h.0, push_digits ds d h.1 k)
 
-digits_by : (k n : ℕ) (t : Bool) → nat_lt n 16 ≡ t → AreDigits 16 (hexadecimal k (n / 16)) → AreDigits 16 (if t then hexadecimal_digit n ∷ [] else hexadecimal k (n / 16) ++ (hexadecimal_digit (n % 16) ∷ []))
+digits_by : (k n : ℕ) (t : Bool) → nat_lt n 16 ≡ t → AreDigits 16 (hexadecimal k (n / 16))
+    → AreDigits 16 (if t then hexadecimal_digit n ∷ [] else hexadecimal k (n / 16) ++ (hexadecimal_digit (n % 16) ∷ []))
 digits_by k n true e h = (true_is (is_digit 16 (hexadecimal_digit n)) (digit_is n (lt_of n 16 e)), tt)
 digits_by k n false e h = push_digits (hexadecimal k (n / 16)) (hexadecimal_digit (n % 16)) h (true_is (is_digit 16 (hexadecimal_digit (n % 16))) (digit_is (n % 16) (omega arith)))
 
@@ -66,7 +67,8 @@ abbrev HasPlaces : ℕ → ℕ → Type 0
 HasPlaces zero n = n ≡ 0
 HasPlaces (suc k) n = HasPlaces k (n / 16)
 
-value_by : (k n : ℕ) (t : Bool) → nat_lt n 16 ≡ t → digits_value 16 (hexadecimal k (n / 16)) ≡ n / 16 → digits_value 16 (if t then hexadecimal_digit n ∷ [] else hexadecimal k (n / 16) ++ (hexadecimal_digit (n % 16) ∷ [])) ≡ n
+value_by : (k n : ℕ) (t : Bool) → nat_lt n 16 ≡ t → digits_value 16 (hexadecimal k (n / 16)) ≡ n / 16
+    → digits_value 16 (if t then hexadecimal_digit n ∷ [] else hexadecimal k (n / 16) ++ (hexadecimal_digit (n % 16) ∷ [])) ≡ n
 value_by k n true e h = (let worth : digit_value (hexadecimal_digit n) ≡ n = digit_worth n (lt_of n 16 e) in omega (arith, worth))
 value_by k n false e h =
     let last : digit_value (hexadecimal_digit (n % 16)) ≡ n % 16 = digit_worth (n % 16) (omega arith) in
@@ -112,11 +114,13 @@ numeral_read n rest small stops =
     numeral_by (hexadecimal 8 n) rest n (hexadecimal_some n) (hexadecimal_value 8 n (eight_places n small)) small
 
 -- what stands behind the sign
-signed_read : (minus : Bool) (magnitude : ℕ) (rest : List ℕ) → magnitude < 4294967296 → Stops rest → signed_at minus (48 ∷ 120 ∷ (hexadecimal 8 magnitude ++ rest)) ≡ Some (signed minus magnitude, rest)
+signed_read : (minus : Bool) (magnitude : ℕ) (rest : List ℕ) → magnitude < 4294967296 → Stops rest
+    → signed_at minus (48 ∷ 120 ∷ (hexadecimal 8 magnitude ++ rest)) ≡ Some (signed minus magnitude, rest)
 unfolding signed_at magnitude_at
 signed_read minus magnitude rest small stops = ap (λ (o : Option (ℕ × List ℕ)). o >>= λ m. Some (signed minus m.0, m.1)) (numeral_read magnitude rest small stops)
 
-number_by : (negative : Bool) (magnitude : ℕ) (rest : List ℕ) → magnitude < 4294967296 → Stops rest → number_at ((sign_text negative ++ (codes "0x" ++ hexadecimal 8 magnitude)) ++ rest) ≡ Some (signed negative magnitude, rest)
+number_by : (negative : Bool) (magnitude : ℕ) (rest : List ℕ) → magnitude < 4294967296 → Stops rest
+    → number_at ((sign_text negative ++ (codes "0x" ++ hexadecimal 8 magnitude)) ++ rest) ≡ Some (signed negative magnitude, rest)
 unfolding number_at
 number_by true magnitude rest small stops = signed_read true magnitude rest small stops
 number_by false magnitude rest small stops = signed_read false magnitude rest small stops
@@ -126,7 +130,8 @@ unfolding number_text
 number_read number rest good stops =
     number_by number.negative number.magnitude rest good.0 stops ∙ ap (λ (n : Number). Some (n, rest)) good.1
 
-value_by_sign : (negative : Bool) (ds rest : List ℕ) → value_at ((sign_text negative ++ (codes "0x" ++ ds)) ++ rest) ≡ value_number_at ((sign_text negative ++ (codes "0x" ++ ds)) ++ rest)
+value_by_sign : (negative : Bool) (ds rest : List ℕ)
+    → value_at ((sign_text negative ++ (codes "0x" ++ ds)) ++ rest) ≡ value_number_at ((sign_text negative ++ (codes "0x" ++ ds)) ++ rest)
 unfolding value_at
 value_by_sign true ds rest = refl
 value_by_sign false ds rest = refl
@@ -171,7 +176,8 @@ is_one reg true e small rest stops =
     subst (λ (r : ℕ). register_number_at ((48 + r) ∷ rest) ≡ Some (r, rest)) (sym one) (second_stops rest stops)
 is_one reg false e small rest stops = (let other : reg ≢ 1 = grind (arith, nat_tests) in small_register reg rest small other)
 
-register_by : (reg : ℕ) (t : Bool) (rest : List ℕ) → nat_lt reg 10 ≡ t → reg < 16 → Stops rest → register_number_at ((if t then (48 + reg) ∷ [] else (48 + reg / 10) ∷ (48 + reg % 10) ∷ []) ++ rest) ≡ Some (reg, rest)
+register_by : (reg : ℕ) (t : Bool) (rest : List ℕ) → nat_lt reg 10 ≡ t → reg < 16 → Stops rest
+    → register_number_at ((if t then (48 + reg) ∷ [] else (48 + reg / 10) ∷ (48 + reg % 10) ∷ []) ++ rest) ≡ Some (reg, rest)
 register_by reg true rest e small stops = is_one reg (reg == 1) refl (lt_of reg 10 e) rest stops
 register_by reg false rest e small stops = large_register reg rest (ge_of reg 10 e) small
 
@@ -213,7 +219,8 @@ unfolding place_at pointer_at increment_deferred_at parenthesised_text after
 increment_deferred_read reg rest small =
     ap (λ (o : Option (ℕ × List ℕ)). o >>= λ r. after 43 r.1 >>= λ rest. if r.0 == 15 then None else Some (places.AutoIncDef r.0, rest)) (parenthesised_read reg (43 ∷ rest) (omega arith)) ∙ rw (not_pc reg small) refl
 
-absolute_read : (value : Value) (rest : List ℕ) → GoodValue value → Stops rest → place_at (42 ∷ 36 ∷ (value_text value ++ rest)) ≡ Some (places.Absolute value, rest)
+absolute_read : (value : Value) (rest : List ℕ) → GoodValue value → Stops rest
+    → place_at (42 ∷ 36 ∷ (value_text value ++ rest)) ≡ Some (places.Absolute value, rest)
 unfolding place_at pointer_at absolute_at
 absolute_read value rest good stops = ap (λ (o : Option (Value × List ℕ)). o >>= λ v. Some (places.Absolute v.0, v.1)) (value_read value rest good stops)
 
@@ -221,7 +228,8 @@ parenthesis_stops : (reg : ℕ) (rest : List ℕ) → Stops (parenthesised_text 
 unfolding parenthesised_text
 parenthesis_stops reg rest = (refl, refl)
 
-displacement_read : (size reg : ℕ) (by : Number) (deferred : Bool) (rest : List ℕ) → reg < 16 → GoodNumber by → displacement_at size deferred (94 ∷ ((number_text by ++ parenthesised_text reg) ++ rest)) ≡ Some (places.Disp size reg by deferred, rest)
+displacement_read : (size reg : ℕ) (by : Number) (deferred : Bool) (rest : List ℕ) → reg < 16 → GoodNumber by
+    → displacement_at size deferred (94 ∷ ((number_text by ++ parenthesised_text reg) ++ rest)) ≡ Some (places.Disp size reg by deferred, rest)
 unfolding displacement_at after
 displacement_read size reg by deferred rest small good =
     ap (λ (l : List ℕ). number_at l >>= λ by. in_parentheses_at by.1 >>= λ reg. Some (places.Disp size reg.0 by.0 deferred, reg.1)) (append_assoc (number_text by) (parenthesised_text reg) rest) ∙
@@ -229,20 +237,23 @@ displacement_read size reg by deferred rest small good =
     ap (λ (o : Option (ℕ × List ℕ)). o >>= λ reg. Some (places.Disp size reg.0 by deferred, reg.1)) (parenthesised_read reg rest small)
 
 -- by the mark of the size
-displaced_read : (size reg : ℕ) (by : Number) (deferred : Bool) (rest : List ℕ) → (size ≡ 1) ⊎ (size ≡ 2) ⊎ (size ≡ 4) → reg < 16 → GoodNumber by → displaced_at deferred (displacement_text size reg by ++ rest) ≡ Some (places.Disp size reg by deferred, rest)
+displaced_read : (size reg : ℕ) (by : Number) (deferred : Bool) (rest : List ℕ) → (size ≡ 1) ⊎ (size ≡ 2) ⊎ (size ≡ 4) → reg < 16 → GoodNumber by
+    → displaced_at deferred (displacement_text size reg by ++ rest) ≡ Some (places.Disp size reg by deferred, rest)
 unfolding displaced_at displacement_text
 displaced_read size reg by deferred rest (inl e) small good = subst (λ (s : ℕ). displaced_at deferred (displacement_text s reg by ++ rest) ≡ Some (places.Disp s reg by deferred, rest)) (sym e) (displacement_read 1 reg by deferred rest small good)
 displaced_read size reg by deferred rest (inr (inl e)) small good = subst (λ (s : ℕ). displaced_at deferred (displacement_text s reg by ++ rest) ≡ Some (places.Disp s reg by deferred, rest)) (sym e) (displacement_read 2 reg by deferred rest small good)
 displaced_read size reg by deferred rest (inr (inr e)) small good = subst (λ (s : ℕ). displaced_at deferred (displacement_text s reg by ++ rest) ≡ Some (places.Disp s reg by deferred, rest)) (sym e) (displacement_read 4 reg by deferred rest small good)
 
 -- a mark stands first
-marked_place : (size reg : ℕ) (by : Number) (rest : List ℕ) → (size ≡ 1) ⊎ (size ≡ 2) ⊎ (size ≡ 4) → (place_at (displacement_text size reg by ++ rest) ≡ displaced_at false (displacement_text size reg by ++ rest)) × (pointer_at (displacement_text size reg by ++ rest) ≡ displaced_at true (displacement_text size reg by ++ rest)) × (specifier_at (displacement_text size reg by ++ rest) ≡ addressed_at (displacement_text size reg by ++ rest))
+marked_place : (size reg : ℕ) (by : Number) (rest : List ℕ) → (size ≡ 1) ⊎ (size ≡ 2) ⊎ (size ≡ 4)
+    → (place_at (displacement_text size reg by ++ rest) ≡ displaced_at false (displacement_text size reg by ++ rest)) × (pointer_at (displacement_text size reg by ++ rest) ≡ displaced_at true (displacement_text size reg by ++ rest)) × (specifier_at (displacement_text size reg by ++ rest) ≡ addressed_at (displacement_text size reg by ++ rest))
 unfolding place_at pointer_at specifier_at displacement_text
 marked_place size reg by rest (inl e) = subst (λ (s : ℕ). (place_at (displacement_text s reg by ++ rest) ≡ displaced_at false (displacement_text s reg by ++ rest)) × (pointer_at (displacement_text s reg by ++ rest) ≡ displaced_at true (displacement_text s reg by ++ rest)) × (specifier_at (displacement_text s reg by ++ rest) ≡ addressed_at (displacement_text s reg by ++ rest))) (sym e) (refl, refl, refl)
 marked_place size reg by rest (inr (inl e)) = subst (λ (s : ℕ). (place_at (displacement_text s reg by ++ rest) ≡ displaced_at false (displacement_text s reg by ++ rest)) × (pointer_at (displacement_text s reg by ++ rest) ≡ displaced_at true (displacement_text s reg by ++ rest)) × (specifier_at (displacement_text s reg by ++ rest) ≡ addressed_at (displacement_text s reg by ++ rest))) (sym e) (refl, refl, refl)
 marked_place size reg by rest (inr (inr e)) = subst (λ (s : ℕ). (place_at (displacement_text s reg by ++ rest) ≡ displaced_at false (displacement_text s reg by ++ rest)) × (pointer_at (displacement_text s reg by ++ rest) ≡ displaced_at true (displacement_text s reg by ++ rest)) × (specifier_at (displacement_text s reg by ++ rest) ≡ addressed_at (displacement_text s reg by ++ rest))) (sym e) (refl, refl, refl)
 
-starred_read : (size reg : ℕ) (by : Number) (deferred : Bool) (rest : List ℕ) → (size ≡ 1) ⊎ (size ≡ 2) ⊎ (size ≡ 4) → reg < 16 → GoodNumber by → place_at ((star_text deferred ++ displacement_text size reg by) ++ rest) ≡ Some (places.Disp size reg by deferred, rest)
+starred_read : (size reg : ℕ) (by : Number) (deferred : Bool) (rest : List ℕ) → (size ≡ 1) ⊎ (size ≡ 2) ⊎ (size ≡ 4) → reg < 16 → GoodNumber by
+    → place_at ((star_text deferred ++ displacement_text size reg by) ++ rest) ≡ Some (places.Disp size reg by deferred, rest)
 unfolding place_at
 starred_read size reg by true rest sized small good = (marked_place size reg by rest sized).1 ∙ displaced_read size reg by true rest sized small good
 starred_read size reg by false rest sized small good = (marked_place size reg by rest sized).0 ∙ displaced_read size reg by false rest sized small good
@@ -256,7 +267,8 @@ place_read (places.AutoIncDef reg) rest good stops = ap (λ (l : List ℕ). plac
 place_read (places.Absolute address) rest good stops = absolute_read address rest good stops
 place_read (places.Disp size reg by deferred) rest good stops = starred_read size reg by deferred rest good.0 good.1 good.2
 
-starred_specifier : (size reg : ℕ) (by : Number) (deferred : Bool) (rest : List ℕ) → (size ≡ 1) ⊎ (size ≡ 2) ⊎ (size ≡ 4) → specifier_at ((star_text deferred ++ displacement_text size reg by) ++ rest) ≡ addressed_at ((star_text deferred ++ displacement_text size reg by) ++ rest)
+starred_specifier : (size reg : ℕ) (by : Number) (deferred : Bool) (rest : List ℕ) → (size ≡ 1) ⊎ (size ≡ 2) ⊎ (size ≡ 4)
+    → specifier_at ((star_text deferred ++ displacement_text size reg by) ++ rest) ≡ addressed_at ((star_text deferred ++ displacement_text size reg by) ++ rest)
 unfolding specifier_at
 starred_specifier size reg by true rest sized = refl
 starred_specifier size reg by false rest sized = (marked_place size reg by rest sized).2
@@ -288,7 +300,8 @@ index_read index place rest small =
     ap (λ (l : List ℕ). register_at l >>= λ reg. after 93 reg.1 >>= λ rest. Some (writtens.Indexed reg.0 place, rest)) (append_assoc (register_text index) (93 ∷ []) rest) ∙
     ap (λ (o : Option (ℕ × List ℕ)). o >>= λ reg. after 93 reg.1 >>= λ rest. Some (writtens.Indexed reg.0 place, rest)) (register_read index (93 ∷ rest) (omega arith) (refl, refl))
 
-indexed_read : (index : ℕ) (place : Place) (rest : List ℕ) → index < 15 → GoodPlace place → specifier_at ((place_text place ++ (codes "[" ++ (register_text index ++ codes "]"))) ++ rest) ≡ Some (writtens.Indexed index place, rest)
+indexed_read : (index : ℕ) (place : Place) (rest : List ℕ) → index < 15 → GoodPlace place
+    → specifier_at ((place_text place ++ (codes "[" ++ (register_text index ++ codes "]"))) ++ rest) ≡ Some (writtens.Indexed index place, rest)
 unfolding addressed_at
 indexed_read index place rest small good =
     ap specifier_at (append_assoc (place_text place) (91 ∷ (register_text index ++ codes "]")) rest) ∙
@@ -300,7 +313,8 @@ not_misindexed : (immediate : Bool) (written : Written) (rest : List ℕ) → En
 not_misindexed immediate written [] h = refl
 not_misindexed immediate written (byte ∷ rest) h = subst (λ (b : ℕ). unaddressed immediate written (b ∷ rest) ≡ Some (written, b ∷ rest)) (sym h) refl
 
-literal_read : (number : Number) (rest : List ℕ) → GoodNumber number → Ends rest → specifier_at (36 ∷ (number_text number ++ rest)) ≡ Some (writtens.Literal number, rest)
+literal_read : (number : Number) (rest : List ℕ) → GoodNumber number → Ends rest
+    → specifier_at (36 ∷ (number_text number ++ rest)) ≡ Some (writtens.Literal number, rest)
 unfolding specifier_at literal_at
 literal_read number rest good ends =
     ap (λ (o : Option (Number × List ℕ)). o >>= λ n. unaddressed false (writtens.Literal n.0) n.1) (number_read number rest good (ends_stops rest ends)) ∙
@@ -312,7 +326,8 @@ plain_register_read reg rest small ends =
     ap (λ (o : Option (ℕ × List ℕ)). o >>= λ r. unaddressed false (writtens.Register r.0) r.1) (register_read reg rest (omega arith) (ends_stops rest ends)) ∙
     not_misindexed false (writtens.Register reg) rest ends
 
-immediate_read : (value : Value) (rest : List ℕ) → GoodValue value → Ends rest → specifier_at (105 ∷ 94 ∷ 36 ∷ (value_text value ++ rest)) ≡ Some (writtens.Immediate value, rest)
+immediate_read : (value : Value) (rest : List ℕ) → GoodValue value → Ends rest
+    → specifier_at (105 ∷ 94 ∷ 36 ∷ (value_text value ++ rest)) ≡ Some (writtens.Immediate value, rest)
 unfolding specifier_at immediate_at after
 immediate_read value rest good ends =
     ap (λ (o : Option (Value × List ℕ)). o >>= λ v. unaddressed true (writtens.Immediate v.0) v.1) (value_read value rest good (ends_stops rest ends)) ∙
@@ -340,7 +355,8 @@ branch_read (writtens.Indexed index base) rest good ends = absurd good
 branch_read (writtens.Misindexed immediate) rest good ends = absurd good
 branch_read (writtens.Target target) rest good ends = ap (λ (o : Option (Value × List ℕ)). o >>= λ v. Some (writtens.Target v.0, v.1)) (value_read target rest good (ends_stops rest ends))
 
-pub operand_read : (branch : Bool) (written : Written) (rest : List ℕ) → GoodOperand branch written → Ends rest → operand_at branch (written_text written ++ rest) ≡ Some (written, rest)
+pub operand_read : (branch : Bool) (written : Written) (rest : List ℕ) → GoodOperand branch written → Ends rest
+    → operand_at branch (written_text written ++ rest) ≡ Some (written, rest)
 unfolding operand_at
 operand_read true written rest good ends = branch_read written rest good ends
 operand_read false written rest good ends = specifier_read written rest good ends

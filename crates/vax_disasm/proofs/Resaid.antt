@@ -68,7 +68,8 @@ word_stops : (rest : List ℕ) → WordEnds rest → (front_of is_word_byte rest
 word_stops [] h = (refl, refl)
 word_stops (byte ∷ bytes) h = (rw h refl, rw h refl)
 
-word_cut : (word rest : List ℕ) → list_all is_word_byte word ≡ true → WordEnds rest → (front_of is_word_byte (word ++ rest) ≡ word) × (behind is_word_byte (word ++ rest) ≡ rest)
+word_cut : (word rest : List ℕ) → list_all is_word_byte word ≡ true → WordEnds rest
+    → (front_of is_word_byte (word ++ rest) ≡ word) × (behind is_word_byte (word ++ rest) ≡ rest)
 word_cut [] rest h ends = word_stops rest ends
 word_cut (x ∷ word) rest h ends =
     let tests = both (is_word_byte x) (list_all is_word_byte word) h in
@@ -80,12 +81,16 @@ word_cut (x ∷ word) rest h ends =
 itself : (n : ℕ) → (n == n) ≡ true
 itself n = grind (arith, nat_tests)
 
-place_by : (row : Row) (place : ℕ) (here : Bool) (written : Written) (rest : List ℕ) → GoodPlaceOfRow here (is_branch (slot_in row place).access) written → Ends rest → (if here then (after (separator place) ((if here then separator place ∷ written_text written else []) ++ rest) >>= λ operand. operand_at (is_branch (slot_in row place).access) operand) else Some (writtens.Absent, (if here then separator place ∷ written_text written else []) ++ rest)) ≡ Some (written, rest)
+place_by : (row : Row) (place : ℕ) (here : Bool) (written : Written) (rest : List ℕ)
+    → GoodPlaceOfRow here (is_branch (slot_in row place).access) written → Ends rest
+    → (if here then (after (separator place) ((if here then separator place ∷ written_text written else []) ++ rest) >>= λ operand. operand_at (is_branch (slot_in row place).access) operand) else Some (writtens.Absent, (if here then separator place ∷ written_text written else []) ++ rest)) ≡ Some (written, rest)
 unfolding after
 place_by row place true written rest good ends = rw (itself (separator place)) (operand_read (is_branch (slot_in row place).access) written rest good ends)
 place_by row place false written rest good ends = ap (λ (w : Written). Some (w, rest)) (sym good)
 
-place_read : (row : Row) (place : ℕ) (written : Written) (rest : List ℕ) → GoodPlaceOfRow (nat_lt place row.count) (is_branch (slot_in row place).access) written → Ends rest → place_of_row_at row place (row_place_text row place written ++ rest) ≡ Some (written, rest)
+place_read : (row : Row) (place : ℕ) (written : Written) (rest : List ℕ)
+    → GoodPlaceOfRow (nat_lt place row.count) (is_branch (slot_in row place).access) written → Ends rest
+    → place_of_row_at row place (row_place_text row place written ++ rest) ≡ Some (written, rest)
 unfolding place_of_row_at row_place_text
 place_read row place written rest good ends = place_by row place (nat_lt place row.count) written rest good ends
 
@@ -112,7 +117,10 @@ first_ends row written rest ends = word_ends_by (nat_lt 0 row.count) (written_te
 
 -- ---- instructions
 
-operands_read : (row : Row) (a b c : Written) → GoodPlaceOfRow (nat_lt 0 row.count) (is_branch (slot_in row 0).access) a → GoodPlaceOfRow (nat_lt 1 row.count) (is_branch (slot_in row 1).access) b → GoodPlaceOfRow (nat_lt 2 row.count) (is_branch (slot_in row 2).access) c → operands_at row (row_place_text row 0 a ++ (row_place_text row 1 b ++ (row_place_text row 2 c ++ []))) ≡ Some (record { row = row; a = a; b = b; c = c })
+operands_read : (row : Row) (a b c : Written) → GoodPlaceOfRow (nat_lt 0 row.count) (is_branch (slot_in row 0).access) a
+    → GoodPlaceOfRow (nat_lt 1 row.count) (is_branch (slot_in row 1).access) b
+    → GoodPlaceOfRow (nat_lt 2 row.count) (is_branch (slot_in row 2).access) c
+    → operands_at row (row_place_text row 0 a ++ (row_place_text row 1 b ++ (row_place_text row 2 c ++ []))) ≡ Some (record { row = row; a = a; b = b; c = c })
 unfolding operands_at
 operands_read row a b c good_a good_b good_c =
     let ends_c : Ends (row_place_text row 2 c ++ []) = place_ends row 2 c [] refl tt in
@@ -121,7 +129,11 @@ operands_read row a b c good_a good_b good_c =
     ap (λ (o : Option (Written × List ℕ)). o >>= λ b. place_of_row_at row 2 b.1 >>= λ c. ended (record { row = row; a = a; b = b.0; c = c.0 }) c.1) (place_read row 1 b (row_place_text row 2 c ++ []) good_b ends_c) ∙
     ap (λ (o : Option (Written × List ℕ)). o >>= λ c. ended (record { row = row; a = a; b = b; c = c.0 }) c.1) (place_read row 2 c [] good_c tt)
 
-pub sentence_read : (sentence : Sentence) → row_for sentence.row.op ≡ Some sentence.row → GoodPlaceOfRow (nat_lt 0 sentence.row.count) (is_branch (slot_in sentence.row 0).access) sentence.a → GoodPlaceOfRow (nat_lt 1 sentence.row.count) (is_branch (slot_in sentence.row 1).access) sentence.b → GoodPlaceOfRow (nat_lt 2 sentence.row.count) (is_branch (slot_in sentence.row 2).access) sentence.c → sentence_of (sentence_text sentence) ≡ Some sentence
+pub sentence_read : (sentence : Sentence) → row_for sentence.row.op ≡ Some sentence.row
+    → GoodPlaceOfRow (nat_lt 0 sentence.row.count) (is_branch (slot_in sentence.row 0).access) sentence.a
+    → GoodPlaceOfRow (nat_lt 1 sentence.row.count) (is_branch (slot_in sentence.row 1).access) sentence.b
+    → GoodPlaceOfRow (nat_lt 2 sentence.row.count) (is_branch (slot_in sentence.row 2).access) sentence.c
+    → sentence_of (sentence_text sentence) ≡ Some sentence
 unfolding sentence_of sentence_text
 sentence_read s listed good_a good_b good_c =
     let word : List ℕ = mnemonic s.row.name in

@@ -100,7 +100,8 @@ le_4 (a ∷ b ∷ c ∷ []) e h = absurd (omega (arith, e))
 le_4 (a ∷ b ∷ c ∷ d ∷ []) e h = (le_bytes_4 (a ∷ b ∷ c ∷ d ∷ []) _ refl (octet (a ∷ b ∷ c ∷ d ∷ []) h) refl, (let p : a < 256 = h.0 in let q : b < 256 = h.1.0 in let r : c < 256 = h.1.1.0 in let s : d < 256 = h.1.1.1.0 in omega arith))
 le_4 (a ∷ b ∷ c ∷ d ∷ f ∷ bs) e h = absurd (omega (arith, e))
 
-le_back : (size : ℕ) (bs : List ℕ) → (size ≡ 1) ⊎ (size ≡ 2) ⊎ (size ≡ 4) → length bs ≡ size → AreOctets bs → (to_le_bytes (width_of size) (from_le_bytes (width_of size) bs) ≡ bs) × (from_le_bytes (width_of size) bs < whole_of size)
+le_back : (size : ℕ) (bs : List ℕ) → (size ≡ 1) ⊎ (size ≡ 2) ⊎ (size ≡ 4) → length bs ≡ size → AreOctets bs
+    → (to_le_bytes (width_of size) (from_le_bytes (width_of size) bs) ≡ bs) × (from_le_bytes (width_of size) bs < whole_of size)
 le_back size bs (inl s) e h = subst (λ (z : ℕ). (to_le_bytes (width_of z) (from_le_bytes (width_of z) bs) ≡ bs) × (from_le_bytes (width_of z) bs < whole_of z)) (sym s) (le_1 bs (e ∙ s) h)
 le_back size bs (inr (inl s)) e h = subst (λ (z : ℕ). (to_le_bytes (width_of z) (from_le_bytes (width_of z) bs) ≡ bs) × (from_le_bytes (width_of z) bs < whole_of z)) (sym s) (le_2 bs (e ∙ s) h)
 le_back size bs (inr (inr s)) e h = subst (λ (z : ℕ). (to_le_bytes (width_of z) (from_le_bytes (width_of z) bs) ≡ bs) × (from_le_bytes (width_of z) bs < whole_of z)) (sym s) (le_4 bs (e ∙ s) h)
@@ -115,7 +116,8 @@ record BeginsNumber (size number : ℕ) (bytes rest : List ℕ) : Type 0 where
 length_take : (n : ℕ) (xs : List ℕ) → n ≤ length xs → length (take n xs) ≡ n
 length_take n xs h = length-take-le n xs h
 
-begins_number : (size : ℕ) (bytes : List ℕ) (number : ℕ) (rest : List ℕ) → (size ≡ 1) ⊎ (size ≡ 2) ⊎ (size ≡ 4) → AreOctets bytes → number_shown size bytes ≡ Some (number, rest) → BeginsNumber size number bytes rest
+begins_number : (size : ℕ) (bytes : List ℕ) (number : ℕ) (rest : List ℕ) → (size ≡ 1) ⊎ (size ≡ 2) ⊎ (size ≡ 4) → AreOctets bytes
+    → number_shown size bytes ≡ Some (number, rest) → BeginsNumber size number bytes rest
 unfolding number_shown
 begins_number size bytes number rest sized octets e =
     let p = some_unless (nat_lt (length bytes) size) (Some (from_le_bytes (width_of size) (take size bytes), drop size bytes)) (number, rest) e in
@@ -157,7 +159,8 @@ le_is a b h = grind (arith, nat_tests)
 remainder : (a b : ℕ) → a < b → a % b ≡ a
 remainder a b h = mod-eq_of_lt h
 
-displacement_by : (size bits : ℕ) (t : Bool) → whole_of size ≡ half_of size + half_of size → bits < whole_of size → nat_lt bits (half_of size) ≡ t → displacement_bits size (if t then plain_number bits else record { negative = true; magnitude = whole_of size - bits }) ≡ Some bits
+displacement_by : (size bits : ℕ) (t : Bool) → whole_of size ≡ half_of size + half_of size → bits < whole_of size → nat_lt bits (half_of size) ≡ t
+    → displacement_bits size (if t then plain_number bits else record { negative = true; magnitude = whole_of size - bits }) ≡ Some bits
 unfolding displacement_bits value_bits
 displacement_by size bits true h small e = rw e (rw (lt_is bits (whole_of size) small) refl)
 displacement_by size bits false h small e =
@@ -172,7 +175,8 @@ displacement_back size bits sized small = displacement_by size bits (nat_lt bits
 not_zero : (n : ℕ) → 0 < n → (n == 0) ≡ false
 not_zero n h = grind (arith, nat_tests)
 
-good_by : (size bits : ℕ) (t : Bool) → whole_of size ≤ 4294967296 → 0 < half_of size → bits < whole_of size → nat_lt bits (half_of size) ≡ t → GoodNumber (if t then plain_number bits else record { negative = true; magnitude = whole_of size - bits })
+good_by : (size bits : ℕ) (t : Bool) → whole_of size ≤ 4294967296 → 0 < half_of size → bits < whole_of size → nat_lt bits (half_of size) ≡ t
+    → GoodNumber (if t then plain_number bits else record { negative = true; magnitude = whole_of size - bits })
 good_by size bits true most some small e = (omega (arith, most, small), refl)
 good_by size bits false most some small e =
     let large : half_of size ≤ bits = ge_of bits (half_of size) e in
@@ -199,17 +203,20 @@ record PlaceBack (mode reg : ℕ) (bytes rest : List ℕ) (place : Place) : Type
   spells : place_bytes [] place ≡ Some (specifier mode reg ∷ front)
   good : GoodPlace place
 
-place_as : (mode reg : ℕ) (bytes rest : List ℕ) (place place' : Place) → place ≡ place' → PlaceBack mode reg bytes rest place → PlaceBack mode reg bytes rest place'
+place_as : (mode reg : ℕ) (bytes rest : List ℕ) (place place' : Place) → place ≡ place' → PlaceBack mode reg bytes rest place
+    → PlaceBack mode reg bytes rest place'
 place_as mode reg bytes rest place place' e h = subst (λ (p : Place). PlaceBack mode reg bytes rest p) e h
 
-mode_as : (mode mode' reg reg' : ℕ) (bytes rest : List ℕ) (place : Place) → mode' ≡ mode → reg' ≡ reg → PlaceBack mode reg bytes rest place → PlaceBack mode' reg' bytes rest place
+mode_as : (mode mode' reg reg' : ℕ) (bytes rest : List ℕ) (place : Place) → mode' ≡ mode → reg' ≡ reg → PlaceBack mode reg bytes rest place
+    → PlaceBack mode' reg' bytes rest place
 mode_as mode mode' reg reg' bytes rest place e f h = subst (λ (m : ℕ). PlaceBack m reg' bytes rest place) (sym e) (subst (λ (r : ℕ). PlaceBack mode r bytes rest place) (sym f) h)
 
 plain_is : (mode reg : ℕ) → reg < 15 → plain_specifier mode reg ≡ Some (specifier mode reg ∷ [])
 plain_is mode reg h = rw (lt_is reg 15 h) refl
 
 -- nothing stands behind a specifier of modes 6 to 9 on another register than PC
-plain_back : (mode reg : ℕ) (bytes rest : List ℕ) (place : Place) → reg < 15 → place_bytes [] place ≡ plain_specifier mode reg → GoodPlace place → (place' : Place) → got place bytes ≡ got place' rest → PlaceBack mode reg bytes rest place'
+plain_back : (mode reg : ℕ) (bytes rest : List ℕ) (place : Place) → reg < 15 → place_bytes [] place ≡ plain_specifier mode reg → GoodPlace place
+    → (place' : Place) → got place bytes ≡ got place' rest → PlaceBack mode reg bytes rest place'
 plain_back mode reg bytes rest place small spells good place' e =
     let same : (place, bytes) ≡ (place', rest) = some_same _ _ e in
     place_as mode reg bytes rest place place' (ap (λ (x : Place × List ℕ). x.0) same) (record {
@@ -233,7 +240,8 @@ sized_by false false = inr (inr refl)
 mode_sized : (mode : ℕ) → (size_of_mode mode ≡ 1) ⊎ (size_of_mode mode ≡ 2) ⊎ (size_of_mode mode ≡ 4)
 mode_sized mode = sized_by (nat_lt mode 12) (nat_lt mode 14)
 
-displacement_place : (mode reg : ℕ) (bytes rest : List ℕ) (place : Place) → 9 < mode → mode < 16 → reg < 16 → AreOctets bytes → displacement_shown mode reg bytes ≡ Some (place, rest) → PlaceBack mode reg bytes rest place
+displacement_place : (mode reg : ℕ) (bytes rest : List ℕ) (place : Place) → 9 < mode → mode < 16 → reg < 16 → AreOctets bytes
+    → displacement_shown mode reg bytes ≡ Some (place, rest) → PlaceBack mode reg bytes rest place
 unfolding displacement_shown place_bytes displaced_bytes
 displacement_place mode reg bytes rest place low high small octets e =
     let size : ℕ = size_of_mode mode in
@@ -269,7 +277,9 @@ pick false a b y e = inr (refl, e)
 is_not : (a b : ℕ) → (a == b) ≡ false → a ≢ b
 is_not a b e = grind (arith, nat_tests)
 
-place_by_8 : (mode reg : ℕ) (bytes rest : List ℕ) (place : Place) → reg < 15 → 5 < mode → mode ≤ 9 → mode ≢ 6 → mode ≢ 7 → (((mode == 8) ≡ true) × (got (places.AutoInc reg) bytes ≡ Some (place, rest))) ⊎ (((mode == 8) ≡ false) × (got (places.AutoIncDef reg) bytes ≡ Some (place, rest))) → PlaceBack mode reg bytes rest place
+place_by_8 : (mode reg : ℕ) (bytes rest : List ℕ) (place : Place) → reg < 15 → 5 < mode → mode ≤ 9 → mode ≢ 6 → mode ≢ 7
+    → (((mode == 8) ≡ true) × (got (places.AutoInc reg) bytes ≡ Some (place, rest))) ⊎ (((mode == 8) ≡ false) × (got (places.AutoIncDef reg) bytes ≡ Some (place, rest)))
+    → PlaceBack mode reg bytes rest place
 unfolding place_bytes
 place_by_8 mode reg bytes rest place small low high a b (inl p) =
     mode_as 8 mode reg reg bytes rest place (size_is mode 8 p.0) refl (plain_back 8 reg bytes rest (places.AutoInc reg) small refl small place p.1)
@@ -277,7 +287,9 @@ place_by_8 mode reg bytes rest place small low high a b (inr p) =
     let nine : mode ≡ 9 = (let c = is_not mode 8 p.0 in omega (arith, a, b, c)) in
     mode_as 9 mode reg reg bytes rest place nine refl (plain_back 9 reg bytes rest (places.AutoIncDef reg) small refl small place p.1)
 
-place_by_7 : (mode reg : ℕ) (bytes rest : List ℕ) (place : Place) → reg < 15 → 5 < mode → mode ≤ 9 → mode ≢ 6 → (((mode == 7) ≡ true) × (got (places.AutoDec reg) bytes ≡ Some (place, rest))) ⊎ (((mode == 7) ≡ false) × ((if mode == 8 then got (places.AutoInc reg) bytes else Some (places.AutoIncDef reg, bytes)) ≡ Some (place, rest))) → PlaceBack mode reg bytes rest place
+place_by_7 : (mode reg : ℕ) (bytes rest : List ℕ) (place : Place) → reg < 15 → 5 < mode → mode ≤ 9 → mode ≢ 6
+    → (((mode == 7) ≡ true) × (got (places.AutoDec reg) bytes ≡ Some (place, rest))) ⊎ (((mode == 7) ≡ false) × ((if mode == 8 then got (places.AutoInc reg) bytes else Some (places.AutoIncDef reg, bytes)) ≡ Some (place, rest)))
+    → PlaceBack mode reg bytes rest place
 unfolding place_bytes
 place_by_7 mode reg bytes rest place small low high a (inl p) =
     mode_as 7 mode reg reg bytes rest place (size_is mode 7 p.0) refl (plain_back 7 reg bytes rest (places.AutoDec reg) small refl small place p.1)
@@ -292,14 +304,18 @@ from_six mode reg bytes =
     else (if mode == 8 then Some (places.AutoInc reg, bytes)
     else Some (places.AutoIncDef reg, bytes)))
 
-place_by_6 : (mode reg : ℕ) (bytes rest : List ℕ) (place : Place) → reg < 15 → 5 < mode → mode ≤ 9 → (((mode == 6) ≡ true) × (got (places.Deferred reg) bytes ≡ Some (place, rest))) ⊎ (((mode == 6) ≡ false) × ((if mode == 7 then got (places.AutoDec reg) bytes else (if mode == 8 then Some (places.AutoInc reg, bytes) else Some (places.AutoIncDef reg, bytes))) ≡ Some (place, rest))) → PlaceBack mode reg bytes rest place
+place_by_6 : (mode reg : ℕ) (bytes rest : List ℕ) (place : Place) → reg < 15 → 5 < mode → mode ≤ 9
+    → (((mode == 6) ≡ true) × (got (places.Deferred reg) bytes ≡ Some (place, rest))) ⊎ (((mode == 6) ≡ false) × ((if mode == 7 then got (places.AutoDec reg) bytes else (if mode == 8 then Some (places.AutoInc reg, bytes) else Some (places.AutoIncDef reg, bytes))) ≡ Some (place, rest)))
+    → PlaceBack mode reg bytes rest place
 unfolding place_bytes
 place_by_6 mode reg bytes rest place small low high (inl p) =
     mode_as 6 mode reg reg bytes rest place (size_is mode 6 p.0) refl (plain_back 6 reg bytes rest (places.Deferred reg) small refl small place p.1)
 place_by_6 mode reg bytes rest place small low high (inr p) =
     place_by_7 mode reg bytes rest place small low high (is_not mode 6 p.0) (pick (mode == 7) (Some (places.AutoDec reg, bytes)) (if mode == 8 then Some (places.AutoInc reg, bytes) else Some (places.AutoIncDef reg, bytes)) (place, rest) p.1)
 
-place_by_9 : (mode reg : ℕ) (bytes rest : List ℕ) (place : Place) → reg < 16 → 5 < mode → mode ≤ 9 → AreOctets bytes → ((((mode == 9) && (reg == 15)) ≡ true) × (absolute_shown bytes ≡ Some (place, rest))) ⊎ ((((mode == 9) && (reg == 15)) ≡ false) × ((if reg == 15 then None else from_six mode reg bytes) ≡ Some (place, rest))) → PlaceBack mode reg bytes rest place
+place_by_9 : (mode reg : ℕ) (bytes rest : List ℕ) (place : Place) → reg < 16 → 5 < mode → mode ≤ 9 → AreOctets bytes
+    → ((((mode == 9) && (reg == 15)) ≡ true) × (absolute_shown bytes ≡ Some (place, rest))) ⊎ ((((mode == 9) && (reg == 15)) ≡ false) × ((if reg == 15 then None else from_six mode reg bytes) ≡ Some (place, rest)))
+    → PlaceBack mode reg bytes rest place
 place_by_9 mode reg bytes rest place small low high octets (inl p) =
     let tests = both (mode == 9) (reg == 15) p.0 in
     mode_as 9 mode 15 reg bytes rest place (size_is mode 9 tests.0) (size_is reg 15 tests.1) (absolute_place bytes rest place octets p.1)
@@ -308,12 +324,15 @@ place_by_9 mode reg bytes rest place small low high octets (inr p) =
     let less : reg < 15 = (let c = is_not reg 15 q.0 in omega (arith, small, c)) in
     place_by_6 mode reg bytes rest place less low high (pick (mode == 6) (Some (places.Deferred reg, bytes)) (if mode == 7 then Some (places.AutoDec reg, bytes) else (if mode == 8 then Some (places.AutoInc reg, bytes) else Some (places.AutoIncDef reg, bytes))) (place, rest) q.1)
 
-place_by_high : (mode reg : ℕ) (bytes rest : List ℕ) (place : Place) → mode < 16 → reg < 16 → 5 < mode → AreOctets bytes → ((nat_lt 9 mode ≡ true) × (displacement_shown mode reg bytes ≡ Some (place, rest))) ⊎ ((nat_lt 9 mode ≡ false) × ((if (mode == 9) && (reg == 15) then absolute_shown bytes else (if reg == 15 then None else from_six mode reg bytes)) ≡ Some (place, rest))) → PlaceBack mode reg bytes rest place
+place_by_high : (mode reg : ℕ) (bytes rest : List ℕ) (place : Place) → mode < 16 → reg < 16 → 5 < mode → AreOctets bytes
+    → ((nat_lt 9 mode ≡ true) × (displacement_shown mode reg bytes ≡ Some (place, rest))) ⊎ ((nat_lt 9 mode ≡ false) × ((if (mode == 9) && (reg == 15) then absolute_shown bytes else (if reg == 15 then None else from_six mode reg bytes)) ≡ Some (place, rest)))
+    → PlaceBack mode reg bytes rest place
 place_by_high mode reg bytes rest place high small low octets (inl p) = displacement_place mode reg bytes rest place (lt_of 9 mode p.0) high small octets p.1
 place_by_high mode reg bytes rest place high small low octets (inr p) =
     place_by_9 mode reg bytes rest place small low (ge_of 9 mode p.0) octets (pick ((mode == 9) && (reg == 15)) (absolute_shown bytes) (if reg == 15 then None else from_six mode reg bytes) (place, rest) p.1)
 
-place_back : (mode reg : ℕ) (bytes rest : List ℕ) (place : Place) → mode < 16 → reg < 16 → AreOctets bytes → place_shown mode reg bytes ≡ Some (place, rest) → PlaceBack mode reg bytes rest place
+place_back : (mode reg : ℕ) (bytes rest : List ℕ) (place : Place) → mode < 16 → reg < 16 → AreOctets bytes
+    → place_shown mode reg bytes ≡ Some (place, rest) → PlaceBack mode reg bytes rest place
 unfolding place_shown
 place_back mode reg bytes rest place high small octets e =
     let after_low : Option (Place × List ℕ) = if nat_lt 9 mode then displacement_shown mode reg bytes else (if (mode == 9) && (reg == 15) then absolute_shown bytes else (if reg == 15 then None else from_six mode reg bytes)) in
@@ -330,7 +349,8 @@ record WrittenBack (bytes rest : List ℕ) (spelling : Option (List ℕ)) (good 
   spells : spelling ≡ Some front
   is_good : good
 
-written_as : (bytes rest : List ℕ) (spelling : Written → Option (List ℕ)) (good : Written → Type 0) (written written' : Written) → written ≡ written' → WrittenBack bytes rest (spelling written) (good written) → WrittenBack bytes rest (spelling written') (good written')
+written_as : (bytes rest : List ℕ) (spelling : Written → Option (List ℕ)) (good : Written → Type 0) (written written' : Written) → written ≡ written'
+    → WrittenBack bytes rest (spelling written) (good written) → WrittenBack bytes rest (spelling written') (good written')
 written_as bytes rest spelling good written written' e h = subst (λ (w : Written). WrittenBack bytes rest (spelling w) (good w)) e h
 
 last_false : (a b c : Bool) → a ≡ true → b ≡ true → (a && b && c) ≡ false → c ≡ false
@@ -342,7 +362,8 @@ same_specifier : (mode reg m r : ℕ) → mode < 16 → reg < 16 → r < 15 → 
 same_specifier mode reg m r high small less e = (omega (arith, e), omega (arith, e))
 
 -- a base that changes its register is one of modes 7 to 9
-left_auto : (index mode reg m r : ℕ) (front : List ℕ) → mode < 16 → reg < 16 → 6 < m → m < 10 → plain_specifier m r ≡ Some (specifier mode reg ∷ front) → (nat_lt 6 mode && nat_lt mode 10 && (reg == index)) ≡ false → not (r == index) ≡ true
+left_auto : (index mode reg m r : ℕ) (front : List ℕ) → mode < 16 → reg < 16 → 6 < m → m < 10
+    → plain_specifier m r ≡ Some (specifier mode reg ∷ front) → (nat_lt 6 mode && nat_lt mode 10 && (reg == index)) ≡ false → not (r == index) ≡ true
 left_auto index mode reg m r front high small low up e f =
     let p = some_if (nat_lt r 15) (Some (specifier m r ∷ [])) (specifier mode reg ∷ front) e in
     let lists : specifier m r ∷ [] ≡ specifier mode reg ∷ front = some_same _ _ p.1 in
@@ -354,7 +375,8 @@ left_auto index mode reg m r front high small low up e f =
     heads x y xs ys e = cc
 
 -- the place that a mode and a register give leaves an index alone, unless it's one of 7, 8 and 9 on the index
-left_by : (index mode reg : ℕ) (front : List ℕ) (place : Place) → mode < 16 → reg < 16 → place_bytes [] place ≡ Some (specifier mode reg ∷ front) → (nat_lt 6 mode && nat_lt mode 10 && (reg == index)) ≡ false → leaves_index index place ≡ true
+left_by : (index mode reg : ℕ) (front : List ℕ) (place : Place) → mode < 16 → reg < 16 → place_bytes [] place ≡ Some (specifier mode reg ∷ front)
+    → (nat_lt 6 mode && nat_lt mode 10 && (reg == index)) ≡ false → leaves_index index place ≡ true
 unfolding place_bytes
 left_by index mode reg front (places.Deferred r) high small e f = refl
 left_by index mode reg front (places.AutoDec r) high small e f = left_auto index mode reg 7 r front high small (omega arith) (omega arith) e f
@@ -363,7 +385,9 @@ left_by index mode reg front (places.AutoIncDef r) high small e f = left_auto in
 left_by index mode reg front (places.Absolute address) high small e f = refl
 left_by index mode reg front (places.Disp size r by deferred) high small e f = refl
 
-index_back : (index : ℕ) (bytes rest : List ℕ) (written : Written) (slot : Slot) → index < 15 → AreOctets bytes → indexed_shown index bytes ≡ Some (written, rest) → WrittenBack (specifier 4 index ∷ bytes) rest (specifier_bytes [] slot written) (GoodSpecifier written)
+index_back : (index : ℕ) (bytes rest : List ℕ) (written : Written) (slot : Slot) → index < 15 → AreOctets bytes
+    → indexed_shown index bytes ≡ Some (written, rest)
+    → WrittenBack (specifier 4 index ∷ bytes) rest (specifier_bytes [] slot written) (GoodSpecifier written)
 unfolding indexed_shown byte_shown specifier_bytes indexed_bytes
 index_back index [] rest written slot small octets e = absurd (cc)
 index_back index (first ∷ bytes) rest written slot small octets e =
@@ -385,7 +409,9 @@ index_back index (first ∷ bytes) rest written slot small octets e =
       is_good = (small, back.good);
     })
 
-literal_back : (slot : Slot) (mode reg : ℕ) (bytes rest : List ℕ) (written : Written) → mode < 4 → reg < 16 → (if is_read slot.access then got (writtens.Literal (plain_number (16 * mode + reg))) bytes else None) ≡ Some (written, rest) → WrittenBack (specifier mode reg ∷ bytes) rest (specifier_bytes [] slot written) (GoodSpecifier written)
+literal_back : (slot : Slot) (mode reg : ℕ) (bytes rest : List ℕ) (written : Written) → mode < 4 → reg < 16
+    → (if is_read slot.access then got (writtens.Literal (plain_number (16 * mode + reg))) bytes else None) ≡ Some (written, rest)
+    → WrittenBack (specifier mode reg ∷ bytes) rest (specifier_bytes [] slot written) (GoodSpecifier written)
 unfolding specifier_bytes
 literal_back slot mode reg bytes rest written low small e =
     let p = some_if (is_read slot.access) (got (writtens.Literal (plain_number (16 * mode + reg))) bytes) (written, rest) e in
@@ -402,7 +428,9 @@ either_false : (a b : Bool) → (a || b) ≡ false → (a ≡ false) × (b ≡ f
 either_false true b e = absurd (cc)
 either_false false b e = (refl, e)
 
-register_back : (slot : Slot) (reg : ℕ) (bytes rest : List ℕ) (written : Written) → reg < 16 → (if (reg == 15) || is_address slot.access then None else got (writtens.Register reg) bytes) ≡ Some (written, rest) → WrittenBack (specifier 5 reg ∷ bytes) rest (specifier_bytes [] slot written) (GoodSpecifier written)
+register_back : (slot : Slot) (reg : ℕ) (bytes rest : List ℕ) (written : Written) → reg < 16
+    → (if (reg == 15) || is_address slot.access then None else got (writtens.Register reg) bytes) ≡ Some (written, rest)
+    → WrittenBack (specifier 5 reg ∷ bytes) rest (specifier_bytes [] slot written) (GoodSpecifier written)
 unfolding specifier_bytes
 register_back slot reg bytes rest written small e =
     let p = some_unless ((reg == 15) || is_address slot.access) (got (writtens.Register reg) bytes) (written, rest) e in
@@ -416,11 +444,14 @@ register_back slot reg bytes rest written small e =
       is_good = less;
     })
 
-immediate_spells : (slot : Slot) (value : Value) (bits : ℕ) → is_read slot.access ≡ true → bits_of_value [] slot.size value ≡ Some bits → specifier_bytes [] slot (writtens.Immediate value) ≡ Some (with_number 143 slot.size bits)
+immediate_spells : (slot : Slot) (value : Value) (bits : ℕ) → is_read slot.access ≡ true → bits_of_value [] slot.size value ≡ Some bits
+    → specifier_bytes [] slot (writtens.Immediate value) ≡ Some (with_number 143 slot.size bits)
 unfolding specifier_bytes immediate_bytes
 immediate_spells slot value bits read e = rw read (rw e refl)
 
-immediate_back : (slot : Slot) (bytes rest : List ℕ) (written : Written) → (slot.size ≡ 1) ⊎ (slot.size ≡ 2) ⊎ (slot.size ≡ 4) → AreOctets bytes → (if is_read slot.access then immediate_shown slot bytes else None) ≡ Some (written, rest) → WrittenBack (specifier 8 15 ∷ bytes) rest (specifier_bytes [] slot written) (GoodSpecifier written)
+immediate_back : (slot : Slot) (bytes rest : List ℕ) (written : Written) → (slot.size ≡ 1) ⊎ (slot.size ≡ 2) ⊎ (slot.size ≡ 4) → AreOctets bytes
+    → (if is_read slot.access then immediate_shown slot bytes else None) ≡ Some (written, rest)
+    → WrittenBack (specifier 8 15 ∷ bytes) rest (specifier_bytes [] slot written) (GoodSpecifier written)
 unfolding immediate_shown
 immediate_back slot bytes rest written sized octets e =
     let p = some_if (is_read slot.access) (number_shown slot.size bytes >>= λ number. got (writtens.Immediate (values.Number (plain_number number.0))) number.1) (written, rest) e in
@@ -436,7 +467,9 @@ immediate_back slot bytes rest written sized octets e =
       is_good = good_plain b.0.0 (omega (arith, most, begins.small));
     })
 
-addressed_back : (slot : Slot) (mode reg : ℕ) (bytes rest : List ℕ) (written : Written) → mode < 16 → reg < 16 → AreOctets bytes → (place_shown mode reg bytes >>= λ place. got (writtens.Plain place.0) place.1) ≡ Some (written, rest) → WrittenBack (specifier mode reg ∷ bytes) rest (specifier_bytes [] slot written) (GoodSpecifier written)
+addressed_back : (slot : Slot) (mode reg : ℕ) (bytes rest : List ℕ) (written : Written) → mode < 16 → reg < 16 → AreOctets bytes
+    → (place_shown mode reg bytes >>= λ place. got (writtens.Plain place.0) place.1) ≡ Some (written, rest)
+    → WrittenBack (specifier mode reg ∷ bytes) rest (specifier_bytes [] slot written) (GoodSpecifier written)
 unfolding specifier_bytes
 addressed_back slot mode reg bytes rest written high small octets e =
     let b = bind_some (place_shown mode reg bytes) (λ place. got (writtens.Plain place.0) place.1) (written, rest) e in
@@ -451,7 +484,8 @@ addressed_back slot mode reg bytes rest written high small octets e =
     })
 
 -- at a mode and a register that are known
-specifier_as : (mode mode' reg reg' : ℕ) (bytes rest : List ℕ) (spelling : Option (List ℕ)) (good : Type 0) → mode' ≡ mode → reg' ≡ reg → WrittenBack (specifier mode reg ∷ bytes) rest spelling good → WrittenBack (specifier mode' reg' ∷ bytes) rest spelling good
+specifier_as : (mode mode' reg reg' : ℕ) (bytes rest : List ℕ) (spelling : Option (List ℕ)) (good : Type 0) → mode' ≡ mode → reg' ≡ reg
+    → WrittenBack (specifier mode reg ∷ bytes) rest spelling good → WrittenBack (specifier mode' reg' ∷ bytes) rest spelling good
 specifier_as mode mode' reg reg' bytes rest spelling good e f h = subst (λ (m : ℕ). WrittenBack (specifier m reg' ∷ bytes) rest spelling good) (sym e) (subst (λ (r : ℕ). WrittenBack (specifier mode r ∷ bytes) rest spelling good) (sym f) h)
 
 abbrev from_mode_8 : Slot → ℕ → ℕ → List ℕ → Option (Written × List ℕ)
@@ -469,19 +503,28 @@ from_mode_4 slot mode reg bytes = if mode == 4 then (if reg == 15 then None else
 abbrev Backs : Slot → ℕ → ℕ → List ℕ → List ℕ → Written → Type 0
 Backs slot mode reg bytes rest written = WrittenBack (specifier mode reg ∷ bytes) rest (specifier_bytes [] slot written) (GoodSpecifier written)
 
-back_by_8 : (slot : Slot) (mode reg : ℕ) (bytes rest : List ℕ) (written : Written) → (slot.size ≡ 1) ⊎ (slot.size ≡ 2) ⊎ (slot.size ≡ 4) → mode < 16 → reg < 16 → AreOctets bytes → ((((mode == 8) && (reg == 15)) ≡ true) × ((if is_read slot.access then immediate_shown slot bytes else None) ≡ Some (written, rest))) ⊎ ((((mode == 8) && (reg == 15)) ≡ false) × ((place_shown mode reg bytes >>= λ place. got (writtens.Plain place.0) place.1) ≡ Some (written, rest))) → Backs slot mode reg bytes rest written
+back_by_8 : (slot : Slot) (mode reg : ℕ) (bytes rest : List ℕ) (written : Written) → (slot.size ≡ 1) ⊎ (slot.size ≡ 2) ⊎ (slot.size ≡ 4) → mode < 16
+    → reg < 16 → AreOctets bytes
+    → ((((mode == 8) && (reg == 15)) ≡ true) × ((if is_read slot.access then immediate_shown slot bytes else None) ≡ Some (written, rest))) ⊎ ((((mode == 8) && (reg == 15)) ≡ false) × ((place_shown mode reg bytes >>= λ place. got (writtens.Plain place.0) place.1) ≡ Some (written, rest)))
+    → Backs slot mode reg bytes rest written
 back_by_8 slot mode reg bytes rest written sized high small octets (inl p) =
     let tests = both (mode == 8) (reg == 15) p.0 in
     specifier_as 8 mode 15 reg bytes rest (specifier_bytes [] slot written) (GoodSpecifier written) (size_is mode 8 tests.0) (size_is reg 15 tests.1) (immediate_back slot bytes rest written sized octets p.1)
 back_by_8 slot mode reg bytes rest written sized high small octets (inr p) = addressed_back slot mode reg bytes rest written high small octets p.1
 
-back_by_5 : (slot : Slot) (mode reg : ℕ) (bytes rest : List ℕ) (written : Written) → (slot.size ≡ 1) ⊎ (slot.size ≡ 2) ⊎ (slot.size ≡ 4) → mode < 16 → reg < 16 → AreOctets bytes → (((mode == 5) ≡ true) × ((if (reg == 15) || is_address slot.access then None else got (writtens.Register reg) bytes) ≡ Some (written, rest))) ⊎ (((mode == 5) ≡ false) × (from_mode_8 slot mode reg bytes ≡ Some (written, rest))) → Backs slot mode reg bytes rest written
+back_by_5 : (slot : Slot) (mode reg : ℕ) (bytes rest : List ℕ) (written : Written) → (slot.size ≡ 1) ⊎ (slot.size ≡ 2) ⊎ (slot.size ≡ 4) → mode < 16
+    → reg < 16 → AreOctets bytes
+    → (((mode == 5) ≡ true) × ((if (reg == 15) || is_address slot.access then None else got (writtens.Register reg) bytes) ≡ Some (written, rest))) ⊎ (((mode == 5) ≡ false) × (from_mode_8 slot mode reg bytes ≡ Some (written, rest)))
+    → Backs slot mode reg bytes rest written
 back_by_5 slot mode reg bytes rest written sized high small octets (inl p) =
     specifier_as 5 mode reg reg bytes rest (specifier_bytes [] slot written) (GoodSpecifier written) (size_is mode 5 p.0) refl (register_back slot reg bytes rest written small p.1)
 back_by_5 slot mode reg bytes rest written sized high small octets (inr p) =
     back_by_8 slot mode reg bytes rest written sized high small octets (pick ((mode == 8) && (reg == 15)) (if is_read slot.access then immediate_shown slot bytes else None) (place_shown mode reg bytes >>= λ place. Some (writtens.Plain place.0, place.1)) (written, rest) p.1)
 
-back_by_4 : (slot : Slot) (mode reg : ℕ) (bytes rest : List ℕ) (written : Written) → (slot.size ≡ 1) ⊎ (slot.size ≡ 2) ⊎ (slot.size ≡ 4) → mode < 16 → reg < 16 → AreOctets bytes → (((mode == 4) ≡ true) × ((if reg == 15 then None else indexed_shown reg bytes) ≡ Some (written, rest))) ⊎ (((mode == 4) ≡ false) × (from_mode_5 slot mode reg bytes ≡ Some (written, rest))) → Backs slot mode reg bytes rest written
+back_by_4 : (slot : Slot) (mode reg : ℕ) (bytes rest : List ℕ) (written : Written) → (slot.size ≡ 1) ⊎ (slot.size ≡ 2) ⊎ (slot.size ≡ 4) → mode < 16
+    → reg < 16 → AreOctets bytes
+    → (((mode == 4) ≡ true) × ((if reg == 15 then None else indexed_shown reg bytes) ≡ Some (written, rest))) ⊎ (((mode == 4) ≡ false) × (from_mode_5 slot mode reg bytes ≡ Some (written, rest)))
+    → Backs slot mode reg bytes rest written
 back_by_4 slot mode reg bytes rest written sized high small octets (inl p) =
     let q = some_unless (reg == 15) (indexed_shown reg bytes) (written, rest) p.1 in
     let less : reg < 15 = (let c = is_not reg 15 q.0 in omega (arith, small, c)) in
@@ -489,12 +532,16 @@ back_by_4 slot mode reg bytes rest written sized high small octets (inl p) =
 back_by_4 slot mode reg bytes rest written sized high small octets (inr p) =
     back_by_5 slot mode reg bytes rest written sized high small octets (pick (mode == 5) (if (reg == 15) || is_address slot.access then None else got (writtens.Register reg) bytes) (from_mode_8 slot mode reg bytes) (written, rest) p.1)
 
-back_by_0 : (slot : Slot) (mode reg : ℕ) (bytes rest : List ℕ) (written : Written) → (slot.size ≡ 1) ⊎ (slot.size ≡ 2) ⊎ (slot.size ≡ 4) → mode < 16 → reg < 16 → AreOctets bytes → ((nat_lt mode 4 ≡ true) × ((if is_read slot.access then got (writtens.Literal (plain_number (16 * mode + reg))) bytes else None) ≡ Some (written, rest))) ⊎ ((nat_lt mode 4 ≡ false) × (from_mode_4 slot mode reg bytes ≡ Some (written, rest))) → Backs slot mode reg bytes rest written
+back_by_0 : (slot : Slot) (mode reg : ℕ) (bytes rest : List ℕ) (written : Written) → (slot.size ≡ 1) ⊎ (slot.size ≡ 2) ⊎ (slot.size ≡ 4) → mode < 16
+    → reg < 16 → AreOctets bytes
+    → ((nat_lt mode 4 ≡ true) × ((if is_read slot.access then got (writtens.Literal (plain_number (16 * mode + reg))) bytes else None) ≡ Some (written, rest))) ⊎ ((nat_lt mode 4 ≡ false) × (from_mode_4 slot mode reg bytes ≡ Some (written, rest)))
+    → Backs slot mode reg bytes rest written
 back_by_0 slot mode reg bytes rest written sized high small octets (inl p) = literal_back slot mode reg bytes rest written (lt_of mode 4 p.0) small p.1
 back_by_0 slot mode reg bytes rest written sized high small octets (inr p) =
     back_by_4 slot mode reg bytes rest written sized high small octets (pick (mode == 4) (if reg == 15 then None else indexed_shown reg bytes) (from_mode_5 slot mode reg bytes) (written, rest) p.1)
 
-specifier_back : (slot : Slot) (mode reg : ℕ) (bytes rest : List ℕ) (written : Written) → (slot.size ≡ 1) ⊎ (slot.size ≡ 2) ⊎ (slot.size ≡ 4) → mode < 16 → reg < 16 → AreOctets bytes → specifier_shown slot mode reg bytes ≡ Some (written, rest) → Backs slot mode reg bytes rest written
+specifier_back : (slot : Slot) (mode reg : ℕ) (bytes rest : List ℕ) (written : Written) → (slot.size ≡ 1) ⊎ (slot.size ≡ 2) ⊎ (slot.size ≡ 4)
+    → mode < 16 → reg < 16 → AreOctets bytes → specifier_shown slot mode reg bytes ≡ Some (written, rest) → Backs slot mode reg bytes rest written
 unfolding specifier_shown
 specifier_back slot mode reg bytes rest written sized high small octets e =
     back_by_0 slot mode reg bytes rest written sized high small octets (pick (nat_lt mode 4) (if is_read slot.access then got (writtens.Literal (plain_number (16 * mode + reg))) bytes else None) (from_mode_4 slot mode reg bytes) (written, rest) e)
@@ -505,14 +552,17 @@ specifier_back slot mode reg bytes rest written sized high small octets e =
 distance_back : (by end : ℕ) → by < 4294967296 → distance ((end + by) % 4294967296) end ≡ by
 distance_back by end small = omega arith
 
-backwards : (size bits : ℕ) → whole_of size ≡ half_of size + half_of size → whole_of size ≤ 4294967296 → bits < whole_of size → half_of size ≤ bits → branch_bits size (bits + (4294967296 - whole_of size)) ≡ Some bits
+backwards : (size bits : ℕ) → whole_of size ≡ half_of size + half_of size → whole_of size ≤ 4294967296 → bits < whole_of size → half_of size ≤ bits
+    → branch_bits size (bits + (4294967296 - whole_of size)) ≡ Some bits
 backwards size bits two most small large =
     let high : half_of size ≤ bits + (4294967296 - whole_of size) = omega (arith, two, most, large) in
     let low : 4294967296 - half_of size ≤ bits + (4294967296 - whole_of size) = omega (arith, two, most, large) in
     let back : bits + (4294967296 - whole_of size) - (4294967296 - whole_of size) ≡ bits = omega arith in
     rw (ge_is (bits + (4294967296 - whole_of size)) (half_of size) high) (rw (le_is (4294967296 - half_of size) (bits + (4294967296 - whole_of size)) low) (ap (λ (n : ℕ). Some n) back))
 
-target_by : (size bits end : ℕ) (t : Bool) → whole_of size ≡ half_of size + half_of size → whole_of size ≤ 4294967296 → bits < whole_of size → nat_lt bits (half_of size) ≡ t → branch_bits size (distance (if t then (end + bits) % 4294967296 else (end + bits + (4294967296 - whole_of size)) % 4294967296) end) ≡ Some bits
+target_by : (size bits end : ℕ) (t : Bool) → whole_of size ≡ half_of size + half_of size → whole_of size ≤ 4294967296 → bits < whole_of size
+    → nat_lt bits (half_of size) ≡ t
+    → branch_bits size (distance (if t then (end + bits) % 4294967296 else (end + bits + (4294967296 - whole_of size)) % 4294967296) end) ≡ Some bits
 target_by size bits end true two most small e = ap (branch_bits size) (distance_back bits end (omega (arith, most, small))) ∙ rw e refl
 target_by size bits end false two most small e =
     let large : half_of size ≤ bits = ge_of bits (half_of size) e in
@@ -521,7 +571,8 @@ target_by size bits end false two most small e =
     let fits : bits + (4294967296 - whole_of size) < 4294967296 = omega (arith, most, small) in
     ap (λ (n : ℕ). branch_bits size (distance (n % 4294967296) end)) sum ∙ ap (branch_bits size) (distance_back (bits + (4294967296 - whole_of size)) end fits) ∙ backwards size bits two most small large
 
-target_back : (size bits end : ℕ) → (size ≡ 1) ⊎ (size ≡ 2) ⊎ (size ≡ 4) → bits < whole_of size → branch_bits size (distance (branch_target size bits end) end) ≡ Some bits
+target_back : (size bits end : ℕ) → (size ≡ 1) ⊎ (size ≡ 2) ⊎ (size ≡ 4) → bits < whole_of size
+    → branch_bits size (distance (branch_target size bits end) end) ≡ Some bits
 target_back size bits end sized small = target_by size bits end (nat_lt bits (half_of size)) (halves size sized) (whole_most size sized) small refl
 
 target_small : (size bits end : ℕ) → branch_target size bits end < 4294967296
@@ -531,11 +582,15 @@ target_small size bits end = small_by (nat_lt bits (half_of size))
     small_by true = omega arith
     small_by false = omega arith
 
-target_spells : (from : ℕ) (slot : Slot) (target bits : ℕ) → target < 4294967296 → branch_bits slot.size (distance target (from + slot.size)) ≡ Some bits → branch_bytes [] from slot (writtens.Target (values.Number (plain_number target))) ≡ Some (to_le_bytes (width_of slot.size) bits)
+target_spells : (from : ℕ) (slot : Slot) (target bits : ℕ) → target < 4294967296
+    → branch_bits slot.size (distance target (from + slot.size)) ≡ Some bits
+    → branch_bytes [] from slot (writtens.Target (values.Number (plain_number target))) ≡ Some (to_le_bytes (width_of slot.size) bits)
 unfolding branch_bytes target_bytes
 target_spells from slot target bits small e = rw (bits_plain 4 target small) (rw e refl)
 
-branch_back : (slot : Slot) (from : ℕ) (bytes rest : List ℕ) (written : Written) → (slot.size ≡ 1) ⊎ (slot.size ≡ 2) ⊎ (slot.size ≡ 4) → AreOctets bytes → branch_shown slot from bytes ≡ Some (written, rest) → WrittenBack bytes rest (branch_bytes [] from slot written) (GoodTarget written)
+branch_back : (slot : Slot) (from : ℕ) (bytes rest : List ℕ) (written : Written) → (slot.size ≡ 1) ⊎ (slot.size ≡ 2) ⊎ (slot.size ≡ 4)
+    → AreOctets bytes → branch_shown slot from bytes ≡ Some (written, rest)
+    → WrittenBack bytes rest (branch_bytes [] from slot written) (GoodTarget written)
 unfolding branch_shown
 branch_back slot from bytes rest written sized octets e =
     let b = bind_some (number_shown slot.size bytes) (λ bits. got (writtens.Target (values.Number (plain_number (branch_target slot.size bits.0 (from + slot.size))))) bits.1) (written, rest) e in
@@ -552,7 +607,10 @@ branch_back slot from bytes rest written sized octets e =
 
 -- ---- places of the row
 
-operand_by : (slot : Slot) (from : ℕ) (bytes rest : List ℕ) (written : Written) (branch : Bool) → (slot.size ≡ 1) ⊎ (slot.size ≡ 2) ⊎ (slot.size ≡ 4) → AreOctets bytes → (if branch then branch_shown slot from bytes else (byte_shown bytes >>= λ first. specifier_shown slot (first.0 / 16) (first.0 % 16) first.1)) ≡ Some (written, rest) → WrittenBack bytes rest (if branch then branch_bytes [] from slot written else specifier_bytes [] slot written) (GoodOperand branch written)
+operand_by : (slot : Slot) (from : ℕ) (bytes rest : List ℕ) (written : Written) (branch : Bool) → (slot.size ≡ 1) ⊎ (slot.size ≡ 2) ⊎ (slot.size ≡ 4)
+    → AreOctets bytes
+    → (if branch then branch_shown slot from bytes else (byte_shown bytes >>= λ first. specifier_shown slot (first.0 / 16) (first.0 % 16) first.1)) ≡ Some (written, rest)
+    → WrittenBack bytes rest (if branch then branch_bytes [] from slot written else specifier_bytes [] slot written) (GoodOperand branch written)
 unfolding byte_shown
 operand_by slot from bytes rest written true sized octets e = branch_back slot from bytes rest written sized octets e
 operand_by slot from [] rest written false sized octets e = absurd (cc)
@@ -561,7 +619,9 @@ operand_by slot from (first ∷ bytes) rest written false sized octets e =
     subst (λ (b : ℕ). WrittenBack (b ∷ bytes) rest (specifier_bytes [] slot written) (GoodSpecifier written)) (byte_halves first)
     (specifier_back slot (first / 16) (first % 16) bytes rest written sized (omega arith) (omega arith) octets.1 e)
 
-row_place_by : (slot : Slot) (from : ℕ) (bytes rest : List ℕ) (written : Written) (here : Bool) → (slot.size ≡ 1) ⊎ (slot.size ≡ 2) ⊎ (slot.size ≡ 4) → AreOctets bytes → (if here then operand_shown slot from bytes else got writtens.Absent bytes) ≡ Some (written, rest) → WrittenBack bytes rest (if here then (if is_branch slot.access then branch_bytes [] from slot written else specifier_bytes [] slot written) else absent_bytes written) (GoodPlaceOfRow here (is_branch slot.access) written)
+row_place_by : (slot : Slot) (from : ℕ) (bytes rest : List ℕ) (written : Written) (here : Bool) → (slot.size ≡ 1) ⊎ (slot.size ≡ 2) ⊎ (slot.size ≡ 4)
+    → AreOctets bytes → (if here then operand_shown slot from bytes else got writtens.Absent bytes) ≡ Some (written, rest)
+    → WrittenBack bytes rest (if here then (if is_branch slot.access then branch_bytes [] from slot written else specifier_bytes [] slot written) else absent_bytes written) (GoodPlaceOfRow here (is_branch slot.access) written)
 unfolding operand_shown
 row_place_by slot from bytes rest written true sized octets e = operand_by slot from bytes rest written (is_branch slot.access) sized octets e
 row_place_by slot from bytes rest written false sized octets e =
@@ -574,7 +634,9 @@ row_place_by slot from bytes rest written false sized octets e =
       is_good = sym absent;
     }
 
-row_place_back : (row : Row) (place from : ℕ) (bytes rest : List ℕ) (written : Written) → AreOctets bytes → row_place_shown row place from bytes ≡ Some (written, rest) → WrittenBack bytes rest (operand_bytes [] from row place written) (GoodPlaceOfRow (nat_lt place row.count) (is_branch (slot_in row place).access) written)
+row_place_back : (row : Row) (place from : ℕ) (bytes rest : List ℕ) (written : Written) → AreOctets bytes
+    → row_place_shown row place from bytes ≡ Some (written, rest)
+    → WrittenBack bytes rest (operand_bytes [] from row place written) (GoodPlaceOfRow (nat_lt place row.count) (is_branch (slot_in row place).access) written)
 unfolding row_place_shown operand_bytes
 row_place_back row place from bytes rest written octets e =
     row_place_by (slot_in row place) from bytes rest written (nat_lt place row.count) (kind_sized (if place == 0 then row.a else (if place == 1 then row.b else row.c))) octets e
@@ -596,23 +658,28 @@ from_second from bytes front rest e =
     let sizes : length bytes ≡ length front + length rest = ap length e ∙ length-append front rest in
     omega (arith, sizes)
 
-from_third : (from : ℕ) (bytes front middle more rest : List ℕ) → bytes ≡ front ++ middle → middle ≡ more ++ rest → from + (length bytes - length rest) ≡ from + length front + length more
+from_third : (from : ℕ) (bytes front middle more rest : List ℕ) → bytes ≡ front ++ middle → middle ≡ more ++ rest
+    → from + (length bytes - length rest) ≡ from + length front + length more
 from_third from bytes front middle more rest e f =
     let sizes : length bytes ≡ length front + length middle = ap length e ∙ length-append front middle in
     let others : length middle ≡ length more + length rest = ap length f ∙ length-append more rest in
     omega (arith, sizes, others)
 
-written_from : (row : Row) (place from from' : ℕ) (written : Written) (bytes : List ℕ) → from ≡ from' → operand_bytes [] from row place written ≡ Some bytes → operand_bytes [] from' row place written ≡ Some bytes
+written_from : (row : Row) (place from from' : ℕ) (written : Written) (bytes : List ℕ) → from ≡ from'
+    → operand_bytes [] from row place written ≡ Some bytes → operand_bytes [] from' row place written ≡ Some bytes
 written_from row place from from' written bytes e h = subst (λ (f : ℕ). operand_bytes [] f row place written ≡ Some bytes) e h
 
 behind_front : (xs ys zs : List ℕ) → xs ≡ ys ++ zs → AreOctets xs → AreOctets zs
 behind_front xs ys zs e h = octets_back ys zs (subst (λ (l : List ℕ). AreOctets l) e h)
 
-joined : (bytes one after_one two after_two three rest : List ℕ) → bytes ≡ one ++ after_one → after_one ≡ two ++ after_two → after_two ≡ three ++ rest → bytes ≡ (one ++ (two ++ three)) ++ rest
+joined : (bytes one after_one two after_two three rest : List ℕ) → bytes ≡ one ++ after_one → after_one ≡ two ++ after_two → after_two ≡ three ++ rest
+    → bytes ≡ (one ++ (two ++ three)) ++ rest
 joined bytes one after_one two after_two three rest e f g =
     e ∙ ap (λ (l : List ℕ). one ++ l) (f ∙ ap (λ (l : List ℕ). two ++ l) g ∙ sym (append_assoc two three rest)) ∙ sym (append_assoc one (two ++ three) rest)
 
-three_spell : (at : ℕ) (s : Sentence) (a b c : List ℕ) → operand_bytes [] (at + 1) s.row 0 s.a ≡ Some a → operand_bytes [] (at + 1 + length a) s.row 1 s.b ≡ Some b → operand_bytes [] (at + 1 + length a + length b) s.row 2 s.c ≡ Some c → sentence_bytes [] at s ≡ Some (s.row.op ∷ (a ++ (b ++ c)))
+three_spell : (at : ℕ) (s : Sentence) (a b c : List ℕ) → operand_bytes [] (at + 1) s.row 0 s.a ≡ Some a
+    → operand_bytes [] (at + 1 + length a) s.row 1 s.b ≡ Some b → operand_bytes [] (at + 1 + length a + length b) s.row 2 s.c ≡ Some c
+    → sentence_bytes [] at s ≡ Some (s.row.op ∷ (a ++ (b ++ c)))
 unfolding sentence_bytes
 three_spell at s a b c e f g =
     three_binds (operand_bytes [] (at + 1) s.row 0 s.a) (λ a. operand_bytes [] (at + 1 + length a) s.row 1 s.b) (λ a b. operand_bytes [] (at + 1 + length a + length b) s.row 2 s.c) (λ a b c. s.row.op ∷ (a ++ (b ++ c))) a b c e f g
@@ -623,7 +690,8 @@ sentence_as at bytes rest rest' s s' e f h = subst (λ (x : Sentence). SentenceB
 abbrev made : Row → Written → Written → Written → Sentence
 made row a b c = record { row = row; a = a; b = b; c = c }
 
-operands_back : (at first : ℕ) (bytes rest : List ℕ) (row : Row) (sentence : Sentence) → AreOctets bytes → row_for first ≡ Some row → operands_shown row (at + 1) bytes ≡ Some (sentence, rest) → SentenceBack at (first ∷ bytes) rest sentence
+operands_back : (at first : ℕ) (bytes rest : List ℕ) (row : Row) (sentence : Sentence) → AreOctets bytes → row_for first ≡ Some row
+    → operands_shown row (at + 1) bytes ≡ Some (sentence, rest) → SentenceBack at (first ∷ bytes) rest sentence
 unfolding operands_shown
 operands_back at first bytes rest row sentence octets listed e =
     let a = bind_some (row_place_shown row 0 (at + 1) bytes) (λ a. row_place_shown row 1 (at + 1 + (length bytes - length a.1)) a.1 >>= λ b. row_place_shown row 2 (at + 1 + (length bytes - length b.1)) b.1 >>= λ c. got (made row a.0 b.0 c.0) c.1) (sentence, rest) e in
@@ -650,7 +718,8 @@ operands_back at first bytes rest row sentence octets listed e =
       good_c = three.is_good;
     })
 
-pub sentence_back : (at : ℕ) (bytes rest : List ℕ) (sentence : Sentence) → AreOctets bytes → sentence_shown at bytes ≡ Some (sentence, rest) → SentenceBack at bytes rest sentence
+pub sentence_back : (at : ℕ) (bytes rest : List ℕ) (sentence : Sentence) → AreOctets bytes → sentence_shown at bytes ≡ Some (sentence, rest)
+    → SentenceBack at bytes rest sentence
 unfolding sentence_shown byte_shown
 sentence_back at [] rest sentence octets e = absurd (cc)
 sentence_back at (first ∷ bytes) rest sentence octets e =

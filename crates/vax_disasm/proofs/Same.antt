@@ -25,7 +25,8 @@ Same None (Err e) = Unit {0}
 Same (Some x) (Err e) = ⊥
 Same None (Ok y) = ⊥
 
-same_bind : {A B C D : Type 0} (d : Option (A × List ℕ)) (r : Read B) (f : A × List ℕ → Option (C × List ℕ)) (g : B × List ℕ → Read D) → Same d r → ((x : A) (y : B) (rest : List ℕ) → Same (f (x, rest)) (g (y, rest))) → Same (d >>= f) (Reading.◌>>=◌ r g)
+same_bind : {A B C D : Type 0} (d : Option (A × List ℕ)) (r : Read B) (f : A × List ℕ → Option (C × List ℕ)) (g : B × List ℕ → Read D) → Same d r
+    → ((x : A) (y : B) (rest : List ℕ) → Same (f (x, rest)) (g (y, rest))) → Same (d >>= f) (Reading.◌>>=◌ r g)
 same_bind (Some x) (Ok y) f g h k = subst (λ (l : List ℕ). Same (f (x.0, x.1)) (g (y.0, l))) h (k x.0 y.0 x.1)
 same_bind (Some x) (Err e) f g h k = absurd h
 same_bind None (Ok y) f g h k = absurd h
@@ -87,7 +88,8 @@ same_indexed index (first ∷ rest) =
     same_if (nat_lt 6 (first / 16) && nat_lt (first / 16) 10 && (first % 16 == index)) _ _ _ _ tt
     (same_bind (place_shown (first / 16) (first % 16) rest) (base_at (first / 16) (first % 16) rest) _ _ (same_place (first / 16) (first % 16) rest) (λ x y rest. refl))
 
-same_immediate : (slot : Slot) (bytes : List ℕ) → Same (immediate_shown slot bytes) (Reading.◌>>=◌ (number_at slot.size bytes) (λ number. Ok (operands.Immediate number.0, number.1)))
+same_immediate : (slot : Slot) (bytes : List ℕ)
+    → Same (immediate_shown slot bytes) (Reading.◌>>=◌ (number_at slot.size bytes) (λ number. Ok (operands.Immediate number.0, number.1)))
 unfolding immediate_shown
 same_immediate slot bytes = same_bind (number_shown slot.size bytes) (number_at slot.size bytes) _ _ (same_number slot.size bytes) (λ x y rest. refl)
 
@@ -100,11 +102,13 @@ same_specifier slot mode reg bytes =
     (same_if ((mode == 8) && (reg == 15)) _ _ _ _ (same_if (is_read slot.access) _ _ _ _ (same_immediate slot bytes) tt)
     (same_bind (place_shown mode reg bytes) (base_at mode reg bytes) _ _ (same_place mode reg bytes) (λ x y rest. refl)))))
 
-same_branch : (slot : Slot) (from : ℕ) (bytes : List ℕ) → Same (branch_shown slot from bytes) (Reading.◌>>=◌ (signed_at slot.size bytes) (λ by. Ok (operands.Branch by.0, by.1)))
+same_branch : (slot : Slot) (from : ℕ) (bytes : List ℕ)
+    → Same (branch_shown slot from bytes) (Reading.◌>>=◌ (signed_at slot.size bytes) (λ by. Ok (operands.Branch by.0, by.1)))
 unfolding branch_shown
 same_branch slot from bytes = same_bind (number_shown slot.size bytes) (signed_at slot.size bytes) _ _ (same_signed slot.size bytes) (λ x y rest. refl)
 
-same_with_specifier : (slot : Slot) (bytes : List ℕ) → Same (byte_shown bytes >>= λ first. specifier_shown slot (first.0 / 16) (first.0 % 16) first.1) (Reading.◌>>=◌ (byte_at bytes) (λ first. specifier_at slot (first.0 / 16) (first.0 % 16) first.1))
+same_with_specifier : (slot : Slot) (bytes : List ℕ)
+    → Same (byte_shown bytes >>= λ first. specifier_shown slot (first.0 / 16) (first.0 % 16) first.1) (Reading.◌>>=◌ (byte_at bytes) (λ first. specifier_at slot (first.0 / 16) (first.0 % 16) first.1))
 unfolding byte_shown byte_at
 same_with_specifier slot [] = tt
 same_with_specifier slot (first ∷ rest) = same_specifier slot (first / 16) (first % 16) rest
@@ -128,7 +132,8 @@ same_operands op row from bytes =
     same_bind (row_place_shown row 1 (from + (length bytes - length rest)) rest) (place_at row 1 rest) _ _ (same_row_place row 1 (from + (length bytes - length rest)) rest) (λ v w more.
     same_bind (row_place_shown row 2 (from + (length bytes - length more)) more) (place_at row 2 more) _ _ (same_row_place row 2 (from + (length bytes - length more)) more) (λ t u last. refl)))
 
-same_row : {A B : Type 0} (o : Option Row) (f : Row → Option (A × List ℕ)) (g : Row → Read B) → ((row : Row) → Same (f row) (g row)) → Same (o >>= f) (Reading.◌>>=◌ (row_or_bad o) g)
+same_row : {A B : Type 0} (o : Option Row) (f : Row → Option (A × List ℕ)) (g : Row → Read B) → ((row : Row) → Same (f row) (g row))
+    → Same (o >>= f) (Reading.◌>>=◌ (row_or_bad o) g)
 same_row None f g h = tt
 same_row (Some row) f g h = h row
 

@@ -26,7 +26,8 @@ drop_all (x ∷ xs) ys = drop_all xs ys
 is_short_line : (text : List ℕ) → length text ≤ 120 → is_short text ≡ true
 is_short_line text h = grind (arith, nat_tests)
 
-shown_by : (bytes rest front : List ℕ) (at : ℕ) (s : Sentence) (text : List ℕ) → (back : SentenceBack at bytes rest s) → back.front ≡ front → sentence_shown at bytes ≡ Some (s, rest) → text ≡ sentence_text s → length text ≤ 120 → IsTextOf bytes at text (length front)
+shown_by : (bytes rest front : List ℕ) (at : ℕ) (s : Sentence) (text : List ℕ) → (back : SentenceBack at bytes rest s) → back.front ≡ front
+    → sentence_shown at bytes ≡ Some (s, rest) → text ≡ sentence_text s → length text ≤ 120 → IsTextOf bytes at text (length front)
 shown_by bytes rest front at s text back is shown written few =
     let split : bytes ≡ front ++ rest = back.split ∙ ap (λ (l : List ℕ). l ++ rest) is in
     let spells = back.spells ∙ ap (λ (l : List ℕ). Some l) is in
@@ -49,7 +50,8 @@ shown_by bytes rest front at s text back is shown written few =
       encodes = subst (λ (l : List ℕ). IsCodeOf text [] at l) (sym taken) code;
     }
 
-pub shown_text : (bytes rest : List ℕ) (at : ℕ) (s : Sentence) (text : List ℕ) (size : ℕ) → AreOctets bytes → sentence_shown at bytes ≡ Some (s, rest) → text ≡ sentence_text s → length text ≤ 120 → size ≡ length bytes - length rest → IsTextOf bytes at text size
+pub shown_text : (bytes rest : List ℕ) (at : ℕ) (s : Sentence) (text : List ℕ) (size : ℕ) → AreOctets bytes → sentence_shown at bytes ≡ Some (s, rest)
+    → text ≡ sentence_text s → length text ≤ 120 → size ≡ length bytes - length rest → IsTextOf bytes at text size
 shown_text bytes rest at s text size octets shown written few is =
     let back = sentence_back at bytes rest s octets shown in
     let sizes : length bytes ≡ length back.front + length rest = ap length back.split ∙ length-append back.front rest in

@@ -37,7 +37,8 @@ found_lender None pid e = absurd (let z : false ≡ true = e in cc)
 found_lender (Some p) pid e = (p, refl, e)
 
 -- where no process lends in its new record, none does
-none_over : (ps : List Record) (g : Proc → Proc) (pid : ℕ) → ((n : ℕ) (x : Record) → find n ps ≡ Some x → (let y : Proc = g (proc_shown x) in lends_life pid y.life) ≡ false)
+none_over : (ps : List Record) (g : Proc → Proc) (pid : ℕ)
+    → ((n : ℕ) (x : Record) → find n ps ≡ Some x → (let y : Proc = g (proc_shown x) in lends_life pid y.life) ≡ false)
     → (ns : List ℕ) → has_lender (map g (filter_map (λ n. proc_of (find n ps)) ns)) pid ≡ false
 none_over ps g pid each [] = refl
 none_over ps g pid each (n ∷ ns) = go (find n ps) refl (none_over ps g pid each ns)

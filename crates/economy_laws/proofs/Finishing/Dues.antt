@@ -34,7 +34,8 @@ use Rattle.economy_laws.proofs.Left.{serve_due_same, after_forced, after_served}
 use Rattle.economy_laws.proofs.Stretching.{source_of}
 use Rattle.economy_laws.proofs.Finishing.Stages.{Stage, finish_known, IsLasting, mark_lasts, stands}
 
-due_next : (A : Inputs) (s : State) (d : Due) (ds : List Due) → s.place.due ≡ d ∷ ds → next_unit A s ≡ or_else (due_unit s.place (d ∷ ds)) (or_else (under A s s.mark) (next_mark A s))
+due_next : (A : Inputs) (s : State) (d : Due) (ds : List Due) → s.place.due ≡ d ∷ ds
+    → next_unit A s ≡ or_else (due_unit s.place (d ∷ ds)) (or_else (under A s s.mark) (next_mark A s))
 unfolding next_unit
 due_next A s d ds e = ap (λ (x : List Due). or_else (due_unit s.place x) (or_else (under A s s.mark) (next_mark A s))) e
 
@@ -66,7 +67,8 @@ valid_none p q h = go (state_of p q) h
     go (Going f) e = absurd cc
     go OnSwap e = absurd cc
 
-copy_filling : (A : Inputs) (q parent : Page) (ds : List Due) → Filling A (CopyOf q parent) ds (parent ∷ []) (entries.Copy q) (λ p. is_valid (state_of p parent) ≡ true)
+copy_filling : (A : Inputs) (q parent : Page) (ds : List Due)
+    → Filling A (CopyOf q parent) ds (parent ∷ []) (entries.Copy q) (λ p. is_valid (state_of p parent) ≡ true)
 copy_filling A q parent ds = record {
   locks = λ s e. ap (locked_by A s) e;
   unit = λ s e w. due_next A s (CopyOf q parent) ds e ∙ ap (λ (o : Option Entry). Some (copy_unit_by s.place q o)) (valid_none s.place parent w);
@@ -79,7 +81,8 @@ copy_filling A q parent ds = record {
 abbrev pub Then : (A : Inputs) → (State → Type 0) → List Due → Mark → Type 0
 Then A P ds m = (t : State) → P t → t.place.due ≡ ds → t.mark ≡ m → Finishes A t
 
-fill_ends : (n : ℕ) (A : Inputs) (P : State → Type 0) (d : Due) (ds : List Due) (lk : List Page) (e : Entry) (Q : Placement → Type 0) (m : Mark) (s : State) → Filling A d ds lk e Q → Stage A P → IsLasting m → Then A P ds m
+fill_ends : (n : ℕ) (A : Inputs) (P : State → Type 0) (d : Due) (ds : List Due) (lk : List Page) (e : Entry) (Q : Placement → Type 0) (m : Mark) (s : State)
+    → Filling A d ds lk e Q → Stage A P → IsLasting m → Then A P ds m
     → P s → s.place.due ≡ d ∷ ds → s.mark ≡ m → Q s.place → far s.place lk < n → Finishes A s
 fill_ends zero A P d ds lk e Q m s x g l on p k mk w lt = absurd (omega arith)
 fill_ends (suc n) A P d ds lk e Q m s x g l on p k mk w lt = go (λ t. fill_ends n A P d ds lk e Q m t x g l on) s.place.free refl
@@ -142,7 +145,8 @@ bring_ends (suc n) A P q parent ds m s g l on p k mk lt = go (λ t. bring_ends n
         more (after A s u) p2 (ap (λ (y : Placement). y.due) pl ∙ serve_due_same s.place (parent ∷ []) parent (owns A s r.placed) ∙ k) (mark_lasts A s u (subst IsLasting (sym mk) l) b ∙ mk) (omega arith))
 
 -- All that is due.
-pub due_ends : (n : ℕ) (A : Inputs) (P : State → Type 0) (m : Mark) (s : State) → Stage A P → IsLasting m → Then A P [] m → P s → length s.place.due ≤ n → s.mark ≡ m → Finishes A s
+pub due_ends : (n : ℕ) (A : Inputs) (P : State → Type 0) (m : Mark) (s : State) → Stage A P → IsLasting m → Then A P [] m → P s
+    → length s.place.due ≤ n → s.mark ≡ m → Finishes A s
 due_ends zero A P m s g l on p lt mk = go s.place.due refl
   where
     go : (ds : List Due) → s.place.due ≡ ds → Finishes A s

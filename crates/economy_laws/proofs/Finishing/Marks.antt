@@ -43,7 +43,8 @@ pub over_ends : (A : Inputs) (P : State → Type 0) (s : State) → Stage A P �
 over_ends A P s g p mk = due_ends (length s.place.due) A P marks.Over s g tt (λ t pt dt mt. spent_ends A P t g pt dt (ap (under A t) mt)) p (omega arith) mk
 
 -- a mark that one unit ends
-once_ends : (A : Inputs) (P : State → Type 0) (s : State) (u : Entry) → Stage A P → P s → s.place.due ≡ [] → under A s s.mark ≡ Some u → (after A s u).mark ≡ marks.Over → Finishes A s
+once_ends : (A : Inputs) (P : State → Type 0) (s : State) (u : Entry) → Stage A P → P s → s.place.due ≡ [] → under A s s.mark ≡ Some u
+    → (after A s u).mark ≡ marks.Over → Finishes A s
 once_ends A P s u g p d e o = finish_known A P s u g p (under_next A s (Some u) d e) (λ b p2. over_ends A P (after A s u) g p2 o)
 
 done_mark : (A : Inputs) (s : State) → (after A s entries.Done).mark ≡ completed s.mark
@@ -64,7 +65,8 @@ notes_mark A s = refl
 
 -- Moves of the hands: with each move one fewer is left, and with each transfer that ends one fewer is in flight.
 
-move_ends : (n : ℕ) (A : Inputs) (P : State → Type 0) (count : ℕ) (s : State) → Stage A P → (0 < count → (t : State) → P t → t.mark ≡ marks.Hands (count - 1) → Finishes A t)
+move_ends : (n : ℕ) (A : Inputs) (P : State → Type 0) (count : ℕ) (s : State) → Stage A P
+    → (0 < count → (t : State) → P t → t.mark ≡ marks.Hands (count - 1) → Finishes A t)
     → P s → s.mark ≡ marks.Hands count → length s.place.transfers < n → Finishes A s
 move_ends zero A P count s g fewer p mk lt = absurd (omega arith)
 move_ends (suc n) A P count s g fewer p mk lt = go (λ t. move_ends n A P count t g fewer) (nat_lt 0 count && wants_moves s.place) refl
@@ -96,7 +98,8 @@ hands_end (suc n) A P count s g p mk l = move_ends (1 + length s.place.transfers
 
 -- Putting a process out.
 
-out_mark : (A : Inputs) (s : State) (u : Entry) (pid : ℕ) → s.mark ≡ marks.PutOut pid → is_boundary u ≡ false → ((after A s u).mark ≡ marks.PutOut pid) ⊎ ((after A s u).mark ≡ marks.Over)
+out_mark : (A : Inputs) (s : State) (u : Entry) (pid : ℕ) → s.mark ≡ marks.PutOut pid → is_boundary u ≡ false
+    → ((after A s u).mark ≡ marks.PutOut pid) ⊎ ((after A s u).mark ≡ marks.Over)
 unfolding after
 out_mark A s (entries.Event line) pid m n = absurd cc
 out_mark A s (entries.Turn p) pid m n = absurd cc
@@ -107,7 +110,8 @@ out_mark A s (entries.SwapIn p) pid m n = inl (ap brought_in m)
 out_mark A s (entries.Owners a b c d) pid m n = inl (ap audited m)
 out_mark A s _ pid m n = inl m
 
-put_ends : (n : ℕ) (A : Inputs) (P : State → Type 0) (pid sid : ℕ) (s : State) → Stage A P → P s → s.mark ≡ marks.PutOut pid → space_of_process (process_of s.point.flat pid) ≡ sid → put_rank s.place pid sid < n → Finishes A s
+put_ends : (n : ℕ) (A : Inputs) (P : State → Type 0) (pid sid : ℕ) (s : State) → Stage A P → P s → s.mark ≡ marks.PutOut pid
+    → space_of_process (process_of s.point.flat pid) ≡ sid → put_rank s.place pid sid < n → Finishes A s
 put_ends zero A P pid sid s g p mk i lt = absurd (omega arith)
 put_ends (suc n) A P pid sid s g p mk i lt = finish_on A P s g p (go (λ t. put_ends n A P pid sid t g))
   where
@@ -133,7 +137,8 @@ put_ends (suc n) A P pid sid s g p mk i lt = finish_on A P s g p (go (λ t. put_
         ]
 
 -- Each of these marks.
-pub still_ends : (A : Inputs) (P : State → Type 0) (s : State) → Stage A P → ((pid : ℕ) → Rattle.run_model.specs.Wanted.running s.mark ≡ Some pid → Finishes A s) → P s → Finishes A s
+pub still_ends : (A : Inputs) (P : State → Type 0) (s : State) → Stage A P
+    → ((pid : ℕ) → Rattle.run_model.specs.Wanted.running s.mark ≡ Some pid → Finishes A s) → P s → Finishes A s
 still_ends A P s g runs p = go s.mark refl
   where
     r : IsRun A s

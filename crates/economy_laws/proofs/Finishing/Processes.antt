@@ -70,7 +70,8 @@ comes_out A s (marks.Turn t since) p pid e c = (sym c.0 ∙ (let z : t ≡ pid =
 comes_out A s (marks.BringIn t) p pid e c = absurd cc
 comes_out A s _ p pid e c = absurd c
 
-works : (A : Inputs) (s : State) (pid : ℕ) (u : Entry) → running s.mark ≡ Some pid → s.place.due ≡ [] → next_unit A s ≡ Some u → is_boundary u ≡ false → Works A s pid u
+works : (A : Inputs) (s : State) (pid : ℕ) (u : Entry) → running s.mark ≡ Some pid → s.place.due ≡ [] → next_unit A s ≡ Some u → is_boundary u ≡ false
+    → Works A s pid u
 works A s pid u m d h n = go (kind_of A s u h)
   where
     some : (a b : ℕ) → Some a ≡ Some b → a ≡ b
@@ -201,7 +202,8 @@ record Settled (A : Inputs) (s t : State) (pid : ℕ) : Type 0 where
   less : length t.place.transfers < length s.place.transfers
   point : t.point ≡ s.point
 
-settled : (A : Inputs) (s : State) (pid : ℕ) (u : Entry) → IsRun A s → Inside A s pid → wanted A s ≡ None → act A s pid ≡ Some u → u ≡ entries.Done → is_boundary u ≡ false → Settled A s (after A s u) pid
+settled : (A : Inputs) (s : State) (pid : ℕ) (u : Entry) → IsRun A s → Inside A s pid → wanted A s ≡ None → act A s pid ≡ Some u → u ≡ entries.Done
+    → is_boundary u ≡ false → Settled A s (after A s u) pid
 settled A s pid u r i w a is b = record { here = here; none = none; less = omega (arith, fewer); point = point }
   where
     plain : process_of_entry u ≡ None
@@ -236,7 +238,8 @@ settled A s pid u r i w a is b = record { here = here; none = none; less = omega
         ∙ ap (λ (x : Placement). first_absent x (touched A s.point.flat pid)) pl ∙ all_present (done s.place) (touched A s.point.flat pid) kept
 
 -- behind `Refused` and `Out` transfers end, or a boundary comes
-closed_ends : (n : ℕ) (A : Inputs) (P : State → Type 0) (pid : ℕ) (s : State) → Stage A P → P s → Inside A s pid → wanted A s ≡ None → is_closed s.point.last ≡ true → length s.place.transfers < n → Finishes A s
+closed_ends : (n : ℕ) (A : Inputs) (P : State → Type 0) (pid : ℕ) (s : State) → Stage A P → P s → Inside A s pid → wanted A s ≡ None
+    → is_closed s.point.last ≡ true → length s.place.transfers < n → Finishes A s
 closed_ends zero A P pid s g p i w c lt = absurd (omega arith)
 closed_ends (suc n) A P pid s g p i w c lt = finish_on A P s g p (λ u h b p2. go (λ t. closed_ends n A P pid t g) u h b p2 (works A s pid u i.on i.clear h b))
   where
@@ -260,7 +263,8 @@ closed_ends (suc n) A P pid s g p i w c lt = finish_on A P s g p (λ u h b p2. g
     go more u h b p2 (Acting now run wn a) = acts more u h b p2 a (acted A s pid u a)
     go more u h b p2 (Entering o k) = absurd (let z : true ≡ false = sym o ∙ i.inside in cc)
 
-noted_ends : (A : Inputs) (P : State → Type 0) (pid : ℕ) (s : State) (u : Entry) → Stage A P → P (after A s u) → Inside A s pid → wanted A s ≡ None → is_closed (Some u) ≡ true → after A s u ≡ noted s u → Finishes A (after A s u)
+noted_ends : (A : Inputs) (P : State → Type 0) (pid : ℕ) (s : State) (u : Entry) → Stage A P → P (after A s u) → Inside A s pid → wanted A s ≡ None
+    → is_closed (Some u) ≡ true → after A s u ≡ noted s u → Finishes A (after A s u)
 noted_ends A P pid s u g p2 i w c e = closed_ends (1 + length (after A s u).place.transfers) A P pid (after A s u) g p2
     (subst (λ (t : State). Inside A t pid) (sym e) here) (subst (λ (t : State). wanted A t ≡ None) (sym e) none) (subst (λ (t : State). is_closed t.point.last ≡ true) (sym e) c) (omega arith)
   where
@@ -271,7 +275,8 @@ noted_ends A P pid s u g p2 i w c e = closed_ends (1 + length (after A s u).plac
     none = wanted_on A (noted s u) pid i.on i.clear ∙ sym (wanted_on A s pid i.on i.clear) ∙ w
 
 -- its pages are all valid: it acts, and once it grew it touches more pages
-act_ends : (n : ℕ) (A : Inputs) (P : State → Type 0) (pid most : ℕ) (s : State) → Stage A P → ((t : State) → P t → Inside A t pid → most + 1 ≤ length (touched A t.point.flat pid) → Finishes A t)
+act_ends : (n : ℕ) (A : Inputs) (P : State → Type 0) (pid most : ℕ) (s : State) → Stage A P
+    → ((t : State) → P t → Inside A t pid → most + 1 ≤ length (touched A t.point.flat pid) → Finishes A t)
     → P s → Inside A s pid → wanted A s ≡ None → most ≤ length (touched A s.point.flat pid) → length s.place.transfers < n → Finishes A s
 act_ends zero A P pid most s g on p i w m lt = absurd (omega arith)
 act_ends (suc n) A P pid most s g on p i w m lt = finish_on A P s g p (λ u h b p2. go (λ t. act_ends n A P pid most t g on) u h b p2 (works A s pid u i.on i.clear h b))
@@ -318,7 +323,8 @@ act_ends (suc n) A P pid most s g on p i w m lt = finish_on A P s g p (λ u h b 
 
 -- A process that is in: with each page that is served one more is valid of those touched; and with each growth it touches more.
 
-pages_end : (y : ℕ) (A : Inputs) (P : State → Type 0) (pid most : ℕ) (s : State) → Stage A P → ((t : State) → P t → Inside A t pid → most + 1 ≤ length (touched A t.point.flat pid) → Finishes A t)
+pages_end : (y : ℕ) (A : Inputs) (P : State → Type 0) (pid most : ℕ) (s : State) → Stage A P
+    → ((t : State) → P t → Inside A t pid → most + 1 ≤ length (touched A t.point.flat pid) → Finishes A t)
     → P s → Inside A s pid → most ≤ length (touched A s.point.flat pid) → 32 ≤ length (before_absent s.place (touched A s.point.flat pid)) + y → Finishes A s
 pages_end zero A P pid most s g on p i m l = absurd (let a = before_few s.place (touched A s.point.flat pid) in let b = run_few A s pid (g.run s p) in omega arith)
 pages_end (suc y) A P pid most s g on p i m l = go (λ t. pages_end y A P pid most t g on) (wanted A s) refl
@@ -335,7 +341,8 @@ pages_end (suc y) A P pid most s g on p i m l = go (λ t. pages_end y A P pid mo
         more t pt it (omega arith) (omega arith))
         p i refl refl w (omega arith)
 
-inside_ends : (x : ℕ) (A : Inputs) (P : State → Type 0) (pid : ℕ) (s : State) → Stage A P → P s → Inside A s pid → 32 ≤ length (touched A s.point.flat pid) + x → Finishes A s
+inside_ends : (x : ℕ) (A : Inputs) (P : State → Type 0) (pid : ℕ) (s : State) → Stage A P → P s → Inside A s pid
+    → 32 ≤ length (touched A s.point.flat pid) + x → Finishes A s
 inside_ends zero A P pid s g p i l = absurd (let b = run_few A s pid (g.run s p) in omega arith)
 inside_ends (suc x) A P pid s g p i l = pages_end 32 A P pid (length (touched A s.point.flat pid)) s g (λ t pt it longer. inside_ends x A P pid t g pt it (omega arith)) p i (omega arith) (omega arith)
 

@@ -39,7 +39,8 @@ pub record Stage (A : Inputs) (P : State → Type 0) : Type 0 where
   pub ends : (s : State) (u : Entry) → P s → next_unit A s ≡ Some u → is_boundary u ≡ true → Finishes A (after A s u)
 
 -- so the run finishes from such a state, where it does behind each unit between two boundaries
-pub finish_on : (A : Inputs) (P : State → Type 0) (s : State) → Stage A P → P s → ((u : Entry) → next_unit A s ≡ Some u → is_boundary u ≡ false → P (after A s u) → Finishes A (after A s u)) → Finishes A s
+pub finish_on : (A : Inputs) (P : State → Type 0) (s : State) → Stage A P → P s
+    → ((u : Entry) → next_unit A s ≡ Some u → is_boundary u ≡ false → P (after A s u) → Finishes A (after A s u)) → Finishes A s
 finish_on A P s g p on = finish_by A s (λ u h. go u h (is_boundary u) refl)
   where
     go : (u : Entry) → next_unit A s ≡ Some u → (b : Bool) → is_boundary u ≡ b → Finishes A (after A s u)
@@ -47,7 +48,8 @@ finish_on A P s g p on = finish_by A s (λ u h. go u h (is_boundary u) refl)
     go u h false e = on u h e (g.keeps s u p h e)
 
 -- the same, where it is known which unit is next
-pub finish_known : (A : Inputs) (P : State → Type 0) (s : State) (x : Entry) → Stage A P → P s → next_unit A s ≡ Some x → (is_boundary x ≡ false → P (after A s x) → Finishes A (after A s x)) → Finishes A s
+pub finish_known : (A : Inputs) (P : State → Type 0) (s : State) (x : Entry) → Stage A P → P s → next_unit A s ≡ Some x
+    → (is_boundary x ≡ false → P (after A s x) → Finishes A (after A s x)) → Finishes A s
 finish_known A P s x g p h on = let k : Finishes A (after A s x) = go (is_boundary x) refl in record { units = x ∷ k.units; last = k.last; leads = (h, k.leads); none = k.none }
   where
     go : (b : Bool) → is_boundary x ≡ b → Finishes A (after A s x)

@@ -81,7 +81,8 @@ mark_next A s u h m = go (kind_of A s u h)
     go (Begins e k i) = i
 
 -- a line comes while there are some, and a turn behind them
-mark_lines : (A : Inputs) (s : State) (u : Entry) → next_mark A s ≡ Some u → ((s.lines < length A.lines) × (turns u ≡ 0)) ⊎ ((length A.lines ≤ s.lines) × (turns u ≡ 1))
+mark_lines : (A : Inputs) (s : State) (u : Entry) → next_mark A s ≡ Some u
+    → ((s.lines < length A.lines) × (turns u ≡ 0)) ⊎ ((length A.lines ≤ s.lines) × (turns u ≡ 1))
 mark_lines A s u h = go (nat_lt s.count A.limit) (nat_lt s.lines (length A.lines)) refl h
   where
     some : (x : Entry) → Some x ≡ Some u → u ≡ x
@@ -134,7 +135,8 @@ counts_one _ k e = absurd cc
 abbrev TurnsLeft : Inputs → State → ℕ → Type 0
 TurnsLeft A s k = (us : List Entry) (t : State) → Follows A s us t → NoneCounts us → turns_of us ≤ k
 
-turns_less : (A : Inputs) (s : State) (u : Entry) (k : ℕ) → TurnsLeft A s k → next_unit A s ≡ Some u → counts u ≡ false → (turns u ≤ k) × TurnsLeft A (after A s u) (k - turns u)
+turns_less : (A : Inputs) (s : State) (u : Entry) (k : ℕ) → TurnsLeft A s k → next_unit A s ≡ Some u → counts u ≡ false
+    → (turns u ≤ k) × TurnsLeft A (after A s u) (k - turns u)
 turns_less A s u k l h n = (
   (let a = l (u ∷ []) (after A s u) (h, refl) (n, tt) in omega arith),
   λ us t f m. let a = l (u ∷ us) t (h, f) (n, m) in omega arith,
@@ -147,7 +149,8 @@ record Within (A : Inputs) (n l k : ℕ) (s : State) : Type 0 where
   lines : length A.lines ≤ s.lines + l
   turns : length A.lines ≤ s.lines → TurnsLeft A s k
 
-within_on : (A : Inputs) (n l k : ℕ) (s : State) (u : Entry) → ImagesFit A.images → Within A n l k s → next_unit A s ≡ Some u → is_boundary u ≡ false → Within A n l k (after A s u)
+within_on : (A : Inputs) (n l k : ℕ) (s : State) (u : Entry) → ImagesFit A.images → Within A n l k s → next_unit A s ≡ Some u → is_boundary u ≡ false
+    → Within A n l k (after A s u)
 within_on A n l k s u images w h b = record {
   run = unit_run A s u images w.run h;
   limit = omega (arith, after_count A s u, w.limit);
@@ -162,7 +165,8 @@ Fewer A n = (t : State) → IsRun A t → t.count ≤ A.limit → A.limit < t.co
 abbrev Later : Inputs → ℕ → ℕ → Type 0
 Later A n l = (t : State) → IsRun A t → A.limit ≤ t.count + n → t.lines ≤ length A.lines → length A.lines < t.lines + l → Finishes A t
 
-between_turns : (k : ℕ) (A : Inputs) (n l : ℕ) (s : State) → ImagesFit A.images → 64 ≤ A.frames → Fewer A n → Later A n l → ((t : State) → 0 < k → Within A n l (k - 1) t → Finishes A t) → Within A n l k s → Finishes A s
+between_turns : (k : ℕ) (A : Inputs) (n l : ℕ) (s : State) → ImagesFit A.images → 64 ≤ A.frames → Fewer A n → Later A n l
+    → ((t : State) → 0 < k → Within A n l (k - 1) t → Finishes A t) → Within A n l k s → Finishes A s
 between_turns k A n l s images frames fewer later more w = stage_ends A (Within A n l k) s (record {
   images = images;
   frames = frames;
@@ -200,7 +204,8 @@ turns_end (suc k) A n l s images frames fewer later w = between_turns (suc k) A 
     (λ t some x. turns_end k A n l t images frames fewer later (subst (λ (j : ℕ). Within A n l j t) (let e : suc k - 1 ≡ k = omega arith in e) x)) w
 
 -- so many turns are left as processes can step
-line_within : (A : Inputs) (n l : ℕ) (s : State) → ImagesFit A.images → IsRun A s → A.limit ≤ s.count + n → length A.lines ≤ s.lines + l → Within A n l (ready_count s.point.flat.processes) s
+line_within : (A : Inputs) (n l : ℕ) (s : State) → ImagesFit A.images → IsRun A s → A.limit ≤ s.count + n → length A.lines ≤ s.lines + l
+    → Within A n l (ready_count s.point.flat.processes) s
 line_within A n l s images r c m = record {
   run = r;
   limit = c;
@@ -208,7 +213,8 @@ line_within A n l s images r c m = record {
   turns = λ past us t f z. few_turns A s t us images r past f z;
 }
 
-lines_end : (l : ℕ) (A : Inputs) (n : ℕ) (s : State) → ImagesFit A.images → 64 ≤ A.frames → Fewer A n → IsRun A s → A.limit ≤ s.count + n → length A.lines ≤ s.lines + l → Finishes A s
+lines_end : (l : ℕ) (A : Inputs) (n : ℕ) (s : State) → ImagesFit A.images → 64 ≤ A.frames → Fewer A n → IsRun A s → A.limit ≤ s.count + n
+    → length A.lines ≤ s.lines + l → Finishes A s
 lines_end zero A n s images frames fewer r c m = turns_end (ready_count s.point.flat.processes) A n zero s images frames fewer (λ t rt ct low high. absurd (omega arith)) (line_within A n zero s images r c m)
 lines_end (suc l) A n s images frames fewer r c m = turns_end (ready_count s.point.flat.processes) A n (suc l) s images frames fewer
     (λ t rt ct low high. lines_end l A n t images frames fewer rt ct (omega arith)) (line_within A n (suc l) s images r c m)
@@ -244,12 +250,14 @@ no_more A s t r (u ∷ us) (v ∷ vs) f n g =
     let k = no_more A (after A s u) t r us vs f.1 n (subst (λ (x : Entry). Follows A (after A s x) vs r) (sym same) g.1) in
     omega arith
 
-pub run_bounded : (A : Inputs) (hs : Holdings) → CanRun A hs → 64 ≤ A.frames → (most : ℕ) × ((us : List Entry) (t : State) → Follows A (start A hs) us t → length us ≤ most)
+pub run_bounded : (A : Inputs) (hs : Holdings) → CanRun A hs → 64 ≤ A.frames
+    → (most : ℕ) × ((us : List Entry) (t : State) → Follows A (start A hs) us t → length us ≤ most)
 run_bounded A hs c frames = let k : Finishes A (start A hs) = start_ends A hs c frames in (length k.units, λ us t f. no_more A (start A hs) k.last t k.units us k.leads k.none f)
 
 -- Two finished runs of the same inputs are one.
 
-followed_same : (A : Inputs) (s t r : State) (us vs : List Entry) → Follows A s us t → next_unit A t ≡ None → Follows A s vs r → next_unit A r ≡ None → (us ≡ vs) × (t ≡ r)
+followed_same : (A : Inputs) (s t r : State) (us vs : List Entry) → Follows A s us t → next_unit A t ≡ None → Follows A s vs r → next_unit A r ≡ None
+    → (us ≡ vs) × (t ≡ r)
 followed_same A s t r us vs f n g m = followed_once A s t r us vs f g (let a = no_more A s t r us vs f n g in let b = no_more A s r t vs us g m f in omega arith)
 
 pub finished_once : (A : Inputs) (journal other : List Entry) (s t : State) → IsFinished A journal s → IsFinished A other t → (journal ≡ other) × (s ≡ t)

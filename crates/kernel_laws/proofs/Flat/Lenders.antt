@@ -27,7 +27,8 @@ use Rattle.flat_state.proofs.SpaceLaws.{puts_sid}
 -- The same of lists of processes.
 pub record Lent (ps : List Process) : Type 0 where
   pub right : (x : Process) (sid child : ℕ) → numbered pid_of x.pid ps ≡ Some x → x.holding ≡ Lends sid child → IsWith sid (numbered pid_of child ps)
-  pub one : (x y : Process) (a b child : ℕ) → numbered pid_of x.pid ps ≡ Some x → numbered pid_of y.pid ps ≡ Some y → x.holding ≡ Lends a child → y.holding ≡ Lends b child → x.pid ≡ y.pid
+  pub one : (x y : Process) (a b child : ℕ) → numbered pid_of x.pid ps ≡ Some x → numbered pid_of y.pid ps ≡ Some y → x.holding ≡ Lends a child
+      → y.holding ≡ Lends b child → x.pid ≡ y.pid
 
 lent_of : (flat : FlatState) → LendsStand flat → Lent flat.processes
 lent_of flat l = record {
@@ -50,7 +51,8 @@ record WasLender (ps qs : List Process) (n sid child : ℕ) : Type 0 where
   pub stays : IsWith sid (numbered pid_of child ps) → IsWith sid (numbered pid_of child qs)
 
 -- a step behind which each lender was one before
-lent_kept : (ps qs : List Process) → Lent ps → ((x : Process) (sid child : ℕ) → numbered pid_of x.pid qs ≡ Some x → x.holding ≡ Lends sid child → WasLender ps qs x.pid sid child) → Lent qs
+lent_kept : (ps qs : List Process) → Lent ps
+    → ((x : Process) (sid child : ℕ) → numbered pid_of x.pid qs ≡ Some x → x.holding ≡ Lends sid child → WasLender ps qs x.pid sid child) → Lent qs
 lent_kept ps qs l back = record {
   right = λ x sid child e h. let w : WasLender ps qs x.pid sid child = back x sid child e h in w.stays (l.right w.before sid child w.found w.holding);
   one = λ x y a b child e f h k.
@@ -63,7 +65,8 @@ not_holds : {C : Type 0} (s : Space) (sid child : ℕ) → Holds s ≡ Lends sid
 not_holds s sid child e = absurd cc
 
 -- A process gives way to one that has a space of the same number.
-same_lent : (ps : List Process) (q p : Process) (s z : Space) → numbered pid_of p.pid ps ≡ Some q → q.holding ≡ Holds s → p.holding ≡ Holds z → z.sid ≡ s.sid → Lent ps → Lent (replaced ps p)
+same_lent : (ps : List Process) (q p : Process) (s z : Space) → numbered pid_of p.pid ps ≡ Some q → q.holding ≡ Holds s → p.holding ≡ Holds z
+    → z.sid ≡ s.sid → Lent ps → Lent (replaced ps p)
 same_lent ps q p s z e h k i l = lent_kept ps (replaced ps p) l (λ x sid child f g. elim (cases_eq x.pid p.pid) [
   | inl j ↦ not_holds z sid child (sym k ∙ ap (λ (y : Process). y.holding) (same_Some p x (sym (replaced_at ps q p e) ∙ ap (λ (n : ℕ). numbered pid_of n (replaced ps p)) (sym j) ∙ f)) ∙ g)
   | inr d ↦ record {
@@ -94,7 +97,8 @@ pushed_lent ps p s e h l = lent_kept ps (ps ++ p ∷ []) l (λ x sid child f g. 
     forward sid child (Some z) i y = subst (IsWith sid) (i ∙ sym (pushed_found pid_of child ps p z i)) y
 
 -- A process lends its space to a new one.
-lends_lent : (ps : List Process) (q p c : Process) (s : Space) → numbered pid_of p.pid ps ≡ Some q → q.holding ≡ Holds s → p.holding ≡ Lends s.sid c.pid → numbered pid_of c.pid ps ≡ None
+lends_lent : (ps : List Process) (q p c : Process) (s : Space) → numbered pid_of p.pid ps ≡ Some q → q.holding ≡ Holds s
+    → p.holding ≡ Lends s.sid c.pid → numbered pid_of c.pid ps ≡ None
     → c.holding ≡ Holds s → Lent ps → Lent (replaced ps p ++ c ∷ [])
 lends_lent ps q p c s e h k new hc l = record { right = right; one = one }
   where
@@ -173,7 +177,8 @@ lends_true : (pid sid : ℕ) (h : Holding) → h ≡ Lends sid pid → lends_to 
 lends_true pid sid h e = ap (lends_to pid) e ∙ eq_self pid
 
 -- nobody lent, or the first lender has the space
-returned_cases : (ps : List Process) (pid : ℕ) (s : Space) → AllDistinct (map pid_of ps) → ((returned pid s ps ≡ ps) × ((x : Process) → numbered pid_of x.pid ps ≡ Some x → lends_to pid x.holding ≡ false))
+returned_cases : (ps : List Process) (pid : ℕ) (s : Space) → AllDistinct (map pid_of ps)
+    → ((returned pid s ps ≡ ps) × ((x : Process) → numbered pid_of x.pid ps ≡ Some x → lends_to pid x.holding ≡ false))
     ⊎ ((x : Process) × (numbered pid_of x.pid ps ≡ Some x) × (lends_to pid x.holding ≡ true) × (returned pid s ps ≡ replaced ps (record x { holding = Holds s })))
 unfolding returned replaced
 returned_cases [] pid s d = inl (refl, λ x e. none_some x e)
@@ -204,7 +209,8 @@ returned_cases (q ∷ ps) pid s d = elim (cases_Bool (lends_to pid q.holding)) [
 ]
 
 -- A process gives way to one that lends nothing, and its space goes back where it was lent.
-back_lent : (ps : List Process) (q p : Process) (s : Space) → AllDistinct (map pid_of ps) → numbered pid_of p.pid ps ≡ Some q → q.holding ≡ Holds s → ((sid child : ℕ) → p.holding ≢ Lends sid child)
+back_lent : (ps : List Process) (q p : Process) (s : Space) → AllDistinct (map pid_of ps) → numbered pid_of p.pid ps ≡ Some q → q.holding ≡ Holds s
+    → ((sid child : ℕ) → p.holding ≢ Lends sid child)
     → Lent ps → Lent (returned p.pid s (replaced ps p))
 back_lent ps q p s d e h none l = elim (returned_cases r0 p.pid s distinct) [
   | inl c ↦ subst Lent (sym c.0) (lent_kept ps r0 l (λ x sid child f g. record {
@@ -259,7 +265,8 @@ has_alive sid (Lends t child) e = refl
 has_alive sid (Zombie status) e = absurd e
 
 -- what was with a process that isn't this one is there still
-left_found : (b : Bool) (ps : List Process) (pid parent sid child : ℕ) → AllDistinct (map pid_of ps) → child ≢ pid → IsWith sid (numbered pid_of child ps) → IsWith sid (numbered pid_of child (left_flat b (orphans pid ps) pid parent))
+left_found : (b : Bool) (ps : List Process) (pid parent sid child : ℕ) → AllDistinct (map pid_of ps) → child ≢ pid
+    → IsWith sid (numbered pid_of child ps) → IsWith sid (numbered pid_of child (left_flat b (orphans pid ps) pid parent))
 left_found b ps pid parent sid child d n y = go (numbered pid_of child ps) refl y
   where
     by : (b : Bool) (z : Process) → numbered pid_of child (orphans pid ps) ≡ Some z → HasOrLent sid z.holding → IsWith sid (numbered pid_of child (left_flat b (orphans pid ps) pid parent))
@@ -273,7 +280,8 @@ left_found b ps pid parent sid child d n y = go (numbered pid_of child ps) refl 
         ∙ ap (mapped (without_parent pid)) (numbered_filter pid_of child (λ (q : Process). not (is_zombie_child pid q)) ps d ∙ ap (only_if (λ (q : Process). not (is_zombie_child pid q))) e
         ∙ ap (λ (t : Bool). cond (not t) (Some z) None) (ap (λ (t : Bool). (z.parent == pid) && t) (has_alive sid z.holding h) ∙ and-false (z.parent == pid)))) h
 
-left_lent : (b : Bool) (ps : List Process) (q : Process) (pid parent : ℕ) → AllDistinct (map pid_of ps) → numbered pid_of pid ps ≡ Some q → is_zombie q.holding ≡ true → Lent ps → Lent (left_flat b (orphans pid ps) pid parent)
+left_lent : (b : Bool) (ps : List Process) (q : Process) (pid parent : ℕ) → AllDistinct (map pid_of ps) → numbered pid_of pid ps ≡ Some q
+    → is_zombie q.holding ≡ true → Lent ps → Lent (left_flat b (orphans pid ps) pid parent)
 left_lent b ps q pid parent d e z l = lent_kept ps (left_flat b (orphans pid ps) pid parent) l (λ x sid child f g.
     let w : WasFlat ps x.pid x = end_was b ps pid parent x.pid x d f in
     let i : w.before.pid ≡ x.pid = has_number pid_of x.pid ps w.before w.found in
@@ -291,7 +299,8 @@ left_lent b ps q pid parent d e z l = lent_kept ps (left_flat b (orphans pid ps)
     dead sid h = let y : true ≡ false = sym z ∙ has_alive sid q.holding h in cc
 
 -- A zombie goes.
-reaped_lent : (ps : List Process) (z : Process) (child : ℕ) → numbered pid_of child ps ≡ Some z → is_zombie z.holding ≡ true → Lent ps → Lent (filter (λ (q : Process). not (q.pid == child)) ps)
+reaped_lent : (ps : List Process) (z : Process) (child : ℕ) → numbered pid_of child ps ≡ Some z → is_zombie z.holding ≡ true → Lent ps
+    → Lent (filter (λ (q : Process). not (q.pid == child)) ps)
 reaped_lent ps z child e h l = lent_kept ps (filter (λ (q : Process). not (q.pid == child)) ps) l (λ x sid c f g. elim (cases_eq x.pid child) [
   | inl i ↦ none_some x (sym (Rattle.kernel_laws.proofs.Flat.Numbered.removed_is pid_of child ps) ∙ ap (λ (n : ℕ). numbered pid_of n (filter (λ (q : Process). not (q.pid == child)) ps)) (sym i) ∙ f)
   | inr d ↦ (let was : numbered pid_of x.pid ps ≡ Some x = sym (removed_not pid_of x.pid child ps d) ∙ f in
@@ -309,7 +318,8 @@ reaped_lent ps z child e h l = lent_kept ps (filter (λ (q : Process). not (q.pi
 
 -- The changes.
 
-pub changes_lent : (images : List NamedImage) (flat : FlatState) (pid : ℕ) (regs : Regs) (change : Change) (q : Process) (s : Space) → process_of flat pid ≡ Some q → q.holding ≡ Holds s
+pub changes_lent : (images : List NamedImage) (flat : FlatState) (pid : ℕ) (regs : Regs) (change : Change) (q : Process) (s : Space)
+    → process_of flat pid ≡ Some q → q.holding ≡ Holds s
     → NamesChild flat change → IsNumbered flat → LendsStand flat → LendsStand (apply_change images flat pid regs change)
 changes_lent images flat pid regs change q s e h m n st = subst LendsStand (sym (applied images flat pid regs change q s e h)) (go change m)
   where
@@ -366,14 +376,16 @@ changes_lent images flat pid regs change q s e h m n st = subst LendsStand (sym 
         at : numbered pid_of q.pid rs ≡ Some fp
         at = Rattle.kernel_laws.proofs.Flat.Numbers.returned_own (replaced flat.processes fp) q.pid s fp (subst AllDistinct (sym (replaced_pids flat.processes q fp found)) n.pids) (replaced_at flat.processes q fp found) refl
 
-pub writes_lent : (flat : FlatState) (pid : ℕ) (ws : List ByteWrite) (q : Process) (s : Space) → process_of flat pid ≡ Some q → q.holding ≡ Holds s → LendsStand flat → LendsStand (apply_writes flat pid ws)
+pub writes_lent : (flat : FlatState) (pid : ℕ) (ws : List ByteWrite) (q : Process) (s : Space) → process_of flat pid ≡ Some q → q.holding ≡ Holds s
+    → LendsStand flat → LendsStand (apply_writes flat pid ws)
 unfolding apply_writes
 writes_lent flat pid ws q s e h st = subst LendsStand (sym (ap (wrote_if flat ws) e ∙ ap (wrote_by flat q ws) h))
     (of_lent (with_process flat (record q { holding = Holds (puts s ws) })) (same_lent flat.processes q (record q { holding = Holds (puts s ws) }) s (puts s ws) (found_self flat pid q e) h refl (puts_sid ws s) (lent_of flat st)))
 
 -- The lender of a borrower.
 
-first_lender : (ps : List Process) (pid : ℕ) → AllDistinct (map pid_of ps) → is_borrower ps pid ≡ true → (x : Process) × (numbered pid_of x.pid ps ≡ Some x) × (lends_to pid x.holding ≡ true)
+first_lender : (ps : List Process) (pid : ℕ) → AllDistinct (map pid_of ps) → is_borrower ps pid ≡ true
+    → (x : Process) × (numbered pid_of x.pid ps ≡ Some x) × (lends_to pid x.holding ≡ true)
 first_lender [] pid d e = absurd cc
 first_lender (q ∷ ps) pid d e = elim (cases_Bool (lends_to pid q.holding)) [
   | inl t ↦ (q, numbered_hit pid_of q.pid q ps refl, t)
@@ -387,7 +399,8 @@ first_lender (q ∷ ps) pid d e = elim (cases_Bool (lends_to pid q.holding)) [
     rest (Zombie status) t y = y
 
 -- A process that borrowed its space has one lender, which lent it that.
-pub lender_found : (flat : FlatState) (pid : ℕ) (q : Process) (s : Space) → process_of flat pid ≡ Some q → q.holding ≡ Holds s → is_borrower flat.processes pid ≡ true → IsNumbered flat
+pub lender_found : (flat : FlatState) (pid : ℕ) (q : Process) (s : Space) → process_of flat pid ≡ Some q → q.holding ≡ Holds s
+    → is_borrower flat.processes pid ≡ true → IsNumbered flat
     → LendsStand flat → (m : Process) × IsLender flat pid s.sid m
 lender_found flat pid q s e h b n st =
     let r = first_lender flat.processes pid n.pids b in

@@ -101,7 +101,8 @@ pub sids-append : (xs ys : List Space) → map sid_of (xs ++ ys) ≡ map sid_of 
 sids-append [] ys = refl
 sids-append (x ∷ xs) ys = ap (λ (l : List ℕ). x.sid ∷ l) (sids-append xs ys)
 
-pub held_at : (ps : List Process) (q p : Process) (s : Space) → numbered pid_of p.pid ps ≡ Some q → q.holding ≡ Holds s → AllDistinct (map sid_of (held ps)) → HeldAt ps p s
+pub held_at : (ps : List Process) (q p : Process) (s : Space) → numbered pid_of p.pid ps ≡ Some q → q.holding ≡ Holds s
+    → AllDistinct (map sid_of (held ps)) → HeldAt ps p s
 held_at ps q p s e h d =
     let r : Parts ps q p = parts_at ps q p e in
     let old : held ps ≡ held r.front ++ s ∷ held r.back = ap held r.old ∙ held_parts r.front q r.back ∙ ap (λ (x : Holding). held r.front ++ (space_held x ++ held r.back)) h in
@@ -115,7 +116,8 @@ held_at ps q p s e h d =
       in_back = absent_none sid_of s.sid (held r.back) n.1;
     }
 
-pub three : (n : ℕ) (xs ys zs : List Space) → numbered sid_of n (xs ++ (ys ++ zs)) ≡ or_else (numbered sid_of n xs) (or_else (numbered sid_of n ys) (numbered sid_of n zs))
+pub three : (n : ℕ) (xs ys zs : List Space)
+    → numbered sid_of n (xs ++ (ys ++ zs)) ≡ or_else (numbered sid_of n xs) (or_else (numbered sid_of n ys) (numbered sid_of n zs))
 three n xs ys zs = numbered_append sid_of n xs (ys ++ zs) ∙ ap (or_else (numbered sid_of n xs)) (numbered_append sid_of n ys zs)
 
 -- the space is found by its number
@@ -124,13 +126,15 @@ held_own ps p s a = ap (numbered sid_of s.sid) a.old ∙ three s.sid a.front (s 
     ∙ ap (λ (o : Option Space). or_else o (numbered sid_of s.sid a.back)) (numbered_hit sid_of s.sid s [] refl)
 
 -- another space is as it was
-pub held_other : (ps : List Process) (p : Process) (s : Space) (n : ℕ) → HeldAt ps p s → n ≢ s.sid → numbered sid_of n (space_held p.holding) ≡ None → numbered sid_of n (held (replaced ps p)) ≡ numbered sid_of n (held ps)
+pub held_other : (ps : List Process) (p : Process) (s : Space) (n : ℕ) → HeldAt ps p s → n ≢ s.sid → numbered sid_of n (space_held p.holding) ≡ None
+    → numbered sid_of n (held (replaced ps p)) ≡ numbered sid_of n (held ps)
 held_other ps p s n a d e =
     ap (numbered sid_of n) a.new ∙ three n a.front (space_held p.holding) a.back ∙ ap (λ (o : Option Space). or_else (numbered sid_of n a.front) (or_else o (numbered sid_of n a.back))) (e ∙ sym (numbered_miss sid_of n s [] (λ h. d (sym h))))
     ∙ sym (three n a.front (s ∷ []) a.back) ∙ sym (ap (numbered sid_of n) a.old)
 
 -- the number has what the process holds now
-pub held_now : (ps : List Process) (p : Process) (s : Space) → HeldAt ps p s → numbered sid_of s.sid (held (replaced ps p)) ≡ numbered sid_of s.sid (space_held p.holding)
+pub held_now : (ps : List Process) (p : Process) (s : Space) → HeldAt ps p s
+    → numbered sid_of s.sid (held (replaced ps p)) ≡ numbered sid_of s.sid (space_held p.holding)
 held_now ps p s a =
     ap (numbered sid_of s.sid) a.new ∙ three s.sid a.front (space_held p.holding) a.back ∙ ap (λ (o : Option Space). or_else o (or_else (numbered sid_of s.sid (space_held p.holding)) (numbered sid_of s.sid a.back))) a.in_front
     ∙ ap (or_else (numbered sid_of s.sid (space_held p.holding))) a.in_back ∙ or_none (numbered sid_of s.sid (space_held p.holding))
@@ -140,7 +144,8 @@ held_now ps p s a =
     or_none (Some x) = refl
 
 -- a number that no space had
-pub held_new : (ps : List Process) (p : Process) (s : Space) (n : ℕ) → HeldAt ps p s → numbered sid_of n (held ps) ≡ None → numbered sid_of n (held (replaced ps p)) ≡ numbered sid_of n (space_held p.holding)
+pub held_new : (ps : List Process) (p : Process) (s : Space) (n : ℕ) → HeldAt ps p s → numbered sid_of n (held ps) ≡ None
+    → numbered sid_of n (held (replaced ps p)) ≡ numbered sid_of n (space_held p.holding)
 held_new ps p s n a e =
     let f : or_else (numbered sid_of n a.front) (or_else (numbered sid_of n (s ∷ [])) (numbered sid_of n a.back)) ≡ None = sym (three n a.front (s ∷ []) a.back) ∙ sym (ap (numbered sid_of n) a.old) ∙ e in
     let x : numbered sid_of n a.front ≡ None = first_none (numbered sid_of n a.front) (or_else (numbered sid_of n (s ∷ [])) (numbered sid_of n a.back)) f in
@@ -158,7 +163,8 @@ held_new ps p s n a e =
     or_none (Some x) = refl
 
 -- a process that held nothing gets a space that nobody has
-pub held_gain : (ps : List Process) (m p : Process) (s : Space) → numbered pid_of p.pid ps ≡ Some m → space_held m.holding ≡ [] → p.holding ≡ Holds s → numbered sid_of s.sid (held ps) ≡ None
+pub held_gain : (ps : List Process) (m p : Process) (s : Space) → numbered pid_of p.pid ps ≡ Some m → space_held m.holding ≡ [] → p.holding ≡ Holds s
+    → numbered sid_of s.sid (held ps) ≡ None
     → (numbered sid_of s.sid (held (replaced ps p)) ≡ Some s) × ((n : ℕ) → n ≢ s.sid → numbered sid_of n (held (replaced ps p)) ≡ numbered sid_of n (held ps))
 held_gain ps m p s e h i z = (own, other)
   where

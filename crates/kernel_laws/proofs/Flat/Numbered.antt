@@ -18,7 +18,8 @@ has_number number n (y ∷ ys) x e = go (number y == n) refl e (has_number numbe
 
 -- Changed items, and lists one behind the other.
 
-pub numbered_map : {A : Type 0} (number : A → ℕ) (g : A → A) → ((x : A) → number (g x) ≡ number x) → (n : ℕ) (xs : List A) → numbered number n (map g xs) ≡ mapped g (numbered number n xs)
+pub numbered_map : {A : Type 0} (number : A → ℕ) (g : A → A) → ((x : A) → number (g x) ≡ number x) → (n : ℕ) (xs : List A)
+    → numbered number n (map g xs) ≡ mapped g (numbered number n xs)
 numbered_map number g k n [] = refl
 numbered_map number g k n (x ∷ xs) = ap (λ (m : ℕ). cond (m == n) (Some (g x)) (numbered number n (map g xs))) (k x) ∙ go (number x == n) (numbered_map number g k n xs)
   where
@@ -30,7 +31,8 @@ abbrev pub or_else : {A : Type 0} → Option A → Option A → Option A
 or_else None o = o
 or_else (Some x) o = Some x
 
-pub numbered_append : {A : Type 0} (number : A → ℕ) (n : ℕ) (xs ys : List A) → numbered number n (xs ++ ys) ≡ or_else (numbered number n xs) (numbered number n ys)
+pub numbered_append : {A : Type 0} (number : A → ℕ) (n : ℕ) (xs ys : List A)
+    → numbered number n (xs ++ ys) ≡ or_else (numbered number n xs) (numbered number n ys)
 numbered_append number n [] ys = refl
 numbered_append number n (x ∷ xs) ys = go (number x == n) (numbered_append number n xs ys)
   where
@@ -74,7 +76,8 @@ removed_is {A} number n (x ∷ xs) = go (number x == n) refl (removed_is number 
     go true e ih = ih
     go false e ih = ap (λ (b : Bool). cond b (Some x) (numbered number n (filter (λ (x : A). not (number x == n)) xs))) e ∙ ih
 
-pub removed_not : {A : Type 0} (number : A → ℕ) (m n : ℕ) (xs : List A) → m ≢ n → numbered number m (filter (λ (x : A). not (number x == n)) xs) ≡ numbered number m xs
+pub removed_not : {A : Type 0} (number : A → ℕ) (m n : ℕ) (xs : List A) → m ≢ n
+    → numbered number m (filter (λ (x : A). not (number x == n)) xs) ≡ numbered number m xs
 removed_not number m n [] d = refl
 removed_not {A} number m n (x ∷ xs) d = go (number x == n) refl (removed_not number m n xs d)
   where
@@ -96,7 +99,8 @@ filtered_none number n test (x ∷ xs) a = go (test x) (filtered_none number n t
     go false ih = ih
 
 -- where no number stands twice
-pub numbered_filter : {A : Type 0} (number : A → ℕ) (n : ℕ) (test : A → Bool) (xs : List A) → AllDistinct (map number xs) → numbered number n (filter test xs) ≡ only_if test (numbered number n xs)
+pub numbered_filter : {A : Type 0} (number : A → ℕ) (n : ℕ) (test : A → Bool) (xs : List A) → AllDistinct (map number xs)
+    → numbered number n (filter test xs) ≡ only_if test (numbered number n xs)
 numbered_filter number n test [] d = refl
 numbered_filter number n test (x ∷ xs) d = elim (cases_eq (number x) n) [
   | inl e ↦ first (test x) e ∙ sym (ap (only_if test) (numbered_hit number n x xs e))
@@ -121,7 +125,8 @@ abbrev pub image_by : {A : Type 0} {B : Type 0} → (A → B) → Option A → O
 image_by f None = None
 image_by f (Some x) = Some (f x)
 
-pub numbered_image : {A : Type 0} {B : Type 0} (f : A → B) (number : A → ℕ) (number_now : B → ℕ) → ((x : A) → number_now (f x) ≡ number x) → (n : ℕ) (xs : List A) → numbered number_now n (map f xs) ≡ image_by f (numbered number n xs)
+pub numbered_image : {A : Type 0} {B : Type 0} (f : A → B) (number : A → ℕ) (number_now : B → ℕ) → ((x : A) → number_now (f x) ≡ number x)
+    → (n : ℕ) (xs : List A) → numbered number_now n (map f xs) ≡ image_by f (numbered number n xs)
 numbered_image f number number_now k n [] = refl
 numbered_image f number number_now k n (x ∷ xs) = ap (λ (m : ℕ). cond (m == n) (Some (f x)) (numbered number_now n (map f xs))) (k x) ∙ go (number x == n) (numbered_image f number number_now k n xs)
   where
@@ -135,7 +140,8 @@ or_none : {A : Type 0} (o : Option A) → or_else o None ≡ o
 or_none None = refl
 or_none (Some x) = refl
 
-pub pushed_new : {A : Type 0} (number : A → ℕ) (n : ℕ) (xs : List A) (x : A) → numbered number n xs ≡ None → number x ≡ n → numbered number n (xs ++ x ∷ []) ≡ Some x
+pub pushed_new : {A : Type 0} (number : A → ℕ) (n : ℕ) (xs : List A) (x : A) → numbered number n xs ≡ None → number x ≡ n
+    → numbered number n (xs ++ x ∷ []) ≡ Some x
 pushed_new number n xs x e i = numbered_append number n xs (x ∷ []) ∙ ap (λ o. or_else o (numbered number n (x ∷ []))) e ∙ numbered_hit number n x [] i
 
 pub pushed_old : {A : Type 0} (number : A → ℕ) (n : ℕ) (xs : List A) (x : A) → number x ≢ n → numbered number n (xs ++ x ∷ []) ≡ numbered number n xs

@@ -105,13 +105,16 @@ lower_filter test (p ∷ ps) l = go (test p) (lower_filter test ps l.1)
 
 -- what is asked of the spaces of the process
 pub record Exchange (ps : List Process) (q p : Process) (ns ms : ℕ) : Type 0 where
-  pub made : (front back : List ℕ) → map sid_of (held ps) ≡ front ++ (map sid_of (space_held q.holding) ++ back) → AllDistinct (front ++ (map sid_of (space_held q.holding) ++ back)) → AllBelow ns (front ++ (map sid_of (space_held q.holding) ++ back))
+  pub made : (front back : List ℕ) → map sid_of (held ps) ≡ front ++ (map sid_of (space_held q.holding) ++ back)
+      → AllDistinct (front ++ (map sid_of (space_held q.holding) ++ back)) → AllBelow ns (front ++ (map sid_of (space_held q.holding) ++ back))
       → AllDistinct (front ++ (map sid_of (space_held p.holding) ++ back)) × AllBelow ms (front ++ (map sid_of (space_held p.holding) ++ back))
 
-held_sids : (xs : List Process) (p : Process) (ys : List Process) → map sid_of (held (xs ++ p ∷ ys)) ≡ map sid_of (held xs) ++ (map sid_of (space_held p.holding) ++ map sid_of (held ys))
+held_sids : (xs : List Process) (p : Process) (ys : List Process)
+    → map sid_of (held (xs ++ p ∷ ys)) ≡ map sid_of (held xs) ++ (map sid_of (space_held p.holding) ++ map sid_of (held ys))
 held_sids xs p ys = ap (map sid_of) (held_parts xs p ys) ∙ sids-append (held xs) (space_held p.holding ++ held ys) ∙ ap (λ (l : List ℕ). map sid_of (held xs) ++ l) (sids-append (space_held p.holding) (held ys))
 
-pub exchange : (ps : List Process) (q p : Process) (next ns ms : ℕ) → Tidy ps next ns → numbered pid_of p.pid ps ≡ Some q → p.parent ≡ q.parent → Exchange ps q p ns ms → Tidy (replaced ps p) next ms
+pub exchange : (ps : List Process) (q p : Process) (next ns ms : ℕ) → Tidy ps next ns → numbered pid_of p.pid ps ≡ Some q → p.parent ≡ q.parent
+    → Exchange ps q p ns ms → Tidy (replaced ps p) next ms
 exchange ps q p next ns ms t e par x =
     let r : Parts ps q p = parts_at ps q p e in
     let old : map sid_of (held ps) ≡ map sid_of (held r.front) ++ (map sid_of (space_held q.holding) ++ map sid_of (held r.back)) = ap (λ (l : List Process). map sid_of (held l)) r.old ∙ held_sids r.front q r.back in
@@ -159,7 +162,8 @@ renewal ps q p s z ns h k i = record {
 }
 
 -- a space comes that nobody has
-gain : (ps : List Process) (q p : Process) (s : Space) (ns : ℕ) → space_held q.holding ≡ [] → p.holding ≡ Holds s → IsAbsent s.sid (map sid_of (held ps)) → s.sid < ns → Exchange ps q p ns ns
+gain : (ps : List Process) (q p : Process) (s : Space) (ns : ℕ) → space_held q.holding ≡ [] → p.holding ≡ Holds s
+    → IsAbsent s.sid (map sid_of (held ps)) → s.sid < ns → Exchange ps q p ns ns
 gain ps q p s ns h k a l = record {
   made = λ front back o d b.
       let was : AllDistinct (front ++ back) = subst (λ (x : List Space). AllDistinct (front ++ (map sid_of x ++ back))) h d in
@@ -185,7 +189,8 @@ map_pushed f [] x = refl
 map_pushed f (y ∷ xs) x = ap (λ l. f y ∷ l) (map_pushed f xs x)
 
 -- with a space of this number, which is absent
-pub one_more : (ps : List Process) (p : Process) (s : Space) (next ns ms : ℕ) → Tidy ps next ns → p.pid ≡ next → p.parent < p.pid → p.holding ≡ Holds s → IsAbsent s.sid (map sid_of (held ps))
+pub one_more : (ps : List Process) (p : Process) (s : Space) (next ns ms : ℕ) → Tidy ps next ns → p.pid ≡ next → p.parent < p.pid
+    → p.holding ≡ Holds s → IsAbsent s.sid (map sid_of (held ps))
     → s.sid < ms → AllBelow ms (map sid_of (held ps)) → Tidy (ps ++ p ∷ []) (next + 1) ms
 one_more ps p s next ns ms t i l h a m b = record {
   pids = subst AllDistinct (sym (map_pushed pid_of ps p)) (pushed_distinct (map pid_of ps) p.pid t.pids (subst (λ (n : ℕ). IsAbsent n (map pid_of ps)) (sym i) (below_absent next (map pid_of ps) t.pids_below)));
@@ -230,14 +235,16 @@ lender_holds pid (Holds s) e = absurd cc
 lender_holds pid (Lends sid child) e = refl
 lender_holds pid (Zombie status) e = absurd cc
 
-pub returned_tidy : (ps : List Process) (pid : ℕ) (s : Space) (next ns : ℕ) → Tidy ps next ns → IsAbsent s.sid (map sid_of (held ps)) → s.sid < ns → Tidy (returned pid s ps) next ns
+pub returned_tidy : (ps : List Process) (pid : ℕ) (s : Space) (next ns : ℕ) → Tidy ps next ns → IsAbsent s.sid (map sid_of (held ps)) → s.sid < ns
+    → Tidy (returned pid s ps) next ns
 returned_tidy ps pid s next ns t a l = elim (returned_either ps pid s t.pids) [
   | inl e ↦ subst (λ (x : List Process). Tidy x next ns) (sym e) t
   | inr e ↦ subst (λ (x : List Process). Tidy x next ns) (sym e.3) (exchange ps e.0 (record e.0 { holding = Holds s }) next ns ns t e.1 refl (gain ps e.0 (record e.0 { holding = Holds s }) s ns (lender_holds pid e.0.holding e.2) refl a l))
 ]
 
 -- who isn't a lender is as it was
-pub returned_own : (ps : List Process) (pid : ℕ) (s : Space) (q : Process) → AllDistinct (map pid_of ps) → numbered pid_of q.pid ps ≡ Some q → lends_to pid q.holding ≡ false → numbered pid_of q.pid (returned pid s ps) ≡ Some q
+pub returned_own : (ps : List Process) (pid : ℕ) (s : Space) (q : Process) → AllDistinct (map pid_of ps) → numbered pid_of q.pid ps ≡ Some q
+    → lends_to pid q.holding ≡ false → numbered pid_of q.pid (returned pid s ps) ≡ Some q
 returned_own ps pid s q d e h = elim (returned_either ps pid s d) [
   | inl i ↦ ap (numbered pid_of q.pid) i ∙ e
   | inr i ↦ ap (numbered pid_of q.pid) i.3 ∙ replaced_not ps (record i.0 { holding = Holds s }) q.pid
@@ -263,7 +270,8 @@ orphans_tidy ps pid next ns t = record {
     go true m n l = omega arith
     go false m n l = l
 
-left_tidy : (b : Bool) (ps : List Process) (q : Process) (pid parent next ns : ℕ) → Tidy ps next ns → numbered pid_of pid ps ≡ Some q → space_held q.holding ≡ [] → Tidy (left_flat b (orphans pid ps) pid parent) next ns
+left_tidy : (b : Bool) (ps : List Process) (q : Process) (pid parent next ns : ℕ) → Tidy ps next ns → numbered pid_of pid ps ≡ Some q
+    → space_held q.holding ≡ [] → Tidy (left_flat b (orphans pid ps) pid parent) next ns
 left_tidy true ps q pid parent next ns t e h = let o : Tidy (orphans pid ps) next ns = orphans_tidy ps pid next ns t in record {
   pids = distinct_filter pid_of (λ (x : Process). not (x.pid == pid)) (orphans pid ps) o.pids;
   sids = subst (λ (l : List Space). AllDistinct (map sid_of l)) (sym (end_held true ps q pid parent t.pids e h)) t.sids;
@@ -282,7 +290,8 @@ left_tidy false ps q pid parent next ns t e h = let o : Tidy (orphans pid ps) ne
 -- The changes.
 
 -- the number of a space that a process holds
-own_below : (flat : FlatState) (pid : ℕ) (q : Process) (s : Space) → IsNumbered flat → process_of flat pid ≡ Some q → q.holding ≡ Holds s → s.sid < flat.next_sid
+own_below : (flat : FlatState) (pid : ℕ) (q : Process) (s : Space) → IsNumbered flat → process_of flat pid ≡ Some q → q.holding ≡ Holds s
+    → s.sid < flat.next_sid
 own_below flat pid q s n e h = go (map sid_of (held flat.processes)) n.sids_below
     (λ a. holds_there flat.processes q.pid q s (found_self flat pid q e) h (absent_none sid_of s.sid (held flat.processes) a))
   where
@@ -294,26 +303,30 @@ own_below flat pid q s n e h = go (map sid_of (held flat.processes)) n.sids_belo
     ]
 
 -- a process that holds its space gives way to one that has none, and the space goes back where it was lent
-pub back_tidy : (flat : FlatState) (pid : ℕ) (q fp : Process) (s : Space) → IsNumbered flat → process_of flat pid ≡ Some q → q.holding ≡ Holds s → numbered pid_of fp.pid flat.processes ≡ Some q
+pub back_tidy : (flat : FlatState) (pid : ℕ) (q fp : Process) (s : Space) → IsNumbered flat → process_of flat pid ≡ Some q → q.holding ≡ Holds s
+    → numbered pid_of fp.pid flat.processes ≡ Some q
     → fp.parent ≡ q.parent → fp.pid ≡ q.pid → space_held fp.holding ≡ []
     → Tidy (returned q.pid s (replaced flat.processes fp)) flat.next_pid flat.next_sid
 back_tidy flat pid q fp s n e h f par i z = returned_tidy (replaced flat.processes fp) q.pid s flat.next_pid flat.next_sid
     (exchange flat.processes q fp flat.next_pid flat.next_sid flat.next_sid (tidy_of flat n) f par (loss flat.processes q fp s flat.next_sid h z))
     (none_absent sid_of s.sid (held (replaced flat.processes fp)) (held_now flat.processes fp s (held_at flat.processes q fp s f h n.sids) ∙ ap (numbered sid_of s.sid) z)) (own_below flat pid q s n e h)
 
-pub writes_numbered : (flat : FlatState) (pid : ℕ) (ws : List ByteWrite) (q : Process) (s : Space) → process_of flat pid ≡ Some q → q.holding ≡ Holds s → IsNumbered flat → IsNumbered (apply_writes flat pid ws)
+pub writes_numbered : (flat : FlatState) (pid : ℕ) (ws : List ByteWrite) (q : Process) (s : Space) → process_of flat pid ≡ Some q
+    → q.holding ≡ Holds s → IsNumbered flat → IsNumbered (apply_writes flat pid ws)
 unfolding apply_writes
 writes_numbered flat pid ws q s e h n = subst IsNumbered (sym (ap (wrote_if flat ws) e ∙ ap (wrote_by flat q ws) h))
     (of_tidy (with_process flat (record q { holding = Holds (puts s ws) })) (exchange flat.processes q (record q { holding = Holds (puts s ws) }) flat.next_pid flat.next_sid flat.next_sid (tidy_of flat n) (found_self flat pid q e) refl
     (same_exchange flat.processes q (record q { holding = Holds (puts s ws) }) flat.next_sid (ap (λ (m : ℕ). m ∷ []) (puts_sid ws s) ∙ sym (ap (λ (x : Holding). map sid_of (space_held x)) h)))))
 
 -- a process with the same spaces
-same_numbered : (flat : FlatState) (q p : Process) → numbered pid_of p.pid flat.processes ≡ Some q → p.parent ≡ q.parent → map sid_of (space_held p.holding) ≡ map sid_of (space_held q.holding)
+same_numbered : (flat : FlatState) (q p : Process) → numbered pid_of p.pid flat.processes ≡ Some q → p.parent ≡ q.parent
+    → map sid_of (space_held p.holding) ≡ map sid_of (space_held q.holding)
     → IsNumbered flat → IsNumbered (with_process flat p)
 same_numbered flat q p e par h n = of_tidy (with_process flat p) (exchange flat.processes q p flat.next_pid flat.next_sid flat.next_sid (tidy_of flat n) e par (same_exchange flat.processes q p flat.next_sid h))
 
 -- a zombie goes
-reaped : (flat : FlatState) (child status : ℕ) (z : Process) → process_of flat child ≡ Some z → z.holding ≡ Zombie status → IsNumbered flat → IsNumbered (without_process flat child)
+reaped : (flat : FlatState) (child status : ℕ) (z : Process) → process_of flat child ≡ Some z → z.holding ≡ Zombie status → IsNumbered flat
+    → IsNumbered (without_process flat child)
 reaped flat child status z e h n = of_tidy (without_process flat child) (record {
   pids = distinct_filter pid_of (λ (x : Process). not (x.pid == child)) flat.processes n.pids;
   sids = subst (λ (l : List Space). AllDistinct (map sid_of l)) (sym same) n.sids;
@@ -331,7 +344,8 @@ reaped flat child status z e h n = of_tidy (without_process flat child) (record 
         (λ x f t. let i : x.pid ≡ child = Rattle.std.proofs.lemmas.Bool.eqb-true x.pid child (off (x.pid == child) t) in
         ap (λ (y : Process). space_held y.holding) (same_Some x z (sym f ∙ ap (λ (m : ℕ). numbered pid_of m flat.processes) i ∙ sym (found_is flat.processes child) ∙ e)) ∙ ap space_held h)
 
-pub changes_numbered : (images : List NamedImage) (flat : FlatState) (pid : ℕ) (regs : Regs) (change : Change) (q : Process) (s : Space) → process_of flat pid ≡ Some q → q.holding ≡ Holds s
+pub changes_numbered : (images : List NamedImage) (flat : FlatState) (pid : ℕ) (regs : Regs) (change : Change) (q : Process) (s : Space)
+    → process_of flat pid ≡ Some q → q.holding ≡ Holds s
     → NamesChild flat change → IsNumbered flat → IsNumbered (apply_change images flat pid regs change)
 changes_numbered images flat pid regs change q s e h m n = subst IsNumbered (sym (applied images flat pid regs change q s e h)) (go change m)
   where

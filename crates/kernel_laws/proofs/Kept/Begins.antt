@@ -34,11 +34,13 @@ use Rattle.kernel_laws.proofs.Sound.Allowed.{new_number}
 one_on : (n m : ℕ) → (n + 1) + m ≡ n + suc m
 one_on n m = omega arith
 
-spaces_last : (n : ℕ) (first : List Starting) (a : Starting) → spaces_from n (first ++ a ∷ []) ≡ spaces_from n first ++ new_pages (n + length first) a.image a.facts ∷ []
+spaces_last : (n : ℕ) (first : List Starting) (a : Starting)
+    → spaces_from n (first ++ a ∷ []) ≡ spaces_from n first ++ new_pages (n + length first) a.image a.facts ∷ []
 spaces_last n [] a = ap (λ (m : ℕ). new_pages m a.image a.facts ∷ []) (omega arith)
 spaces_last n (x ∷ first) a = ap (λ (l : List SpacePages). new_pages n x.image x.facts ∷ l) (spaces_last (n + 1) first a ∙ ap (λ (m : ℕ). spaces_from (n + 1) first ++ new_pages m a.image a.facts ∷ []) (one_on n (length first)))
 
-residents_last : (n : ℕ) (first : List Starting) (a : Starting) → residents_from n (first ++ a ∷ []) ≡ residents_from n first ++ record { pid = n + length first; out = false; since = 0 } ∷ []
+residents_last : (n : ℕ) (first : List Starting) (a : Starting)
+    → residents_from n (first ++ a ∷ []) ≡ residents_from n first ++ record { pid = n + length first; out = false; since = 0 } ∷ []
 residents_last n [] a = ap (λ (m : ℕ). record { pid = m; out = false; since = 0 } ∷ []) (omega arith)
 residents_last n (x ∷ first) a = ap (λ (l : List Residence). record { pid = n; out = false; since = 0 } ∷ l) (residents_last (n + 1) first a ∙ ap (λ (m : ℕ). residents_from (n + 1) first ++ record { pid = m; out = false; since = 0 } ∷ []) (one_on n (length first)))
 
@@ -65,7 +67,8 @@ starting_count images (n ∷ numbers) (x ∷ first) (named, e, i, f, more) = ap 
 abbrev at_start : Holdings → List (List ℕ) → Placement → List Proc → ℕ → List StartBytes → Kernel
 at_start hs frames p ps next starts = record { place = p; holdings = hs; processes = ps; next_pid = next; next_sid = next; starts = starts; frames = frames; journal = []; stopped = false }
 
-pub start_begins : (A : Inputs) (first : List Starting) (hs found : Holdings) (frames : List (List ℕ)) (number : ℕ) (named : NamedImage) → AreStarting A.images A.first first → image_numbered A.images number ≡ Some named
+pub start_begins : (A : Inputs) (first : List Starting) (hs found : Holdings) (frames : List (List ℕ)) (number : ℕ) (named : NamedImage)
+    → AreStarting A.images A.first first → image_numbered A.images number ≡ Some named
     → start_kernel (with_first A number) (first ++ starting_in number named ∷ []) found frames ≡ begin_step (start_kernel A first hs frames) found number named.name named.image.facts
 start_begins A first hs found frames number named a e =
     ap (λ (p : Placement). at_start found frames p (map kept_of after) next (map start_of (held after))) place
@@ -113,7 +116,8 @@ start_begins A first hs found frames number named a e =
 pub start_none : (A : Inputs) (frames : List (List ℕ)) → A.first ≡ [] → start_kernel A [] [] frames ≡ new_kernel (facts_of A.images) A.frames frames
 start_none A frames e = ap (λ (ns : List ℕ). at_start [] frames (start_placement (facts_of A.images) [] A.frames) (map kept_of (start_processes A.images 1 ns)) (length ns + 1) (map start_of (held (start_processes A.images 1 ns)))) e
 
-pub starting_more : (A : Inputs) (first : List Starting) (number : ℕ) (named : NamedImage) → AreStarting A.images A.first first → image_numbered A.images number ≡ Some named
+pub starting_more : (A : Inputs) (first : List Starting) (number : ℕ) (named : NamedImage) → AreStarting A.images A.first first
+    → image_numbered A.images number ≡ Some named
     → AreStarting A.images (A.first ++ number ∷ []) (first ++ starting_in number named ∷ [])
 starting_more A first number named a e = go A.first first a
   where
@@ -134,7 +138,8 @@ in_order : (t d s u r z : List Wanted) → (t ++ (d ++ (s ++ (u ++ r)))) ++ z �
 in_order t d s u r z = append_assoc t (d ++ (s ++ (u ++ r))) z
     ∙ ap (λ (l : List Wanted). t ++ l) (append_assoc d (s ++ (u ++ r)) z ∙ ap (λ (l : List Wanted). d ++ l) (append_assoc s (u ++ r) z ∙ ap (λ (l : List Wanted). s ++ l) (append_assoc u r z)))
 
-asks_last : (p : Placement) (earlier : List ℕ) (pid : ℕ) (first : List Starting) (a : Starting) (n : ℕ) → n ≡ times a.image earlier + sharers_in a.image (spaces_from pid first)
+asks_last : (p : Placement) (earlier : List ℕ) (pid : ℕ) (first : List Starting) (a : Starting) (n : ℕ)
+    → n ≡ times a.image earlier + sharers_in a.image (spaces_from pid first)
     → start_asks p earlier pid (first ++ a ∷ []) ≡ start_asks p earlier pid first ++ last_asks p n (pid + length first) a
 asks_last p earlier pid [] a n e =
     ap (λ (l : List Wanted). text_asked (times a.image earlier) a.image (2 * length (slots_of p (Text a.image 0))) ++ (wanted (owners.Data pid) (pieces (2 * data_pages_of a.facts)) ++ (wanted (owners.Stack pid) (pieces 2) ++ l))) (append-nil (wanted (owners.U pid) (u_pieces 2)))
@@ -155,7 +160,8 @@ asks_last p earlier pid (x ∷ first) a n e =
     count false i j h = omega arith
 
 -- the pieces of text are by the texts
-asks_same : (p q : Placement) → q.texts ≡ p.texts → (earlier : List ℕ) (pid : ℕ) (first : List Starting) → start_asks q earlier pid first ≡ start_asks p earlier pid first
+asks_same : (p q : Placement) → q.texts ≡ p.texts → (earlier : List ℕ) (pid : ℕ) (first : List Starting)
+    → start_asks q earlier pid first ≡ start_asks p earlier pid first
 asks_same p q e earlier pid [] = refl
 asks_same p q e earlier pid (a ∷ more) =
     let d : List Wanted = wanted (owners.Data pid) (pieces (2 * data_pages_of a.facts)) in
@@ -165,7 +171,8 @@ asks_same p q e earlier pid (a ∷ more) =
     ∙ ap (λ (l : List Wanted). text_asked (times a.image earlier) a.image (2 * length (slots_of p (Text a.image 0))) ++ (d ++ (s ++ (u ++ l)))) (asks_same p q e (a.image ∷ earlier) (pid + 1) more)
 
 -- they are found behind those of the first processes before it
-pub start_finds : (size : ℕ) (images : List Image) (first : List Starting) (a : Starting) (frames : ℕ) (hs : Holdings) → place_all size [] (start_asks (start_placement images first frames) [] 1 first) ≡ Ok hs
+pub start_finds : (size : ℕ) (images : List Image) (first : List Starting) (a : Starting) (frames : ℕ) (hs : Holdings)
+    → place_all size [] (start_asks (start_placement images first frames) [] 1 first) ≡ Ok hs
     → place_all size [] (start_asks (start_placement images (first ++ a ∷ []) frames) [] 1 (first ++ a ∷ [])) ≡ place_all size hs (begin_asks (start_placement images first frames) (1 + length first) a.image a.facts)
 start_finds size images first a frames hs e =
     ap (place_all size []) (asks_same p q refl [] 1 (first ++ a ∷ []) ∙ asks_last p [] 1 first a (sharers p a.image) (omega arith))
@@ -193,7 +200,8 @@ due_either (c ∷ ds) es w d e = go (Rattle.flat_state.specs.PageNames.same_page
     go false k later = later k
 
 -- a page that is there has the slots that it had
-there_same : (p : Placement) (x : SpacePages) (due : List Due) (w : Page) → IsThere p w → slots_of (record p { spaces = p.spaces ++ x ∷ []; due = due }) w ≡ slots_of p w
+there_same : (p : Placement) (x : SpacePages) (due : List Due) (w : Page) → IsThere p w
+    → slots_of (record p { spaces = p.spaces ++ x ∷ []; due = due }) w ≡ slots_of p w
 there_same p x due (Data sid v) t = elim (first_or_none sid p.spaces x) [
   | inl e ↦ ap data_in e
   | inr e ↦ absurd (let h = ap (λ (o : Option SpacePages). length (data_in o)) e in omega arith)
@@ -235,5 +243,6 @@ begin_due p pid image facts new st w d e = elim (due_either p.due (Start (Stack 
         same_filling : (v : Page) → slots_of q v ≡ slots_of p v → filling_of q v ≡ filling_of p v
         same_filling v s = ap (λ (xs : List Rattle.page_model.specs.Pages.Slot). Rattle.page_model.specs.Placement.filling_by v (Rattle.std.specs.Prelude.get_or xs (Rattle.flat_state.specs.PageNames.number_of v) Rattle.page_model.specs.Pages.no_slot).filling) s
 
-pub begins_due : (k : Kernel) (found : Holdings) (image : ℕ) (name : List ℕ) (facts : Image) → Numbered k → k.next_sid ≡ k.next_pid → DueStand k.place → DueStand (begin_step k found image name facts).place
+pub begins_due : (k : Kernel) (found : Holdings) (image : ℕ) (name : List ℕ) (facts : Image) → Numbered k → k.next_sid ≡ k.next_pid → DueStand k.place
+    → DueStand (begin_step k found image name facts).place
 begins_due k found image name facts n e st = begin_due k.place k.next_pid image facts (subst (IsNew k.place) e (new_number k n)) st

@@ -61,7 +61,8 @@ lender_flat (p ∷ ps) pid m d e t only = ap (λ (b : Bool). cond b p.pid (lende
         other : p.pid ≢ m.pid
         other i = let same : p ≡ m = same_Some p m (sym (numbered_hit pid_of m.pid p ps i) ∙ e) in let z : false ≡ true = sym y ∙ ap (λ (r : Process). lends_to pid r.holding) same ∙ t in cc
 
-pub lender_is : (k : Kernel) (flat : FlatState) (pid sid : ℕ) (m : Process) → SameTables k flat → IsNumbered flat → IsLender flat pid sid m → lender_among k.processes pid ≡ m.pid
+pub lender_is : (k : Kernel) (flat : FlatState) (pid sid : ℕ) (m : Process) → SameTables k flat → IsNumbered flat → IsLender flat pid sid m
+    → lender_among k.processes pid ≡ m.pid
 lender_is k flat pid sid m t n is =
     lender_kept k.processes pid ∙ ap (λ (os : List Outline). lender_in os pid) t.processes
     ∙ lender_flat flat.processes pid m n.pids (sym (found_is flat.processes m.pid) ∙ is.found) (ap (lends_to pid) is.holding ∙ eq_self pid) (λ x e l. is.only x (found_is flat.processes x.pid ∙ e) l)

@@ -152,7 +152,8 @@ record Rests (p : Placement) : Type 0 where
   pub dues : DueStand p
   pub parts : HaveParts p.transfers
 
-rests : (images : List NamedImage) (k l : Kernel) (pid sid : ℕ) (b : Bool) (e : Entry) (change : Change) → LandsAt images k pid sid b e change l → k.place.due ≡ [] → HaveParts k.place.transfers
+rests : (images : List NamedImage) (k l : Kernel) (pid sid : ℕ) (b : Bool) (e : Entry) (change : Change) → LandsAt images k pid sid b e change l
+    → k.place.due ≡ [] → HaveParts k.place.transfers
     → CanChange k.place sid b k.next_sid change → ApartFrom sid b k.next_sid change → Rests l.place
 rests images k l pid sid b e change at clear parts can apart = subst Rests (sym at.place) (
     let u : Unhanded k.place (place_change (facts_of images) k.place pid sid b k.next_sid (length (append k.journal e)) change) = change_unhanded (facts_of images) k.place pid sid b k.next_sid (length (append k.journal e)) change in
@@ -163,7 +164,8 @@ rests images k l pid sid b e change at clear parts can apart = subst Rests (sym 
 
 -- Who keeps its space, or has one of its own.
 
-own_stands : (images : List NamedImage) (k : Kernel) (flat : FlatState) (pid : ℕ) (regs : Regs) (e : Entry) (q : Process) (s : Space) (change : Change) → Acts k flat pid q s → k.place.due ≡ []
+own_stands : (images : List NamedImage) (k : Kernel) (flat : FlatState) (pid : ℕ) (regs : Regs) (e : Entry) (q : Process) (s : Space) (change : Change)
+    → Acts k flat pid q s → k.place.due ≡ []
     → NamesChild flat change → EntersImage images change → SameTables k flat → Stands images k flat
     → Stands images (keeps_step (facts_of images) k pid regs e change) (apply_change images flat pid regs change)
 own_stands images k flat pid regs e q s Keep a due m x t st = keep_stands images k flat pid regs e q s t a.here a.holds a.resident st
@@ -206,7 +208,8 @@ own_coupled size images k before image flat pid regs e q s b (End status) w o x 
     end_coupled_step size k images image flat pid regs e status q s so x.numbers st.out x.clear a.here a.holds (w ∙ ends_own b status o) (settled_rests k.place s.sid ow.frames z) y x.coupled
 
 -- parent and child live before the space passes
-pub lend_lives : (images : List NamedImage) (k : Kernel) (flat : FlatState) (pid : ℕ) (regs : Regs) (e : Entry) (q : Process) (s : Space) → IsNumbered flat → process_of flat pid ≡ Some q → q.holding ≡ Holds s → SameTables k flat
+pub lend_lives : (images : List NamedImage) (k : Kernel) (flat : FlatState) (pid : ℕ) (regs : Regs) (e : Entry) (q : Process) (s : Space)
+    → IsNumbered flat → process_of flat pid ≡ Some q → q.holding ≡ Holds s → SameTables k flat
     → (lives (change_step (facts_of images) k pid regs e (Lend flat.next_pid)).processes pid ≡ true) × (lives (change_step (facts_of images) k pid regs e (Lend flat.next_pid)).processes flat.next_pid ≡ true)
 lend_lives images k flat pid regs e q s nums f h t =
     subst (λ (x : Kernel). (lives x.processes pid ≡ true) × (lives x.processes flat.next_pid ≡ true)) (sym (step_is (facts_of images) k pid regs e (Lend flat.next_pid) g.proc (HoldsSpace s.sid) g.kept g.life))
@@ -239,7 +242,8 @@ record Passed (size : ℕ) (images : List NamedImage) (k : Kernel) (pid sid : �
   pub numbered : Numbered l
   pub lands : LandsAt images k pid sid b e change l
 
-own_passed : (size : ℕ) (images : List NamedImage) (k : Kernel) (flat : FlatState) (pid : ℕ) (regs : Regs) (e : Entry) (q : Process) (s : Space) (change : Change) → IsNumbered flat
+own_passed : (size : ℕ) (images : List NamedImage) (k : Kernel) (flat : FlatState) (pid : ℕ) (regs : Regs) (e : Entry) (q : Process) (s : Space) (change : Change)
+    → IsNumbered flat
     → process_of flat pid ≡ Some q → q.holding ≡ Holds s → SameTables k flat → NamesChild flat change
     → Passed size images k pid s.sid false e change (change_step (facts_of images) k pid regs e change) → Passed size images k pid s.sid false e change (keeps_step (facts_of images) k pid regs e change)
 own_passed size images k flat pid regs e q s Keep nums f h t m x = x
@@ -258,7 +262,8 @@ own_passed size images k flat pid regs e q s (Reap child) nums f h t m x = x
 own_passed size images k flat pid regs e q s Sleep nums f h t m x = x
 own_passed size images k flat pid regs e q s (End status) nums f h t m x = x
 
-own_lands : (images : List NamedImage) (k : Kernel) (flat : FlatState) (pid : ℕ) (regs : Regs) (e : Entry) (q : Process) (s : Space) (change : Change) → Stepping k flat pid q s
+own_lands : (images : List NamedImage) (k : Kernel) (flat : FlatState) (pid : ℕ) (regs : Regs) (e : Entry) (q : Process) (s : Space) (change : Change)
+    → Stepping k flat pid q s
     → LandsAt images k pid s.sid false e change (change_step (facts_of images) k pid regs e change)
 own_lands images k flat pid regs e q s change g =
     subst (LandsAt images k pid s.sid false e change) (sym (step_is (facts_of images) k pid regs e change g.proc (HoldsSpace s.sid) g.kept g.life))
@@ -341,7 +346,8 @@ takes_none k (Exec image top) gb = tt
 takes_none k (End status) gb = tt
 takes_none k _ gb = absurd gb
 
-pub back_ready : (k : Kernel) (flat : FlatState) (pid : ℕ) (q m : Process) (s : Space) (change : Change) → (a : Borrowing k flat pid q m s) → GivesBack change → ReadyFor (pass_step k pid m.pid) pid change
+pub back_ready : (k : Kernel) (flat : FlatState) (pid : ℕ) (q m : Process) (s : Space) (change : Change) → (a : Borrowing k flat pid q m s)
+    → GivesBack change → ReadyFor (pass_step k pid m.pid) pid change
 back_ready k flat pid q m s change a gb =
     subst (λ (x : Kernel). ReadyFor x pid change) (sym (back_kernel k flat pid q m s a))
     (subst (λ (o : Option Proc). ReadyBy k1 pid (life_of_proc o) change) (sym (back_proc k flat pid q m s a)) (by change gb))
@@ -357,12 +363,14 @@ back_ready k flat pid q m s change a gb =
     by (End status) gb = record { alive = alive; next = tt; reaps = tt; space = λ z. absurd cc }
     by _ gb = absurd gb
 
-asks_same : (images : List NamedImage) (k : Kernel) (pid from to : ℕ) (change : Change) → GivesBack change → asked (facts_of images) (pass_step k from to) pid change ≡ asked (facts_of images) k pid change
+asks_same : (images : List NamedImage) (k : Kernel) (pid from to : ℕ) (change : Change) → GivesBack change
+    → asked (facts_of images) (pass_step k from to) pid change ≡ asked (facts_of images) k pid change
 asks_same images k pid from to (Exec image top) gb = refl
 asks_same images k pid from to (End status) gb = refl
 asks_same images k pid from to _ gb = absurd gb
 
-back_stands : (images : List NamedImage) (k : Kernel) (flat : FlatState) (pid : ℕ) (regs : Regs) (e : Entry) (q m : Process) (s : Space) (change : Change) → GivesBack change → Acts k flat pid q s
+back_stands : (images : List NamedImage) (k : Kernel) (flat : FlatState) (pid : ℕ) (regs : Regs) (e : Entry) (q m : Process) (s : Space) (change : Change)
+    → GivesBack change → Acts k flat pid q s
     → IsLender flat pid s.sid m → k.place.due ≡ [] → EntersImage images change → SameTables k flat → Stands images k flat
     → Stands images (change_step (facts_of images) (pass_step k pid m.pid) pid regs e change) (apply_change images flat pid regs change)
 back_stands images k flat pid regs e q m s (Exec number top) gb a is due (named, im, whole) t st = exec_back_stands images k flat pid regs e number top named q m s t due a.here a.holds is a.resident im st
@@ -390,7 +398,8 @@ back_is images k pid n regs e (End status) gb i = ap (λ (m : ℕ). change_step 
 back_is images k pid n regs e _ gb i = absurd gb
 
 -- with any number of a space, which is not looked at
-lands_any : (images : List NamedImage) (k : Kernel) (pid sid : ℕ) (e : Entry) (change : Change) (l : Kernel) → GivesBack change → LandsAt images k pid 0 true e change l → LandsAt images k pid sid true e change l
+lands_any : (images : List NamedImage) (k : Kernel) (pid sid : ℕ) (e : Entry) (change : Change) (l : Kernel) → GivesBack change
+    → LandsAt images k pid 0 true e change l → LandsAt images k pid sid true e change l
 lands_any images k pid sid e (Exec image top) l gb x = record { place = x.place }
 lands_any images k pid sid e (End status) l gb x = record { place = x.place }
 lands_any images k pid sid e _ l gb x = absurd gb
@@ -500,7 +509,8 @@ pub no_pieces : (size : ℕ) (hs : Holdings) → WereFound size hs hs
 unfolding place_all
 no_pieces size hs = record { pieces = []; placed = refl }
 
-pub change_kept : (size : ℕ) (images : List NamedImage) (m : KernelState) (pid : ℕ) (regs : Regs) (e : Entry) (change : Change) → ImagesFit images → Invariant size images m
+pub change_kept : (size : ℕ) (images : List NamedImage) (m : KernelState) (pid : ℕ) (regs : Regs) (e : Entry) (change : Change) → ImagesFit images
+    → Invariant size images m
     → MayComplete size images m pid change → Invariant size images (state_after images m (ChangeUnit pid regs e change))
 change_kept size images m pid regs e change fits i may = record {
   sound = stood.sound;

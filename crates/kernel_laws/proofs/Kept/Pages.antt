@@ -43,11 +43,13 @@ use Rattle.kernel_laws.proofs.Stands.Steps.{note_stands, get_stands, reclaim_sta
 owned : (size : ℕ) (k : Kernel) → Sound size k → OwnsFrames k.place
 owned size k s = let o : OneOwner size (lives k.processes) k.place k.holdings = s.owner in o.frames
 
-dues_kept : (size : ℕ) (images : List NamedImage) (m : KernelState) (locked : List Page) (at : ℕ) (e : Entry) → Invariant size images m → CanPlace m.kernel.place e → LeavesDue m.kernel.place e
+dues_kept : (size : ℕ) (images : List NamedImage) (m : KernelState) (locked : List Page) (at : ℕ) (e : Entry) → Invariant size images m
+    → CanPlace m.kernel.place e → LeavesDue m.kernel.place e
     → DueStand (place_entry locked at m.kernel.place e)
 dues_kept size images m locked at e i c l = entry_due locked at m.kernel.place e (owned size m.kernel i.sound) c l i.dues
 
-parts_kept : (size : ℕ) (images : List NamedImage) (m : KernelState) (locked : List Page) (at : ℕ) (e : Entry) → Invariant size images m → CanPlace m.kernel.place e → CanBegin m.kernel.place e
+parts_kept : (size : ℕ) (images : List NamedImage) (m : KernelState) (locked : List Page) (at : ℕ) (e : Entry) → Invariant size images m
+    → CanPlace m.kernel.place e → CanBegin m.kernel.place e
     → HaveParts (Placement.transfers (place_entry locked at m.kernel.place e))
 parts_kept size images m locked at e i c b = entry_parts locked at m.kernel.place e (owned size m.kernel i.sound) c b i.parts
 
@@ -65,7 +67,8 @@ writable_shared p (Data sid v) w = tt
 writable_shared p (Stack sid v) w = tt
 writable_shared p (Text image v) w = absurd w
 
-pub zero_kept : (size : ℕ) (images : List NamedImage) (m : KernelState) (q : Page) → Invariant size images m → MayZero m.kernel.place q → Invariant size images (state_after images m (ZeroUnit q))
+pub zero_kept : (size : ℕ) (images : List NamedImage) (m : KernelState) (q : Page) → Invariant size images m → MayZero m.kernel.place q
+    → Invariant size images (state_after images m (ZeroUnit q))
 zero_kept size images m q i may = record {
   sound = zero_sound size k q i.sound enter (writable_shared k.place q writable);
   numbered = zero_numbered k q i.numbered;
@@ -96,7 +99,8 @@ zero_kept size images m q i may = record {
     coupled (Some (Start r)) e n = start_coupled size k images m.image m.flat q r i.sound enter writable may.some may.unfilled e i.coupled
     coupled (Some (CopyOf r parent)) e n = absurd n
 
-pub copy_kept : (size : ℕ) (images : List NamedImage) (m : KernelState) (q : Page) → Invariant size images m → MayCopy m.kernel.place q → Invariant size images (state_after images m (CopyUnit q))
+pub copy_kept : (size : ℕ) (images : List NamedImage) (m : KernelState) (q : Page) → Invariant size images m → MayCopy m.kernel.place q
+    → Invariant size images (state_after images m (CopyUnit q))
 copy_kept size images m q i may = go (due_at k.place.due q) refl may.parent
   where
     k : Kernel
@@ -123,7 +127,8 @@ copy_kept size images m q i may = go (due_at k.place.due q) refl may.parent
 
 -- Transfers.
 
-pub get_kept : (size : ℕ) (images : List NamedImage) (m : KernelState) (q : Page) (lo n : ℕ) → Invariant size images m → MayGet m.kernel.place q lo n → Invariant size images (state_after images m (GetUnit q lo n))
+pub get_kept : (size : ℕ) (images : List NamedImage) (m : KernelState) (q : Page) (lo n : ℕ) → Invariant size images m → MayGet m.kernel.place q lo n
+    → Invariant size images (state_after images m (GetUnit q lo n))
 get_kept size images m q lo n i may = let k : Kernel = m.kernel in record {
   sound = plain_sound size k [] (entries.Get q lo n) i.sound may.enter may.shared (let l = may.few in omega arith);
   numbered = plain_numbered k [] (entries.Get q lo n) i.numbered;
@@ -137,7 +142,8 @@ get_kept size images m q lo n i may = let k : Kernel = m.kernel in record {
   found = i.found;
 }
 
-pub reclaim_kept : (size : ℕ) (images : List NamedImage) (m : KernelState) (q : Page) → Invariant size images m → IsShared m.kernel.place q → Invariant size images (state_after images m (ReclaimUnit q))
+pub reclaim_kept : (size : ℕ) (images : List NamedImage) (m : KernelState) (q : Page) → Invariant size images m → IsShared m.kernel.place q
+    → Invariant size images (state_after images m (ReclaimUnit q))
 reclaim_kept size images m q i shared = let k : Kernel = m.kernel in let so : Sound size k = i.sound in record {
   sound = plain_sound size k [] (entries.Reclaim q) i.sound tt shared (let l = so.few_transfers in omega arith);
   numbered = plain_numbered k [] (entries.Reclaim q) i.numbered;
@@ -151,7 +157,8 @@ reclaim_kept size images m q i shared = let k : Kernel = m.kernel in let so : So
   found = i.found;
 }
 
-pub hands_kept : (size : ℕ) (images : List NamedImage) (m : KernelState) (locked : List Page) → Invariant size images m → May size images m (HandsUnit locked) → Invariant size images (state_after images m (HandsUnit locked))
+pub hands_kept : (size : ℕ) (images : List NamedImage) (m : KernelState) (locked : List Page) → Invariant size images m
+    → May size images m (HandsUnit locked) → Invariant size images (state_after images m (HandsUnit locked))
 hands_kept size images m locked i few = let k : Kernel = m.kernel in record {
   sound = entry_sound size k locked (entries.Hands 1) i.sound tt tt few;
   numbered = plain_numbered k locked (entries.Hands 1) i.numbered;
@@ -165,7 +172,8 @@ hands_kept size images m locked i few = let k : Kernel = m.kernel in record {
   found = i.found;
 }
 
-pub put_kept : (size : ℕ) (images : List NamedImage) (m : KernelState) (q : Page) (n : ℕ) → Invariant size images m → MayPut m.kernel.place q n → Invariant size images (state_after images m (PutUnit q n))
+pub put_kept : (size : ℕ) (images : List NamedImage) (m : KernelState) (q : Page) (n : ℕ) → Invariant size images m → MayPut m.kernel.place q n
+    → Invariant size images (state_after images m (PutUnit q n))
 put_kept size images m q n i may = let k : Kernel = m.kernel in record {
   sound = entry_sound size k [] (entries.Put q n) i.sound (may.first, may.seats) tt may.few;
   numbered = plain_numbered k [] (entries.Put q n) i.numbered;
@@ -179,7 +187,8 @@ put_kept size images m q n i may = let k : Kernel = m.kernel in record {
   found = i.found;
 }
 
-pub done_kept : (size : ℕ) (images : List NamedImage) (m : KernelState) (read : List (List ℕ)) → Invariant size images m → May size images m (DoneUnit read) → Invariant size images (state_after images m (DoneUnit read))
+pub done_kept : (size : ℕ) (images : List NamedImage) (m : KernelState) (read : List (List ℕ)) → Invariant size images m
+    → May size images m (DoneUnit read) → Invariant size images (state_after images m (DoneUnit read))
 done_kept size images m read i are = let k : Kernel = m.kernel in let st : Stands images k m.flat = i.stands in record {
   sound = done_sound size k read i.sound;
   numbered = done_numbered k read i.numbered;
@@ -195,7 +204,8 @@ done_kept size images m read i are = let k : Kernel = m.kernel in let st : Stand
 
 -- An entry alone, and pieces that are found.
 
-pub note_kept : (size : ℕ) (images : List NamedImage) (m : KernelState) (e : Entry) → Invariant size images m → Invariant size images (state_after images m (NoteUnit e))
+pub note_kept : (size : ℕ) (images : List NamedImage) (m : KernelState) (e : Entry) → Invariant size images m
+    → Invariant size images (state_after images m (NoteUnit e))
 note_kept size images m e i = let k : Kernel = m.kernel in record {
   sound = note_sound size k e i.sound;
   numbered = note_numbered k e i.numbered;
@@ -209,7 +219,8 @@ note_kept size images m e i = let k : Kernel = m.kernel in record {
   found = i.found;
 }
 
-pub find_kept : (size : ℕ) (images : List NamedImage) (m : KernelState) (found : Holdings) → Invariant size images m → WereFound size m.kernel.holdings found → Invariant size images (state_after images m (FindUnit found))
+pub find_kept : (size : ℕ) (images : List NamedImage) (m : KernelState) (found : Holdings) → Invariant size images m
+    → WereFound size m.kernel.holdings found → Invariant size images (state_after images m (FindUnit found))
 find_kept size images m found i were = record {
   sound = i.sound;
   numbered = i.numbered;
@@ -225,7 +236,8 @@ find_kept size images m found i were = record {
 
 -- Processes that go out and come in.
 
-pub out_kept : (size : ℕ) (images : List NamedImage) (m : KernelState) (pid : ℕ) → Invariant size images m → MayLeave m.kernel m.flat pid → Invariant size images (state_after images m (OutUnit pid))
+pub out_kept : (size : ℕ) (images : List NamedImage) (m : KernelState) (pid : ℕ) → Invariant size images m → MayLeave m.kernel m.flat pid
+    → Invariant size images (state_after images m (OutUnit pid))
 out_kept size images m pid i may = record {
   sound = out_sound size k pid i.sound;
   numbered = out_numbered k pid i.numbered;
@@ -273,7 +285,8 @@ out_kept size images m pid i may = record {
     are : AreRegs g.proc.regs
     are = subst AreRegs (sym own_regs) may.regs
 
-pub in_kept : (size : ℕ) (images : List NamedImage) (m : KernelState) (pid : ℕ) → Invariant size images m → MayReturn m.kernel m.flat pid → Invariant size images (state_after images m (InUnit pid))
+pub in_kept : (size : ℕ) (images : List NamedImage) (m : KernelState) (pid : ℕ) → Invariant size images m → MayReturn m.kernel m.flat pid
+    → Invariant size images (state_after images m (InUnit pid))
 in_kept size images m pid i may = let k : Kernel = m.kernel in let regs : Regs = regs_in (stored_at m.image (block_in k.holdings (owners.U pid) 0)) in record {
   sound = in_sound size k pid regs i.sound;
   numbered = in_numbered k pid regs i.numbered;

@@ -48,7 +48,8 @@ read_allowed size images m q i enter reads due shared some few =
       few = few;
     }
 
-pub put_allowed : (size : ℕ) (images : List NamedImage) (m : KernelState) (pid sid : ℕ) (q : Page) (n : ℕ) → Invariant size images m → put_out_unit m.kernel.place pid sid ≡ entries.Put q n → MayPut m.kernel.place q n
+pub put_allowed : (size : ℕ) (images : List NamedImage) (m : KernelState) (pid sid : ℕ) (q : Page) (n : ℕ) → Invariant size images m
+    → put_out_unit m.kernel.place pid sid ≡ entries.Put q n → MayPut m.kernel.place q n
 put_allowed size images m pid sid q n i e = record {
   first = can.0;
   seats = can.1;
@@ -88,7 +89,8 @@ force_allowed size images m locked read are = go m.kernel.place.transfers refl
     go [] e = let l = entry_count locked 0 p (entries.Hands 1) in let z = ap length e in omega (arith, l, z)
     go (t ∷ ts) e = are
 
-pub serve_allowed : (size : ℕ) (images : List NamedImage) (m : KernelState) (locked : List Page) (read : List (List ℕ)) (q : Page) (now : Bool) (e : Entry) → Invariant size images m
+pub serve_allowed : (size : ℕ) (images : List NamedImage) (m : KernelState) (locked : List Page) (read : List (List ℕ)) (q : Page) (now : Bool) (e : Entry)
+    → Invariant size images m
     → IsThere m.kernel.place q → IsShared m.kernel.place q → NotDue m.kernel.place.due q
     → AreRead (beside_kernel m.kernel images m.image m.flat) m.kernel.place.transfers read → serve_unit m.kernel.place q now ≡ Some e → May size images m (unit_for locked read e)
 serve_allowed size images m locked read q now e i there shared due are h =

@@ -23,7 +23,8 @@ use Rattle.kernel_laws.proofs.Stands.Starts.{start_numbered, start_lent, start_b
 use Rattle.kernel_laws.proofs.Kept.Changes.{no_pieces}
 
 -- the first processes live, and no others
-starts_live : (images : List NamedImage) (ns : List ℕ) (first : List Starting) (pid n : ℕ) → AreStarting images ns first → lives (map kept_of (start_processes images pid ns)) n ≡ is_started pid first n
+starts_live : (images : List NamedImage) (ns : List ℕ) (first : List Starting) (pid n : ℕ) → AreStarting images ns first
+    → lives (map kept_of (start_processes images pid ns)) n ≡ is_started pid first n
 starts_live images [] [] pid n a = refl
 starts_live images [] (x ∷ first) pid n a = absurd a
 starts_live images (m ∷ ns) [] pid n a = absurd a
@@ -45,7 +46,8 @@ starts_count images [] (x ∷ first) a = absurd a
 starts_count images (n ∷ ns) [] a = absurd a
 starts_count images (n ∷ ns) (x ∷ first) (named, e, i, f, more) = ap suc (starts_count images ns first more)
 
-pub start_kept : (A : Inputs) (first : List Starting) (hs : Holdings) (frames : List (List ℕ)) (image : List ℕ) → CanStart A first hs frames image → Invariant A.swap_blocks A.images (started A first hs frames image)
+pub start_kept : (A : Inputs) (first : List Starting) (hs : Holdings) (frames : List (List ℕ)) (image : List ℕ) → CanStart A first hs frames image
+    → Invariant A.swap_blocks A.images (started A first hs frames image)
 start_kept A first hs frames image c = record {
   sound = record {
     owner = alive_owner A.swap_blocks (is_started 1 first) (lives k.processes) p hs (λ n. starts_live A.images A.first first 1 n c.starting) (start_found A.swap_blocks facts first A.frames hs c.pieces);

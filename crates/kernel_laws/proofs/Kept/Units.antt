@@ -24,7 +24,8 @@ use Rattle.kernel_laws.proofs.Kept.Changes.{change_kept}
 
 -- What a process does in an instruction.
 
-write_kept : (size : ℕ) (images : List NamedImage) (m : KernelState) (pid : ℕ) (w : ByteWrite) (q : Page) (f at : ℕ) → Invariant size images m → MayWriteByte m.kernel m.flat pid w q f at
+write_kept : (size : ℕ) (images : List NamedImage) (m : KernelState) (pid : ℕ) (w : ByteWrite) (q : Page) (f at : ℕ) → Invariant size images m
+    → MayWriteByte m.kernel m.flat pid w q f at
     → Invariant size images (state_after images m (WriteUnit pid w q f at))
 write_kept size images m pid w q f at i may = let k : Kernel = m.kernel in let a : Acts k m.flat pid may.process may.space = may.acts in record {
   sound = write_sound size k q f at w.byte i.sound;
@@ -39,7 +40,8 @@ write_kept size images m pid w q f at i may = let k : Kernel = m.kernel in let a
   found = i.found;
 }
 
-ran_kept : (size : ℕ) (images : List NamedImage) (m : KernelState) (pid : ℕ) (regs : Regs) (e : Entry) → Invariant size images m → MayRun m.kernel m.flat pid → Invariant size images (state_after images m (RanUnit pid regs e))
+ran_kept : (size : ℕ) (images : List NamedImage) (m : KernelState) (pid : ℕ) (regs : Regs) (e : Entry) → Invariant size images m
+    → MayRun m.kernel m.flat pid → Invariant size images (state_after images m (RanUnit pid regs e))
 ran_kept size images m pid regs e i may = let k : Kernel = m.kernel in let a : Acts k m.flat pid may.process may.space = may.acts in record {
   sound = ran_sound size k pid regs e i.sound;
   numbered = ran_numbered k pid regs e i.numbered;
@@ -55,7 +57,8 @@ ran_kept size images m pid regs e i may = let k : Kernel = m.kernel in let a : A
 
 -- All units.
 
-pub unit_kept : (size : ℕ) (images : List NamedImage) (m : KernelState) (u : KernelUnit) → ImagesFit images → Invariant size images m → May size images m u → Invariant size images (state_after images m u)
+pub unit_kept : (size : ℕ) (images : List NamedImage) (m : KernelState) (u : KernelUnit) → ImagesFit images → Invariant size images m
+    → May size images m u → Invariant size images (state_after images m u)
 unit_kept size images m (ZeroUnit q) fits i may = zero_kept size images m q i may
 unit_kept size images m (CopyUnit q) fits i may = copy_kept size images m q i may
 unit_kept size images m (GetUnit q lo n) fits i may = get_kept size images m q lo n i may
@@ -71,6 +74,7 @@ unit_kept size images m (ChangeUnit pid regs e change) fits i may = change_kept 
 unit_kept size images m (OutUnit pid) fits i may = out_kept size images m pid i may
 unit_kept size images m (InUnit pid) fits i may = in_kept size images m pid i may
 
-pub units_kept : (size : ℕ) (images : List NamedImage) (us : List KernelUnit) (m : KernelState) → ImagesFit images → Invariant size images m → MayAll size images m us → Invariant size images (states_after images m us)
+pub units_kept : (size : ℕ) (images : List NamedImage) (us : List KernelUnit) (m : KernelState) → ImagesFit images → Invariant size images m
+    → MayAll size images m us → Invariant size images (states_after images m us)
 units_kept size images [] m fits i may = i
 units_kept size images (u ∷ us) m fits i may = units_kept size images us (state_after images m u) fits (unit_kept size images m u fits i may.0) may.1

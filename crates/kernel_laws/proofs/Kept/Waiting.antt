@@ -38,7 +38,8 @@ waits_coupled size images m i =
     let st : Stands images m.kernel m.flat = i.stands in
     takes_coupled size m.kernel images m.image m.flat f.pieces m.found st.texts f.placed i.coupled
 
-store_same : (size : ℕ) (k : Kernel) (new : Holdings) (ws : List Wanted) (xs : List Part) (image : List ℕ) → place_all size k.holdings ws ≡ Ok new → AllStore k xs → store_all (record k { holdings = new }) image xs ≡ store_all k image xs
+store_same : (size : ℕ) (k : Kernel) (new : Holdings) (ws : List Wanted) (xs : List Part) (image : List ℕ) → place_all size k.holdings ws ≡ Ok new
+    → AllStore k xs → store_all (record k { holdings = new }) image xs ≡ store_all k image xs
 store_same size k new ws [] image e a = refl
 store_same size k new ws (x ∷ xs) image e a =
     let c : CanStore k x = a.0 in
@@ -46,7 +47,8 @@ store_same size k new ws (x ∷ xs) image e a =
     ∙ store_same size k new ws xs (store_at image (block_of k.holdings x.page) (frame_bytes k x.frame)) e a.1
 
 -- the end of a write stores the same, whether pieces wait or not
-pub waits_image : (size : ℕ) (images : List NamedImage) (m : KernelState) → Invariant size images m → image_after (with_found m) m.image ≡ image_after m.kernel m.image
+pub waits_image : (size : ℕ) (images : List NamedImage) (m : KernelState) → Invariant size images m
+    → image_after (with_found m) m.image ≡ image_after m.kernel m.image
 waits_image size images m i = go k.place.transfers refl
   where
     k : Kernel
@@ -68,7 +70,8 @@ waits_image size images m i = go k.place.transfers refl
 
 -- What a change asks.
 
-asks_steady : (images : List Image) (p q : Placement) (sid next : ℕ) (change : Change) → Steady p q → change_asks images q sid next change ≡ change_asks images p sid next change
+asks_steady : (images : List Image) (p q : Placement) (sid next : ℕ) (change : Change) → Steady p q
+    → change_asks images q sid next change ≡ change_asks images p sid next change
 asks_steady images p q sid next Keep s = refl
 asks_steady images p q sid next (Resize d t) s = ap₂ (λ (a b : ℕ). further (owners.Data sid) a d ++ further (owners.Stack sid) b t) (s.sizes (Data sid 0)) (s.sizes (Stack sid 0))
 asks_steady images p q sid next (Fork child) s =
@@ -84,7 +87,8 @@ asks_steady images p q sid next Sleep s = refl
 asks_steady images p q sid next (End status) s = refl
 
 -- the end of a transfer changes nothing of what a change asks
-done_asks : (size : ℕ) (images : List NamedImage) (k : Kernel) (read : List (List ℕ)) (pid : ℕ) (change : Change) → Sound size k → asked (facts_of images) (done_step k read) pid change ≡ asked (facts_of images) k pid change
+done_asks : (size : ℕ) (images : List NamedImage) (k : Kernel) (read : List (List ℕ)) (pid : ℕ) (change : Change) → Sound size k
+    → asked (facts_of images) (done_step k read) pid change ≡ asked (facts_of images) k pid change
 done_asks size images k read pid change so =
     let o : OneOwner size (lives k.processes) k.place k.holdings = so.owner in
     asks_steady (facts_of images) k.place (done k.place) _ k.next_sid change (done_steady k.place o.frames)
@@ -93,7 +97,8 @@ pub finds_wait : (size : ℕ) (images : List NamedImage) (m : KernelState) (foun
     → place_all size m.kernel.holdings (asked (facts_of images) m.kernel pid change) ≡ Ok found → Waits size images (state_after images m (FindUnit found)) pid change
 finds_wait size images m found pid change i e = record { invariant = find_kept size images m found i (record { pieces = asked (facts_of images) m.kernel pid change; placed = e }); pieces = e }
 
-pub dones_wait : (size : ℕ) (images : List NamedImage) (reads : List (List (List ℕ))) (m : KernelState) (pid : ℕ) (change : Change) → Waits size images m pid change
+pub dones_wait : (size : ℕ) (images : List NamedImage) (reads : List (List (List ℕ))) (m : KernelState) (pid : ℕ) (change : Change)
+    → Waits size images m pid change
     → MayAll size images m (map DoneUnit reads) → Waits size images (states_after images m (map DoneUnit reads)) pid change
 dones_wait size images [] m pid change w may = w
 dones_wait size images (read ∷ reads) m pid change w may =

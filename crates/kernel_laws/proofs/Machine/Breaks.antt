@@ -74,7 +74,8 @@ resized_new v m n bytes l a b =
 -- Blocks that are given back.
 
 -- an owner that keeps so many pieces keeps the pages in them, and another owner keeps all
-pub block_kept : (owner other : Owner) (keep v : ℕ) (hs : Holdings) → (owner ≡ other → (spot_of other v).0 < keep) → block_in (kept owner keep hs) other v ≡ block_in hs other v
+pub block_kept : (owner other : Owner) (keep v : ℕ) (hs : Holdings) → (owner ≡ other → (spot_of other v).0 < keep)
+    → block_in (kept owner keep hs) other v ≡ block_in hs other v
 block_kept owner other keep v hs h = elim (cases_Bool (same_owner owner other)) [
   | inl e ↦ (let same : owner ≡ other = same_owner_gives owner other e in
       subst (λ (o : Owner). block_in (kept o keep hs) other v ≡ block_in hs other v) (sym same) (block_in_kept hs other keep v (h same)))
@@ -83,10 +84,12 @@ block_kept owner other keep v hs h = elim (cases_Bool (same_owner owner other)) 
 
 -- Spaces of the placement.
 
-pub resized_other : (p : Placement) (sid d t n : ℕ) → n ≢ sid → numbered space_number n (resize p sid d t).spaces ≡ numbered space_number n (drop_all p (dropped_pages p sid d t)).spaces
+pub resized_other : (p : Placement) (sid d t n : ℕ) → n ≢ sid
+    → numbered space_number n (resize p sid d t).spaces ≡ numbered space_number n (drop_all p (dropped_pages p sid d t)).spaces
 resized_other p sid d t n e = changed_other space_number sid n (cut d t) (λ x. refl) e (drop_all p (dropped_pages p sid d t)).spaces
 
-pub resized_own : (p : Placement) (sid d t : ℕ) → numbered space_number sid (resize p sid d t).spaces ≡ mapped (cut d t) (numbered space_number sid (drop_all p (dropped_pages p sid d t)).spaces)
+pub resized_own : (p : Placement) (sid d t : ℕ)
+    → numbered space_number sid (resize p sid d t).spaces ≡ mapped (cut d t) (numbered space_number sid (drop_all p (dropped_pages p sid d t)).spaces)
 resized_own p sid d t = changed_same space_number sid (cut d t) (λ x. refl) (drop_all p (dropped_pages p sid d t)).spaces
 
 cut_image : (d t : ℕ) (o : Option SpacePages) → image_in (mapped (cut d t) o) ≡ image_in o
@@ -110,7 +113,8 @@ resized_file images p sid d t (Stack n v) = refl
 resized_file images p sid d t (Text i v) = refl
 
 -- a space of another number has as many pages
-resized_sizes : (p : Placement) (sid d t n : ℕ) → n ≢ sid → (length (slots_of (resize p sid d t) (Data n 0)) ≡ length (slots_of p (Data n 0))) × (length (slots_of (resize p sid d t) (Stack n 0)) ≡ length (slots_of p (Stack n 0)))
+resized_sizes : (p : Placement) (sid d t n : ℕ) → n ≢ sid
+    → (length (slots_of (resize p sid d t) (Data n 0)) ≡ length (slots_of p (Data n 0))) × (length (slots_of (resize p sid d t) (Stack n 0)) ≡ length (slots_of p (Stack n 0)))
 resized_sizes p sid d t n e = (
   ap (λ (o : Option SpacePages). length (data_in o)) (resized_other p sid d t n e) ∙ sizes_kept p (drop_all p (dropped_pages p sid d t)) (drop_all_shaped (dropped_pages p sid d t) p) (Data n 0),
   ap (λ (o : Option SpacePages). length (stack_in o)) (resized_other p sid d t n e) ∙ sizes_kept p (drop_all p (dropped_pages p sid d t)) (drop_all_shaped (dropped_pages p sid d t) p) (Stack n 0),
@@ -125,7 +129,8 @@ fit_cut s (Some x) d t f = record {
 }
 
 -- Growth and break.
-pub resize_coupled_step : (k : Kernel) (images : List NamedImage) (image : List ℕ) (flat : FlatState) (pid : ℕ) (regs : Regs) (e : Entry) (d t : ℕ) (q : Process) (s : Space) → IsNumbered flat → OutHold k.place flat → k.place.due ≡ []
+pub resize_coupled_step : (k : Kernel) (images : List NamedImage) (image : List ℕ) (flat : FlatState) (pid : ℕ) (regs : Regs) (e : Entry) (d t : ℕ) (q : Process) (s : Space)
+    → IsNumbered flat → OutHold k.place flat → k.place.due ≡ []
     → process_of flat pid ≡ Some q → q.holding ≡ Holds s → is_out k.place pid ≡ false → Coupled k images image flat
     → Coupled (change_step (facts_of images) k pid regs e (Resize d t)) images image (apply_change images flat pid regs (Resize d t))
 resize_coupled_step k images image flat pid regs e d t q s nums outs due f h out c =

@@ -52,7 +52,8 @@ fit_stack None (Some x) f = absurd f
 fit_stack (Some s) None f = absurd f
 fit_stack (Some s) (Some x) f = f.stack_size
 
-pub memory_length : (k : Kernel) (images : List NamedImage) (flat : FlatState) (w : Page) → SameTables k flat → TextFits images k.place → IsThere k.place w → length (memory_of images flat w) ≡ 1024
+pub memory_length : (k : Kernel) (images : List NamedImage) (flat : FlatState) (w : Page) → SameTables k flat → TextFits images k.place
+    → IsThere k.place w → length (memory_of images flat w) ≡ 1024
 memory_length k images flat (Data sid v) t x there = page_length v (length (slots_of k.place (Data sid 0))) (data_bytes_in (numbered (λ (s : Space). s.sid) sid (spaces_of flat)))
     (fit_data (numbered (λ (s : Space). s.sid) sid (spaces_of flat)) (numbered space_number sid k.place.spaces) (t.spaces sid)) there
 memory_length k images flat (Stack sid v) t x there = page_length v (length (slots_of k.place (Stack sid 0))) (stack_bytes_in (numbered (λ (s : Space). s.sid) sid (spaces_of flat)))
@@ -73,7 +74,8 @@ pub some_of : {A : Type 0} (o : Option A) → IsSome o → (x : A) × (o ≡ Som
 some_of None e = absurd cc
 some_of (Some x) e = (x, refl)
 
-can_store : (size : ℕ) (k : Kernel) (images : List NamedImage) (image : List ℕ) (flat : FlatState) (x : Part) → Sound size k → TextFits images k.place → Coupled k images image flat → state_of k.place x.page ≡ Going x.frame → CanStore k x
+can_store : (size : ℕ) (k : Kernel) (images : List NamedImage) (image : List ℕ) (flat : FlatState) (x : Part) → Sound size k → TextFits images k.place
+    → Coupled k images image flat → state_of k.place x.page ≡ Going x.frame → CanStore k x
 can_store size k images image flat x so fits c e =
     let o : OneOwner size (lives k.processes) k.place k.holdings = so.owner in
     let needs : needs_blocks k.place x.page ≡ true = ap (λ (s : Rattle.vm_facts.specs.declared.page.PageState.PageState). needs_blocks_by x.page s (mark_of k.place x.page)) e ∙ going_needs x.page x.frame (mark_of k.place x.page) in
@@ -83,13 +85,15 @@ can_store size k images image flat x so fits c e =
     keeps_at k.place (beside_kernel k images image flat) x.page (Going x.frame) c.pages there e in
     record { block = block.0; found = block.1; whole = ap length here.0 ∙ memory_length k images flat x.page c.tables fits there }
 
-all_store : (size : ℕ) (k : Kernel) (images : List NamedImage) (image : List ℕ) (flat : FlatState) (xs : List Part) → Sound size k → TextFits images k.place → Coupled k images image flat
+all_store : (size : ℕ) (k : Kernel) (images : List NamedImage) (image : List ℕ) (flat : FlatState) (xs : List Part) → Sound size k
+    → TextFits images k.place → Coupled k images image flat
     → Each (IsMoving k.place) (map (moving Writes) xs) → AllStore k xs
 all_store size k images image flat [] so fits c m = tt
 all_store size k images image flat (x ∷ xs) so fits c m = (can_store size k images image flat x so fits c m.0, all_store size k images image flat xs so fits c m.1)
 
 -- the pages that the oldest transfer writes have bytes and blocks
-pub oldest_store : (size : ℕ) (k : Kernel) (images : List NamedImage) (image : List ℕ) (flat : FlatState) (t : Transfer) (ts : List Transfer) → Sound size k → TextFits images k.place
+pub oldest_store : (size : ℕ) (k : Kernel) (images : List NamedImage) (image : List ℕ) (flat : FlatState) (t : Transfer) (ts : List Transfer)
+    → Sound size k → TextFits images k.place
     → Coupled k images image flat → k.place.transfers ≡ t ∷ ts → t.errand ≡ Writes → AllStore k t.parts
 oldest_store size k images image flat t ts so fits c h e =
     let o : OneOwner size (lives k.processes) k.place k.holdings = so.owner in
@@ -100,7 +104,8 @@ oldest_store size k images image flat t ts so fits c h e =
 -- What else the image has.
 
 -- the blocks of a u page are of no page
-u_apart : (size : ℕ) (hs : Holdings) (q : Page) (pid x y : ℕ) → IsBook size hs → block_of hs q ≡ Some x → block_in hs (owners.U pid) 0 ≡ Some y → (x + 2 ≤ y) ⊎ (y + 2 ≤ x)
+u_apart : (size : ℕ) (hs : Holdings) (q : Page) (pid x y : ℕ) → IsBook size hs → block_of hs q ≡ Some x → block_in hs (owners.U pid) 0 ≡ Some y
+    → (x + 2 ≤ y) ⊎ (y + 2 ≤ x)
 u_apart size hs q pid x y book e h =
     let a : ArePlacesApart size hs = places_apart_of size hs book in
     elim (a.apart (owner_of q) (owners.U pid) (number_of q) 0 x y e h) [
@@ -118,7 +123,8 @@ record Writing (k : Kernel) (before after : List ℕ) : Type 0 where
   pub whole : length after ≡ length before
   pub u_pages : (pid : ℕ) → u_stored k after pid ≡ u_stored k before pid
 
-all_written : (xs : List Part) (size : ℕ) (k : Kernel) (image : List ℕ) → IsBook size k.holdings → 512 * size ≤ length image → AllStore k xs → Writing k image (store_all k image xs)
+all_written : (xs : List Part) (size : ℕ) (k : Kernel) (image : List ℕ) → IsBook size k.holdings → 512 * size ≤ length image → AllStore k xs
+    → Writing k image (store_all k image xs)
 all_written [] size k image book l a = record { whole = refl; u_pages = λ pid. refl }
 all_written (x ∷ xs) size k image book l a =
     let c : CanStore k x = a.0 in
@@ -138,7 +144,8 @@ all_written (x ∷ xs) size k image book l a =
 abbrev ended_bytes : Kernel → List NamedImage → List ℕ → FlatState → List Transfer → List (List ℕ) → Bytes
 ended_bytes k images image flat ts read = record (beside_kernel k images image flat) { frames = landed ts read k.frames; swap = stored k.holdings (image_after_of k image ts) }
 
-ending : (size : ℕ) (k : Kernel) (images : List NamedImage) (image : List ℕ) (flat : FlatState) (read : List (List ℕ)) → Sound size k → TextFits images k.place → 512 * size ≤ length image → Coupled k images image flat
+ending : (size : ℕ) (k : Kernel) (images : List NamedImage) (image : List ℕ) (flat : FlatState) (read : List (List ℕ)) → Sound size k
+    → TextFits images k.place → 512 * size ≤ length image → Coupled k images image flat
     → AreRead (beside_kernel k images image flat) k.place.transfers read → (ts : List Transfer) → k.place.transfers ≡ ts
     → BytesAfter (beside_kernel k images image flat) ts (ended_bytes k images image flat ts read) × Writing k image (image_after_of k image ts)
 ending size k images image flat read so fits l c r [] h = (refl, record { whole = refl; u_pages = λ pid. refl })
@@ -165,7 +172,8 @@ ending size k images image flat read so fits l c r (t ∷ ts) h = by t.errand re
         let is : read ≡ map (λ (x : Part). source_bytes b source x.page) t.parts = subst (λ (x : Errand). AreReadBy b x t.parts read) e (subst (λ (us : List Transfer). AreRead b us read) h r) in
         (read_bytes source t.parts b ∙ ap (λ (x : List (List ℕ)). record b { frames = Rattle.kernel_model.specs.Kernel.read_into t.parts x k.frames }) (sym is), record { whole = refl; u_pages = λ pid. refl })
 
-pub done_coupled_step : (size : ℕ) (k : Kernel) (images : List NamedImage) (image : List ℕ) (flat : FlatState) (read : List (List ℕ)) → Sound size k → TextFits images k.place → 512 * size ≤ length image
+pub done_coupled_step : (size : ℕ) (k : Kernel) (images : List NamedImage) (image : List ℕ) (flat : FlatState) (read : List (List ℕ)) → Sound size k
+    → TextFits images k.place → 512 * size ≤ length image
     → AreRead (beside_kernel k images image flat) k.place.transfers read → Coupled k images image flat → Coupled (done_step k read) images (image_after k image) flat
 done_coupled_step size k images image flat read so fits l r c =
     let o : OneOwner size (lives k.processes) k.place k.holdings = so.owner in
@@ -177,7 +185,8 @@ done_coupled_step size k images image flat read so fits l r c =
     (done_coupled k.place (beside_kernel k images image flat) (ended_bytes k images image flat k.place.transfers read) o.frames so.tokens a.0 c.pages)) c
 
 -- the image is as long as it was
-pub image_length : (size : ℕ) (k : Kernel) (images : List NamedImage) (image : List ℕ) (flat : FlatState) → Sound size k → TextFits images k.place → 512 * size ≤ length image
+pub image_length : (size : ℕ) (k : Kernel) (images : List NamedImage) (image : List ℕ) (flat : FlatState) → Sound size k → TextFits images k.place
+    → 512 * size ≤ length image
     → Coupled k images image flat → length (image_after k image) ≡ length image
 image_length size k images image flat so fits l c = go k.place.transfers refl
   where

@@ -84,7 +84,8 @@ orphaned_outlines (k ∷ ks) (f ∷ fs) pid e =
     go false h ih = ih
 
 -- in both tables the parent is awake
-pub woken_outlines : (ks : List Proc) (fs : List Process) (pid : ℕ) → map outline_kept ks ≡ map outline_of fs → map outline_kept (woken_procs ks pid) ≡ map outline_of (map (awake pid) fs)
+pub woken_outlines : (ks : List Proc) (fs : List Process) (pid : ℕ) → map outline_kept ks ≡ map outline_of fs
+    → map outline_kept (woken_procs ks pid) ≡ map outline_of (map (awake pid) fs)
 woken_outlines [] [] pid e = refl
 woken_outlines [] (f ∷ fs) pid e = absurd cc
 woken_outlines (k ∷ ks) [] pid e = absurd cc
@@ -119,7 +120,8 @@ not_own (x ∷ ks) p n pid d e h = elim (cases_eq x.pid n) [
     absent_own (y ∷ ys) a = ((λ i. absurd (a.0 i)), absent_own ys a.1)
 
 -- it gives way before its children are orphaned, or behind that
-orphan_with : (ks : List Proc) (p : Proc) (pid : ℕ) → NotOwn p.pid pid ks → p.parent ≢ pid → map (orphan pid) (filter (stays pid) (with_proc ks p)) ≡ with_proc (map (orphan pid) (filter (stays pid) ks)) p
+orphan_with : (ks : List Proc) (p : Proc) (pid : ℕ) → NotOwn p.pid pid ks → p.parent ≢ pid
+    → map (orphan pid) (filter (stays pid) (with_proc ks p)) ≡ with_proc (map (orphan pid) (filter (stays pid) ks)) p
 orphan_with [] p pid n d = refl
 orphan_with (x ∷ ks) p pid n d = elim (cases_eq x.pid p.pid) [
   | inl i ↦ (let t : (x.pid == p.pid) ≡ true = ap (λ (m : ℕ). m == p.pid) i ∙ eq_self p.pid in
@@ -159,12 +161,14 @@ abbrev pub left_flat : Bool → List Process → ℕ → ℕ → List Process
 left_flat true fs pid parent = filter (λ (q : Process). not (q.pid == pid)) fs
 left_flat false fs pid parent = map (awake parent) fs
 
-pub left_outlines : (b : Bool) (ks : List Proc) (fs : List Process) (p : Proc) (status : ℕ) → map outline_kept (with_proc ks (record p { life = Ended status })) ≡ map outline_of fs
+pub left_outlines : (b : Bool) (ks : List Proc) (fs : List Process) (p : Proc) (status : ℕ)
+    → map outline_kept (with_proc ks (record p { life = Ended status })) ≡ map outline_of fs
     → map outline_kept (left_procs b ks p status) ≡ map outline_of (left_flat b fs p.pid p.parent)
 left_outlines true ks fs p status e = ap (map outline_kept) (sym (removed_with ks (record p { life = Ended status }))) ∙ removed_outlines (with_proc ks (record p { life = Ended status })) fs p.pid e
 left_outlines false ks fs p status e = woken_outlines (with_proc ks (record p { life = Ended status })) fs p.parent e
 
-pub ended_outlines : (ks : List Proc) (fs : List Process) (p old : Proc) (status : ℕ) → AllDistinct (map kept_pid ks) → numbered kept_pid p.pid ks ≡ Some old → old.parent ≢ p.pid → p.parent ≢ p.pid
+pub ended_outlines : (ks : List Proc) (fs : List Process) (p old : Proc) (status : ℕ) → AllDistinct (map kept_pid ks)
+    → numbered kept_pid p.pid ks ≡ Some old → old.parent ≢ p.pid → p.parent ≢ p.pid
     → map outline_kept (with_proc ks (record p { life = Ended status })) ≡ map outline_of fs
     → map outline_kept (left_procs (p.parent == 0) (orphaned_procs ks p.pid) p status) ≡ map outline_of (left_flat (p.parent == 0) (orphans p.pid fs) p.pid p.parent)
 ended_outlines ks fs p old status d f a b o =
@@ -210,7 +214,8 @@ left_was false ps pid parent n a e =
     let m : (y : Process) × (numbered pid_of n ps ≡ Some y) × (awake parent y ≡ a) = mapped_some (awake parent) (numbered pid_of n ps) a (sym (numbered_map pid_of (awake parent) (λ x. refl) n ps) ∙ e) in
     record { before = m.0; found = m.1; regs = ap (λ (x : Process). x.regs) (sym m.2); holding = ap (λ (x : Process). x.holding) (sym m.2) }
 
-pub end_was : (b : Bool) (ps : List Process) (pid parent n : ℕ) (a : Process) → AllDistinct (map pid_of ps) → numbered pid_of n (left_flat b (orphans pid ps) pid parent) ≡ Some a → WasFlat ps n a
+pub end_was : (b : Bool) (ps : List Process) (pid parent n : ℕ) (a : Process) → AllDistinct (map pid_of ps)
+    → numbered pid_of n (left_flat b (orphans pid ps) pid parent) ≡ Some a → WasFlat ps n a
 end_was b ps pid parent n a d e =
     let x : WasFlat (orphans pid ps) n a = left_was b (orphans pid ps) pid parent n a e in
     let y : WasFlat ps n x.before = orphan_was ps pid n x.before d x.found in
@@ -221,7 +226,8 @@ pub record WasKept (ks : List Proc) (p : Proc) (n : ℕ) (b : Proc) : Type 0 whe
   pub own : n ≡ p.pid → b.regs ≡ p.regs
   pub other : n ≢ p.pid → (y : Proc) × (numbered kept_pid n ks ≡ Some y) × (b.regs ≡ y.regs)
 
-orphan_kept : (ks : List Proc) (pid n : ℕ) (b : Proc) → AllDistinct (map kept_pid ks) → numbered kept_pid n (orphaned_procs ks pid) ≡ Some b → (y : Proc) × (numbered kept_pid n ks ≡ Some y) × (b.regs ≡ y.regs)
+orphan_kept : (ks : List Proc) (pid n : ℕ) (b : Proc) → AllDistinct (map kept_pid ks) → numbered kept_pid n (orphaned_procs ks pid) ≡ Some b
+    → (y : Proc) × (numbered kept_pid n ks ≡ Some y) × (b.regs ≡ y.regs)
 orphan_kept ks pid n b d e =
     let m : (y : Proc) × (numbered kept_pid n (filter (stays pid) ks) ≡ Some y) × (orphan pid y ≡ b) =
     mapped_some (orphan pid) (numbered kept_pid n (filter (stays pid) ks)) b (sym (numbered_map kept_pid (orphan pid) (λ x. refl) n (filter (stays pid) ks)) ∙ e) in
@@ -231,7 +237,8 @@ pub with_pids : (ks : List Proc) (p : Proc) → map kept_pid (with_proc ks p) �
 with_pids [] p = refl
 with_pids (x ∷ ks) p = ap (λ (m : ℕ). m ∷ map kept_pid (with_proc ks p)) (with_number p x) ∙ ap (λ (y : List ℕ). x.pid ∷ y) (with_pids ks p)
 
-pub end_kept : (c : Bool) (ks : List Proc) (p : Proc) (status n : ℕ) (b : Proc) → AllDistinct (map kept_pid ks) → numbered kept_pid n (left_procs c (orphaned_procs ks p.pid) p status) ≡ Some b → WasKept ks p n b
+pub end_kept : (c : Bool) (ks : List Proc) (p : Proc) (status n : ℕ) (b : Proc) → AllDistinct (map kept_pid ks)
+    → numbered kept_pid n (left_procs c (orphaned_procs ks p.pid) p status) ≡ Some b → WasKept ks p n b
 end_kept true ks p status n b d e = record {
   own = λ i. none_some b (sym (removed_is kept_pid p.pid (orphaned_procs ks p.pid)) ∙ ap (λ (m : ℕ). numbered kept_pid m (without_proc (orphaned_procs ks p.pid) p.pid)) (sym i) ∙ e);
   other = λ m. orphan_kept ks p.pid n b d (sym (removed_not kept_pid n p.pid (orphaned_procs ks p.pid) m) ∙ e);
@@ -290,7 +297,8 @@ pub orphans_distinct : (ps : List Process) (pid : ℕ) → AllDistinct (map pid_
 orphans_distinct ps pid d = subst AllDistinct (sym (pids_map (without_parent pid) (λ x. refl) (filter (λ (q : Process). not (is_zombie_child pid q)) ps))) (distinct_filter pid_of (λ (q : Process). not (is_zombie_child pid q)) ps d)
 
 -- the end leaves the spaces of all others, where the process itself holds none any more
-pub end_held : (b : Bool) (ps : List Process) (q : Process) (pid parent : ℕ) → AllDistinct (map pid_of ps) → numbered pid_of pid ps ≡ Some q → space_held q.holding ≡ [] → held (left_flat b (orphans pid ps) pid parent) ≡ held ps
+pub end_held : (b : Bool) (ps : List Process) (q : Process) (pid parent : ℕ) → AllDistinct (map pid_of ps) → numbered pid_of pid ps ≡ Some q
+    → space_held q.holding ≡ [] → held (left_flat b (orphans pid ps) pid parent) ≡ held ps
 end_held true ps q pid parent d e h = held_filter (λ (x : Process). not (x.pid == pid)) (orphans pid ps) (orphans_distinct ps pid d)
     (λ x f t. let i : x.pid ≡ pid = eqb-true x.pid pid (off (x.pid == pid) t) in
     let w : WasFlat ps x.pid x = orphan_was ps pid x.pid x d f in
@@ -345,7 +353,8 @@ pub record Leaving (k : Kernel) (flat after : FlatState) (pid sid : ℕ) (borrow
   pub other : (m : ℕ) → (borrowed ≡ false → m ≢ sid) → numbered sid_of m (spaces_of after) ≡ numbered sid_of m (spaces_of flat)
   pub gone : borrowed ≡ false → numbered sid_of sid (spaces_of after) ≡ None
 
-pub end_core : (k : Kernel) (images : List NamedImage) (image : List ℕ) (flat after : FlatState) (pid sid : ℕ) (borrowed : Bool) (ps : List Proc) (journal : List Entry) → Leaving k flat after pid sid borrowed → AllFit flat k.place
+pub end_core : (k : Kernel) (images : List NamedImage) (image : List ℕ) (flat after : FlatState) (pid sid : ℕ) (borrowed : Bool) (ps : List Proc) (journal : List Entry)
+    → Leaving k flat after pid sid borrowed → AllFit flat k.place
     → CouplesPages k.place (beside_kernel k images image flat)
     → AllFit after (end_kernel k pid sid borrowed ps journal).place × CouplesPages (end_kernel k pid sid borrowed ps journal).place (beside_kernel (end_kernel k pid sid borrowed ps journal) images image after)
 end_core k images image flat after pid sid borrowed ps journal a all pages = (fits, coupled)
@@ -405,12 +414,14 @@ end_core k images image flat after pid sid borrowed ps journal a all pages = (fi
       ]
     ]
 
-pub left_is : (b : Bool) (F : FlatState) (pid parent : ℕ) → left b F pid parent ≡ (let x : FlatState = record F { processes = left_flat b F.processes pid parent } in x)
+pub left_is : (b : Bool) (F : FlatState) (pid parent : ℕ)
+    → left b F pid parent ≡ (let x : FlatState = record F { processes = left_flat b F.processes pid parent } in x)
 left_is true F pid parent = refl
 left_is false F pid parent = refl
 
 -- A process that holds its own space ends.
-pub end_coupled_step : (size : ℕ) (k : Kernel) (images : List NamedImage) (image : List ℕ) (flat : FlatState) (pid : ℕ) (regs : Regs) (e : Entry) (status : ℕ) (q : Process) (s : Space) → Sound size k
+pub end_coupled_step : (size : ℕ) (k : Kernel) (images : List NamedImage) (image : List ℕ) (flat : FlatState) (pid : ℕ) (regs : Regs) (e : Entry) (status : ℕ) (q : Process) (s : Space)
+    → Sound size k
     → IsNumbered flat → OutHold k.place flat → k.place.due ≡ []
     → process_of flat pid ≡ Some q → q.holding ≡ Holds s → is_borrower flat.processes pid ≡ false → IsSettled k.place s.sid → MayForget (facts_of images) k.place s.sid false k.next_sid (End status) → Coupled k images image flat
     → Coupled (change_step (facts_of images) k pid regs e (End status)) images image (apply_change images flat pid regs (End status))

@@ -282,7 +282,8 @@ returned_none (q ∷ ps) pid s e = go q.holding e (returned_none ps pid s)
     go (Lends sid child) h ih = by (child == pid) h ih
     go (Zombie status) h ih = by false h ih
 
-pub borrower_replaced : (ps : List Process) (p : Process) (pid : ℕ) → Rattle.flat_state.specs.Change.lends_to pid p.holding ≡ false → is_borrower ps pid ≡ false → is_borrower (replaced ps p) pid ≡ false
+pub borrower_replaced : (ps : List Process) (p : Process) (pid : ℕ) → Rattle.flat_state.specs.Change.lends_to pid p.holding ≡ false
+    → is_borrower ps pid ≡ false → is_borrower (replaced ps p) pid ≡ false
 unfolding replaced
 borrower_replaced [] p pid h e = refl
 borrower_replaced (q ∷ ps) p pid h e = go (q.pid == p.pid) (borrower_replaced ps p pid h)

@@ -62,7 +62,8 @@ next_in flat p nums o = go (is_out p flat.next_pid) refl
     go false e = e
     go true e = absurd (let h : false ≡ true = sym (ap holds_some (found_is flat.processes flat.next_pid ∙ next_pid_none flat nums)) ∙ o flat.next_pid e in cc)
 
-pub kept_none : (k : Kernel) (flat : FlatState) (n : ℕ) → map outline_kept k.processes ≡ map outline_of flat.processes → numbered pid_of n flat.processes ≡ None → numbered kept_pid n k.processes ≡ None
+pub kept_none : (k : Kernel) (flat : FlatState) (n : ℕ) → map outline_kept k.processes ≡ map outline_of flat.processes
+    → numbered pid_of n flat.processes ≡ None → numbered kept_pid n k.processes ≡ None
 kept_none k flat n e h = go (numbered kept_pid n k.processes) refl
   where
     go : (o : Option Proc) → numbered kept_pid n k.processes ≡ o → numbered kept_pid n k.processes ≡ None
@@ -92,7 +93,8 @@ forked_kernel k p sid child next e = record k {
   journal = append k.journal e;
 }
 
-pub fork_coupled_step : (k : Kernel) (images : List NamedImage) (image : List ℕ) (flat : FlatState) (pid : ℕ) (regs : Regs) (e : Entry) (q : Process) (s : Space) → IsNumbered flat → OutHold k.place flat → k.place.due ≡ []
+pub fork_coupled_step : (k : Kernel) (images : List NamedImage) (image : List ℕ) (flat : FlatState) (pid : ℕ) (regs : Regs) (e : Entry) (q : Process) (s : Space)
+    → IsNumbered flat → OutHold k.place flat → k.place.due ≡ []
     → process_of flat pid ≡ Some q → q.holding ≡ Holds s → is_out k.place pid ≡ false → Coupled k images image flat
     → Coupled (change_step (facts_of images) k pid regs e (Fork flat.next_pid)) images image (apply_change images flat pid regs (Fork flat.next_pid))
 fork_coupled_step k images image flat pid regs e q s nums outs due f h out c =

@@ -117,7 +117,8 @@ removed_keeps p sid b k = changed_coupled p q b b k one k.text (λ i v. ap (λ (
           },
         )
 
-pub unless_coupled : (borrowed : Bool) (p : Placement) (sid : ℕ) (b : Bytes) → OwnsFrames p → (borrowed ≡ false → IsSettled p sid) → CouplesPages p b → CouplesPages (give_up_unless borrowed p sid) b
+pub unless_coupled : (borrowed : Bool) (p : Placement) (sid : ℕ) (b : Bytes) → OwnsFrames p → (borrowed ≡ false → IsSettled p sid) → CouplesPages p b
+    → CouplesPages (give_up_unless borrowed p sid) b
 unless_coupled true p sid b o s k = k
 unless_coupled false p sid b o s k = leave_text_coupled (remove_space (drop_all p (pages_of_space p sid)) sid) (image_of p sid) b
     (gone_owner p sid o (settled_from p sid (s refl) 0 (data_count p sid) 0 (stack_count p sid))) (removed_keeps p sid b k)
@@ -133,7 +134,8 @@ pub record OtherBytes (p : Placement) (b c : Bytes) (w : Page) : Type 0 where
   pub memory : c.memory w ≡ b.memory w
   pub swap : (c.swap w ≡ b.swap w) ⊎ AsideText p w
 
-aside_keeps : (p : Placement) (b c : Bytes) (image v : ℕ) → CouplesPages p b → c.frames ≡ b.frames → c.memory (Text image v) ≡ b.memory (Text image v) → c.file (Text image v) ≡ c.memory (Text image v)
+aside_keeps : (p : Placement) (b c : Bytes) (image v : ℕ) → CouplesPages p b → c.frames ≡ b.frames → c.memory (Text image v) ≡ b.memory (Text image v)
+    → c.file (Text image v) ≡ c.memory (Text image v)
     → IsThere p (Text image v) → IsAside p (Text image v) → Keeps p c (Text image v)
 aside_keeps p b c image v k f m t there a = elim a.rests [
   | inl e ↦ subst (KeepsBy p c (Text image v)) (sym e) (subst (λ (d : Option Due). KeepsUnfilled c (Text image v) d Rattle.page_model.specs.Pages.OfImage) (sym (k.text_due image v)) t, a.unsaved)
@@ -144,7 +146,8 @@ aside_keeps p b c image v k f m t there a = elim a.rests [
       }))
 ]
 
-pub other_coupled : (p : Placement) (b c : Bytes) → CouplesPages p b → ((w : Page) → NoCopy (due_at p.due w)) → c.frames ≡ b.frames → ((w : Page) → IsThere p w → OtherBytes p b c w)
+pub other_coupled : (p : Placement) (b c : Bytes) → CouplesPages p b → ((w : Page) → NoCopy (due_at p.due w)) → c.frames ≡ b.frames
+    → ((w : Page) → IsThere p w → OtherBytes p b c w)
     → ((image v : ℕ) → c.file (Text image v) ≡ c.memory (Text image v)) → CouplesPages p c
 other_coupled p b c k due f h text = changed_coupled p p b c k one text k.text_due
   where
@@ -171,7 +174,8 @@ other_coupled p b c k due f h text = changed_coupled p p b c k one text k.text_d
 -- Blocks.
 
 -- what isn't given back stays
-given_back_other : (hs : Holdings) (sid image left : ℕ) (owner : Owner) (v : ℕ) → owners.Data sid ≢ owner → owners.Stack sid ≢ owner → (left ≡ 0 → owners.Text image ≢ owner)
+given_back_other : (hs : Holdings) (sid image left : ℕ) (owner : Owner) (v : ℕ) → owners.Data sid ≢ owner → owners.Stack sid ≢ owner
+    → (left ≡ 0 → owners.Text image ≢ owner)
     → block_in (space_given_back hs sid image left) owner v ≡ block_in hs owner v
 given_back_other hs sid image left owner v d s t = go left t
   where
@@ -205,6 +209,7 @@ unless_blocks false hs p q sid image (Text i v) g a there = elim (cases_eq (shar
   | inr z ↦ inl (given_back_other hs sid image (sharers q image) (owners.Text i) v (λ e. cc) (λ e. cc) (λ y e. z y))
 ]
 
-pub unless_u : (borrowed : Bool) (hs : Holdings) (sid image left n : ℕ) → block_in (given_back_unless borrowed hs sid image left) (owners.U n) 0 ≡ block_in hs (owners.U n) 0
+pub unless_u : (borrowed : Bool) (hs : Holdings) (sid image left n : ℕ)
+    → block_in (given_back_unless borrowed hs sid image left) (owners.U n) 0 ≡ block_in hs (owners.U n) 0
 unless_u true hs sid image left n = refl
 unless_u false hs sid image left n = given_back_other hs sid image left (owners.U n) 0 (λ e. cc) (λ e. cc) (λ z e. cc)

@@ -25,7 +25,8 @@ AllStore k [] = Unit {0}
 AllStore k (x ∷ xs) = CanStore k x × AllStore k xs
 
 -- The pages of a write go into their blocks, one after another.
-pub written_bytes : (xs : List Part) (size : ℕ) (k : Kernel) (images : List NamedImage) (flat : FlatState) (image : List ℕ) → IsBook size k.holdings → 512 * size ≤ length image → AllStore k xs
+pub written_bytes : (xs : List Part) (size : ℕ) (k : Kernel) (images : List NamedImage) (flat : FlatState) (image : List ℕ) → IsBook size k.holdings
+    → 512 * size ≤ length image → AllStore k xs
     → StoresAll (beside_kernel k images image flat) xs (beside_kernel k images (store_all k image xs) flat)
 written_bytes [] size k images flat image book l a = refl
 written_bytes (x ∷ xs) size k images flat image book l a =
@@ -63,10 +64,12 @@ pub facts_same : (images : List NamedImage) (number : ℕ) → facts_numbered (f
 facts_same images zero = refl
 facts_same images (suc place) = slice_facts images place
 
-pub facts_found : (images : List NamedImage) (number : ℕ) (named : NamedImage) → image_numbered images number ≡ Some named → facts_numbered (facts_of images) number ≡ Some named.image.facts
+pub facts_found : (images : List NamedImage) (number : ℕ) (named : NamedImage) → image_numbered images number ≡ Some named
+    → facts_numbered (facts_of images) number ≡ Some named.image.facts
 facts_found images number named e = facts_same images number ∙ ap facts_in e
 
 -- something is so of an image that is there
-pub image_known : (images : List NamedImage) (number : ℕ) (named : NamedImage) (P : Option Image → Option NamedImage → Type 0) → image_numbered images number ≡ Some named
+pub image_known : (images : List NamedImage) (number : ℕ) (named : NamedImage) (P : Option Image → Option NamedImage → Type 0)
+    → image_numbered images number ≡ Some named
     → P (Some named.image.facts) (Some named) → P (facts_numbered (facts_of images) number) (image_numbered images number)
 image_known images number named P e h = subst (λ (o : Option Image). P o (image_numbered images number)) (sym (facts_found images number named e)) (subst (P (Some named.image.facts)) (sym e) h)

@@ -38,13 +38,15 @@ passed sid from to receiver q = record q { life = passed_life sid from to receiv
 abbrev pub pass_by : Kernel → ℕ → ℕ → Life → Life → Kernel
 pass_by k from to giver receiver = record k { processes = map (λ (q : Proc). record q { life = passed_life (space_of_life giver) from to receiver q }) k.processes }
 
-pub pass_is : (k : Kernel) (from to : ℕ) (p q : Proc) (giver receiver : Life) → numbered kept_pid from k.processes ≡ Some p → p.life ≡ giver → numbered kept_pid to k.processes ≡ Some q
+pub pass_is : (k : Kernel) (from to : ℕ) (p q : Proc) (giver receiver : Life) → numbered kept_pid from k.processes ≡ Some p → p.life ≡ giver
+    → numbered kept_pid to k.processes ≡ Some q
     → q.life ≡ receiver → pass_step k from to ≡ pass_by k from to giver receiver
 pass_is k from to p q giver receiver a b c d =
     ap (λ (g : Life). pass_by k from to g (life_of_proc (numbered kept_pid to k.processes))) (ap life_of_proc a ∙ b) ∙ ap (pass_by k from to giver) (ap life_of_proc c ∙ d)
 
 -- the parent lends, and each other process is as it was
-pub passed_list : (ks : List Proc) (p : Proc) (sid to : ℕ) → IsAbsent to (map kept_pid ks) → map (passed sid p.pid to New) (with_proc ks p) ≡ with_proc ks (record p { life = LendsSpace sid to })
+pub passed_list : (ks : List Proc) (p : Proc) (sid to : ℕ) → IsAbsent to (map kept_pid ks)
+    → map (passed sid p.pid to New) (with_proc ks p) ≡ with_proc ks (record p { life = LendsSpace sid to })
 passed_list [] p sid to a = refl
 passed_list (x ∷ ks) p sid to a = ap (λ (y : Proc). y ∷ map (passed sid p.pid to New) (with_proc ks p)) (go (x.pid == p.pid) refl) ∙ ap (λ (l : List Proc). cond (x.pid == p.pid) (record p { life = LendsSpace sid to }) x ∷ l) (passed_list ks p sid to a.1)
   where
@@ -58,7 +60,8 @@ pub passed_child : (p : Proc) (sid to : ℕ) → to ≢ p.pid → passed sid p.p
 passed_child p sid to d = ap (λ (b : Bool). let y : Proc = record (child_proc p to New) { life = cond b (LendsSpace sid to) (cond (to == to) (HoldsSpace sid) New) } in y) (ne_eqb to p.pid d)
     ∙ ap (λ (b : Bool). let y : Proc = record (child_proc p to New) { life = cond b (HoldsSpace sid) New } in y) (eq_self to)
 
-pub lend_coupled_step : (k : Kernel) (images : List NamedImage) (image : List ℕ) (flat : FlatState) (pid : ℕ) (regs : Regs) (e : Entry) (q : Process) (s : Space) → IsNumbered flat
+pub lend_coupled_step : (k : Kernel) (images : List NamedImage) (image : List ℕ) (flat : FlatState) (pid : ℕ) (regs : Regs) (e : Entry) (q : Process) (s : Space)
+    → IsNumbered flat
     → OutHold k.place flat → process_of flat pid ≡ Some q → q.holding ≡ Holds s
     → is_out k.place pid ≡ false → Coupled k images image flat → Coupled (pass_step (change_step (facts_of images) k pid regs e (Lend flat.next_pid)) pid flat.next_pid) images image (apply_change images flat pid regs (Lend flat.next_pid))
 lend_coupled_step k images image flat pid regs e q s nums outs f h out c =

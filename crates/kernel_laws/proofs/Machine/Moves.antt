@@ -110,7 +110,8 @@ file_same images p q s (Text image v) = refl
 
 -- Tables and registers.
 
-pub tables_kept : (k l : Kernel) (flat : FlatState) → map outline_kept l.processes ≡ map outline_kept k.processes → l.next_pid ≡ k.next_pid → l.next_sid ≡ k.next_sid → Shaped k.place l.place → SameTables k flat → SameTables l flat
+pub tables_kept : (k l : Kernel) (flat : FlatState) → map outline_kept l.processes ≡ map outline_kept k.processes → l.next_pid ≡ k.next_pid
+    → l.next_sid ≡ k.next_sid → Shaped k.place l.place → SameTables k flat → SameTables l flat
 tables_kept k l flat ps np ns s t = record {
   processes = ps ∙ t.processes;
   next_pid = np ∙ t.next_pid;
@@ -122,7 +123,8 @@ tables_kept k l flat ps np ns s t = record {
 abbrev pub u_stored : Kernel → List ℕ → ℕ → List ℕ
 u_stored k image pid = stored_at image (block_in k.holdings (owners.U pid) 0)
 
-pub regs_kept : (k l : Kernel) (image after : List ℕ) (out : Bool) (q : Process) (kept : Regs) (sid : ℕ) → (out ≡ true → u_stored l after q.pid ≡ u_stored k image q.pid)
+pub regs_kept : (k l : Kernel) (image after : List ℕ) (out : Bool) (q : Process) (kept : Regs) (sid : ℕ)
+    → (out ≡ true → u_stored l after q.pid ≡ u_stored k image q.pid)
     → length (slots_of l.place (Data sid 0)) ≡ length (slots_of k.place (Data sid 0)) → length (slots_of l.place (Stack sid 0)) ≡ length (slots_of k.place (Stack sid 0))
     → KeepsRegs k image out q kept sid → KeepsRegs l after out q kept sid
 regs_kept k l image after false q kept sid u d s r = r
@@ -130,7 +132,8 @@ regs_kept k l image after true q kept sid u d s r =
     u refl ∙ r ∙ ap (λ (n : ℕ). u_page q.regs n (length (slots_of k.place (Stack sid 0)))) (sym d) ∙ ap (λ (n : ℕ). u_page q.regs (length (slots_of l.place (Data sid 0))) n) (sym s)
 
 -- A machine with the same processes, over an image that has the same u pages, with pages that are coupled.
-pub moved_coupled : (k l : Kernel) (images : List NamedImage) (image after : List ℕ) (flat : FlatState) → l.processes ≡ k.processes → l.next_pid ≡ k.next_pid → l.next_sid ≡ k.next_sid
+pub moved_coupled : (k l : Kernel) (images : List NamedImage) (image after : List ℕ) (flat : FlatState) → l.processes ≡ k.processes
+    → l.next_pid ≡ k.next_pid → l.next_sid ≡ k.next_sid
     → ((pid : ℕ) → u_stored l after pid ≡ u_stored k image pid)
     → Shaped k.place l.place → CouplesPages l.place (beside_kernel l images after flat) → Coupled k images image flat → Coupled l images after flat
 moved_coupled k l images image after flat ps np ns u s pages c = record {
@@ -142,22 +145,26 @@ moved_coupled k l images image after flat ps np ns u s pages c = record {
       (c.regs q p e (ap (numbered (λ (x : Proc). x.pid) q.pid) (sym ps) ∙ h)));
 }
 
-pub paged_coupled : (k l : Kernel) (images : List NamedImage) (image : List ℕ) (flat : FlatState) → l.processes ≡ k.processes → l.next_pid ≡ k.next_pid → l.next_sid ≡ k.next_sid → l.holdings ≡ k.holdings
+pub paged_coupled : (k l : Kernel) (images : List NamedImage) (image : List ℕ) (flat : FlatState) → l.processes ≡ k.processes
+    → l.next_pid ≡ k.next_pid → l.next_sid ≡ k.next_sid → l.holdings ≡ k.holdings
     → Shaped k.place l.place → CouplesPages l.place (beside_kernel l images image flat) → Coupled k images image flat → Coupled l images image flat
 paged_coupled k l images image flat ps np ns hs s pages c = moved_coupled k l images image image flat ps np ns (λ pid. ap (λ (x : Holdings). stored_at image (block_in x (owners.U pid) 0)) hs) s pages c
 
 -- Entries.
 
-pub note_coupled : (k : Kernel) (images : List NamedImage) (image : List ℕ) (flat : FlatState) (e : Entry) → Coupled k images image flat → Coupled (note_step k e) images image flat
+pub note_coupled : (k : Kernel) (images : List NamedImage) (image : List ℕ) (flat : FlatState) (e : Entry) → Coupled k images image flat
+    → Coupled (note_step k e) images image flat
 note_coupled k images image flat e c = paged_coupled k (note_step k e) images image flat refl refl refl refl (shaped_self k.place) c.pages c
 
-plain_coupled : (k : Kernel) (images : List NamedImage) (image : List ℕ) (flat : FlatState) (locked : List Page) (e : Entry) → Shaped k.place (plain_step k locked e).place
+plain_coupled : (k : Kernel) (images : List NamedImage) (image : List ℕ) (flat : FlatState) (locked : List Page) (e : Entry)
+    → Shaped k.place (plain_step k locked e).place
     → CouplesPages (plain_step k locked e).place (beside_kernel k images image flat) → Coupled k images image flat → Coupled (plain_step k locked e) images image flat
 plain_coupled k images image flat locked e s pages c = paged_coupled k (plain_step k locked e) images image flat refl refl refl refl s
     (alike_coupled (plain_step k locked e).place (beside_kernel k images image flat) (beside_kernel (plain_step k locked e) images image flat)
     (λ w. record { frames = refl; swap = refl; file = file_same images k.place (plain_step k locked e).place s w; start = refl; memory = refl }) pages) c
 
-pub get_coupled_step : (size : ℕ) (k : Kernel) (images : List NamedImage) (image : List ℕ) (flat : FlatState) (q : Page) (lo n : ℕ) → Sound size k → EachPage (CanEnter k.place) (pages_from q lo n)
+pub get_coupled_step : (size : ℕ) (k : Kernel) (images : List NamedImage) (image : List ℕ) (flat : FlatState) (q : Page) (lo n : ℕ) → Sound size k
+    → EachPage (CanEnter k.place) (pages_from q lo n)
     → EachPage (ReadsFrom k.place (source_for (state_of k.place q)) q) (pages_from q lo n) → Coupled k images image flat → Coupled (get_step k q lo n) images image flat
 get_coupled_step size k images image flat q lo n so c r cp =
     let o : OneOwner size (lives k.processes) k.place k.holdings = so.owner in
@@ -172,7 +179,8 @@ pub read_coupled_step : (size : ℕ) (k : Kernel) (images : List NamedImage) (im
     → Coupled (get_step k q (run_in k.place q).lo (run_in k.place q).n) images image flat
 read_coupled_step size k images image flat q so c r cp = get_coupled_step size k images image flat q (run_in k.place q).lo (run_in k.place q).n so (run_in_enters k.place q c) (run_in_reads k.place (beside_kernel k images image flat) q cp.pages r) cp
 
-pub reclaim_coupled_step : (size : ℕ) (k : Kernel) (images : List NamedImage) (image : List ℕ) (flat : FlatState) (q : Page) → Sound size k → Coupled k images image flat → Coupled (reclaim_step k q) images image flat
+pub reclaim_coupled_step : (size : ℕ) (k : Kernel) (images : List NamedImage) (image : List ℕ) (flat : FlatState) (q : Page) → Sound size k
+    → Coupled k images image flat → Coupled (reclaim_step k q) images image flat
 reclaim_coupled_step size k images image flat q so cp =
     let o : OneOwner size (lives k.processes) k.place k.holdings = so.owner in
     plain_coupled k images image flat [] (entries.Reclaim q) (reclaim_shaped k.place q) (reclaim_coupled k.place q (beside_kernel k images image flat) o.frames cp.pages) cp
@@ -181,12 +189,14 @@ moves_coupled : (n : ℕ) (p : Placement) (locked : List Page) (b : Bytes) → O
 moves_coupled zero p locked b o k = k
 moves_coupled (suc n) p locked b o k = moves_coupled n (hand_move p locked) locked b (move_owner p locked o) (move_coupled p locked b o k)
 
-pub hand_coupled_step : (size : ℕ) (k : Kernel) (images : List NamedImage) (image : List ℕ) (flat : FlatState) (locked : List Page) → Sound size k → Coupled k images image flat → Coupled (hand_step k locked) images image flat
+pub hand_coupled_step : (size : ℕ) (k : Kernel) (images : List NamedImage) (image : List ℕ) (flat : FlatState) (locked : List Page) → Sound size k
+    → Coupled k images image flat → Coupled (hand_step k locked) images image flat
 hand_coupled_step size k images image flat locked so cp =
     let o : OneOwner size (lives k.processes) k.place k.holdings = so.owner in
     plain_coupled k images image flat locked (entries.Hands 1) (moves_shaped 1 k.place locked) (moves_coupled 1 k.place locked (beside_kernel k images image flat) o.frames cp.pages) cp
 
-pub push_coupled_step : (size : ℕ) (k : Kernel) (images : List NamedImage) (image : List ℕ) (flat : FlatState) (q : Page) (n : ℕ) → Sound size k → HasSeat k.place q → EachPage (HasSeat k.place) (pages_from q (number_of q) n)
+pub push_coupled_step : (size : ℕ) (k : Kernel) (images : List NamedImage) (image : List ℕ) (flat : FlatState) (q : Page) (n : ℕ) → Sound size k
+    → HasSeat k.place q → EachPage (HasSeat k.place) (pages_from q (number_of q) n)
     → Coupled k images image flat → Coupled (push_step k q n) images image flat
 push_coupled_step size k images image flat q n so h hs cp =
     let o : OneOwner size (lives k.processes) k.place k.holdings = so.owner in
@@ -204,7 +214,8 @@ filled_state p v f rest o c e =
 abbrev filled_kernel : Kernel → Page → List ℕ → List StartBytes → Entry → Kernel
 filled_kernel k v bytes ss e = record k { place = filled k.place v; frames = put_first k.place.free k.frames bytes; starts = ss; journal = append k.journal e }
 
-fill_coupled_step : (size : ℕ) (k : Kernel) (images : List NamedImage) (image : List ℕ) (flat : FlatState) (v : Page) (bytes : List ℕ) (ss : List StartBytes) (e : Entry) → Sound size k → CanEnter k.place v → IsWritable v
+fill_coupled_step : (size : ℕ) (k : Kernel) (images : List NamedImage) (image : List ℕ) (flat : FlatState) (v : Page) (bytes : List ℕ) (ss : List StartBytes) (e : Entry)
+    → Sound size k → CanEnter k.place v → IsWritable v
     → 0 < length k.place.free → bytes ≡ memory_of images flat v → ((w : Page) → w ≢ v → start_bytes ss w ≡ start_bytes k.starts w) → Coupled k images image flat → Coupled (filled_kernel k v bytes ss e) images image flat
 fill_coupled_step size k images image flat v bytes ss e so c w some is st cp = go k.place.free refl
   where
@@ -237,7 +248,8 @@ after_other (s ∷ ss) v w n = go (same_page s.page v) refl (after_other ss v w 
     go true e ih = ih ∙ sym (ap (λ (x : Bool). cond x s.bytes (start_bytes ss w)) (miss (same_page s.page w) refl e))
     go false e ih = ap (λ (x : List ℕ). cond (same_page s.page w) s.bytes x) ih
 
-unfilled_is : (k : Kernel) (images : List NamedImage) (image : List ℕ) (flat : FlatState) (q : Page) → Coupled k images image flat → IsThere k.place q → state_of k.place q ≡ Unfilled
+unfilled_is : (k : Kernel) (images : List NamedImage) (image : List ℕ) (flat : FlatState) (q : Page) → Coupled k images image flat → IsThere k.place q
+    → state_of k.place q ≡ Unfilled
     → KeepsUnfilled (beside_kernel k images image flat) q (due_at k.place.due q) (filling_of k.place q)
 unfilled_is k images image flat q cp there e =
     let h : KeepsUnfilled (beside_kernel k images image flat) q (due_at k.place.due q) (filling_of k.place q) × Rattle.page_model.specs.PageBytes.IsUnsaved q (Rattle.page_model.specs.Placement.mark_of k.place q) =
@@ -254,7 +266,8 @@ no_start (s ∷ ss) q e = go (same_page s.page q) e (no_start ss q)
     go false h ih = ih h
 
 -- A page of zeros.
-pub zero_coupled : (size : ℕ) (k : Kernel) (images : List NamedImage) (image : List ℕ) (flat : FlatState) (q : Page) → Sound size k → KeepsStarts k → CanEnter k.place q → IsWritable q → 0 < length k.place.free
+pub zero_coupled : (size : ℕ) (k : Kernel) (images : List NamedImage) (image : List ℕ) (flat : FlatState) (q : Page) → Sound size k → KeepsStarts k
+    → CanEnter k.place q → IsWritable q → 0 < length k.place.free
     → state_of k.place q ≡ Unfilled → due_at k.place.due q ≡ None → filling_of k.place q ≡ Zeros → Coupled k images image flat → Coupled (zero_step k q) images image flat
 zero_coupled size k images image flat q so ks c w some e d x cp =
     let u : zeros ≡ memory_of images flat q = subst (KeepsUnfilled (beside_kernel k images image flat) q None) x
@@ -262,7 +275,8 @@ zero_coupled size k images image flat q so ks c w some e d x cp =
     fill_coupled_step size k images image flat q (start_bytes k.starts q) (starts_after k.starts q) (entries.Zero q) so c w some (no_start k.starts q (ks q (ap is_start d)) ∙ u) (λ v n. after_other k.starts q v n) cp
 
 -- A new stack page 0 with what is kept for it.
-pub start_coupled : (size : ℕ) (k : Kernel) (images : List NamedImage) (image : List ℕ) (flat : FlatState) (q r : Page) → Sound size k → CanEnter k.place q → IsWritable q → 0 < length k.place.free
+pub start_coupled : (size : ℕ) (k : Kernel) (images : List NamedImage) (image : List ℕ) (flat : FlatState) (q r : Page) → Sound size k
+    → CanEnter k.place q → IsWritable q → 0 < length k.place.free
     → state_of k.place q ≡ Unfilled → due_at k.place.due q ≡ Some (Start r) → Coupled k images image flat → Coupled (zero_step k q) images image flat
 start_coupled size k images image flat q r so c w some e d cp =
     let u : start_bytes k.starts q ≡ memory_of images flat q =
@@ -270,7 +284,8 @@ start_coupled size k images image flat q r so c w some e d cp =
     fill_coupled_step size k images image flat q (start_bytes k.starts q) (starts_after k.starts q) (entries.Zero q) so c w some u (λ v n. after_other k.starts q v n) cp
 
 -- A child's page with the bytes of its parent's.
-pub copy_coupled : (size : ℕ) (k : Kernel) (images : List NamedImage) (image : List ℕ) (flat : FlatState) (q r parent : Page) (f : ℕ) → Sound size k → CanEnter k.place q → IsWritable q → 0 < length k.place.free
+pub copy_coupled : (size : ℕ) (k : Kernel) (images : List NamedImage) (image : List ℕ) (flat : FlatState) (q r parent : Page) (f : ℕ) → Sound size k
+    → CanEnter k.place q → IsWritable q → 0 < length k.place.free
     → state_of k.place q ≡ Unfilled → due_at k.place.due q ≡ Some (CopyOf r parent) → state_of k.place parent ≡ Valid f → Coupled k images image flat → Coupled (copy_step k q) images image flat
 copy_coupled size k images image flat q r parent f so c w some e d h cp =
     let u : memory_of images flat parent ≡ memory_of images flat q =

@@ -63,7 +63,8 @@ pub first_same : (x y : Outline) (xs ys : List Outline) → x ∷ xs ≡ y ∷ y
 first_same x y xs ys e = (cc, cc)
 
 -- both tables have the new process in the place of the old one
-pub with_replaced : (ks : List Proc) (fs : List Process) (p : Proc) (q : Process) → map outline_kept ks ≡ map outline_of fs → AllDistinct (map pid_of fs) → outline_kept p ≡ outline_of q
+pub with_replaced : (ks : List Proc) (fs : List Process) (p : Proc) (q : Process) → map outline_kept ks ≡ map outline_of fs
+    → AllDistinct (map pid_of fs) → outline_kept p ≡ outline_of q
     → map outline_kept (with_proc ks p) ≡ map outline_of (replaced fs q)
 unfolding replaced
 with_replaced [] [] p q e d h = refl
@@ -85,7 +86,8 @@ with_replaced (k ∷ ks) (f ∷ fs) p q e d h =
 
 -- A process that goes.
 
-pub removed_outlines : (ks : List Proc) (fs : List Process) (n : ℕ) → map outline_kept ks ≡ map outline_of fs → map outline_kept (filter (λ (x : Proc). not (x.pid == n)) ks) ≡ map outline_of (filter (λ (x : Process). not (x.pid == n)) fs)
+pub removed_outlines : (ks : List Proc) (fs : List Process) (n : ℕ) → map outline_kept ks ≡ map outline_of fs
+    → map outline_kept (filter (λ (x : Proc). not (x.pid == n)) ks) ≡ map outline_of (filter (λ (x : Process). not (x.pid == n)) fs)
 removed_outlines [] [] n e = refl
 removed_outlines [] (f ∷ fs) n e = absurd cc
 removed_outlines (k ∷ ks) [] n e = absurd cc
@@ -99,7 +101,8 @@ removed_outlines (k ∷ ks) (f ∷ fs) n e =
     go false h ih = ap (λ (o : Outline). o ∷ map outline_kept (filter (λ (x : Proc). not (x.pid == n)) ks)) h ∙ ap (λ (l : List Outline). outline_of f ∷ l) ih
 
 -- what a filter leaves has the spaces, where those that go have none
-pub held_filter : (test : Process → Bool) (ps : List Process) → AllDistinct (map pid_of ps) → ((x : Process) → numbered pid_of x.pid ps ≡ Some x → test x ≡ false → space_held x.holding ≡ []) → held (filter test ps) ≡ held ps
+pub held_filter : (test : Process → Bool) (ps : List Process) → AllDistinct (map pid_of ps)
+    → ((x : Process) → numbered pid_of x.pid ps ≡ Some x → test x ≡ false → space_held x.holding ≡ []) → held (filter test ps) ≡ held ps
 held_filter test [] d h = refl
 held_filter test (p ∷ ps) d h = go (test p) refl (held_filter test ps d.1 (λ x e t. h x (later x e) t))
   where
@@ -129,7 +132,8 @@ distinct_filter number test (x ∷ xs) d = go (test x) (distinct_filter number t
 -- Who holds what.
 
 -- a space that a process holds is there
-pub holds_there : (ps : List Process) (n : ℕ) (q : Process) (s : Space) → numbered pid_of n ps ≡ Some q → q.holding ≡ Holds s → numbered sid_of s.sid (held ps) ≡ None → ⊥
+pub holds_there : (ps : List Process) (n : ℕ) (q : Process) (s : Space) → numbered pid_of n ps ≡ Some q → q.holding ≡ Holds s
+    → numbered sid_of s.sid (held ps) ≡ None → ⊥
 holds_there [] n q s e h z = none_some q e
 holds_there (p ∷ ps) n q s e h z = elim (cases_eq p.pid n) [
   | inl i ↦ (let same : p ≡ q = same_Some p q (sym (numbered_hit pid_of n p ps i) ∙ e) in
@@ -143,7 +147,8 @@ holds_there (p ∷ ps) n q s e h z = elim (cases_eq p.pid n) [
     second (Some x) r h = absurd cc
 
 -- two processes hold different spaces
-pub other_space : (flat : FlatState) (m n : ℕ) (p q : Process) (s t : Space) → IsNumbered flat → m ≢ n → numbered pid_of m flat.processes ≡ Some p → numbered pid_of n flat.processes ≡ Some q
+pub other_space : (flat : FlatState) (m n : ℕ) (p q : Process) (s t : Space) → IsNumbered flat → m ≢ n → numbered pid_of m flat.processes ≡ Some p
+    → numbered pid_of n flat.processes ≡ Some q
     → p.holding ≡ Holds s → q.holding ≡ Holds t → t.sid ≢ s.sid
 other_space flat m n p q s t nums d ep eq hp hq same =
     let gone : Process = record p { holding = Zombie 0 } in
@@ -153,7 +158,8 @@ other_space flat m n p q s t nums d ep eq hp hq same =
     holds_there (replaced flat.processes gone) n q t (replaced_not flat.processes gone n (λ h. d (sym i ∙ sym h)) ∙ eq) hq (ap (λ (x : ℕ). numbered sid_of x (held (replaced flat.processes gone))) same ∙ held_now flat.processes gone s a)
 
 -- who is out holds a space
-pub out_space : (p : Placement) (flat : FlatState) (n : ℕ) (q : Process) → OutHold p flat → is_out p n ≡ true → numbered pid_of n flat.processes ≡ Some q → (s : Space) × (q.holding ≡ Holds s)
+pub out_space : (p : Placement) (flat : FlatState) (n : ℕ) (q : Process) → OutHold p flat → is_out p n ≡ true
+    → numbered pid_of n flat.processes ≡ Some q → (s : Space) × (q.holding ≡ Holds s)
 out_space p flat n q o e h = go q.holding refl (sym (ap holds_some (found_is flat.processes n ∙ h)) ∙ o n e)
   where
     go : (x : Holding) → q.holding ≡ x → holds_space q.holding ≡ true → (s : Space) × (q.holding ≡ Holds s)
@@ -186,7 +192,8 @@ pub record Stepping (k : Kernel) (flat : FlatState) (pid : ℕ) (q : Process) (s
   pub life : proc.life ≡ HoldsSpace s.sid
   pub asleep : proc.asleep ≡ q.asleep
 
-pub stepping : (k : Kernel) (flat : FlatState) (pid : ℕ) (q : Process) (s : Space) → SameTables k flat → process_of flat pid ≡ Some q → q.holding ≡ Holds s → Stepping k flat pid q s
+pub stepping : (k : Kernel) (flat : FlatState) (pid : ℕ) (q : Process) (s : Space) → SameTables k flat → process_of flat pid ≡ Some q
+    → q.holding ≡ Holds s → Stepping k flat pid q s
 stepping k flat pid q s t e h =
     let f = found_at flat pid q e in
     let p : (p : Proc) × (numbered kept_pid pid k.processes ≡ Some p) = kept_at k.processes flat.processes t.processes pid q f.1 in
@@ -216,7 +223,8 @@ by_life images k p life e change =
       journal = append k.journal e;
     }
 
-pub step_is : (images : List Image) (k : Kernel) (pid : ℕ) (regs : Regs) (e : Entry) (change : Change) (p : Proc) (life : Life) → numbered kept_pid pid k.processes ≡ Some p → p.life ≡ life
+pub step_is : (images : List Image) (k : Kernel) (pid : ℕ) (regs : Regs) (e : Entry) (change : Change) (p : Proc) (life : Life)
+    → numbered kept_pid pid k.processes ≡ Some p → p.life ≡ life
     → change_step images k pid regs e change ≡ by_life images k (record p { regs = regs }) life e change
 step_is images k pid regs e change p life h l = ap (change_if images k regs e change) h ∙ ap (λ (x : Life). by_life images k (record p { regs = regs }) x e change) l
 
@@ -225,13 +233,15 @@ step_is images k pid regs e change p life h l = ap (change_if images k regs e ch
 -- what is known of a process that the step leaves: it has the registers that it had, and where it is out so has its u
 -- page
 pub record Carries (k l : Kernel) (image after : List ℕ) (flat flat2 : FlatState) (n : ℕ) : Type 0 where
-  pub flat_was : (a : Process) → numbered pid_of n flat2.processes ≡ Some a → (x : Process) × (numbered pid_of n flat.processes ≡ Some x) × (a.regs ≡ x.regs) × (space_of_holding a.holding ≡ space_of_holding x.holding)
+  pub flat_was : (a : Process) → numbered pid_of n flat2.processes ≡ Some a
+      → (x : Process) × (numbered pid_of n flat.processes ≡ Some x) × (a.regs ≡ x.regs) × (space_of_holding a.holding ≡ space_of_holding x.holding)
   pub kept_was : (b : Proc) → numbered kept_pid n l.processes ≡ Some b → (y : Proc) × (numbered kept_pid n k.processes ≡ Some y) × (b.regs ≡ y.regs)
   pub out : is_out l.place n ≡ is_out k.place n
   pub held_by : (x : Process) (t : Space) → numbered pid_of n flat.processes ≡ Some x → x.holding ≡ Holds t
       → (u_stored l after n ≡ u_stored k image n) × (length (slots_of l.place (Data t.sid 0)) ≡ length (slots_of k.place (Data t.sid 0))) × (length (slots_of l.place (Stack t.sid 0)) ≡ length (slots_of k.place (Stack t.sid 0)))
 
-pub regs_carried : (k l : Kernel) (images : List NamedImage) (image after : List ℕ) (flat flat2 : FlatState) (n : ℕ) → Coupled k images image flat → OutHold k.place flat → Carries k l image after flat flat2 n → RegsAt l after flat2 n
+pub regs_carried : (k l : Kernel) (images : List NamedImage) (image after : List ℕ) (flat flat2 : FlatState) (n : ℕ) → Coupled k images image flat
+    → OutHold k.place flat → Carries k l image after flat flat2 n → RegsAt l after flat2 n
 regs_carried k l images image after flat flat2 n c o r a b ea eb =
     let x : (x : Process) × (numbered pid_of n flat.processes ≡ Some x) × (a.regs ≡ x.regs) × (space_of_holding a.holding ≡ space_of_holding x.holding) = r.flat_was a ea in
     let y : (y : Proc) × (numbered kept_pid n k.processes ≡ Some y) × (b.regs ≡ y.regs) = r.kept_was b eb in
@@ -247,7 +257,8 @@ regs_carried k l images image after flat flat2 n c o r a b ea eb =
     (regs_at k images image flat c n x.0 y.0 x.1 y.1))
 
 -- a process that is in has its registers in its record
-pub regs_in_record : (l : Kernel) (after : List ℕ) (flat2 : FlatState) (n : ℕ) (fp : Process) (kp : Proc) → is_out l.place n ≡ false → numbered pid_of n flat2.processes ≡ Some fp
+pub regs_in_record : (l : Kernel) (after : List ℕ) (flat2 : FlatState) (n : ℕ) (fp : Process) (kp : Proc) → is_out l.place n ≡ false
+    → numbered pid_of n flat2.processes ≡ Some fp
     → numbered kept_pid n l.processes ≡ Some kp → kp.regs ≡ fp.regs → RegsAt l after flat2 n
 regs_in_record l after flat2 n fp kp out ef ek r a b ea eb = subst (λ (z : Bool). KeepsRegs l after z a b.regs (space_of_holding a.holding)) (sym out)
     (ap (λ (x : Proc). x.regs) (same_Some b kp (sym eb ∙ ek)) ∙ r ∙ ap (λ (x : Process). x.regs) (same_Some fp a (sym ef ∙ ea)))

@@ -18,7 +18,8 @@ use Rattle.kernel_laws.proofs.Machine.Tables.{all_fit, kept_at, outline_at}
 use Rattle.kernel_laws.proofs.Machine.Processes.{holds_there, Stepping, stepping}
 
 -- the space is there
-pub space_there : (k : Kernel) (flat : FlatState) (pid : ℕ) (q : Process) (s : Space) → SameTables k flat → Stepping k flat pid q s → q.holding ≡ Holds s → HasSpace k.place s.sid
+pub space_there : (k : Kernel) (flat : FlatState) (pid : ℕ) (q : Process) (s : Space) → SameTables k flat → Stepping k flat pid q s
+    → q.holding ≡ Holds s → HasSpace k.place s.sid
 space_there k flat pid q s t st h e = go (numbered (λ (x : Space). x.sid) s.sid (spaces_of flat)) (numbered space_number s.sid k.place.spaces) refl e (all_fit k flat t s.sid)
   where
     go : (o : Option Space) (x : Option SpacePages) → numbered (λ (x : Space). x.sid) s.sid (spaces_of flat) ≡ o → x ≡ None → Fits o x → ⊥
@@ -36,7 +37,8 @@ ready_space p sid (Reap child) h w = tt
 ready_space p sid Sleep h w = tt
 ready_space p sid (End status) h w = λ e. (h, w)
 
-pub coupled_ready : (k : Kernel) (flat : FlatState) (pid : ℕ) (q : Process) (s : Space) (change : Change) → SameTables k flat → process_of flat pid ≡ Some q → q.holding ≡ Holds s
+pub coupled_ready : (k : Kernel) (flat : FlatState) (pid : ℕ) (q : Process) (s : Space) (change : Change) → SameTables k flat
+    → process_of flat pid ≡ Some q → q.holding ≡ Holds s
     → TakesNext k change → MayReap k.processes change → SettlesFor k.place s.sid change → ReadyFor k pid change
 coupled_ready k flat pid q s change t f h n r w =
     let st : Stepping k flat pid q s = stepping k flat pid q s t f h in
@@ -49,7 +51,8 @@ coupled_ready k flat pid q s change t f h n r w =
     })
 
 -- who is reaped ended before
-pub coupled_reaps : (k : Kernel) (flat : FlatState) (child status : ℕ) (z : Process) → SameTables k flat → process_of flat child ≡ Some z → z.holding ≡ Zombie status → lives k.processes child ≡ false
+pub coupled_reaps : (k : Kernel) (flat : FlatState) (child status : ℕ) (z : Process) → SameTables k flat → process_of flat child ≡ Some z
+    → z.holding ≡ Zombie status → lives k.processes child ≡ false
 coupled_reaps k flat child status z t e h =
     let f : numbered (λ (x : Process). x.pid) child flat.processes ≡ Some z = sym (found_is flat.processes child) ∙ e in
     let p : (p : Proc) × (numbered (λ (x : Proc). x.pid) child k.processes ≡ Some p) = kept_at k.processes flat.processes t.processes child z f in

@@ -46,7 +46,8 @@ use Rattle.aout_image.specs.declared.Image.{Image}
 
 -- The lender has the space again.
 
-pub returned_is : (ps : List Process) (m : Process) (pid : ℕ) (s : Space) → AllDistinct (map pid_of ps) → numbered pid_of m.pid ps ≡ Some m → lends_to pid m.holding ≡ true
+pub returned_is : (ps : List Process) (m : Process) (pid : ℕ) (s : Space) → AllDistinct (map pid_of ps) → numbered pid_of m.pid ps ≡ Some m
+    → lends_to pid m.holding ≡ true
     → ((x : Process) → numbered pid_of x.pid ps ≡ Some x → lends_to pid x.holding ≡ true → x.pid ≡ m.pid) → returned pid s ps ≡ replaced ps (record m { holding = Holds s })
 unfolding returned replaced
 returned_is [] m pid s d e t only = none_some m e
@@ -82,7 +83,8 @@ only_at (x ∷ ks) m d e = elim (cases_eq x.pid m.pid) [
     none (y ∷ ys) a = ((λ i. absurd (a.0 i)), none ys a.1)
 
 -- the borrower gives way to another, and the lender holds the space
-passed_back : (ks : List Proc) (p m : Proc) (sid : ℕ) → m.pid ≢ p.pid → OnlyAt m ks → with_proc (map (passes sid p.pid m.pid) ks) p ≡ with_proc (with_proc ks p) (record m { life = HoldsSpace sid })
+passed_back : (ks : List Proc) (p m : Proc) (sid : ℕ) → m.pid ≢ p.pid → OnlyAt m ks
+    → with_proc (map (passes sid p.pid m.pid) ks) p ≡ with_proc (with_proc ks p) (record m { life = HoldsSpace sid })
 passed_back [] p m sid d o = refl
 passed_back (x ∷ ks) p m sid d o = ap (λ (y : Proc). y ∷ with_proc (map (passes sid p.pid m.pid) ks) p) (go (x.pid == p.pid) (x.pid == m.pid) refl refl) ∙ ap (λ (l : List Proc). cond ((cond (x.pid == p.pid) p x).pid == m.pid) (record m { life = HoldsSpace sid }) (cond (x.pid == p.pid) p x) ∷ l) (passed_back ks p m sid d o.1)
   where
@@ -103,7 +105,8 @@ pub record Borrowing (k : Kernel) (flat : FlatState) (pid : ℕ) (q m : Process)
   pub life : lender.life ≡ LendsSpace s.sid pid
   pub apart : m.pid ≢ q.pid
 
-pub borrowing : (k : Kernel) (flat : FlatState) (pid : ℕ) (q m : Process) (s : Space) → SameTables k flat → process_of flat pid ≡ Some q → q.holding ≡ Holds s → IsLender flat pid s.sid m → Borrowing k flat pid q m s
+pub borrowing : (k : Kernel) (flat : FlatState) (pid : ℕ) (q m : Process) (s : Space) → SameTables k flat → process_of flat pid ≡ Some q
+    → q.holding ≡ Holds s → IsLender flat pid s.sid m → Borrowing k flat pid q m s
 borrowing k flat pid q m s c f h a =
     let g : Stepping k flat pid q s = stepping k flat pid q s c f h in
     let at : numbered pid_of m.pid flat.processes ≡ Some m = sym (found_is flat.processes m.pid) ∙ a.found in
@@ -124,11 +127,13 @@ borrowing k flat pid q m s c f h a =
     differs i = let j : Lends s.sid pid ≡ Holds s = sym a.holding ∙ ap (λ (x : Process). x.holding) i ∙ h in cc
 
 -- the machine once the space went back: the borrower has none
-pub back_kernel : (k : Kernel) (flat : FlatState) (pid : ℕ) (q m : Process) (s : Space) → Borrowing k flat pid q m s → pass_step k pid m.pid ≡ (let x : Kernel = record k { processes = map (passes s.sid pid m.pid) k.processes } in x)
+pub back_kernel : (k : Kernel) (flat : FlatState) (pid : ℕ) (q m : Process) (s : Space) → Borrowing k flat pid q m s
+    → pass_step k pid m.pid ≡ (let x : Kernel = record k { processes = map (passes s.sid pid m.pid) k.processes } in x)
 back_kernel k flat pid q m s a = let g : Stepping k flat pid q s = a.step in pass_is k pid m.pid g.proc a.lender (HoldsSpace s.sid) (LendsSpace s.sid pid) g.kept g.life a.kept a.life
 
 -- the borrower is there, with nothing
-pub back_proc : (k : Kernel) (flat : FlatState) (pid : ℕ) (q m : Process) (s : Space) (a : Borrowing k flat pid q m s) → numbered kept_pid pid (map (passes s.sid pid m.pid) k.processes) ≡ Some (record a.step.proc { life = New })
+pub back_proc : (k : Kernel) (flat : FlatState) (pid : ℕ) (q m : Process) (s : Space) (a : Borrowing k flat pid q m s)
+    → numbered kept_pid pid (map (passes s.sid pid m.pid) k.processes) ≡ Some (record a.step.proc { life = New })
 back_proc k flat pid q m s a =
     let g : Stepping k flat pid q s = a.step in
     numbered_map kept_pid (passes s.sid pid m.pid) (λ x. refl) pid k.processes ∙ ap (mapped (passes s.sid pid m.pid)) g.kept
@@ -142,7 +147,8 @@ pub record Back (k : Kernel) (flat : FlatState) (pid : ℕ) (q m fp : Process) (
   pub returned : returned q.pid s (replaced flat.processes fp) ≡ replaced (replaced flat.processes fp) (record m { holding = Holds s })
   pub outlines : map outline_kept (with_proc (map (passes s.sid pid m.pid) k.processes) kp) ≡ map outline_of (replaced (replaced flat.processes fp) (record m { holding = Holds s }))
 
-pub back : (k : Kernel) (flat : FlatState) (pid : ℕ) (q m fp : Process) (kp : Proc) (s : Space) → IsNumbered flat → SameTables k flat → IsLender flat pid s.sid m → (a : Borrowing k flat pid q m s)
+pub back : (k : Kernel) (flat : FlatState) (pid : ℕ) (q m fp : Process) (kp : Proc) (s : Space) → IsNumbered flat → SameTables k flat
+    → IsLender flat pid s.sid m → (a : Borrowing k flat pid q m s)
     → fp.pid ≡ q.pid → lends_to q.pid fp.holding ≡ false
     → kp.pid ≡ a.step.proc.pid → outline_kept kp ≡ outline_of fp → Back k flat pid q m fp kp s
 back k flat pid q m fp kp s nums c is a fpid holds kpid o = record {
@@ -184,7 +190,8 @@ back k flat pid q m fp kp s nums c is a fpid holds kpid o = record {
     ]
 
 -- what the processes are once both gave way
-flat_both : (k : Kernel) (flat : FlatState) (pid : ℕ) (q m fp : Process) (s : Space) (n : ℕ) (a : Process) → Borrowing k flat pid q m s → numbered pid_of m.pid (replaced flat.processes fp) ≡ Some m
+flat_both : (k : Kernel) (flat : FlatState) (pid : ℕ) (q m fp : Process) (s : Space) (n : ℕ) (a : Process) → Borrowing k flat pid q m s
+    → numbered pid_of m.pid (replaced flat.processes fp) ≡ Some m
     → n ≢ fp.pid → numbered pid_of n (replaced (replaced flat.processes fp) (record m { holding = Holds s })) ≡ Some a
     → IsLender flat pid s.sid m → (x : Process) × (numbered pid_of n flat.processes ≡ Some x) × (a.regs ≡ x.regs) × (space_of_holding a.holding ≡ space_of_holding x.holding)
 flat_both k flat pid q m fp s n a g lf d e is = elim (cases_eq n m.pid) [
@@ -195,7 +202,8 @@ flat_both k flat pid q m fp s n a g lf d e is = elim (cases_eq n m.pid) [
 ]
 
 -- passing a space leaves all registers
-kept_passed : (ks : List Proc) (sid from to n : ℕ) (b : Proc) → numbered kept_pid n (map (passes sid from to) ks) ≡ Some b → (y : Proc) × (numbered kept_pid n ks ≡ Some y) × (b.regs ≡ y.regs)
+kept_passed : (ks : List Proc) (sid from to n : ℕ) (b : Proc) → numbered kept_pid n (map (passes sid from to) ks) ≡ Some b
+    → (y : Proc) × (numbered kept_pid n ks ≡ Some y) × (b.regs ≡ y.regs)
 kept_passed ks sid from to n b e =
     let m : (y : Proc) × (numbered kept_pid n ks ≡ Some y) × (passes sid from to y ≡ b) = mapped_some (passes sid from to) (numbered kept_pid n ks) b (sym (numbered_map kept_pid (passes sid from to) (λ x. refl) n ks) ∙ e) in
     (m.0, m.1, ap (λ (x : Proc). x.regs) (sym m.2))
@@ -316,7 +324,8 @@ exec_back size before k images image flat pid regs e number top named q m s so n
     ]
 
 -- A process that borrowed its space ends.
-pub end_back : (size : ℕ) (k : Kernel) (images : List NamedImage) (image : List ℕ) (flat : FlatState) (pid : ℕ) (regs : Regs) (e : Entry) (status : ℕ) (q m : Process) (s : Space) → Sound size k
+pub end_back : (size : ℕ) (k : Kernel) (images : List NamedImage) (image : List ℕ) (flat : FlatState) (pid : ℕ) (regs : Regs) (e : Entry) (status : ℕ) (q m : Process) (s : Space)
+    → Sound size k
     → IsNumbered flat → OutHold k.place flat → k.place.due ≡ []
     → process_of flat pid ≡ Some q → q.holding ≡ Holds s → IsLender flat pid s.sid m → Coupled k images image flat
     → Coupled (change_step (facts_of images) (pass_step k pid m.pid) pid regs e (End status)) images image (apply_change images flat pid regs (End status))

@@ -75,7 +75,8 @@ sizes_kept p q s (Text image v) = s.texts image
 pub image_by_shape : (o r : Option SpacePages) → shape_in r ≡ shape_in o → image_in r ≡ image_in o
 image_by_shape o r e = image_shape r ∙ ap shape_image e ∙ sym (image_shape o)
 
-pub sizes_by_shape : (o r : Option SpacePages) → shape_in r ≡ shape_in o → (length (data_in r) ≡ length (data_in o)) × (length (stack_in r) ≡ length (stack_in o))
+pub sizes_by_shape : (o r : Option SpacePages) → shape_in r ≡ shape_in o
+    → (length (data_in r) ≡ length (data_in o)) × (length (stack_in r) ≡ length (stack_in o))
 sizes_by_shape o r e = (data_shape r ∙ ap shape_data e ∙ sym (data_shape o), stack_shape r ∙ ap shape_stack e ∙ sym (stack_shape o))
 
 -- a space of a flat state fits pages of the same shape
@@ -91,7 +92,8 @@ fit_shapes (Some s) (Some x) (Some y) e f = record {
   stack_size = f.stack_size ∙ ap (λ (o : Option Shape). 1024 * shape_stack o) (sym e);
 }
 
-pub fit_shaped : (p q : Placement) (o : Option Space) (sid : ℕ) → Shaped p q → Fits o (numbered space_number sid p.spaces) → Fits o (numbered space_number sid q.spaces)
+pub fit_shaped : (p q : Placement) (o : Option Space) (sid : ℕ) → Shaped p q → Fits o (numbered space_number sid p.spaces)
+    → Fits o (numbered space_number sid q.spaces)
 fit_shaped p q o sid s f = fit_shapes o (numbered space_number sid p.spaces) (numbered space_number sid q.spaces) (s.spaces sid) f
 
 -- One page.
@@ -108,7 +110,8 @@ with_text_size : (v : ℕ) (s : PageState) (m : Bool) (o : Option TextPages) →
 with_text_size v s m None = refl
 with_text_size v s m (Some x) = length_change x.text_pages v s m
 
-pub changed_shape : (n sid : ℕ) (change : SpacePages → SpacePages) → ((x : SpacePages) → space_number (change x) ≡ space_number x) → ((o : Option SpacePages) → shape_in (mapped change o) ≡ shape_in o) → (ss : List SpacePages)
+pub changed_shape : (n sid : ℕ) (change : SpacePages → SpacePages) → ((x : SpacePages) → space_number (change x) ≡ space_number x)
+    → ((o : Option SpacePages) → shape_in (mapped change o) ≡ shape_in o) → (ss : List SpacePages)
     → shape_in (numbered space_number sid (Rattle.page_model.specs.Pages.changed space_number n change ss)) ≡ shape_in (numbered space_number sid ss)
 changed_shape n sid change k h ss = elim (cases_eq sid n) [
   | inl e ↦ subst (λ (x : ℕ). shape_in (numbered space_number x (Rattle.page_model.specs.Pages.changed space_number n change ss)) ≡ shape_in (numbered space_number x ss)) (sym e)

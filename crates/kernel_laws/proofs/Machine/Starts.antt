@@ -45,7 +45,8 @@ NoneAt ss xs sid = (numbered sid_of sid ss ≡ None) × (numbered space_number s
 stack_sid : (a b v w : ℕ) → Stack a v ≡ Stack b w → a ≡ b
 stack_sid a b v w e = cc
 
-one_more : (images : List NamedImage) (n number : ℕ) (named : NamedImage) (ss : List Space) (xs : List SpacePages) (ds : List Due) (sid : ℕ) → image_numbered images number ≡ Some named → NoneAt ss xs sid ⊎ StartAt images ss xs ds sid
+one_more : (images : List NamedImage) (n number : ℕ) (named : NamedImage) (ss : List Space) (xs : List SpacePages) (ds : List Due) (sid : ℕ)
+    → image_numbered images number ≡ Some named → NoneAt ss xs sid ⊎ StartAt images ss xs ds sid
     → NoneAt (new_space n number named.image (named.name ∷ []) ∷ ss) (new_pages n number named.image.facts ∷ xs) sid
     ⊎ StartAt images (new_space n number named.image (named.name ∷ []) ∷ ss) (new_pages n number named.image.facts ∷ xs) (Start (Stack n 0) ∷ ds) sid
 one_more images n number named ss xs ds sid im r = elim (cases_eq n sid) [
@@ -108,7 +109,8 @@ page_whole : (name : List ℕ) → length (argument_area (name ∷ [])) ≤ 1024
 page_whole name l = length-append (replicate (1024 - length (argument_area (name ∷ []))) 0) (argument_area (name ∷ [])) ∙ (let z = length-replicate {A = ℕ} (1024 - length (argument_area (name ∷ []))) 0 in omega arith)
 
 -- The start of a run.
-pub start_coupled_all : (A : Inputs) (first : List Starting) (hs : Holdings) (frames : List (List ℕ)) (image : List ℕ) → AreStarting A.images A.first first → ImagesFit A.images
+pub start_coupled_all : (A : Inputs) (first : List Starting) (hs : Holdings) (frames : List (List ℕ)) (image : List ℕ)
+    → AreStarting A.images A.first first → ImagesFit A.images
     → Coupled (start_kernel A first hs frames) A.images image (start_state A)
 start_coupled_all A first hs frames image a fit = coupled_of k A.images image flat (tables_of k flat (start_outlines flat.processes) refl refl fits)
     (record { each = each; text = λ i v. refl; text_due = λ i v. due_stacks first 1 (Text i v) (λ sid e. cc) })

@@ -26,7 +26,8 @@ use Rattle.kernel_laws.proofs.Machine.Swaps.{applied, memory_same}
 use Rattle.kernel_laws.proofs.Machine.Processes.{with_at, with_not, with_replaced, removed_outlines, held_filter, distinct_filter, Stepping, stepping, by_life, step_is}
 
 -- One process gives way to another with the same holding.
-pub stay_coupled : (k : Kernel) (images : List NamedImage) (image : List ℕ) (flat : FlatState) (q fp : Process) (p kp : Proc) (journal : List Entry) → AllDistinct (map pid_of flat.processes) → numbered pid_of fp.pid flat.processes ≡ Some q
+pub stay_coupled : (k : Kernel) (images : List NamedImage) (image : List ℕ) (flat : FlatState) (q fp : Process) (p kp : Proc) (journal : List Entry)
+    → AllDistinct (map pid_of flat.processes) → numbered pid_of fp.pid flat.processes ≡ Some q
     → numbered kept_pid kp.pid k.processes ≡ Some p → fp.holding ≡ q.holding → outline_kept kp ≡ outline_of fp → kp.regs ≡ fp.regs → is_out k.place fp.pid ≡ false → Coupled k images image flat
     → Coupled (record k { processes = with_proc k.processes kp; journal = journal }) images image (with_process flat fp)
 stay_coupled k images image flat q fp p kp journal d f g h o r out c = coupled_of l images image after
@@ -63,7 +64,8 @@ stay_coupled k images image flat q fp p kp journal d f g h o r out c = coupled_o
         same_regs n a b x = Rattle.kernel_laws.proofs.Machine.Moves.regs_kept k l image image (is_out k.place n) a b.regs (space_of_holding a.holding) (λ z. refl) refl refl x
 
 -- a process that holds nothing goes
-pub gone_coupled : (k : Kernel) (images : List NamedImage) (image : List ℕ) (flat : FlatState) (child : ℕ) (z : Process) → AllDistinct (map pid_of flat.processes)
+pub gone_coupled : (k : Kernel) (images : List NamedImage) (image : List ℕ) (flat : FlatState) (child : ℕ) (z : Process)
+    → AllDistinct (map pid_of flat.processes)
     → numbered pid_of child flat.processes ≡ Some z → space_held z.holding ≡ [] → Coupled k images image flat
     → Coupled (record k { processes = without_proc k.processes child }) images image (without_process flat child)
 gone_coupled k images image flat child z d f h c = coupled_of l images image after
@@ -103,7 +105,8 @@ pub outline_is : (a b c d : ℕ) (x y : Rattle.kernel_model.specs.Kernel.Life) (
 outline_is a b c d x y s t e f g h = cc
 
 -- An entry of a process that changes nothing else.
-pub keep_coupled : (k : Kernel) (images : List NamedImage) (image : List ℕ) (flat : FlatState) (pid : ℕ) (regs : Regs) (e : Entry) (q : Process) (s : Space) → IsNumbered flat
+pub keep_coupled : (k : Kernel) (images : List NamedImage) (image : List ℕ) (flat : FlatState) (pid : ℕ) (regs : Regs) (e : Entry) (q : Process) (s : Space)
+    → IsNumbered flat
     → process_of flat pid ≡ Some q → q.holding ≡ Holds s → is_out k.place pid ≡ false
     → Coupled k images image flat → Coupled (change_step (facts_of images) k pid regs e Keep) images image (apply_change images flat pid regs Keep)
 keep_coupled k images image flat pid regs e q s nums f h out c =
@@ -116,7 +119,8 @@ keep_coupled k images image flat pid regs e q s nums f h out c =
     (ap (is_out k.place) g.pid_was ∙ out) c))
 
 -- A process falls asleep.
-pub sleep_coupled : (k : Kernel) (images : List NamedImage) (image : List ℕ) (flat : FlatState) (pid : ℕ) (regs : Regs) (e : Entry) (q : Process) (s : Space) → IsNumbered flat
+pub sleep_coupled : (k : Kernel) (images : List NamedImage) (image : List ℕ) (flat : FlatState) (pid : ℕ) (regs : Regs) (e : Entry) (q : Process) (s : Space)
+    → IsNumbered flat
     → process_of flat pid ≡ Some q → q.holding ≡ Holds s → is_out k.place pid ≡ false
     → Coupled k images image flat → Coupled (change_step (facts_of images) k pid regs e Sleep) images image (apply_change images flat pid regs Sleep)
 sleep_coupled k images image flat pid regs e q s nums f h out c =
@@ -129,7 +133,8 @@ sleep_coupled k images image flat pid regs e q s nums f h out c =
     (ap (is_out k.place) g.pid_was ∙ out) c))
 
 -- A zombie child goes.
-pub reap_coupled : (k : Kernel) (images : List NamedImage) (image : List ℕ) (flat : FlatState) (pid : ℕ) (regs : Regs) (e : Entry) (child status : ℕ) (q z : Process) (s : Space) → IsNumbered flat
+pub reap_coupled : (k : Kernel) (images : List NamedImage) (image : List ℕ) (flat : FlatState) (pid : ℕ) (regs : Regs) (e : Entry) (child status : ℕ) (q z : Process) (s : Space)
+    → IsNumbered flat
     → process_of flat pid ≡ Some q → q.holding ≡ Holds s → is_out k.place pid ≡ false
     → process_of flat child ≡ Some z → z.holding ≡ Zombie status → Coupled k images image flat → Coupled (change_step (facts_of images) k pid regs e (Reap child)) images image (apply_change images flat pid regs (Reap child))
 reap_coupled k images image flat pid regs e child status q z s nums f h out fz hz c =

@@ -51,7 +51,8 @@ use Rattle.page_laws.proofs.Lists.Pages.{mapped}
 
 -- Changes of a process that holds a space.
 
-pub applied : (images : List NamedImage) (flat : FlatState) (pid : ℕ) (regs : Regs) (change : Change) (q : Process) (s : Space) → process_of flat pid ≡ Some q → q.holding ≡ Holds s
+pub applied : (images : List NamedImage) (flat : FlatState) (pid : ℕ) (regs : Regs) (change : Change) (q : Process) (s : Space)
+    → process_of flat pid ≡ Some q → q.holding ≡ Holds s
     → apply_change images flat pid regs change ≡ changed images flat (record q { regs = regs }) s change
 unfolding apply_change
 applied images flat pid regs change q s e h = ap (changed_if images flat regs change) e ∙ ap (changed_by images flat (record q { regs = regs }) change) h
@@ -64,7 +65,9 @@ pub found_self : (flat : FlatState) (pid : ℕ) (q : Process) → process_of fla
 found_self flat pid q e = let f = found_at flat pid q e in ap (λ (n : ℕ). numbered pid_of n flat.processes) f.0 ∙ f.1
 
 -- the flat bytes of each page, where each space is as it was
-pub memory_same : (images : List NamedImage) (flat after : FlatState) → ((sid : ℕ) → numbered sid_of sid (spaces_of after) ≡ numbered sid_of sid (spaces_of flat)) → (w : Page) → memory_of images after w ≡ memory_of images flat w
+pub memory_same : (images : List NamedImage) (flat after : FlatState)
+    → ((sid : ℕ) → numbered sid_of sid (spaces_of after) ≡ numbered sid_of sid (spaces_of flat)) → (w : Page)
+    → memory_of images after w ≡ memory_of images flat w
 memory_same images flat after h (Data sid v) = ap (λ (o : Option Space). page_at v (data_bytes_in o)) (h sid)
 memory_same images flat after h (Stack sid v) = ap (λ (o : Option Space). page_at v (stack_bytes_in o)) (h sid)
 memory_same images flat after h (Text image v) = refl
@@ -93,13 +96,15 @@ regs_same pid regs ps p e =
     let n : m.0.pid ≡ pid = has_number kept_pid pid ps m.0 m.1 in
     ap (λ (x : Proc). x.regs) (sym m.2) ∙ ap (λ (b : Bool). (cond b (record m.0 { regs = regs }) m.0).regs) (ap (λ (i : ℕ). i == pid) n ∙ eq_self pid)
 
-regs_other : (pid n : ℕ) (regs : Regs) (ps : List Proc) (p : Proc) → n ≢ pid → numbered kept_pid n (map (with_regs pid regs) ps) ≡ Some p → numbered kept_pid n ps ≡ Some p
+regs_other : (pid n : ℕ) (regs : Regs) (ps : List Proc) (p : Proc) → n ≢ pid → numbered kept_pid n (map (with_regs pid regs) ps) ≡ Some p
+    → numbered kept_pid n ps ≡ Some p
 regs_other pid n regs ps p d e =
     let m : (x : Proc) × (numbered kept_pid n ps ≡ Some x) × (with_regs pid regs x ≡ p) = mapped_some (with_regs pid regs) (numbered kept_pid n ps) p (sym (numbered_map kept_pid (with_regs pid regs) (with_regs_pid pid regs) n ps) ∙ e) in
     let i : m.0.pid ≡ n = has_number kept_pid n ps m.0 m.1 in
     m.1 ∙ ap Some (ap (λ (b : Bool). cond b (record m.0 { regs = regs }) m.0) (sym (ne_eqb m.0.pid pid (λ h. d (sym i ∙ h)))) ∙ m.2)
 
-pub replaced_outlines : (ps : List Process) (q p : Process) → numbered pid_of p.pid ps ≡ Some q → outline_of p ≡ outline_of q → map outline_of (replaced ps p) ≡ map outline_of ps
+pub replaced_outlines : (ps : List Process) (q p : Process) → numbered pid_of p.pid ps ≡ Some q → outline_of p ≡ outline_of q
+    → map outline_of (replaced ps p) ≡ map outline_of ps
 replaced_outlines ps q p e h =
     let r : Parts ps q p = parts_at ps q p e in
     ap (map outline_of) r.new ∙ go r.front r.back ∙ sym (ap (map outline_of) r.old)
@@ -109,7 +114,8 @@ replaced_outlines ps q p e h =
     go (x ∷ xs) ys = ap (λ (l : List Outline). outline_of x ∷ l) (go xs ys)
 
 -- An instruction ran, and left these registers.
-pub ran_coupled : (k : Kernel) (images : List NamedImage) (image : List ℕ) (flat : FlatState) (pid : ℕ) (regs : Regs) (e : Entry) (q : Process) (s : Space) → process_of flat pid ≡ Some q → q.holding ≡ Holds s → is_out k.place pid ≡ false
+pub ran_coupled : (k : Kernel) (images : List NamedImage) (image : List ℕ) (flat : FlatState) (pid : ℕ) (regs : Regs) (e : Entry) (q : Process) (s : Space)
+    → process_of flat pid ≡ Some q → q.holding ≡ Holds s → is_out k.place pid ≡ false
     → Coupled k images image flat → Coupled (ran_by k pid regs e) images image (apply_change images flat pid regs Keep)
 ran_coupled k images image flat pid regs e q s f h out c = subst (Coupled l images image) (sym (applied images flat pid regs Keep q s f h))
     (coupled_of l images image after (tables_of l after (regs_outlines pid regs k.processes ∙ t.processes ∙ sym (replaced_outlines flat.processes q p found refl)) t.next_pid t.next_sid
@@ -165,7 +171,8 @@ out_other (r ∷ rs) pid n out at d = go (r.pid == pid) refl (out_other rs pid n
         head false = ih
 
 -- a process that isn't in the list is in
-pub out_same : (rs : List Residence) (pid : ℕ) (out : Bool) (at : ℕ) → ((residence_of (Rattle.page_model.specs.Pages.changed (λ (r : Residence). r.pid) pid (λ (r : Residence). record r { out = out; since = at }) rs) pid).out ≡ out)
+pub out_same : (rs : List Residence) (pid : ℕ) (out : Bool) (at : ℕ)
+    → ((residence_of (Rattle.page_model.specs.Pages.changed (λ (r : Residence). r.pid) pid (λ (r : Residence). record r { out = out; since = at }) rs) pid).out ≡ out)
     ⊎ (((residence_of (Rattle.page_model.specs.Pages.changed (λ (r : Residence). r.pid) pid (λ (r : Residence). record r { out = out; since = at }) rs) pid).out ≡ false) × ((residence_of rs pid).out ≡ false))
 out_same [] pid out at = inr (refl, refl)
 out_same (r ∷ rs) pid out at = go (r.pid == pid) refl (out_same rs pid out at)
@@ -183,13 +190,15 @@ out_same (r ∷ rs) pid out at = go (r.pid == pid) refl (out_same rs pid out at)
       )
     ]
 
-still_moved : (p : Placement) (pid : ℕ) (out : Bool) (at : ℕ) (b : Rattle.page_model.specs.PageBytes.Bytes) → CouplesPages p b → CouplesPages (moved p pid out at) b
+still_moved : (p : Placement) (pid : ℕ) (out : Bool) (at : ℕ) (b : Rattle.page_model.specs.PageBytes.Bytes) → CouplesPages p b
+    → CouplesPages (moved p pid out at) b
 still_moved p pid out at b k = Rattle.page_laws.proofs.Bytes.Runs.still_coupled p (moved p pid out at) b (λ w. refl) refl refl k
 
 -- Coming in.
 
 -- A process comes in with the registers that its u page holds.
-pub in_coupled_any : (k : Kernel) (images : List NamedImage) (image : List ℕ) (flat : FlatState) (pid : ℕ) (regs : Regs) (q : Process) → process_of flat pid ≡ Some q → is_out k.place pid ≡ true → AreRegs q.regs
+pub in_coupled_any : (k : Kernel) (images : List NamedImage) (image : List ℕ) (flat : FlatState) (pid : ℕ) (regs : Regs) (q : Process)
+    → process_of flat pid ≡ Some q → is_out k.place pid ≡ true → AreRegs q.regs
     → regs ≡ regs_in (stored_at image (block_in k.holdings (owners.U pid) 0)) → Coupled k images image flat → Coupled (in_step k pid regs) images image flat
 in_coupled_any k images image flat pid regs q f out are is c = coupled_of l images image flat
     (tables_of l flat (regs_outlines pid regs k.processes ∙ t.processes) t.next_pid t.next_sid (all_fit k flat t))
@@ -253,7 +262,8 @@ u_length regs d s a =
     zeros_length = Rattle.std.proofs.lemmas.List.length-replicate {A = ℕ} 948 0
 
 -- other blocks than those of this u page stay
-u_other : (size : ℕ) (hs : Holdings) (image bytes : List ℕ) (pid x : ℕ) (owner : Owner) (v : ℕ) → IsBook size hs → 512 * size ≤ length image → length bytes ≡ 1024 → block_in hs (owners.U pid) 0 ≡ Some x → owner ≢ owners.U pid
+u_other : (size : ℕ) (hs : Holdings) (image bytes : List ℕ) (pid x : ℕ) (owner : Owner) (v : ℕ) → IsBook size hs → 512 * size ≤ length image
+    → length bytes ≡ 1024 → block_in hs (owners.U pid) 0 ≡ Some x → owner ≢ owners.U pid
     → stored_at (put_blocks image x bytes) (block_in hs owner v) ≡ stored_at image (block_in hs owner v)
 u_other size hs image bytes pid x owner v book l lb e n =
     let a : ArePlacesApart size hs = places_apart_of size hs book in
@@ -264,7 +274,8 @@ u_other size hs image bytes pid x owner v book l lb e n =
       | inr k ↦ k
     ])
 
-u_own : (size : ℕ) (hs : Holdings) (image bytes : List ℕ) (pid x : ℕ) → IsBook size hs → 512 * size ≤ length image → length bytes ≡ 1024 → block_in hs (owners.U pid) 0 ≡ Some x → blocks_at (put_blocks image x bytes) x ≡ bytes
+u_own : (size : ℕ) (hs : Holdings) (image bytes : List ℕ) (pid x : ℕ) → IsBook size hs → 512 * size ≤ length image → length bytes ≡ 1024
+    → block_in hs (owners.U pid) 0 ≡ Some x → blocks_at (put_blocks image x bytes) x ≡ bytes
 u_own size hs image bytes pid x book l lb e =
     let a : ArePlacesApart size hs = places_apart_of size hs book in
     let p : IsPlace size hs (owners.U pid) x = a.own (owners.U pid) 0 x e in
@@ -280,7 +291,8 @@ u_found size k pid so alive =
     a.found (owners.U pid) 2 0 (w.u_held pid ∙ ap (λ (x : Bool). u_pieces (u_blocks x)) alive) (omega arith) (omega arith)
 
 -- A process goes out: its registers and the sizes of its space are in its u page.
-pub out_coupled : (size : ℕ) (k : Kernel) (images : List NamedImage) (image : List ℕ) (flat : FlatState) (pid : ℕ) (p : Proc) → Sound size k → 512 * size ≤ length image
+pub out_coupled : (size : ℕ) (k : Kernel) (images : List NamedImage) (image : List ℕ) (flat : FlatState) (pid : ℕ) (p : Proc) → Sound size k
+    → 512 * size ≤ length image
     → numbered kept_pid pid k.processes ≡ Some p → has_life p.life ≡ true → AreRegs p.regs
     → IsResident k.place pid → is_out k.place pid ≡ false → Coupled k images image flat
     → Coupled (out_step k pid) images (store_at image (block_in k.holdings (owners.U pid) 0) (u_page p.regs (length (slots_of k.place (Data (space_of_life p.life) 0))) (length (slots_of k.place (Stack (space_of_life p.life) 0))))) flat
@@ -355,7 +367,8 @@ out_coupled size k images image flat pid p so li e alive are resides out c = sub
         u_number a b h = cc
 
 -- the image is as long as it was
-pub out_length : (size : ℕ) (k : Kernel) (image : List ℕ) (pid : ℕ) (p : Proc) (d s : ℕ) → Sound size k → 512 * size ≤ length image → numbered kept_pid pid k.processes ≡ Some p → has_life p.life ≡ true → AreRegs p.regs
+pub out_length : (size : ℕ) (k : Kernel) (image : List ℕ) (pid : ℕ) (p : Proc) (d s : ℕ) → Sound size k → 512 * size ≤ length image
+    → numbered kept_pid pid k.processes ≡ Some p → has_life p.life ≡ true → AreRegs p.regs
     → length (store_at image (block_in k.holdings (owners.U pid) 0) (u_page p.regs d s)) ≡ length image
 out_length size k image pid p d s so li e alive are =
     let o : OneOwner size (lives k.processes) k.place k.holdings = so.owner in
@@ -367,7 +380,8 @@ out_length size k image pid p d s so li e alive are =
     ap (λ (i : Option ℕ). length (store_at image i (u_page p.regs d s))) b.1 ∙ length-put_blocks image (u_page p.regs d s) b.0 (omega arith) (u_length p.regs d s are)
 
 -- Whatever the record has of a process that is out, the machine stands for the same.
-pub left_coupled : (k : Kernel) (images : List NamedImage) (image : List ℕ) (flat : FlatState) (pid : ℕ) (regs : Regs) → is_out k.place pid ≡ true → Coupled k images image flat
+pub left_coupled : (k : Kernel) (images : List NamedImage) (image : List ℕ) (flat : FlatState) (pid : ℕ) (regs : Regs) → is_out k.place pid ≡ true
+    → Coupled k images image flat
     → Coupled (record k { processes = map (with_regs pid regs) k.processes }) images image flat
 left_coupled k images image flat pid regs out c = coupled_of l images image flat (tables_of l flat (regs_outlines pid regs k.processes ∙ t.processes) t.next_pid t.next_sid (all_fit k flat t)) c.pages regs_now
   where

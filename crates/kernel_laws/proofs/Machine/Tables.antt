@@ -24,16 +24,19 @@ kept_pid p = p.pid
 pub all_fit : (k : Kernel) (flat : FlatState) → SameTables k flat → AllFit flat k.place
 all_fit k flat t = t.spaces
 
-pub tables_of : (k : Kernel) (flat : FlatState) → map outline_kept k.processes ≡ map outline_of flat.processes → k.next_pid ≡ flat.next_pid → k.next_sid ≡ flat.next_sid → AllFit flat k.place → SameTables k flat
+pub tables_of : (k : Kernel) (flat : FlatState) → map outline_kept k.processes ≡ map outline_of flat.processes → k.next_pid ≡ flat.next_pid
+    → k.next_sid ≡ flat.next_sid → AllFit flat k.place → SameTables k flat
 tables_of k flat ps np ns f = record { processes = ps; next_pid = np; next_sid = ns; spaces = f }
 
 -- Processes.
 
 -- the two tables have the same processes
-pub outlines_at : (ks : List Proc) (fs : List Process) → map outline_kept ks ≡ map outline_of fs → (n : ℕ) → image_by outline_kept (numbered kept_pid n ks) ≡ image_by outline_of (numbered pid_of n fs)
+pub outlines_at : (ks : List Proc) (fs : List Process) → map outline_kept ks ≡ map outline_of fs → (n : ℕ)
+    → image_by outline_kept (numbered kept_pid n ks) ≡ image_by outline_of (numbered pid_of n fs)
 outlines_at ks fs e n = sym (numbered_image outline_kept kept_pid (λ (o : Outline). o.pid) (λ x. refl) n ks) ∙ ap (numbered (λ (o : Outline). o.pid) n) e ∙ numbered_image outline_of pid_of (λ (o : Outline). o.pid) (λ x. refl) n fs
 
-pub outline_at : (ks : List Proc) (fs : List Process) → map outline_kept ks ≡ map outline_of fs → (n : ℕ) (p : Proc) (q : Process) → numbered kept_pid n ks ≡ Some p → numbered pid_of n fs ≡ Some q → outline_kept p ≡ outline_of q
+pub outline_at : (ks : List Proc) (fs : List Process) → map outline_kept ks ≡ map outline_of fs → (n : ℕ) (p : Proc) (q : Process)
+    → numbered kept_pid n ks ≡ Some p → numbered pid_of n fs ≡ Some q → outline_kept p ≡ outline_of q
 outline_at ks fs e n p q a b = same_Some (outline_kept p) (outline_of q) (ap (image_by outline_kept) (sym a) ∙ outlines_at ks fs e n ∙ ap (image_by outline_of) b)
 
 pub space_same : (h : Holding) → space_of_life (life_of h) ≡ space_of_holding h
@@ -42,7 +45,8 @@ space_same (Lends sid child) = refl
 space_same (Zombie status) = refl
 
 -- a process of the flat state is in the machine
-pub kept_at : (ks : List Proc) (fs : List Process) → map outline_kept ks ≡ map outline_of fs → (n : ℕ) (q : Process) → numbered pid_of n fs ≡ Some q → (p : Proc) × (numbered kept_pid n ks ≡ Some p)
+pub kept_at : (ks : List Proc) (fs : List Process) → map outline_kept ks ≡ map outline_of fs → (n : ℕ) (q : Process) → numbered pid_of n fs ≡ Some q
+    → (p : Proc) × (numbered kept_pid n ks ≡ Some p)
 kept_at ks fs e n q b = go (numbered kept_pid n ks) refl
   where
     go : (o : Option Proc) → numbered kept_pid n ks ≡ o → (p : Proc) × (numbered kept_pid n ks ≡ Some p)
@@ -61,7 +65,8 @@ regs_at k images image flat c n q p e h =
     subst (λ (m : ℕ). KeepsRegs k image (is_out k.place m) q p.regs (space_of_holding q.holding)) i
     (c.regs q p (ap (λ (m : ℕ). numbered pid_of m flat.processes) i ∙ e) (ap (λ (m : ℕ). numbered kept_pid m k.processes) i ∙ h))
 
-pub coupled_of : (k : Kernel) (images : List NamedImage) (image : List ℕ) (flat : FlatState) → SameTables k flat → CouplesPages k.place (beside_kernel k images image flat) → ((n : ℕ) → RegsAt k image flat n) → Coupled k images image flat
+pub coupled_of : (k : Kernel) (images : List NamedImage) (image : List ℕ) (flat : FlatState) → SameTables k flat
+    → CouplesPages k.place (beside_kernel k images image flat) → ((n : ℕ) → RegsAt k image flat n) → Coupled k images image flat
 coupled_of k images image flat t pages r = record { tables = t; pages = pages; regs = λ q p e h. r q.pid q p e h }
 
 -- a process that has the registers of another, with a space of the same sizes
@@ -77,6 +82,7 @@ regs_carry k l image after true q r a b s t e h u o =
 -- Spaces.
 
 -- other bytes, as many
-pub fit_bytes : (s z : Space) (o : Option SpacePages) → z.image ≡ s.image → length z.data_bytes ≡ length s.data_bytes → length z.stack_bytes ≡ length s.stack_bytes → Fits (Some s) o → Fits (Some z) o
+pub fit_bytes : (s z : Space) (o : Option SpacePages) → z.image ≡ s.image → length z.data_bytes ≡ length s.data_bytes
+    → length z.stack_bytes ≡ length s.stack_bytes → Fits (Some s) o → Fits (Some z) o
 fit_bytes s z None i d t f = absurd f
 fit_bytes s z (Some x) i d t f = record { image = f.image ∙ sym i; data_size = d ∙ f.data_size; stack_size = t ∙ f.stack_size }

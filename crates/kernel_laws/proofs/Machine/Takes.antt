@@ -45,20 +45,23 @@ owners_append owner (h ∷ hs) gs = go (same_owner h.owner owner) (owners_append
     go true e = ap (λ (l : List Held). h ∷ l) e
     go false e = e
 
-pub still_found : (size : ℕ) (hs new : Holdings) (ws : List Wanted) (owner : Owner) (v block : ℕ) → place_all size hs ws ≡ Ok new → block_in hs owner v ≡ Some block → block_in new owner v ≡ Some block
+pub still_found : (size : ℕ) (hs new : Holdings) (ws : List Wanted) (owner : Owner) (v block : ℕ) → place_all size hs ws ≡ Ok new
+    → block_in hs owner v ≡ Some block → block_in new owner v ≡ Some block
 still_found size hs new ws owner v block e f =
     let a : Added hs new ws = place_all_adds size hs new ws e in
     block_in_more hs new (of_owner owner a.pieces) owner v block (ap (of_owner owner) a.is ∙ owners_append owner hs a.pieces) f
 
 -- A page that had no blocks has nothing on swap that it needs.
 
-unfilled_swap : (b : Bytes) (swap : Page → List ℕ) (w : Page) (d : Option Due) (x : Filling) → KeepsUnfilled b w d x → KeepsUnfilled (record b { swap = swap }) w d x
+unfilled_swap : (b : Bytes) (swap : Page → List ℕ) (w : Page) (d : Option Due) (x : Filling) → KeepsUnfilled b w d x
+    → KeepsUnfilled (record b { swap = swap }) w d x
 unfilled_swap b swap w None Zeros k = k
 unfilled_swap b swap w None OfImage k = k
 unfilled_swap b swap w (Some (Start r)) x k = k
 unfilled_swap b swap w (Some (CopyOf r parent)) x k = k
 
-without_blocks : (p : Placement) (b : Bytes) (swap : Page → List ℕ) (w : Page) (s : PageState) → b.swap w ≡ [] → length (b.memory w) ≡ 1024 → KeepsBy p b w s → KeepsBy p (record b { swap = swap }) w s
+without_blocks : (p : Placement) (b : Bytes) (swap : Page → List ℕ) (w : Page) (s : PageState) → b.swap w ≡ [] → length (b.memory w) ≡ 1024
+    → KeepsBy p b w s → KeepsBy p (record b { swap = swap }) w s
 without_blocks p b swap w s z l k = go s k
   where
     never : {C : Type 0} → b.swap w ≡ b.memory w → C
@@ -89,7 +92,8 @@ unfolding u_page
 u_some regs d s e = let h = ap length e in let n = length-append (flat_map word_bytes (regs.r ++ codes_of regs ∷ d ∷ s ∷ [])) (replicate 948 0) in let z = length-replicate {A = ℕ} 948 0 in omega arith
 
 -- The pieces that are asked for find their places.
-pub takes_coupled : (size : ℕ) (k : Kernel) (images : List NamedImage) (image : List ℕ) (flat : FlatState) (ws : List Wanted) (new : Holdings) → TextFits images k.place
+pub takes_coupled : (size : ℕ) (k : Kernel) (images : List NamedImage) (image : List ℕ) (flat : FlatState) (ws : List Wanted) (new : Holdings)
+    → TextFits images k.place
     → place_all size k.holdings ws ≡ Ok new → Coupled k images image flat → Coupled (record k { holdings = new }) images image flat
 takes_coupled size k images image flat ws new fits e c = coupled_of l images image flat (record { processes = c.tables.processes; next_pid = c.tables.next_pid; next_sid = c.tables.next_sid; spaces = c.tables.spaces })
     (changed_coupled k.place k.place b (beside_kernel l images image flat) c.pages one c.pages.text c.pages.text_due) regs_now

@@ -45,7 +45,8 @@ use Rattle.kernel_laws.proofs.Machine.Returns.{passes, Borrowing, borrowing, bac
 use Rattle.kernel_laws.proofs.Machine.Images.{image_known}
 
 -- Growth and break.
-pub resize_tables : (k : Kernel) (images : List NamedImage) (flat : FlatState) (pid : ℕ) (regs : Regs) (e : Entry) (d t : ℕ) (q : Process) (s : Space) → IsNumbered flat → process_of flat pid ≡ Some q
+pub resize_tables : (k : Kernel) (images : List NamedImage) (flat : FlatState) (pid : ℕ) (regs : Regs) (e : Entry) (d t : ℕ) (q : Process) (s : Space)
+    → IsNumbered flat → process_of flat pid ≡ Some q
     → q.holding ≡ Holds s → SameTables k flat
     → SameTables (change_step (facts_of images) k pid regs e (Resize d t)) (apply_change images flat pid regs (Resize d t))
 resize_tables k images flat pid regs e d t q s nums f h c =
@@ -111,7 +112,8 @@ resize_tables k images flat pid regs e d t q s nums f h c =
     ]
 
 -- Fork.
-pub fork_tables : (k : Kernel) (images : List NamedImage) (flat : FlatState) (pid : ℕ) (regs : Regs) (e : Entry) (q : Process) (s : Space) → IsNumbered flat → process_of flat pid ≡ Some q → q.holding ≡ Holds s → SameTables k flat
+pub fork_tables : (k : Kernel) (images : List NamedImage) (flat : FlatState) (pid : ℕ) (regs : Regs) (e : Entry) (q : Process) (s : Space)
+    → IsNumbered flat → process_of flat pid ≡ Some q → q.holding ≡ Holds s → SameTables k flat
     → SameTables (change_step (facts_of images) k pid regs e (Fork flat.next_pid)) (apply_change images flat pid regs (Fork flat.next_pid))
 fork_tables k images flat pid regs e q s nums f h c =
     subst (λ (x : Kernel). SameTables x (apply_change images flat pid regs (Fork flat.next_pid))) (sym (step_is (facts_of images) k pid regs e (Fork flat.next_pid) g.proc (HoldsSpace s.sid) g.kept g.life))
@@ -207,7 +209,8 @@ fork_tables k images flat pid regs e q s nums f h c =
     ]
 
 -- Vfork, with the space that passes.
-pub lend_tables : (k : Kernel) (images : List NamedImage) (flat : FlatState) (pid : ℕ) (regs : Regs) (e : Entry) (q : Process) (s : Space) → IsNumbered flat → process_of flat pid ≡ Some q → q.holding ≡ Holds s → SameTables k flat
+pub lend_tables : (k : Kernel) (images : List NamedImage) (flat : FlatState) (pid : ℕ) (regs : Regs) (e : Entry) (q : Process) (s : Space)
+    → IsNumbered flat → process_of flat pid ≡ Some q → q.holding ≡ Holds s → SameTables k flat
     → SameTables (pass_step (change_step (facts_of images) k pid regs e (Lend flat.next_pid)) pid flat.next_pid) (apply_change images flat pid regs (Lend flat.next_pid))
 lend_tables k images flat pid regs e q s nums f h c =
     subst (λ (x : Kernel). SameTables (pass_step x pid flat.next_pid) (apply_change images flat pid regs (Lend flat.next_pid))) (sym (step_is (facts_of images) k pid regs e (Lend flat.next_pid) g.proc (HoldsSpace s.sid) g.kept g.life))
@@ -437,7 +440,8 @@ pub record LeavesTables (flat after : FlatState) (sid : ℕ) (borrowed : Bool) :
   pub gone : borrowed ≡ false → numbered sid_of sid (spaces_of after) ≡ None
 
 -- An end, where the space goes unless it was borrowed.
-leave_fits : (k : Kernel) (flat after : FlatState) (pid sid : ℕ) (borrowed : Bool) (ps : List Proc) (journal : List Entry) → LeavesTables flat after sid borrowed → AllFit flat k.place
+leave_fits : (k : Kernel) (flat after : FlatState) (pid sid : ℕ) (borrowed : Bool) (ps : List Proc) (journal : List Entry)
+    → LeavesTables flat after sid borrowed → AllFit flat k.place
     → AllFit after (end_kernel k pid sid borrowed ps journal).place
 leave_fits k flat after pid sid borrowed ps journal a all = fits
   where
@@ -465,7 +469,8 @@ leave_fits k flat after pid sid borrowed ps journal a all = fits
     ]
 
 -- The end of a process that holds its own space.
-pub end_tables : (k : Kernel) (images : List NamedImage) (flat : FlatState) (pid : ℕ) (regs : Regs) (e : Entry) (status : ℕ) (q : Process) (s : Space) → IsNumbered flat → process_of flat pid ≡ Some q
+pub end_tables : (k : Kernel) (images : List NamedImage) (flat : FlatState) (pid : ℕ) (regs : Regs) (e : Entry) (status : ℕ) (q : Process) (s : Space)
+    → IsNumbered flat → process_of flat pid ≡ Some q
     → q.holding ≡ Holds s → is_borrower flat.processes pid ≡ false → SameTables k flat
     → SameTables (change_step (facts_of images) k pid regs e (End status)) (apply_change images flat pid regs (End status))
 end_tables k images flat pid regs e status q s nums f h own_space c =
@@ -618,7 +623,8 @@ exec_back_tables k images flat pid regs e number top named q m s nums f h is im 
     }
 
 -- The end of a borrower.
-pub end_back_tables : (k : Kernel) (images : List NamedImage) (flat : FlatState) (pid : ℕ) (regs : Regs) (e : Entry) (status : ℕ) (q m : Process) (s : Space) → IsNumbered flat
+pub end_back_tables : (k : Kernel) (images : List NamedImage) (flat : FlatState) (pid : ℕ) (regs : Regs) (e : Entry) (status : ℕ) (q m : Process) (s : Space)
+    → IsNumbered flat
     → process_of flat pid ≡ Some q → q.holding ≡ Holds s → IsLender flat pid s.sid m → SameTables k flat
     → SameTables (change_step (facts_of images) (pass_step k pid m.pid) pid regs e (End status)) (apply_change images flat pid regs (End status))
 end_back_tables k images flat pid regs e status q m s nums f h is c =
@@ -710,14 +716,16 @@ end_back_tables k images flat pid regs e status q m s nums f h is c =
     }
 
 -- One process gives way to another with the same holding.
-stay_tables : (k : Kernel) (flat : FlatState) (q fp : Process) (kp : Proc) (journal : List Entry) → AllDistinct (map pid_of flat.processes) → numbered pid_of fp.pid flat.processes ≡ Some q
+stay_tables : (k : Kernel) (flat : FlatState) (q fp : Process) (kp : Proc) (journal : List Entry) → AllDistinct (map pid_of flat.processes)
+    → numbered pid_of fp.pid flat.processes ≡ Some q
     → fp.holding ≡ q.holding → outline_kept kp ≡ outline_of fp → SameTables k flat
     → SameTables (record k { processes = with_proc k.processes kp; journal = journal }) (with_process flat fp)
 stay_tables k flat q fp kp journal d f h o t = tables_of (record k { processes = with_proc k.processes kp; journal = journal }) (with_process flat fp) (with_replaced k.processes flat.processes kp fp t.processes d o) t.next_pid t.next_sid
     (λ sid. subst (λ (xs : List Space). Fits (numbered sid_of sid xs) (numbered space_number sid k.place.spaces)) (sym (same_held flat.processes q fp f h)) (all_fit k flat t sid))
 
 -- An entry that changes nothing else.
-pub keep_tables : (k : Kernel) (images : List NamedImage) (flat : FlatState) (pid : ℕ) (regs : Regs) (e : Entry) (q : Process) (s : Space) → IsNumbered flat → process_of flat pid ≡ Some q
+pub keep_tables : (k : Kernel) (images : List NamedImage) (flat : FlatState) (pid : ℕ) (regs : Regs) (e : Entry) (q : Process) (s : Space)
+    → IsNumbered flat → process_of flat pid ≡ Some q
     → q.holding ≡ Holds s → SameTables k flat → SameTables (change_step (facts_of images) k pid regs e Keep) (apply_change images flat pid regs Keep)
 keep_tables k images flat pid regs e q s nums f h c =
     let g : Stepping k flat pid q s = stepping k flat pid q s c f h in
@@ -727,7 +735,8 @@ keep_tables k images flat pid regs e q s nums f h c =
     (outline_is g.proc.pid q.pid g.proc.parent q.parent g.proc.life (life_of q.holding) g.proc.asleep q.asleep (g.pid_is ∙ sym g.pid_was) g.parent (g.life ∙ sym (ap life_of h)) g.asleep) c))
 
 -- A process falls asleep.
-pub sleep_tables : (k : Kernel) (images : List NamedImage) (flat : FlatState) (pid : ℕ) (regs : Regs) (e : Entry) (q : Process) (s : Space) → IsNumbered flat → process_of flat pid ≡ Some q
+pub sleep_tables : (k : Kernel) (images : List NamedImage) (flat : FlatState) (pid : ℕ) (regs : Regs) (e : Entry) (q : Process) (s : Space)
+    → IsNumbered flat → process_of flat pid ≡ Some q
     → q.holding ≡ Holds s → SameTables k flat → SameTables (change_step (facts_of images) k pid regs e Sleep) (apply_change images flat pid regs Sleep)
 sleep_tables k images flat pid regs e q s nums f h c =
     let g : Stepping k flat pid q s = stepping k flat pid q s c f h in
@@ -737,7 +746,8 @@ sleep_tables k images flat pid regs e q s nums f h c =
     (outline_is g.proc.pid q.pid g.proc.parent q.parent g.proc.life (life_of q.holding) true true (g.pid_is ∙ sym g.pid_was) g.parent (g.life ∙ sym (ap life_of h)) refl) c))
 
 -- A zombie child goes.
-pub reap_tables : (k : Kernel) (images : List NamedImage) (flat : FlatState) (pid : ℕ) (regs : Regs) (e : Entry) (child status : ℕ) (q z : Process) (s : Space) → IsNumbered flat
+pub reap_tables : (k : Kernel) (images : List NamedImage) (flat : FlatState) (pid : ℕ) (regs : Regs) (e : Entry) (child status : ℕ) (q z : Process) (s : Space)
+    → IsNumbered flat
     → process_of flat pid ≡ Some q → q.holding ≡ Holds s → process_of flat child ≡ Some z → z.holding ≡ Zombie status → SameTables k flat
     → SameTables (change_step (facts_of images) k pid regs e (Reap child)) (apply_change images flat pid regs (Reap child))
 reap_tables k images flat pid regs e child status q z s nums f h fz hz c =

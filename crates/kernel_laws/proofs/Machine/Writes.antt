@@ -118,11 +118,13 @@ put_in s w v at h = go (address_in s w.address) h
     go spots.Below h = absurd h
     go spots.Outside h = absurd h
 
-pub written : (flat : FlatState) (pid : ℕ) (w : ByteWrite) (q : Process) (s : Space) → process_of flat pid ≡ Some q → q.holding ≡ Holds s → apply_writes flat pid (w ∷ []) ≡ with_process flat (record q { holding = Holds (put s w) })
+pub written : (flat : FlatState) (pid : ℕ) (w : ByteWrite) (q : Process) (s : Space) → process_of flat pid ≡ Some q → q.holding ≡ Holds s
+    → apply_writes flat pid (w ∷ []) ≡ with_process flat (record q { holding = Holds (put s w) })
 unfolding apply_writes
 written flat pid w q s e h = ap (wrote_if flat (w ∷ [])) e ∙ ap (wrote_by flat q (w ∷ [])) h
 
-pub write_coupled : (size : ℕ) (k : Kernel) (images : List NamedImage) (image : List ℕ) (flat : FlatState) (pid : ℕ) (q : Process) (s : Space) (w : ByteWrite) (v : Page) (f at : ℕ) → Sound size k → k.place.due ≡ [] → IsNumbered flat
+pub write_coupled : (size : ℕ) (k : Kernel) (images : List NamedImage) (image : List ℕ) (flat : FlatState) (pid : ℕ) (q : Process) (s : Space) (w : ByteWrite) (v : Page) (f at : ℕ)
+    → Sound size k → k.place.due ≡ [] → IsNumbered flat
     → process_of flat pid ≡ Some q → q.holding ≡ Holds s → IsByteOf s (address_in s w.address) v at → state_of k.place v ≡ Valid f → Coupled k images image flat
     → Coupled (write_step k v f at w.byte) images image (apply_writes flat pid (w ∷ []))
 write_coupled size k images image flat pid q s w v f at so due nums fq hq is e c = subst (Coupled l images image) (sym (written flat pid w q s fq hq))
@@ -245,12 +247,14 @@ write_coupled size k images image flat pid q s w v f at so due nums fq hq is e c
         size_at : (page : ℕ → Page) → length (Rattle.page_model.specs.Placement.slots_of l.place (page z.sid)) ≡ length (Rattle.page_model.specs.Placement.slots_of k.place (page (space_of_holding q.holding)))
         size_at page = ap (λ (m : ℕ). length (Rattle.page_model.specs.Placement.slots_of l.place (page m))) (i.sid ∙ sym (ap space_of_holding hq)) ∙ sizes_kept k.place l.place shaped (page (space_of_holding q.holding))
 
-written_all : (flat : FlatState) (pid : ℕ) (ws : List ByteWrite) (q : Process) (s : Space) → process_of flat pid ≡ Some q → q.holding ≡ Holds s → apply_writes flat pid ws ≡ with_process flat (record q { holding = Holds (puts s ws) })
+written_all : (flat : FlatState) (pid : ℕ) (ws : List ByteWrite) (q : Process) (s : Space) → process_of flat pid ≡ Some q → q.holding ≡ Holds s
+    → apply_writes flat pid ws ≡ with_process flat (record q { holding = Holds (puts s ws) })
 unfolding apply_writes
 written_all flat pid ws q s e h = ap (wrote_if flat ws) e ∙ ap (wrote_by flat q ws) h
 
 -- Bytes are written one after another.
-pub writes_one : (flat : FlatState) (pid : ℕ) (w : ByteWrite) (ws : List ByteWrite) (q : Process) (s : Space) → process_of flat pid ≡ Some q → q.holding ≡ Holds s
+pub writes_one : (flat : FlatState) (pid : ℕ) (w : ByteWrite) (ws : List ByteWrite) (q : Process) (s : Space) → process_of flat pid ≡ Some q
+    → q.holding ≡ Holds s
     → apply_writes flat pid (w ∷ ws) ≡ apply_writes (apply_writes flat pid (w ∷ [])) pid ws
 writes_one flat pid w ws q s e h =
     let p : Process = record q { holding = Holds (put s w) } in

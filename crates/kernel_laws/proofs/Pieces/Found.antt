@@ -42,7 +42,8 @@ abbrev pub EachWhole : List Wanted → Type 0
 EachWhole [] = Unit {0}
 EachWhole (w ∷ ws) = IsWhole w.length × EachWhole ws
 
-placed_apart : (size : ℕ) (hs : List Held) (owner : Owner) (n s : ℕ) → AreApart size hs → IsWhole n → fit size hs n ≡ Some s → AreApart size (hs ++ record { owner = owner; start = s; length = n } ∷ [])
+placed_apart : (size : ℕ) (hs : List Held) (owner : Owner) (n s : ℕ) → AreApart size hs → IsWhole n → fit size hs n ≡ Some s
+    → AreApart size (hs ++ record { owner = owner; start = s; length = n } ∷ [])
 placed_apart size hs owner n s a w found =
     let h = fit_within size hs n s found in
     record {
@@ -126,7 +127,8 @@ added_lengths owner (g ∷ gs) = go (same_owner g.owner owner) (added_lengths ow
     go true ih = ap (λ (ns : List ℕ). g.length ∷ ns) ih
     go false ih = ih
 
-pub found_lengths : (size : ℕ) (hs new : List Held) (ws : List Wanted) (owner : Owner) → place_all size hs ws ≡ Ok new → lengths owner new ≡ lengths owner hs ++ wanted_lengths owner ws
+pub found_lengths : (size : ℕ) (hs new : List Held) (ws : List Wanted) (owner : Owner) → place_all size hs ws ≡ Ok new
+    → lengths owner new ≡ lengths owner hs ++ wanted_lengths owner ws
 found_lengths size hs new ws owner e =
     let a : Added hs new ws = place_all_adds size hs new ws e in
     ap (lengths owner) a.is ∙ lengths-append owner hs a.pieces ∙ ap (λ (ns : List ℕ). lengths owner hs ++ ns) (added_lengths owner a.pieces ∙ ap (wanted_lengths owner) a.wanted)
@@ -140,7 +142,8 @@ held_before size k hs (owners.Text image) o = o.text_held image
 abbrev SameTexts : Kernel → Kernel → Type 0
 SameTexts k next = (i : ℕ) → length (slots_of next.place (Text i 0)) ≡ length (slots_of k.place (Text i 0))
 
-both_needed : (k next : Kernel) (owner : Owner) → SameTexts k next → (blocks : ℕ) × (needed k owner ++ drop (length (needed k owner)) (needed next owner) ≡ pieces_of owner blocks)
+both_needed : (k next : Kernel) (owner : Owner) → SameTexts k next
+    → (blocks : ℕ) × (needed k owner ++ drop (length (needed k owner)) (needed next owner) ≡ pieces_of owner blocks)
 both_needed k next (owners.Data sid) t = (2 * Rattle.std.specs.Prelude.max (data_count k.place sid) (data_count next.place sid), both_pieces (data_count k.place sid) (data_count next.place sid))
 both_needed k next (owners.Stack sid) t = (2 * Rattle.std.specs.Prelude.max (stack_count k.place sid) (stack_count next.place sid), both_pieces (stack_count k.place sid) (stack_count next.place sid))
 both_needed k next (owners.U pid) t = (u_blocks (lives k.processes pid || lives next.processes pid), both_u (lives k.processes pid) (lives next.processes pid))
@@ -148,7 +151,8 @@ both_needed k next (owners.Text image) t =
     let w = while_of (sharers k.place image + sharers next.place image) (2 * length (slots_of k.place (Text image 0))) in
     (w.0, both_while (sharers k.place image) (sharers next.place image) (2 * length (slots_of k.place (Text image 0))) (2 * length (slots_of next.place (Text image 0))) (ap (λ (n : ℕ). 2 * n) (t image)) ∙ w.1)
 
-pub found_taken : (size : ℕ) (k next : Kernel) (before : Holdings) (ws : List Wanted) → OwnsBlocks size (lives k.processes) k.place before → SameTexts k next → place_all size before ws ≡ Ok k.holdings
+pub found_taken : (size : ℕ) (k next : Kernel) (before : Holdings) (ws : List Wanted) → OwnsBlocks size (lives k.processes) k.place before
+    → SameTexts k next → place_all size before ws ≡ Ok k.holdings
     → AsksFor k next ws → HasTaken size k next
 found_taken size k next before ws o t e a =
     let r : AreApart size k.holdings = found_apart size before k.holdings ws (record { pieces = o.book.pieces; apart = o.book.apart })

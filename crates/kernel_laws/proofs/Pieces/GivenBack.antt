@@ -66,7 +66,8 @@ kept_pairs owner (suc n) (h ∷ hs) a =
 kept_apart : (size : ℕ) (owner : Owner) (keep : ℕ) (hs : Holdings) → AreApart size hs → AreApart size (kept owner keep hs)
 kept_apart size owner keep hs a = record { pieces = kept_each (IsPiece size) owner keep hs a.pieces; apart = kept_pairs owner keep hs a.apart }
 
-unless_apart : (size : ℕ) (hs : Holdings) (borrowed : Bool) (sid image left : ℕ) → AreApart size hs → AreApart size (given_back_unless borrowed hs sid image left)
+unless_apart : (size : ℕ) (hs : Holdings) (borrowed : Bool) (sid image left : ℕ) → AreApart size hs
+    → AreApart size (given_back_unless borrowed hs sid image left)
 unless_apart size hs true sid image left a = a
 unless_apart size hs false sid image left a = go left
   where
@@ -77,7 +78,8 @@ unless_apart size hs false sid image left a = go left
     go zero = kept_apart size (owners.Text image) 0 (kept (owners.Stack sid) 0 (kept (owners.Data sid) 0 hs)) rest
     go (suc n) = rest
 
-pub after_apart : (size : ℕ) (hs : Holdings) (p q : Placement) (pid sid : ℕ) (borrowed : Bool) (change : Change) → AreApart size hs → AreApart size (holdings_after hs p q pid sid borrowed change)
+pub after_apart : (size : ℕ) (hs : Holdings) (p q : Placement) (pid sid : ℕ) (borrowed : Bool) (change : Change) → AreApart size hs
+    → AreApart size (holdings_after hs p q pid sid borrowed change)
 after_apart size hs p q pid sid borrowed Keep a = a
 after_apart size hs p q pid sid borrowed (Resize d s) a = kept_apart size (owners.Stack sid) (length (pieces (2 * s))) (kept (owners.Data sid) (length (pieces (2 * d))) hs) (kept_apart size (owners.Data sid) (length (pieces (2 * d))) hs a)
 after_apart size hs p q pid sid borrowed (Fork child) a = a
@@ -135,7 +137,8 @@ pub while_of : (n blocks : ℕ) → (b : ℕ) × (text_pieces_while n blocks ≡
 while_of zero blocks = (0, sym (text_pieces_whole 0))
 while_of (suc n) blocks = (blocks, refl)
 
-pub owns_from : (size : ℕ) (lives : ℕ → Bool) (p : Placement) (hs : Holdings) → AreApart size hs → Fits p hs → ((pid : ℕ) → lengths (owners.U pid) hs ≡ u_pieces (u_blocks (lives pid))) → OwnsBlocks size lives p hs
+pub owns_from : (size : ℕ) (lives : ℕ → Bool) (p : Placement) (hs : Holdings) → AreApart size hs → Fits p hs
+    → ((pid : ℕ) → lengths (owners.U pid) hs ≡ u_pieces (u_blocks (lives pid))) → OwnsBlocks size lives p hs
 owns_from size lives p hs a f u = record {
   book = record { pieces = a.pieces; apart = a.apart; owners = of };
   data_held = f.of_data;
@@ -198,7 +201,8 @@ grows_fits p q hs g f = record {
 none_for : (n : ℕ) → n ≡ 0 → [] ≡ pieces (2 * n)
 none_for n e = sym pieces_none ∙ ap (λ (k : ℕ). pieces (2 * k)) (sym e)
 
-pub loses_fits : (sid image : ℕ) (p q : Placement) (hs : Holdings) → Loses sid image p q → FitsBoth p q hs → Fits q (space_given_back hs sid image (sharers q image))
+pub loses_fits : (sid image : ℕ) (p q : Placement) (hs : Holdings) → Loses sid image p q → FitsBoth p q hs
+    → Fits q (space_given_back hs sid image (sharers q image))
 loses_fits sid image p q hs g f = record {
   of_data = λ t. before_text (owners.Data t) refl (sharers q image) ∙ other_left (owners.Stack sid) (owners.Data t) 0 (kept (owners.Data sid) 0 hs) refl ∙ elim (cases_eq t sid) [
     | inl e ↦ subst (λ (x : ℕ). lengths (owners.Data x) (kept (owners.Data sid) 0 hs) ≡ pieces (2 * length (slots_of q (Data x 0)))) (sym e) (own_left (owners.Data sid) hs ∙ none_for (length (slots_of q (Data sid 0))) g.data_gone)
@@ -276,7 +280,8 @@ less_u p hs pid f = record {
 
 -- u pages
 
-pub unless_u : (hs : Holdings) (borrowed : Bool) (sid image left n : ℕ) → lengths (owners.U n) (given_back_unless borrowed hs sid image left) ≡ lengths (owners.U n) hs
+pub unless_u : (hs : Holdings) (borrowed : Bool) (sid image left n : ℕ)
+    → lengths (owners.U n) (given_back_unless borrowed hs sid image left) ≡ lengths (owners.U n) hs
 unless_u hs true sid image left n = refl
 unless_u hs false sid image left n = go left ∙ other_left (owners.Stack sid) (owners.U n) 0 (kept (owners.Data sid) 0 hs) refl ∙ other_left (owners.Data sid) (owners.U n) 0 hs refl
   where

@@ -24,11 +24,13 @@ use Rattle.aout_image.specs.declared.Image.{Image}
 abbrev cut : ℕ → ℕ → SpacePages → SpacePages
 cut d s x = record x { data_pages = sized d x.data_pages; stack_pages = sized s x.stack_pages }
 
-data_now : (d s : ℕ) (o : Option SpacePages) → (length (data_in (mapped (cut d s) o)) ≡ d) ⊎ ((length (data_in (mapped (cut d s) o)) ≡ 0) × (length (data_in o) ≡ 0))
+data_now : (d s : ℕ) (o : Option SpacePages)
+    → (length (data_in (mapped (cut d s) o)) ≡ d) ⊎ ((length (data_in (mapped (cut d s) o)) ≡ 0) × (length (data_in o) ≡ 0))
 data_now d s None = inr (refl, refl)
 data_now d s (Some x) = inl (length_sized d x.data_pages)
 
-stack_now : (d s : ℕ) (o : Option SpacePages) → (length (stack_in (mapped (cut d s) o)) ≡ s) ⊎ ((length (stack_in (mapped (cut d s) o)) ≡ 0) × (length (stack_in o) ≡ 0))
+stack_now : (d s : ℕ) (o : Option SpacePages)
+    → (length (stack_in (mapped (cut d s) o)) ≡ s) ⊎ ((length (stack_in (mapped (cut d s) o)) ≡ 0) × (length (stack_in o) ≡ 0))
 stack_now d s None = inr (refl, refl)
 stack_now d s (Some x) = inl (length_sized s x.stack_pages)
 
@@ -62,7 +64,8 @@ resize_sizes p sid d s = record {
 pub grows_self : (p : Placement) → Grows p p
 grows_self p = record { of_data = λ t. omega arith; of_stack = λ t. omega arith; texts = λ i. refl; sharing = λ i l. l }
 
-pub first_or_none : (t : ℕ) (ss : List SpacePages) (x : SpacePages) → (numbered space_number t (ss ++ x ∷ []) ≡ numbered space_number t ss) ⊎ (numbered space_number t ss ≡ None)
+pub first_or_none : (t : ℕ) (ss : List SpacePages) (x : SpacePages)
+    → (numbered space_number t (ss ++ x ∷ []) ≡ numbered space_number t ss) ⊎ (numbered space_number t ss ≡ None)
 first_or_none t [] x = inr refl
 first_or_none t (s ∷ ss) x = go (space_number s == t) (first_or_none t ss x)
   where
@@ -71,7 +74,8 @@ first_or_none t (s ∷ ss) x = go (space_number s == t) (first_or_none t ss x)
     go true h = inl refl
     go false h = h
 
-grown_size : (size : Option SpacePages → ℕ) (t : ℕ) (ss : List SpacePages) (x : SpacePages) → size None ≡ 0 → size (numbered space_number t ss) ≤ size (numbered space_number t (ss ++ x ∷ []))
+grown_size : (size : Option SpacePages → ℕ) (t : ℕ) (ss : List SpacePages) (x : SpacePages) → size None ≡ 0
+    → size (numbered space_number t ss) ≤ size (numbered space_number t (ss ++ x ∷ []))
 grown_size size t ss x z = elim (first_or_none t ss x) [
   | inl e ↦ (let h = ap size e in omega arith)
   | inr e ↦ (let h = ap size e in omega arith)
@@ -119,7 +123,8 @@ pub gone_stack : (p : Placement) (sid : ℕ) → length (slots_of (give_up p sid
 gone_stack p sid = let d : Placement = drop_all p (pages_of_space p sid) in leave_text_length (remove_space d sid) (image_of p sid) (Stack sid 0) ∙ ap (λ (o : Option SpacePages). length (stack_in o)) (removed_same sid d.spaces)
 
 -- a space of a grown placement goes
-gone_loses : (p q : Placement) (sid image : ℕ) → Grows p q → ((j : ℕ) → j ≢ image → 0 < sharers p j → 0 < sharers (give_up q sid) j) → Loses sid image p (give_up q sid)
+gone_loses : (p q : Placement) (sid image : ℕ) → Grows p q → ((j : ℕ) → j ≢ image → 0 < sharers p j → 0 < sharers (give_up q sid) j)
+    → Loses sid image p (give_up q sid)
 gone_loses p q sid image g h = record {
   data_gone = gone_data q sid;
   stack_gone = gone_stack q sid;
@@ -145,7 +150,8 @@ gone_loses p q sid image g h = record {
     r : Placement
     r = remove_space d sid
 
-given_sharers : (p q : Placement) (sid image : ℕ) → Grows p q → HasImage sid image q.spaces → (j : ℕ) → j ≢ image → 0 < sharers p j → 0 < sharers (give_up q sid) j
+given_sharers : (p q : Placement) (sid image : ℕ) → Grows p q → HasImage sid image q.spaces → (j : ℕ) → j ≢ image → 0 < sharers p j
+    → 0 < sharers (give_up q sid) j
 given_sharers p q sid image g h j n l = let e = give_up_rest q sid j ∙ removed_sharers sid image j q.spaces h n in let k = g.sharing j l in omega arith
 
 pub give_up_loses : (p : Placement) (sid : ℕ) → CanForget p sid → Loses sid (image_of p sid) p (give_up p sid)
@@ -161,7 +167,8 @@ others_rest sid j (s ∷ ss) rs e = go (s.sid == sid) e (others_rest sid j ss rs
     go true k ih = absurd cc
     go false k ih = let h = ih k in omega arith
 
-pub exec_loses : (p : Placement) (next image sid : ℕ) (facts : Option Image) → IsNew p next → CanForget (enter_image p next image facts) sid → Loses sid (image_of p sid) p (give_up (enter_image p next image facts) sid)
+pub exec_loses : (p : Placement) (next image sid : ℕ) (facts : Option Image) → IsNew p next → CanForget (enter_image p next image facts) sid
+    → Loses sid (image_of p sid) p (give_up (enter_image p next image facts) sid)
 exec_loses p next image sid None new c = give_up_loses p sid c
 exec_loses p next image sid (Some facts) new c = gone_loses p q sid (image_of p sid) grows (elim (cases_eq sid next) [
   | inl e ↦ λ j n l.
@@ -183,7 +190,8 @@ exec_loses p next image sid (Some facts) new c = gone_loses p q sid (image_of p 
 
 -- The holdings behind a change are those that the placement behind it asks for.
 
-unless_fits : (borrowed : Bool) (p r : Placement) (sid : ℕ) (hs : Holdings) → (borrowed ≡ true → Grows p (give_up_unless borrowed r sid)) → (borrowed ≡ false → Loses sid (image_of p sid) p (give_up_unless borrowed r sid))
+unless_fits : (borrowed : Bool) (p r : Placement) (sid : ℕ) (hs : Holdings) → (borrowed ≡ true → Grows p (give_up_unless borrowed r sid))
+    → (borrowed ≡ false → Loses sid (image_of p sid) p (give_up_unless borrowed r sid))
     → FitsBoth p (give_up_unless borrowed r sid) hs → Fits (give_up_unless borrowed r sid) (given_back_unless borrowed hs sid (image_of p sid) (sharers (give_up_unless borrowed r sid) (image_of p sid)))
 unless_fits true p r sid hs g l f = grows_fits p r hs (g refl) f
 unless_fits false p r sid hs g l f = loses_fits sid (image_of p sid) p (give_up r sid) hs (l refl) f
@@ -192,16 +200,19 @@ exec_grows : (borrowed : Bool) (p r : Placement) (sid : ℕ) → Grows p r → b
 exec_grows true p r sid g e = g
 exec_grows false p r sid g e = absurd cc
 
-exec_lost : (borrowed : Bool) (p : Placement) (next image sid : ℕ) (facts : Option Image) → IsNew p next → (borrowed ≡ false → CanForget (enter_image p next image facts) sid) → borrowed ≡ false
+exec_lost : (borrowed : Bool) (p : Placement) (next image sid : ℕ) (facts : Option Image) → IsNew p next
+    → (borrowed ≡ false → CanForget (enter_image p next image facts) sid) → borrowed ≡ false
     → Loses sid (image_of p sid) p (give_up_unless borrowed (enter_image p next image facts) sid)
 exec_lost true p next image sid facts new c e = absurd cc
 exec_lost false p next image sid facts new c e = exec_loses p next image sid facts new (c refl)
 
-end_lost : (borrowed : Bool) (p : Placement) (sid : ℕ) → (borrowed ≡ false → CanForget p sid) → borrowed ≡ false → Loses sid (image_of p sid) p (give_up_unless borrowed p sid)
+end_lost : (borrowed : Bool) (p : Placement) (sid : ℕ) → (borrowed ≡ false → CanForget p sid) → borrowed ≡ false
+    → Loses sid (image_of p sid) p (give_up_unless borrowed p sid)
 end_lost true p sid c e = absurd cc
 end_lost false p sid c e = give_up_loses p sid (c refl)
 
-pub change_fits : (images : List Image) (p : Placement) (pid sid : ℕ) (borrowed : Bool) (next at : ℕ) (change : Change) (hs : Holdings) → CanChange p sid borrowed next change → MayForget images p sid borrowed next change
+pub change_fits : (images : List Image) (p : Placement) (pid sid : ℕ) (borrowed : Bool) (next at : ℕ) (change : Change) (hs : Holdings)
+    → CanChange p sid borrowed next change → MayForget images p sid borrowed next change
     → FitsBoth p (place_change images p pid sid borrowed next at change) hs
     → Fits (place_change images p pid sid borrowed next at change) (holdings_after hs p (place_change images p pid sid borrowed next at change) pid sid borrowed change)
 change_fits images p pid sid borrowed next at Keep hs c m f = grows_fits p p hs (grows_self p) f
@@ -228,7 +239,8 @@ pub unless_texts : (borrowed : Bool) (p : Placement) (sid i : ℕ) → length (s
 unless_texts true p sid i = refl
 unless_texts false p sid i = leave_text_length (remove_space (drop_all p (pages_of_space p sid)) sid) (image_of p sid) (Text i 0) ∙ drop_all_length (pages_of_space p sid) p (Text i 0)
 
-enter_texts : (p : Placement) (sid image : ℕ) (facts : Option Image) (i : ℕ) → length (slots_of (enter_image p sid image facts) (Text i 0)) ≡ length (slots_of p (Text i 0))
+enter_texts : (p : Placement) (sid image : ℕ) (facts : Option Image) (i : ℕ)
+    → length (slots_of (enter_image p sid image facts) (Text i 0)) ≡ length (slots_of p (Text i 0))
 enter_texts p sid image None i = refl
 enter_texts p sid image (Some facts) i = refl
 

@@ -33,7 +33,8 @@ apart a b e = grind (arith, nat_tests)
 
 -- One process's part, and the rest.
 
-parts : (p : Placement) (earlier : List ℕ) (pid : ℕ) (a : Starting) (more : List Starting) (owner : Owner) → wanted_lengths owner (start_asks p earlier pid (a ∷ more))
+parts : (p : Placement) (earlier : List ℕ) (pid : ℕ) (a : Starting) (more : List Starting) (owner : Owner)
+    → wanted_lengths owner (start_asks p earlier pid (a ∷ more))
     ≡ wanted_lengths owner (text_asked (times a.image earlier) a.image (2 * length (slots_of p (Text a.image 0))))
     ++ (wanted_lengths owner (wanted (owners.Data pid) (pieces (2 * data_pages_of a.facts))) ++ (wanted_lengths owner (wanted (owners.Stack pid) (pieces 2)) ++ (wanted_lengths owner (wanted (owners.U pid) (u_pieces 2)) ++ wanted_lengths owner (start_asks p (a.image ∷ earlier) (pid + 1) more))))
 parts p earlier pid a more owner =
@@ -54,7 +55,8 @@ put_parts t d s u r a b c e f x y z w v = ap₂ (λ (p q : List ℕ). p ++ q) x 
 
 -- Data, stack and u pages.
 
-data_later : (p : Placement) (earlier : List ℕ) (pid : ℕ) (first : List Starting) (t : ℕ) → t < pid → wanted_lengths (owners.Data t) (start_asks p earlier pid first) ≡ []
+data_later : (p : Placement) (earlier : List ℕ) (pid : ℕ) (first : List Starting) (t : ℕ) → t < pid
+    → wanted_lengths (owners.Data t) (start_asks p earlier pid first) ≡ []
 data_later p earlier pid [] t l = refl
 data_later p earlier pid (a ∷ more) t l = parts p earlier pid a more (owners.Data t)
     ∙ put_parts (wanted_lengths (owners.Data t) (text_asked (times a.image earlier) a.image (2 * length (slots_of p (Text a.image 0))))) (wanted_lengths (owners.Data t) (wanted (owners.Data pid) (pieces (2 * data_pages_of a.facts))))
@@ -62,7 +64,8 @@ data_later p earlier pid (a ∷ more) t l = parts p earlier pid a more (owners.D
     (text_none (times a.image earlier) a.image (2 * length (slots_of p (Text a.image 0))) (owners.Data t) refl) (lengths_other (owners.Data pid) (owners.Data t) (pieces (2 * data_pages_of a.facts)) (ne_eqb pid t (λ e. absurd (omega arith))))
     (lengths_other (owners.Stack pid) (owners.Data t) (pieces 2) refl) (lengths_other (owners.U pid) (owners.Data t) (u_pieces 2) refl) (data_later p (a.image ∷ earlier) (pid + 1) more t (omega arith))
 
-data_asked : (p : Placement) (earlier : List ℕ) (pid : ℕ) (first : List Starting) (t : ℕ) → wanted_lengths (owners.Data t) (start_asks p earlier pid first) ≡ pieces (2 * length (data_in (numbered space_number t (spaces_from pid first))))
+data_asked : (p : Placement) (earlier : List ℕ) (pid : ℕ) (first : List Starting) (t : ℕ)
+    → wanted_lengths (owners.Data t) (start_asks p earlier pid first) ≡ pieces (2 * length (data_in (numbered space_number t (spaces_from pid first))))
 data_asked p earlier pid [] t = sym pieces_none
 data_asked p earlier pid (a ∷ more) t = parts p earlier pid a more (owners.Data t) ∙ go (pid == t) refl (data_asked p (a.image ∷ earlier) (pid + 1) more t)
   where
@@ -83,7 +86,8 @@ data_asked p earlier pid (a ∷ more) t = parts p earlier pid a more (owners.Dat
         (data_later p (a.image ∷ earlier) (pid + 1) more t (let k = eqb-true pid t e in omega arith)) ∙ append-nil own ∙ ap (λ (n : ℕ). pieces (2 * n)) (sym (unfilled_length a.facts 0 (data_pages_of a.facts)))
     go false e ih = with (wanted_lengths (owners.Data t) (wanted (owners.Data pid) own)) rest [] (pieces (2 * length (data_in (numbered space_number t (spaces_from (pid + 1) more))))) (lengths_other (owners.Data pid) (owners.Data t) own e) ih
 
-stack_later : (p : Placement) (earlier : List ℕ) (pid : ℕ) (first : List Starting) (t : ℕ) → t < pid → wanted_lengths (owners.Stack t) (start_asks p earlier pid first) ≡ []
+stack_later : (p : Placement) (earlier : List ℕ) (pid : ℕ) (first : List Starting) (t : ℕ) → t < pid
+    → wanted_lengths (owners.Stack t) (start_asks p earlier pid first) ≡ []
 stack_later p earlier pid [] t l = refl
 stack_later p earlier pid (a ∷ more) t l = parts p earlier pid a more (owners.Stack t)
     ∙ put_parts (wanted_lengths (owners.Stack t) (text_asked (times a.image earlier) a.image (2 * length (slots_of p (Text a.image 0))))) (wanted_lengths (owners.Stack t) (wanted (owners.Data pid) (pieces (2 * data_pages_of a.facts))))
@@ -91,7 +95,8 @@ stack_later p earlier pid (a ∷ more) t l = parts p earlier pid a more (owners.
     (text_none (times a.image earlier) a.image (2 * length (slots_of p (Text a.image 0))) (owners.Stack t) refl) (lengths_other (owners.Data pid) (owners.Stack t) (pieces (2 * data_pages_of a.facts)) refl)
     (lengths_other (owners.Stack pid) (owners.Stack t) (pieces 2) (ne_eqb pid t (λ e. absurd (omega arith)))) (lengths_other (owners.U pid) (owners.Stack t) (u_pieces 2) refl) (stack_later p (a.image ∷ earlier) (pid + 1) more t (omega arith))
 
-stack_asked : (p : Placement) (earlier : List ℕ) (pid : ℕ) (first : List Starting) (t : ℕ) → wanted_lengths (owners.Stack t) (start_asks p earlier pid first) ≡ pieces (2 * length (stack_in (numbered space_number t (spaces_from pid first))))
+stack_asked : (p : Placement) (earlier : List ℕ) (pid : ℕ) (first : List Starting) (t : ℕ)
+    → wanted_lengths (owners.Stack t) (start_asks p earlier pid first) ≡ pieces (2 * length (stack_in (numbered space_number t (spaces_from pid first))))
 stack_asked p earlier pid [] t = sym pieces_none
 stack_asked p earlier pid (a ∷ more) t = parts p earlier pid a more (owners.Stack t) ∙ go (pid == t) refl (stack_asked p (a.image ∷ earlier) (pid + 1) more t)
   where
@@ -112,7 +117,8 @@ stack_asked p earlier pid (a ∷ more) t = parts p earlier pid a more (owners.St
         (stack_later p (a.image ∷ earlier) (pid + 1) more t (let k = eqb-true pid t e in omega arith)) ∙ append-nil own
     go false e ih = with (wanted_lengths (owners.Stack t) (wanted (owners.Stack pid) own)) rest [] (pieces (2 * length (stack_in (numbered space_number t (spaces_from (pid + 1) more))))) (lengths_other (owners.Stack pid) (owners.Stack t) own e) ih
 
-u_later : (p : Placement) (earlier : List ℕ) (pid : ℕ) (first : List Starting) (t : ℕ) → t < pid → wanted_lengths (owners.U t) (start_asks p earlier pid first) ≡ []
+u_later : (p : Placement) (earlier : List ℕ) (pid : ℕ) (first : List Starting) (t : ℕ) → t < pid
+    → wanted_lengths (owners.U t) (start_asks p earlier pid first) ≡ []
 u_later p earlier pid [] t l = refl
 u_later p earlier pid (a ∷ more) t l = parts p earlier pid a more (owners.U t)
     ∙ put_parts (wanted_lengths (owners.U t) (text_asked (times a.image earlier) a.image (2 * length (slots_of p (Text a.image 0))))) (wanted_lengths (owners.U t) (wanted (owners.Data pid) (pieces (2 * data_pages_of a.facts))))
@@ -120,7 +126,8 @@ u_later p earlier pid (a ∷ more) t l = parts p earlier pid a more (owners.U t)
     (text_none (times a.image earlier) a.image (2 * length (slots_of p (Text a.image 0))) (owners.U t) refl) (lengths_other (owners.Data pid) (owners.U t) (pieces (2 * data_pages_of a.facts)) refl)
     (lengths_other (owners.Stack pid) (owners.U t) (pieces 2) refl) (lengths_other (owners.U pid) (owners.U t) (u_pieces 2) (ne_eqb pid t (λ e. absurd (omega arith)))) (u_later p (a.image ∷ earlier) (pid + 1) more t (omega arith))
 
-u_asked : (p : Placement) (earlier : List ℕ) (pid : ℕ) (first : List Starting) (t : ℕ) → wanted_lengths (owners.U t) (start_asks p earlier pid first) ≡ u_pieces (u_blocks (is_started pid first t))
+u_asked : (p : Placement) (earlier : List ℕ) (pid : ℕ) (first : List Starting) (t : ℕ)
+    → wanted_lengths (owners.U t) (start_asks p earlier pid first) ≡ u_pieces (u_blocks (is_started pid first t))
 u_asked p earlier pid [] t = refl
 u_asked p earlier pid (a ∷ more) t = parts p earlier pid a more (owners.U t) ∙ go (pid == t) refl (u_asked p (a.image ∷ earlier) (pid + 1) more t)
   where
@@ -145,7 +152,8 @@ text_shared zero image blocks owner l = absurd (omega arith)
 text_shared (suc n) image blocks owner l = refl
 
 -- the text of an image that started before, or of another one
-text_other : (earlier : List ℕ) (image i blocks : ℕ) → (image ≢ i) ⊎ (0 < times image earlier) → wanted_lengths (owners.Text i) (text_asked (times image earlier) image blocks) ≡ []
+text_other : (earlier : List ℕ) (image i blocks : ℕ) → (image ≢ i) ⊎ (0 < times image earlier)
+    → wanted_lengths (owners.Text i) (text_asked (times image earlier) image blocks) ≡ []
 text_other earlier image i blocks (inl n) = text_none (times image earlier) image blocks (owners.Text i) (ne_eqb image i n)
 text_other earlier image i blocks (inr l) = text_shared (times image earlier) image blocks (owners.Text i) l
 
@@ -158,7 +166,8 @@ counted : (b : Bool) (n : ℕ) → n ≤ cond b 1 0 + n
 counted true n = omega arith
 counted false n = omega arith
 
-text_later : (p : Placement) (earlier : List ℕ) (pid : ℕ) (first : List Starting) (i : ℕ) → 0 < times i earlier → wanted_lengths (owners.Text i) (start_asks p earlier pid first) ≡ []
+text_later : (p : Placement) (earlier : List ℕ) (pid : ℕ) (first : List Starting) (i : ℕ) → 0 < times i earlier
+    → wanted_lengths (owners.Text i) (start_asks p earlier pid first) ≡ []
 text_later p earlier pid [] i l = refl
 text_later p earlier pid (a ∷ more) i l = parts p earlier pid a more (owners.Text i)
     ∙ text_rest p earlier pid a more i (wanted_lengths (owners.Text i) (text_asked (times a.image earlier) a.image (2 * length (slots_of p (Text a.image 0))))) (wanted_lengths (owners.Text i) (start_asks p (a.image ∷ earlier) (pid + 1) more)) [] []
@@ -213,7 +222,8 @@ text_whole (suc n) pages = whole_from (text_pieces (2 * pages)) (λ i m e. piece
 
 -- Where the pieces of the first processes have found their places one after another, frames, blocks and text have their
 -- owners.
-pub start_found : (size : ℕ) (images : List Image) (first : List Starting) (frames : ℕ) (hs : Holdings) → place_all size [] (start_asks (start_placement images first frames) [] 1 first) ≡ Ok hs
+pub start_found : (size : ℕ) (images : List Image) (first : List Starting) (frames : ℕ) (hs : Holdings)
+    → place_all size [] (start_asks (start_placement images first frames) [] 1 first) ≡ Ok hs
     → OneOwner size (is_started 1 first) (start_placement images first frames) hs
 start_found size images first frames hs e = one_owner size (is_started 1 first) p hs (start_owner images first frames)
     (owns_from size (is_started 1 first) p hs

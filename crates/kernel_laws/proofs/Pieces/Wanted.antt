@@ -94,7 +94,8 @@ new_u false false x y = absurd cc
 
 -- Nobody comes to life.
 
-map_back : (f : Proc → Proc) (ps : List Proc) (n : ℕ) → ((q : Proc) → (f q).pid ≡ q.pid) → ((q : Proc) → q.pid ≡ n → has_life (f q).life ≡ true → has_life q.life ≡ true) → lives (map f ps) n ≡ true → lives ps n ≡ true
+map_back : (f : Proc → Proc) (ps : List Proc) (n : ℕ) → ((q : Proc) → (f q).pid ≡ q.pid)
+    → ((q : Proc) → q.pid ≡ n → has_life (f q).life ≡ true → has_life q.life ≡ true) → lives (map f ps) n ≡ true → lives ps n ≡ true
 map_back f [] n k h e = e
 map_back f (q ∷ qs) n k h e = go (q.pid == n) refl (sym (ap (λ (m : ℕ). lives_in (cond (m == n) (Some (f q)) (find n (map f qs)))) (k q)) ∙ e) (map_back f qs n k h)
   where
@@ -178,7 +179,8 @@ IsChild (Fork child) n = n ≡ child
 IsChild (Lend child) n = n ≡ child
 IsChild change n = ⊥
 
-pub after_back : (ps : List Proc) (x : Proc) (next n : ℕ) (change : Change) → lives ps x.pid ≡ true → ((status : ℕ) → change ≡ End status → OneEach ps) → (IsChild change n → ⊥)
+pub after_back : (ps : List Proc) (x : Proc) (next n : ℕ) (change : Change) → lives ps x.pid ≡ true
+    → ((status : ℕ) → change ≡ End status → OneEach ps) → (IsChild change n → ⊥)
     → lives (procs_after ps x next change) n ≡ true → lives ps n ≡ true
 after_back ps x next n Keep a m c e = with_back x ps n a e
 after_back ps x next n (Resize d s) a m c e = with_back x ps n a e
@@ -229,7 +231,8 @@ absent_changed sid t change k (s ∷ ss) e = go (space_number s == t) (space_num
         miss true z = absurd cc
         miss false z = ih z
 
-absent_put : (p : Placement) (v : Page) (s : PageState) (m : Bool) (sid : ℕ) → numbered space_number sid (put p v s m).spaces ≡ None → numbered space_number sid p.spaces ≡ None
+absent_put : (p : Placement) (v : Page) (s : PageState) (m : Bool) (sid : ℕ) → numbered space_number sid (put p v s m).spaces ≡ None
+    → numbered space_number sid p.spaces ≡ None
 absent_put p (Data t v) s m sid e = absent_changed sid t (with_data v s m) (λ x. refl) p.spaces e
 absent_put p (Stack t v) s m sid e = absent_changed sid t (with_stack v s m) (λ x. refl) p.spaces e
 absent_put p (Text t v) s m sid e = e
@@ -241,7 +244,8 @@ absent_drop p v sid = go (frame_of (state_of p v))
     go None e = absent_put p v Unfilled false sid e
     go (Some f) e = absent_put p v Unfilled false sid e
 
-absent_drop_all : (qs : List Page) (p : Placement) (sid : ℕ) → numbered space_number sid (drop_all p qs).spaces ≡ None → numbered space_number sid p.spaces ≡ None
+absent_drop_all : (qs : List Page) (p : Placement) (sid : ℕ) → numbered space_number sid (drop_all p qs).spaces ≡ None
+    → numbered space_number sid p.spaces ≡ None
 absent_drop_all [] p sid e = e
 absent_drop_all (v ∷ qs) p sid e = absent_drop p v sid (absent_drop_all qs (drop_page p v) sid e)
 
@@ -294,7 +298,8 @@ nothing_asked k next a l (owners.U n) = none_u (lives k.processes n) (lives next
 nothing_asked k next a l (owners.Text i) = none_text (sharers k.place i) (sharers next.place i) (2 * length (slots_of k.place (Text i 0))) (2 * length (slots_of next.place (Text i 0))) (a.sharing i) (ap (λ (n : ℕ). 2 * n) (a.texts i))
 
 -- Growth and break.
-resize_asks : (k next : Kernel) (sid d s : ℕ) → HasSpace k.place sid → next.place ≡ resize k.place sid d s → Living k next → AsksFor k next (change_asks [] k.place sid 0 (Resize d s))
+resize_asks : (k next : Kernel) (sid d s : ℕ) → HasSpace k.place sid → next.place ≡ resize k.place sid d s → Living k next
+    → AsksFor k next (change_asks [] k.place sid 0 (Resize d s))
 resize_asks k next sid d s h e l = by
   where
     p : Placement
@@ -336,17 +341,20 @@ resize_asks k next sid d s h e l = by
 
 -- A child's pages.
 
-sharers_added : (p : Placement) (x : SpacePages) (due : List Due) (i : ℕ) → (x.image ≡ i → 0 < sharers p i) → 0 < sharers (record p { spaces = p.spaces ++ x ∷ []; due = due }) i → 0 < sharers p i
+sharers_added : (p : Placement) (x : SpacePages) (due : List Due) (i : ℕ) → (x.image ≡ i → 0 < sharers p i)
+    → 0 < sharers (record p { spaces = p.spaces ++ x ∷ []; due = due }) i → 0 < sharers p i
 sharers_added p x due i h l = go (x.image == i) refl (let e = sharers-append i p.spaces (x ∷ []) in omega arith)
   where
     go : (b : Bool) → (x.image == i) ≡ b → 0 < sharers p i + (cond b 1 0 + 0) → 0 < sharers p i
     go true e m = h (eqb-true x.image i e)
     go false e m = omega arith
 
-none_count : (size : Option SpacePages → ℕ) (sid : ℕ) (ss : List SpacePages) → size None ≡ 0 → numbered space_number sid ss ≡ None → size (numbered space_number sid ss) ≡ 0
+none_count : (size : Option SpacePages → ℕ) (sid : ℕ) (ss : List SpacePages) → size None ≡ 0 → numbered space_number sid ss ≡ None
+    → size (numbered space_number sid ss) ≡ 0
 none_count size sid ss z e = ap size e ∙ z
 
-fork_asks : (k next : Kernel) (sid child_sid child : ℕ) → IsNew k.place child_sid → HasSpace k.place sid → next.place.spaces ≡ (fork_space k.place sid child_sid).spaces → next.place.texts ≡ k.place.texts
+fork_asks : (k next : Kernel) (sid child_sid child : ℕ) → IsNew k.place child_sid → HasSpace k.place sid
+    → next.place.spaces ≡ (fork_space k.place sid child_sid).spaces → next.place.texts ≡ k.place.texts
     → lives k.processes child ≡ false → lives next.processes child ≡ true → ((n : ℕ) → n ≢ child → lives next.processes n ≡ true → lives k.processes n ≡ true)
     → AsksFor k next (change_asks [] k.place sid child_sid (Fork child))
 fork_asks k next sid child_sid child new h e t dead live l = by
@@ -433,7 +441,8 @@ fork_asks k next sid child_sid child new h e t dead live l = by
     by (owners.Text i) = none_in (owners.Text i) refl refl refl ∙ none_text (sharers p i) (sharers next.place i) (2 * length (slots_of p (Text i 0))) (2 * length (slots_of next.place (Text i 0))) (shared i) (ap (λ (n : ℕ). 2 * n) (texts i))
 
 -- vfork wants the child's u page alone.
-lend_asks : (k next : Kernel) (sid next_sid child : ℕ) → AtMost k.place next.place → lives k.processes child ≡ false → lives next.processes child ≡ true → ((n : ℕ) → n ≢ child → lives next.processes n ≡ true → lives k.processes n ≡ true)
+lend_asks : (k next : Kernel) (sid next_sid child : ℕ) → AtMost k.place next.place → lives k.processes child ≡ false
+    → lives next.processes child ≡ true → ((n : ℕ) → n ≢ child → lives next.processes n ≡ true → lives k.processes n ≡ true)
     → AsksFor k next (change_asks [] k.place sid next_sid (Lend child))
 lend_asks k next sid next_sid child a dead live l (owners.Data t) = lengths_other (owners.U child) (owners.Data t) (u_pieces 2) refl ∙ none_further (data_count k.place t) (data_count next.place t) (a.of_data t)
 lend_asks k next sid next_sid child a dead live l (owners.Stack t) = lengths_other (owners.U child) (owners.Stack t) (u_pieces 2) refl ∙ none_further (stack_count k.place t) (stack_count next.place t) (a.of_stack t)
@@ -465,7 +474,8 @@ unless_data_same : (borrowed : Bool) (r : Placement) (sid t : ℕ) → (borrowed
 unless_data_same true r sid t n = refl
 unless_data_same false r sid t n = give_up_length r sid (Data t 0) tt (n refl)
 
-unless_stack_same : (borrowed : Bool) (r : Placement) (sid t : ℕ) → (borrowed ≡ false → t ≢ sid) → stack_count (give_up_unless borrowed r sid) t ≡ stack_count r t
+unless_stack_same : (borrowed : Bool) (r : Placement) (sid t : ℕ) → (borrowed ≡ false → t ≢ sid)
+    → stack_count (give_up_unless borrowed r sid) t ≡ stack_count r t
 unless_stack_same true r sid t n = refl
 unless_stack_same false r sid t n = give_up_length r sid (Stack t 0) tt (n refl)
 
@@ -498,7 +508,8 @@ last_stays sid (s ∷ ss) x n = go (s.sid == sid) (last_stays sid ss x n)
     go true l = l
     go false l = omega arith
 
-entered_shared : (borrowed : Bool) (p : Placement) (x : SpacePages) (due : List Due) (sid : ℕ) → (borrowed ≡ false → x.sid ≢ sid) → 0 < sharers (give_up_unless borrowed (record p { spaces = p.spaces ++ x ∷ []; due = due }) sid) x.image
+entered_shared : (borrowed : Bool) (p : Placement) (x : SpacePages) (due : List Due) (sid : ℕ) → (borrowed ≡ false → x.sid ≢ sid)
+    → 0 < sharers (give_up_unless borrowed (record p { spaces = p.spaces ++ x ∷ []; due = due }) sid) x.image
 entered_shared true p x due sid n = let e = sharers-append x.image p.spaces (x ∷ []) in counted (x.image == x.image) (sharers p x.image) (eq-eqb x.image x.image refl) e
   where
     counted : (b : Bool) (m : ℕ) → b ≡ true → sharers_in x.image (p.spaces ++ x ∷ []) ≡ m + (cond b 1 0 + 0) → 0 < sharers_in x.image (p.spaces ++ x ∷ [])
@@ -510,12 +521,14 @@ pub text_none : (n image blocks : ℕ) (owner : Owner) → same_owner (owners.Te
 text_none zero image blocks owner d = lengths_other (owners.Text image) owner (text_pieces blocks) d
 text_none (suc n) image blocks owner d = refl
 
-text_own : (n b image blocks m : ℕ) → 0 < b → m ≡ blocks → wanted_lengths (owners.Text image) (text_asked n image blocks) ≡ drop (length (text_pieces_while n blocks)) (text_pieces_while b m)
+text_own : (n b image blocks m : ℕ) → 0 < b → m ≡ blocks
+    → wanted_lengths (owners.Text image) (text_asked n image blocks) ≡ drop (length (text_pieces_while n blocks)) (text_pieces_while b m)
 text_own zero zero image blocks m l e = absurd (omega arith)
 text_own zero (suc b) image blocks m l e = lengths_own (owners.Text image) (text_pieces blocks) ∙ ap text_pieces (sym e) ∙ sym (whole (text_pieces m))
 text_own (suc n) b image blocks m l e = none_text (suc n) b blocks m (λ h. omega arith) e
 
-pub exec_asks : (k next : Kernel) (image ns sid : ℕ) (borrowed : Bool) (facts : Image) → IsNew k.place ns → (borrowed ≡ false → ns ≢ sid) → next.place ≡ give_up_unless borrowed (enter_space k.place ns image facts) sid
+pub exec_asks : (k next : Kernel) (image ns sid : ℕ) (borrowed : Bool) (facts : Image) → IsNew k.place ns → (borrowed ≡ false → ns ≢ sid)
+    → next.place ≡ give_up_unless borrowed (enter_space k.place ns image facts) sid
     → ((i : ℕ) → length (slots_of next.place (Text i 0)) ≡ length (slots_of k.place (Text i 0))) → Living k next → AsksFor k next (image_asked k.place ns image (Some facts))
 exec_asks k next image ns sid borrowed facts new apart e texts l = by
   where
@@ -614,7 +627,8 @@ exec_asks k next image ns sid borrowed facts new apart e texts l = by
 most_self : (p : Placement) → AtMost p p
 most_self p = record { of_data = λ t. omega arith; of_stack = λ t. omega arith; texts = λ i. refl; sharing = λ i l. l }
 
-change_asked : (images : List Image) (k : Kernel) (x : Proc) (e : Entry) (change : Change) → lives k.processes x.pid ≡ true → CanChange k.place (space_of_life x.life) (gave_back x.life) k.next_sid change
+change_asked : (images : List Image) (k : Kernel) (x : Proc) (e : Entry) (change : Change) → lives k.processes x.pid ≡ true
+    → CanChange k.place (space_of_life x.life) (gave_back x.life) k.next_sid change
     → MayAsk k.place k.processes (space_of_life x.life) (gave_back x.life) k.next_sid change → AsksFor k (change_by images k x e change) (change_asks images k.place (space_of_life x.life) k.next_sid change)
 change_asked images k x e change a c m = go change c m
   where
@@ -674,7 +688,8 @@ change_asked images k x e change a c m = go change c m
     go (End status) c m = nothing_asked k (change_by images k x e (End status)) (record { of_data = unless_most.of_data; of_stack = unless_most.of_stack; texts = unless_most.texts; sharing = unless_most.sharing }) (living (End status) m (λ n h. h))
 
 -- The pieces that are asked for are those that a change takes.
-pub asked_for : (images : List Image) (k : Kernel) (pid : ℕ) (regs : Regs) (e : Entry) (change : Change) → MayChange images k pid change → WantsThese k pid change
+pub asked_for : (images : List Image) (k : Kernel) (pid : ℕ) (regs : Regs) (e : Entry) (change : Change) → MayChange images k pid change
+    → WantsThese k pid change
     → AsksFor k (change_step images k pid regs e change) (asked images k pid change)
 asked_for images k pid regs e change c w = go (find pid k.processes) refl c.can w.may
   where

@@ -77,7 +77,8 @@ one_more sid (s ∷ ss) d n = go (s.sid == sid) refl n (one_more sid ss d.1)
     go false e k ih = later (s.image == image_in (numbered space_number sid ss)) (sharers_in (image_in (numbered space_number sid ss)) ss) (sharers_in (image_in (numbered space_number sid ss)) (rest_of sid ss)) (ih k)
 
 -- a settled space has its text at rest where it is the last sharer
-settled_text : (p : Placement) (sid : ℕ) → OwnsFrames p → AllDistinct (map space_number p.spaces) → HasSpace p sid → is_settled p sid ≡ true → sharers_in (image_of p sid) (rest_of sid p.spaces) ≡ 0
+settled_text : (p : Placement) (sid : ℕ) → OwnsFrames p → AllDistinct (map space_number p.spaces) → HasSpace p sid → is_settled p sid ≡ true
+    → sharers_in (image_of p sid) (rest_of sid p.spaces) ≡ 0
     → (v : ℕ) → AtRest (state_of p (Text (image_of p sid) v))
 settled_text p sid o d h e z v = unnamed_rests p (is_of_text (image_of p sid)) (Text (image_of p sid) v) o (eq-eqb (image_of p sid) (image_of p sid) refl) unnamed
   where
@@ -133,7 +134,8 @@ new_number k n = absent_none space_number k.next_sid k.place.spaces (below_absen
 next_apart : (k : Kernel) (sid : ℕ) → Numbered k → HasSpace k.place sid → k.next_sid ≢ sid
 next_apart k sid n h e = h (subst (IsNew k.place) e (new_number k n))
 
-can_by : (k : Kernel) (sid : ℕ) (borrowed : Bool) (change : Change) → OwnsFrames k.place → Numbered k → ReadySpace k.place sid borrowed change → CanChange k.place sid borrowed k.next_sid change
+can_by : (k : Kernel) (sid : ℕ) (borrowed : Bool) (change : Change) → OwnsFrames k.place → Numbered k → ReadySpace k.place sid borrowed change
+    → CanChange k.place sid borrowed k.next_sid change
 can_by k sid borrowed Keep o n r = tt
 can_by k sid borrowed (Resize d s) o n r = λ l. settled_rests k.place sid o (r.1 l)
 can_by k sid borrowed (Fork child) o n r = new_number k n
@@ -143,7 +145,8 @@ can_by k sid borrowed (Reap child) o n r = tt
 can_by k sid borrowed Sleep o n r = tt
 can_by k sid borrowed (End status) o n r = λ e. settled_rests k.place sid o (r e).1
 
-forget_by : (images : List Image) (k : Kernel) (sid : ℕ) (borrowed : Bool) (change : Change) → OwnsFrames k.place → Numbered k → ReadySpace k.place sid borrowed change → MayForget images k.place sid borrowed k.next_sid change
+forget_by : (images : List Image) (k : Kernel) (sid : ℕ) (borrowed : Bool) (change : Change) → OwnsFrames k.place → Numbered k
+    → ReadySpace k.place sid borrowed change → MayForget images k.place sid borrowed k.next_sid change
 forget_by images k sid borrowed Keep o n r = tt
 forget_by images k sid borrowed (Resize d s) o n r = tt
 forget_by images k sid borrowed (Fork child) o n r = tt
@@ -158,7 +161,8 @@ forget_by images k sid borrowed (End status) o n r = λ e. forgets k.place sid o
 unused : (k : Kernel) (child : ℕ) → Numbered k → child ≡ k.next_pid → IsUnused k.processes child
 unused k child n e = subst (IsUnused k.processes) (sym e) (absent_none (λ (p : Proc). p.pid) k.next_pid k.processes (below_absent k.next_pid (map (λ (p : Proc). p.pid) k.processes) n.pids_below))
 
-ask_by : (k : Kernel) (sid : ℕ) (borrowed : Bool) (change : Change) → Numbered k → TakesNext k change → ReadySpace k.place sid borrowed change → MayAsk k.place k.processes sid borrowed k.next_sid change
+ask_by : (k : Kernel) (sid : ℕ) (borrowed : Bool) (change : Change) → Numbered k → TakesNext k change → ReadySpace k.place sid borrowed change
+    → MayAsk k.place k.processes sid borrowed k.next_sid change
 ask_by k sid borrowed Keep n t r = tt
 ask_by k sid borrowed (Resize d s) n t r = r.0
 ask_by k sid borrowed (Fork child) n t r = (r, unused k child n t)
@@ -168,7 +172,8 @@ ask_by k sid borrowed (Reap child) n t r = tt
 ask_by k sid borrowed Sleep n t r = tt
 ask_by k sid borrowed (End status) n t r = one_each k.processes n.pids_differ
 
-pub may_change : (images : List Image) (k : Kernel) (pid : ℕ) (change : Change) → OwnsFrames k.place → Numbered k → ReadyFor k pid change → MayChange images k pid change
+pub may_change : (images : List Image) (k : Kernel) (pid : ℕ) (change : Change) → OwnsFrames k.place → Numbered k → ReadyFor k pid change
+    → MayChange images k pid change
 may_change images k pid change o n r =
     let life = life_of_proc (numbered (λ (p : Proc). p.pid) pid k.processes) in
     record { can = can_by k (space_of_life life) (gave_back life) change o n r.space; forgets = forget_by images k (space_of_life life) (gave_back life) change o n r.space; reaps = r.reaps }

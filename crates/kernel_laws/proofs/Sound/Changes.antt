@@ -43,7 +43,8 @@ abbrev pub find : ℕ → List Proc → Option Proc
 find n ps = numbered (λ (x : Proc). x.pid) n ps
 
 -- a map that keeps numbers, and under this number lives
-pub map_alive : (f : Proc → Proc) (ps : List Proc) (n : ℕ) → ((q : Proc) → (f q).pid ≡ q.pid) → ((q : Proc) → q.pid ≡ n → has_life q.life ≡ true → has_life (f q).life ≡ true) → lives ps n ≡ true → lives (map f ps) n ≡ true
+pub map_alive : (f : Proc → Proc) (ps : List Proc) (n : ℕ) → ((q : Proc) → (f q).pid ≡ q.pid)
+    → ((q : Proc) → q.pid ≡ n → has_life q.life ≡ true → has_life (f q).life ≡ true) → lives ps n ≡ true → lives (map f ps) n ≡ true
 map_alive f [] n k h e = e
 map_alive f (q ∷ qs) n k h e = go (q.pid == n) refl e (map_alive f qs n k h)
   where
@@ -51,7 +52,8 @@ map_alive f (q ∷ qs) n k h e = go (q.pid == n) refl e (map_alive f qs n k h)
     go true x l ih = ap (λ (b : Bool). lives_in (cond b (Some (f q)) (find n (map f qs)))) (ap (λ (m : ℕ). m == n) (k q) ∙ x) ∙ h q (eqb-true q.pid n x) l
     go false x l ih = ap (λ (b : Bool). lives_in (cond b (Some (f q)) (find n (map f qs)))) (ap (λ (m : ℕ). m == n) (k q) ∙ x) ∙ ih l
 
-map_dead : (f : Proc → Proc) (ps : List Proc) (n : ℕ) → ((q : Proc) → (f q).pid ≡ q.pid) → ((q : Proc) → q.pid ≡ n → has_life (f q).life ≡ false) → lives (map f ps) n ≡ false
+map_dead : (f : Proc → Proc) (ps : List Proc) (n : ℕ) → ((q : Proc) → (f q).pid ≡ q.pid) → ((q : Proc) → q.pid ≡ n → has_life (f q).life ≡ false)
+    → lives (map f ps) n ≡ false
 map_dead f [] n k h = refl
 map_dead f (q ∷ qs) n k h = go (q.pid == n) refl (map_dead f qs n k h)
   where
@@ -59,7 +61,8 @@ map_dead f (q ∷ qs) n k h = go (q.pid == n) refl (map_dead f qs n k h)
     go true x ih = ap (λ (b : Bool). lives_in (cond b (Some (f q)) (find n (map f qs)))) (ap (λ (m : ℕ). m == n) (k q) ∙ x) ∙ h q (eqb-true q.pid n x)
     go false x ih = ap (λ (b : Bool). lives_in (cond b (Some (f q)) (find n (map f qs)))) (ap (λ (m : ℕ). m == n) (k q) ∙ x) ∙ ih
 
-pub map_lives : (f : Proc → Proc) (ps : List Proc) (n : ℕ) → ((q : Proc) → (f q).pid ≡ q.pid) → ((q : Proc) → has_life (f q).life ≡ has_life q.life) → lives (map f ps) n ≡ lives ps n
+pub map_lives : (f : Proc → Proc) (ps : List Proc) (n : ℕ) → ((q : Proc) → (f q).pid ≡ q.pid) → ((q : Proc) → has_life (f q).life ≡ has_life q.life)
+    → lives (map f ps) n ≡ lives ps n
 map_lives f [] n k h = refl
 map_lives f (q ∷ qs) n k h = ap (λ (m : ℕ). lives_in (cond (m == n) (Some (f q)) (find n (map f qs)))) (k q) ∙ go (q.pid == n) (map_lives f qs n k h)
   where
@@ -67,7 +70,8 @@ map_lives f (q ∷ qs) n k h = ap (λ (m : ℕ). lives_in (cond (m == n) (Some (
     go true ih = h q
     go false ih = ih
 
-pub filter_alive : (test : Proc → Bool) (ps : List Proc) (n : ℕ) → ((q : Proc) → q.pid ≡ n → has_life q.life ≡ true → test q ≡ true) → lives ps n ≡ true → lives (filter test ps) n ≡ true
+pub filter_alive : (test : Proc → Bool) (ps : List Proc) (n : ℕ) → ((q : Proc) → q.pid ≡ n → has_life q.life ≡ true → test q ≡ true)
+    → lives ps n ≡ true → lives (filter test ps) n ≡ true
 filter_alive test [] n h e = e
 filter_alive test (q ∷ qs) n h e = go (test q) (q.pid == n) refl refl e (filter_alive test qs n h)
   where
@@ -146,7 +150,8 @@ Lasts p change n = Unit {0}
 reaped_apart : (ps : List Proc) (child n : ℕ) → lives ps child ≡ false → lives ps n ≡ true → n ≢ child
 reaped_apart ps child n d e k = absurd (let z : true ≡ false = sym e ∙ ap (lives ps) k ∙ d in cc)
 
-pub after_alive : (ps : List Proc) (p : Proc) (next n : ℕ) (change : Change) → (p.pid ≡ n → has_life p.life ≡ true) → MayReap ps change → Lasts p change n → lives ps n ≡ true → lives (procs_after ps p next change) n ≡ true
+pub after_alive : (ps : List Proc) (p : Proc) (next n : ℕ) (change : Change) → (p.pid ≡ n → has_life p.life ≡ true) → MayReap ps change
+    → Lasts p change n → lives ps n ≡ true → lives (procs_after ps p next change) n ≡ true
 after_alive ps p next n Keep h r l e = with_alive p ps n h e
 after_alive ps p next n (Resize d s) h r l e = with_alive p ps n h e
 after_alive ps p next n (Fork child) h r l e = append_alive (with_proc ps p) (child_proc p child (HoldsSpace next) ∷ []) n (with_alive p ps n h e)
@@ -158,11 +163,13 @@ after_alive ps p next n (End status) h r l e = left_alive (p.parent == 0) (orpha
 
 -- u pages
 
-u_kept : (ps : List Proc) (p : Proc) (next : ℕ) (hs : Holdings) (change : Change) (n : ℕ) → (p.pid ≡ n → lives ps n ≡ true → has_life p.life ≡ true) → MayReap ps change → Lasts p change n
+u_kept : (ps : List Proc) (p : Proc) (next : ℕ) (hs : Holdings) (change : Change) (n : ℕ) → (p.pid ≡ n → lives ps n ≡ true → has_life p.life ≡ true)
+    → MayReap ps change → Lasts p change n
     → lengths (owners.U n) hs ≡ u_pieces (u_blocks (lives ps n || lives (procs_after ps p next change) n)) → lengths (owners.U n) hs ≡ u_pieces (u_blocks (lives (procs_after ps p next change) n))
 u_kept ps p next hs change n h r l e = e ∙ u_some (lives ps n) (lives (procs_after ps p next change) n) (λ a. after_alive ps p next n change (λ k. h k a) r l a)
 
-u_after : (ps : List Proc) (x : Proc) (next : ℕ) (hs : Holdings) (p q : Placement) (sid : ℕ) (borrowed : Bool) (change : Change) → ((n : ℕ) → x.pid ≡ n → lives ps n ≡ true → has_life x.life ≡ true) → MayReap ps change
+u_after : (ps : List Proc) (x : Proc) (next : ℕ) (hs : Holdings) (p q : Placement) (sid : ℕ) (borrowed : Bool) (change : Change)
+    → ((n : ℕ) → x.pid ≡ n → lives ps n ≡ true → has_life x.life ≡ true) → MayReap ps change
     → ((n : ℕ) → lengths (owners.U n) hs ≡ u_pieces (u_blocks (lives ps n || lives (procs_after ps x next change) n)))
     → (n : ℕ) → lengths (owners.U n) (holdings_after hs p q x.pid sid borrowed change) ≡ u_pieces (u_blocks (lives (procs_after ps x next change) n))
 u_after ps x next hs p q sid borrowed Keep h r u n = u_kept ps x next hs Keep n (h n) r tt (u n)
@@ -250,7 +257,8 @@ enter_unhanded : (p : Placement) (sid image : ℕ) (facts : Option Image) → Un
 enter_unhanded p sid image None = unhanded_self p
 enter_unhanded p sid image (Some facts) = record { hands = record { front = refl; back = refl; frames = refl }; transfers = refl }
 
-pub change_unhanded : (images : List Image) (p : Placement) (pid sid : ℕ) (borrowed : Bool) (next at : ℕ) (change : Change) → Unhanded p (place_change images p pid sid borrowed next at change)
+pub change_unhanded : (images : List Image) (p : Placement) (pid sid : ℕ) (borrowed : Bool) (next at : ℕ) (change : Change)
+    → Unhanded p (place_change images p pid sid borrowed next at change)
 change_unhanded images p pid sid borrowed next at Keep = unhanded_self p
 change_unhanded images p pid sid borrowed next at (Resize d s) = resize_unhanded p sid d s
 change_unhanded images p pid sid borrowed next at (Fork child) = record { hands = record { front = refl; back = refl; frames = refl }; transfers = refl }
@@ -272,17 +280,20 @@ pub record HasTaken (size : ℕ) (k next : Kernel) : Type 0 where
   pub taken : (owner : Owner) → lengths owner k.holdings ≡ needed k owner ++ drop (length (needed k owner)) (needed next owner)
 
 -- the holdings have what either machine needs
-pub taken_fits : (size : ℕ) (k next : Kernel) → HasTaken size k next → ((i : ℕ) → length (slots_of next.place (Text i 0)) ≡ length (slots_of k.place (Text i 0))) → FitsBoth k.place next.place k.holdings
+pub taken_fits : (size : ℕ) (k next : Kernel) → HasTaken size k next
+    → ((i : ℕ) → length (slots_of next.place (Text i 0)) ≡ length (slots_of k.place (Text i 0))) → FitsBoth k.place next.place k.holdings
 taken_fits size k next t e = record {
   of_data = λ sid. t.taken (owners.Data sid) ∙ both_pieces (data_count k.place sid) (data_count next.place sid);
   of_stack = λ sid. t.taken (owners.Stack sid) ∙ both_pieces (stack_count k.place sid) (stack_count next.place sid);
   of_text = λ i. t.taken (owners.Text i) ∙ both_while (sharers k.place i) (sharers next.place i) (2 * length (slots_of k.place (Text i 0))) (2 * length (slots_of next.place (Text i 0))) (ap (λ (n : ℕ). 2 * n) (e i));
 }
 
-pub taken_u : (size : ℕ) (k next : Kernel) (n : ℕ) → HasTaken size k next → lengths (owners.U n) k.holdings ≡ u_pieces (u_blocks (lives k.processes n || lives next.processes n))
+pub taken_u : (size : ℕ) (k next : Kernel) (n : ℕ) → HasTaken size k next
+    → lengths (owners.U n) k.holdings ≡ u_pieces (u_blocks (lives k.processes n || lives next.processes n))
 taken_u size k next n t = t.taken (owners.U n) ∙ both_u (lives k.processes n) (lives next.processes n)
 
-change_sound : (size : ℕ) (images : List Image) (k : Kernel) (before : Holdings) (x : Proc) (e : Entry) (change : Change) → ((n : ℕ) → x.pid ≡ n → lives k.processes n ≡ true → has_life x.life ≡ true)
+change_sound : (size : ℕ) (images : List Image) (k : Kernel) (before : Holdings) (x : Proc) (e : Entry) (change : Change)
+    → ((n : ℕ) → x.pid ≡ n → lives k.processes n ≡ true → has_life x.life ≡ true)
     → Sound size (record k { holdings = before }) → HasTaken size k (change_by images k x e change)
     → CanChange k.place (space_of_life x.life) (gave_back x.life) k.next_sid change → MayForget images k.place (space_of_life x.life) (gave_back x.life) k.next_sid change → MayReap k.processes change
     → Sound size (change_by images k x e change)

@@ -40,7 +40,8 @@ use Rattle.kernel_laws.proofs.Sound.Residing.{begun, resides, each_resides, entr
 abbrev pub SameSpaces : Placement → Placement → Type 0
 SameSpaces p q = map space_number q.spaces ≡ map space_number p.spaces
 
-changed_numbers : (n : ℕ) (change : SpacePages → SpacePages) → ((s : SpacePages) → space_number (change s) ≡ space_number s) → (ss : List SpacePages) → map space_number (changed space_number n change ss) ≡ map space_number ss
+changed_numbers : (n : ℕ) (change : SpacePages → SpacePages) → ((s : SpacePages) → space_number (change s) ≡ space_number s) → (ss : List SpacePages)
+    → map space_number (changed space_number n change ss) ≡ map space_number ss
 changed_numbers n change k [] = refl
 changed_numbers n change k (s ∷ ss) = go (space_number s == n) (changed_numbers n change k ss)
   where
@@ -218,7 +219,8 @@ plain_numbered k locked e n =
     (each_resides k (plain_step k locked e) (λ m a. a) (entry_resides locked at k.place e) n.residents)
 
 -- of steps that change no process, and leave the residents of an entry
-paged_numbered : (k l : Kernel) (e : Entry) → l.next_sid ≡ k.next_sid → l.next_pid ≡ k.next_pid → l.processes ≡ k.processes → l.place ≡ place_entry [] 0 k.place e → Numbered k → Numbered l
+paged_numbered : (k l : Kernel) (e : Entry) → l.next_sid ≡ k.next_sid → l.next_pid ≡ k.next_pid → l.processes ≡ k.processes
+    → l.place ≡ place_entry [] 0 k.place e → Numbered k → Numbered l
 paged_numbered k l e s p ps is n = numbered_from l
     (subst (λ (m : ℕ). FineSpaces m l.place) (sym s) (subst (FineSpaces k.next_sid) (sym is) (same_fine k.next_sid k.place (place_entry [] 0 k.place e) (entry_numbers [] 0 k.place e) (fine_spaces k n))))
     (subst (λ (m : ℕ). Fine m (pids l.processes)) (sym p) (subst (λ (xs : List Proc). Fine k.next_pid (pids xs)) (sym ps) (fine_pids k n)))
@@ -263,7 +265,8 @@ pub ran_numbered : (k : Kernel) (pid : ℕ) (regs : Regs) (e : Entry) → Number
 ran_numbered k pid regs e n = regs_numbered (note_step k e) pid regs (note_numbered k e n)
 
 -- a first process begins
-pub begin_numbered : (k : Kernel) (found : Holdings) (image : ℕ) (name : List ℕ) (facts : Image) → k.next_sid ≡ k.next_pid → Numbered k → Numbered (begin_step k found image name facts)
+pub begin_numbered : (k : Kernel) (found : Holdings) (image : ℕ) (name : List ℕ) (facts : Image) → k.next_sid ≡ k.next_pid → Numbered k
+    → Numbered (begin_step k found image name facts)
 begin_numbered k found image name facts e n =
     let l : Kernel = begin_step k found image name facts in
     let c : Proc = record { pid = k.next_pid; parent = 0; regs = start_regs facts.entry (name ∷ []); life = HoldsSpace k.next_pid; asleep = false } in
@@ -280,7 +283,8 @@ pass_numbered k from to a b n =
     numbered_from (pass_step k from to) (fine_spaces k n) (map_fine k.next_pid (λ (q : Proc). record q { life = passed_life sid from to receiver q }) k.processes (λ q. refl) (fine_pids k n))
     (each_resides k (pass_step k from to) (λ m l. sym (pass_lives k from to a b m) ∙ l) (λ m h. h) n.residents)
 
-pub flat_numbered : (images : List Image) (k : Kernel) (pid : ℕ) (regs : Regs) (e : Entry) (change : Change) → TakesNext k change → lives k.processes pid ≡ true → Numbered k → Numbered (change_step images k pid regs e change)
+pub flat_numbered : (images : List Image) (k : Kernel) (pid : ℕ) (regs : Regs) (e : Entry) (change : Change) → TakesNext k change
+    → lives k.processes pid ≡ true → Numbered k → Numbered (change_step images k pid regs e change)
 flat_numbered images k pid regs e change t a n = go (find pid k.processes) refl
   where
     go : (o : Option Proc) → find pid k.processes ≡ o → Numbered (change_if images k regs e change o)

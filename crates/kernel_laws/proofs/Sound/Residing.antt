@@ -38,12 +38,14 @@ pub resides : (rs us : List Residence) (n : ℕ) → us ≡ rs → (numbered her
 resides rs us n e h = λ z. h (ap (numbered here n) (sym e) ∙ z)
 
 -- who lives behind a step lived before it, and each resident is one still
-pub each_resides : (k l : Kernel) → ((n : ℕ) → lives l.processes n ≡ true → lives k.processes n ≡ true) → ((n : ℕ) → IsResident k.place n → IsResident l.place n) → EachResides k → EachResides l
+pub each_resides : (k l : Kernel) → ((n : ℕ) → lives l.processes n ≡ true → lives k.processes n ≡ true)
+    → ((n : ℕ) → IsResident k.place n → IsResident l.place n) → EachResides k → EachResides l
 each_resides k l back still r = λ n a. still n (r n (back n a))
 
 -- Entries.
 
-moved_none : (pid n : ℕ) (out : Bool) (at : ℕ) (rs : List Residence) → numbered here n (changed here pid (λ (r : Residence). record r { out = out; since = at }) rs) ≡ None → numbered here n rs ≡ None
+moved_none : (pid n : ℕ) (out : Bool) (at : ℕ) (rs : List Residence)
+    → numbered here n (changed here pid (λ (r : Residence). record r { out = out; since = at }) rs) ≡ None → numbered here n rs ≡ None
 moved_none pid n out at [] e = refl
 moved_none pid n out at (r ∷ rs) e = go (r.pid == pid) (r.pid == n) refl e (moved_none pid n out at rs)
   where
@@ -101,11 +103,13 @@ pushed_old (r ∷ rs) x n e = go (r.pid == n) e (pushed_old rs x n)
     go true z ih = absurd cc
     go false z ih = ih z
 
-pub begun : (rs : List Residence) (child at n : ℕ) → (n ≡ child) ⊎ (numbered here n rs ≢ None) → numbered here n (rs ++ record { pid = child; out = false; since = at } ∷ []) ≢ None
+pub begun : (rs : List Residence) (child at n : ℕ) → (n ≡ child) ⊎ (numbered here n rs ≢ None)
+    → numbered here n (rs ++ record { pid = child; out = false; since = at } ∷ []) ≢ None
 begun rs child at n (inl i) = λ z. (let y : false ≡ true = sym (pushed_old rs (record { pid = child; out = false; since = at }) n z).1 ∙ ap (λ (m : ℕ). child == m) i ∙ eq_self child in cc)
 begun rs child at n (inr h) = λ z. h (pushed_old rs (record { pid = child; out = false; since = at }) n z).0
 
-ended_none : (rs : List Residence) (pid n : ℕ) → n ≢ pid → numbered here n (filter (λ (r : Residence). not (r.pid == pid)) rs) ≡ None → numbered here n rs ≡ None
+ended_none : (rs : List Residence) (pid n : ℕ) → n ≢ pid → numbered here n (filter (λ (r : Residence). not (r.pid == pid)) rs) ≡ None
+    → numbered here n rs ≡ None
 ended_none [] pid n d e = refl
 ended_none (r ∷ rs) pid n d e = go (r.pid == pid) (r.pid == n) refl refl e (ended_none rs pid n d)
   where
@@ -122,7 +126,8 @@ Lasting (End status) pid n = n ≢ pid
 Lasting change pid n = Unit {0}
 
 -- a child is a resident, and each other that lasts stays one
-change_resides : (images : List Image) (p : Placement) (pid sid : ℕ) (b : Bool) (next at : ℕ) (change : Change) (n : ℕ) → IsChild change n ⊎ (IsResident p n × Lasting change pid n)
+change_resides : (images : List Image) (p : Placement) (pid sid : ℕ) (b : Bool) (next at : ℕ) (change : Change) (n : ℕ)
+    → IsChild change n ⊎ (IsResident p n × Lasting change pid n)
     → IsResident (place_change images p pid sid b next at change) n
 change_resides images p pid sid b next at Keep n (inl c) = absurd c
 change_resides images p pid sid b next at Keep n (inr h) = h.0
@@ -175,14 +180,16 @@ lasting ps x next n Sleep e = tt
 lasting ps x next n (End status) e = λ h. absurd (let z : true ≡ false = sym e ∙ ap (lives (left_procs (x.parent == 0) (orphaned_procs ps x.pid) x status)) h ∙ left_dead (x.parent == 0) (orphaned_procs ps x.pid) x status in cc)
 
 -- who lives behind a change is a child, or lived before and lasts
-lived : (ps : List Proc) (x : Proc) (next n : ℕ) (change : Change) → lives ps x.pid ≡ true → OneEach ps → lives (procs_after ps x next change) n ≡ true → IsChild change n ⊎ ((lives ps n ≡ true) × Lasting change x.pid n)
+lived : (ps : List Proc) (x : Proc) (next n : ℕ) (change : Change) → lives ps x.pid ≡ true → OneEach ps
+    → lives (procs_after ps x next change) n ≡ true → IsChild change n ⊎ ((lives ps n ≡ true) × Lasting change x.pid n)
 lived ps x next n change a o e = elim (child_or change n) [
   | inl c ↦ inl c
   | inr c ↦ inr (after_back ps x next n change a (λ status i. o) c e, lasting ps x next n change e)
 ]
 
 -- each process that lives resides behind a change of one that lived before it
-pub change_reside : (images : List Image) (k : Kernel) (x : Proc) (e : Entry) (change : Change) → lives k.processes x.pid ≡ true → AllDistinct (map (λ (p : Proc). p.pid) k.processes) → EachResides k
+pub change_reside : (images : List Image) (k : Kernel) (x : Proc) (e : Entry) (change : Change) → lives k.processes x.pid ≡ true
+    → AllDistinct (map (λ (p : Proc). p.pid) k.processes) → EachResides k
     → EachResides (change_by images k x e change)
 change_reside images k x e change a d r = λ n l. change_resides images k.place x.pid (space_of_life x.life) (gave_back x.life) k.next_sid (length (append k.journal e)) change n (elim (lived k.processes x k.next_sid n change a (one_each k.processes d) l) [
   | inl c ↦ inl c

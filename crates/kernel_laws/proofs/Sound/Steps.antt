@@ -49,7 +49,8 @@ entry_sound size k locked e s c sh l =
     }
 
 -- A paging entry, where there is room for the transfers that it begins.
-pub plain_sound : (size : ℕ) (k : Kernel) (locked : List Page) (e : Entry) → Sound size k → CanPlace k.place e → EntryShared k.place e → length k.place.transfers + begins e ≤ 16 → Sound size (plain_step k locked e)
+pub plain_sound : (size : ℕ) (k : Kernel) (locked : List Page) (e : Entry) → Sound size k → CanPlace k.place e → EntryShared k.place e
+    → length k.place.transfers + begins e ≤ 16 → Sound size (plain_step k locked e)
 plain_sound size k locked e s c sh l = entry_sound size k locked e s c sh (let n = entry_count locked (length (append k.journal e)) k.place e in omega arith)
 
 -- other bytes in the frames, and another journal
@@ -60,7 +61,8 @@ pub first_length : (free : List ℕ) (frames : List (List ℕ)) (bytes : List �
 first_length [] frames bytes = refl
 first_length (f ∷ rest) frames bytes = length_set_frame frames f bytes
 
-fill_sound : (size : ℕ) (k : Kernel) (q : Page) (e : Entry) → Sound size (plain_step k [] e) → (bytes : List ℕ) → Sound size (record (plain_step k [] e) { frames = put_first k.place.free k.frames bytes })
+fill_sound : (size : ℕ) (k : Kernel) (q : Page) (e : Entry) → Sound size (plain_step k [] e) → (bytes : List ℕ)
+    → Sound size (record (plain_step k [] e) { frames = put_first k.place.free k.frames bytes })
 fill_sound size k q e s bytes = frames_sound size (plain_step k [] e) (put_first k.place.free k.frames bytes) s (first_length k.place.free k.frames bytes)
 
 pub zero_sound : (size : ℕ) (k : Kernel) (q : Page) → Sound size k → CanEnter k.place q → IsShared k.place q → Sound size (zero_step k q)
@@ -162,7 +164,8 @@ alive_owner size a b p hs e o =
       places = o.places;
     }
 
-lives_head : (c : Bool) (x y : Proc) (xs ys : Option Proc) → has_life x.life ≡ has_life y.life → lives_in xs ≡ lives_in ys → lives_in (cond c (Some x) xs) ≡ lives_in (cond c (Some y) ys)
+lives_head : (c : Bool) (x y : Proc) (xs ys : Option Proc) → has_life x.life ≡ has_life y.life → lives_in xs ≡ lives_in ys
+    → lives_in (cond c (Some x) xs) ≡ lives_in (cond c (Some y) ys)
 lives_head true x y xs ys e h = e
 lives_head false x y xs ys e h = h
 
@@ -210,7 +213,9 @@ proc_number (p ∷ ps) n q e = go (p.pid == n) refl e (proc_number ps n q)
     go false h k ih = ih k
 
 -- who has another life has one still
-lives_map : (life : Proc → Life) (ps : List Proc) (n : ℕ) → ((q : Proc) → numbered (λ (x : Proc). x.pid) n ps ≡ Some q → has_life (life q) ≡ has_life q.life) → lives (map (λ (q : Proc). record q { life = life q }) ps) n ≡ lives ps n
+lives_map : (life : Proc → Life) (ps : List Proc) (n : ℕ)
+    → ((q : Proc) → numbered (λ (x : Proc). x.pid) n ps ≡ Some q → has_life (life q) ≡ has_life q.life)
+    → lives (map (λ (q : Proc). record q { life = life q }) ps) n ≡ lives ps n
 lives_map life [] n h = refl
 lives_map life (p ∷ ps) n h = go (p.pid == n) h (lives_map life ps n)
   where
@@ -220,7 +225,8 @@ lives_map life (p ∷ ps) n h = go (p.pid == n) h (lives_map life ps n)
     go true k ih = k p refl
     go false k ih = ih k
 
-passed_alive : (sid from to : ℕ) (receiver : Life) (q : Proc) → (q.pid ≡ from → has_life q.life ≡ true) → (q.pid ≡ to → has_life q.life ≡ true) → has_life (passed_life sid from to receiver q) ≡ has_life q.life
+passed_alive : (sid from to : ℕ) (receiver : Life) (q : Proc) → (q.pid ≡ from → has_life q.life ≡ true) → (q.pid ≡ to → has_life q.life ≡ true)
+    → has_life (passed_life sid from to receiver q) ≡ has_life q.life
 passed_alive sid from to receiver q a b = go (q.pid == from) (q.pid == to) refl refl
   where
     alive : (r : Life) → has_life (pass_from sid to r) ≡ true
@@ -235,7 +241,8 @@ passed_alive sid from to receiver q a b = go (q.pid == from) (q.pid == to) refl 
     go false false h k = refl
 
 -- Where the giver and the receiver live, a space passes and nobody else comes to life.
-pub pass_lives : (k : Kernel) (from to : ℕ) → lives k.processes from ≡ true → lives k.processes to ≡ true → (n : ℕ) → lives (pass_step k from to).processes n ≡ lives k.processes n
+pub pass_lives : (k : Kernel) (from to : ℕ) → lives k.processes from ≡ true → lives k.processes to ≡ true → (n : ℕ)
+    → lives (pass_step k from to).processes n ≡ lives k.processes n
 pass_lives k from to a b n = same n
   where
     sid : ℕ
@@ -254,7 +261,8 @@ pass_lives k from to a b n = same n
         (λ h. kept n q e (ap (lives k.processes) (sym (proc_number k.processes n q e) ∙ h) ∙ b)))
 
 -- Where the giver and the receiver live, a space may pass.
-pub pass_sound : (size : ℕ) (k : Kernel) (from to : ℕ) → lives k.processes from ≡ true → lives k.processes to ≡ true → Sound size k → Sound size (pass_step k from to)
+pub pass_sound : (size : ℕ) (k : Kernel) (from to : ℕ) → lives k.processes from ≡ true → lives k.processes to ≡ true → Sound size k
+    → Sound size (pass_step k from to)
 pass_sound size k from to a b s = record {
   owner = alive_owner size (lives k.processes) (lives (pass_step k from to).processes) k.place k.holdings same s.owner;
   tokens = s.tokens;

@@ -56,14 +56,16 @@ Held ps n = holds_some (numbered pid_of n ps) ≡ true
 pub held_out : (p : Placement) (flat : FlatState) (n : ℕ) → OutHold p flat → is_out p n ≡ true → Held flat.processes n
 held_out p flat n o e = ap holds_some (sym (found_is flat.processes n)) ∙ o n e
 
-pub out_held : (p q : Placement) (flat after : FlatState) → OutHold p flat → ((n : ℕ) → is_out q n ≡ true → (is_out p n ≡ true) × (Held flat.processes n → Held after.processes n)) → OutHold q after
+pub out_held : (p q : Placement) (flat after : FlatState) → OutHold p flat
+    → ((n : ℕ) → is_out q n ≡ true → (is_out p n ≡ true) × (Held flat.processes n → Held after.processes n)) → OutHold q after
 out_held p q flat after o h n e = let x = h n e in ap holds_some (found_is after.processes n) ∙ x.1 (held_out p flat n o x.0)
 
 held_replaced : (ps : List Process) (fp : Process) (n : ℕ) → n ≢ fp.pid → Held ps n → Held (replaced ps fp) n
 held_replaced ps fp n d h = ap holds_some (replaced_not ps fp n d) ∙ h
 
 -- one that gives way to a process that holds a space
-held_holder : (ps : List Process) (m fp : Process) (n : ℕ) → numbered pid_of fp.pid ps ≡ Some m → holds_space fp.holding ≡ true → Held ps n → Held (replaced ps fp) n
+held_holder : (ps : List Process) (m fp : Process) (n : ℕ) → numbered pid_of fp.pid ps ≡ Some m → holds_space fp.holding ≡ true → Held ps n
+    → Held (replaced ps fp) n
 held_holder ps m fp n e t h = elim (cases_eq n fp.pid) [
   | inl i ↦ ap (λ (y : ℕ). holds_some (numbered pid_of y (replaced ps fp))) i ∙ ap holds_some (replaced_at ps m fp e) ∙ t
   | inr d ↦ held_replaced ps fp n d h
@@ -78,7 +80,8 @@ held_pushed ps p n h = go (numbered pid_of n ps) refl h
 
 -- The same place.
 
-still_out : (images : List NamedImage) (k l : Kernel) (flat after : FlatState) → l.starts ≡ k.starts → l.place.due ≡ k.place.due → ((i : ℕ) → length (slots_of l.place (Text i 0)) ≡ length (slots_of k.place (Text i 0)))
+still_out : (images : List NamedImage) (k l : Kernel) (flat after : FlatState) → l.starts ≡ k.starts → l.place.due ≡ k.place.due
+    → ((i : ℕ) → length (slots_of l.place (Text i 0)) ≡ length (slots_of k.place (Text i 0)))
     → ((n : ℕ) → is_out l.place n ≡ true → (is_out k.place n ≡ true) × (Held flat.processes n → Held after.processes n)) → Stands images k flat → Stands images l after
 still_out images k l flat after ss ds ts h s = record {
   starts = λ q e. ap (λ (x : List StartBytes). has_start x q) ss ∙ s.starts q (ap (λ (x : List Due). is_start (due_at x q)) (sym ds) ∙ e);
@@ -91,15 +94,18 @@ not_out : (p : Placement) (m n : ℕ) → is_out p m ≡ false → is_out p n �
 not_out p m n f t i = let z : true ≡ false = sym t ∙ ap (is_out p) i ∙ f in cc
 
 -- the process gives way to another, and it is in
-one_out : (p : Placement) (flat : FlatState) (fp : Process) (pid : ℕ) → fp.pid ≡ pid → is_out p pid ≡ false → (n : ℕ) → is_out p n ≡ true → (is_out p n ≡ true) × (Held flat.processes n → Held (replaced flat.processes fp) n)
+one_out : (p : Placement) (flat : FlatState) (fp : Process) (pid : ℕ) → fp.pid ≡ pid → is_out p pid ≡ false → (n : ℕ) → is_out p n ≡ true
+    → (is_out p n ≡ true) × (Held flat.processes n → Held (replaced flat.processes fp) n)
 one_out p flat fp pid i out n e = (e, λ h. held_replaced flat.processes fp n (λ j. not_out p pid n out e (j ∙ i)) h)
 
-pub ran_stands : (images : List NamedImage) (k : Kernel) (flat : FlatState) (pid : ℕ) (regs : Regs) (e : Entry) (q : Process) (s : Space) → process_of flat pid ≡ Some q → q.holding ≡ Holds s → is_out k.place pid ≡ false
+pub ran_stands : (images : List NamedImage) (k : Kernel) (flat : FlatState) (pid : ℕ) (regs : Regs) (e : Entry) (q : Process) (s : Space)
+    → process_of flat pid ≡ Some q → q.holding ≡ Holds s → is_out k.place pid ≡ false
     → Stands images k flat → Stands images (ran_by k pid regs e) (apply_change images flat pid regs Keep)
 ran_stands images k flat pid regs e q s f h out st = subst (Stands images (ran_by k pid regs e)) (sym (applied images flat pid regs Keep q s f h))
     (still_out images k (ran_by k pid regs e) flat (with_process flat (record q { regs = regs })) refl refl (λ i. refl) (one_out k.place flat (record q { regs = regs }) pid ((found_at flat pid q f).0) out) st)
 
-pub write_stands : (images : List NamedImage) (k : Kernel) (flat : FlatState) (pid : ℕ) (q : Process) (s : Space) (w : ByteWrite) (v : Page) (f at : ℕ) → process_of flat pid ≡ Some q → q.holding ≡ Holds s
+pub write_stands : (images : List NamedImage) (k : Kernel) (flat : FlatState) (pid : ℕ) (q : Process) (s : Space) (w : ByteWrite) (v : Page) (f at : ℕ)
+    → process_of flat pid ≡ Some q → q.holding ≡ Holds s
     → Stands images k flat → Stands images (write_step k v f at w.byte) (apply_writes flat pid (w ∷ []))
 write_stands images k flat pid q s w v f at fq hq st = subst (Stands images (write_step k v f at w.byte)) (sym (written flat pid w q s fq hq))
     (let sh : Shaped k.place (touch k.place v) = touch_shaped k.place v in
@@ -108,7 +114,8 @@ write_stands images k flat pid q s w v f at fq hq st = subst (Stands images (wri
     (λ n e. (ap (λ (rs : List Residence). (residence_of rs n).out) (sym sh.residents) ∙ e, held_holder flat.processes q (record q { holding = Holds (put s w) }) n (found_self flat pid q fq) refl)) st)
 
 -- An entry of a process, by the process of the machine.
-by_step : (images : List NamedImage) (k : Kernel) (flat : FlatState) (pid : ℕ) (regs : Regs) (e : Entry) (change : Change) (q : Process) (s : Space) → SameTables k flat → process_of flat pid ≡ Some q → q.holding ≡ Holds s
+by_step : (images : List NamedImage) (k : Kernel) (flat : FlatState) (pid : ℕ) (regs : Regs) (e : Entry) (change : Change) (q : Process) (s : Space)
+    → SameTables k flat → process_of flat pid ≡ Some q → q.holding ≡ Holds s
     → ((kp : Proc) → kp.pid ≡ pid → Stands images (by_life (facts_of images) k kp (HoldsSpace s.sid) e change) (changed images flat (record q { regs = regs }) s change))
     → Stands images (change_step (facts_of images) k pid regs e change) (apply_change images flat pid regs change)
 by_step images k flat pid regs e change q s t f h make =
@@ -116,18 +123,21 @@ by_step images k flat pid regs e change q s t f h make =
     subst (λ (x : Kernel). Stands images x (apply_change images flat pid regs change)) (sym (step_is (facts_of images) k pid regs e change g.proc (HoldsSpace s.sid) g.kept g.life))
     (subst (Stands images (by_life (facts_of images) k (record g.proc { regs = regs }) (HoldsSpace s.sid) e change)) (sym (applied images flat pid regs change q s f h)) (make (record g.proc { regs = regs }) g.pid_is))
 
-pub keep_stands : (images : List NamedImage) (k : Kernel) (flat : FlatState) (pid : ℕ) (regs : Regs) (e : Entry) (q : Process) (s : Space) → SameTables k flat → process_of flat pid ≡ Some q → q.holding ≡ Holds s → is_out k.place pid ≡ false
+pub keep_stands : (images : List NamedImage) (k : Kernel) (flat : FlatState) (pid : ℕ) (regs : Regs) (e : Entry) (q : Process) (s : Space)
+    → SameTables k flat → process_of flat pid ≡ Some q → q.holding ≡ Holds s → is_out k.place pid ≡ false
     → Stands images k flat → Stands images (change_step (facts_of images) k pid regs e Keep) (apply_change images flat pid regs Keep)
 keep_stands images k flat pid regs e q s t f h out st = by_step images k flat pid regs e Keep q s t f h (λ kp i.
     still_out images k (by_life (facts_of images) k kp (HoldsSpace s.sid) e Keep) flat (with_process flat (record q { regs = regs })) refl refl (λ i. refl) (one_out k.place flat (record q { regs = regs }) pid ((found_at flat pid q f).0) out) st)
 
-pub sleep_stands : (images : List NamedImage) (k : Kernel) (flat : FlatState) (pid : ℕ) (regs : Regs) (e : Entry) (q : Process) (s : Space) → SameTables k flat → process_of flat pid ≡ Some q
+pub sleep_stands : (images : List NamedImage) (k : Kernel) (flat : FlatState) (pid : ℕ) (regs : Regs) (e : Entry) (q : Process) (s : Space)
+    → SameTables k flat → process_of flat pid ≡ Some q
     → q.holding ≡ Holds s → is_out k.place pid ≡ false
     → Stands images k flat → Stands images (change_step (facts_of images) k pid regs e Sleep) (apply_change images flat pid regs Sleep)
 sleep_stands images k flat pid regs e q s t f h out st = by_step images k flat pid regs e Sleep q s t f h (λ kp i.
     still_out images k (by_life (facts_of images) k kp (HoldsSpace s.sid) e Sleep) flat (with_process flat (record q { regs = regs; asleep = true })) refl refl (λ i. refl) (one_out k.place flat (record q { regs = regs; asleep = true }) pid ((found_at flat pid q f).0) out) st)
 
-pub reap_stands : (images : List NamedImage) (k : Kernel) (flat : FlatState) (pid : ℕ) (regs : Regs) (e : Entry) (child status : ℕ) (q z : Process) (s : Space) → SameTables k flat
+pub reap_stands : (images : List NamedImage) (k : Kernel) (flat : FlatState) (pid : ℕ) (regs : Regs) (e : Entry) (child status : ℕ) (q z : Process) (s : Space)
+    → SameTables k flat
     → process_of flat pid ≡ Some q → q.holding ≡ Holds s → is_out k.place pid ≡ false → process_of flat child ≡ Some z
     → z.holding ≡ Zombie status → Stands images k flat → Stands images (change_step (facts_of images) k pid regs e (Reap child)) (apply_change images flat pid regs (Reap child))
 reap_stands images k flat pid regs e child status q z s t f h out fz hz st = by_step images k flat pid regs e (Reap child) q s t f h (λ kp i.
@@ -141,7 +151,8 @@ reap_stands images k flat pid regs e child status q z s t f h out fz hz st = by_
     dead : Held flat.processes child → ⊥
     dead y = let w : false ≡ true = sym (ap holds_some (sym (found_is flat.processes child) ∙ fz) ∙ ap holds_space hz) ∙ y in cc
 
-pub resize_stands : (images : List NamedImage) (k : Kernel) (flat : FlatState) (pid : ℕ) (regs : Regs) (e : Entry) (d t : ℕ) (q : Process) (s : Space) → SameTables k flat
+pub resize_stands : (images : List NamedImage) (k : Kernel) (flat : FlatState) (pid : ℕ) (regs : Regs) (e : Entry) (d t : ℕ) (q : Process) (s : Space)
+    → SameTables k flat
     → process_of flat pid ≡ Some q → q.holding ≡ Holds s → is_out k.place pid ≡ false
     → Stands images k flat → Stands images (change_step (facts_of images) k pid regs e (Resize d t)) (apply_change images flat pid regs (Resize d t))
 resize_stands images k flat pid regs e d t q s tb f h out st = by_step images k flat pid regs e (Resize d t) q s tb f h (λ kp i.
@@ -154,7 +165,8 @@ resize_stands images k flat pid regs e d t q s tb f h out st = by_step images k 
 none_kept : (images : List NamedImage) (k : Kernel) (flat : FlatState) → k.place.due ≡ [] → Stands images k flat → (w : Page) → has_start k.starts w ≡ false
 none_kept images k flat due st w = st.starts w (ap (λ (ds : List Due). is_start (due_at ds w)) due)
 
-pub fork_stands : (images : List NamedImage) (k : Kernel) (flat : FlatState) (pid : ℕ) (regs : Regs) (e : Entry) (q : Process) (s : Space) → SameTables k flat → k.place.due ≡ []
+pub fork_stands : (images : List NamedImage) (k : Kernel) (flat : FlatState) (pid : ℕ) (regs : Regs) (e : Entry) (q : Process) (s : Space)
+    → SameTables k flat → k.place.due ≡ []
     → process_of flat pid ≡ Some q → q.holding ≡ Holds s → is_out k.place pid ≡ false
     → Stands images k flat → Stands images (change_step (facts_of images) k pid regs e (Fork flat.next_pid)) (apply_change images flat pid regs (Fork flat.next_pid))
 fork_stands images k flat pid regs e q s t due f h out st = by_step images k flat pid regs e (Fork flat.next_pid) q s t f h (λ kp i. record {
@@ -168,7 +180,8 @@ fork_stands images k flat pid regs e q s t due f h out st = by_step images k fla
       ));
 })
 
-pub lend_stands : (images : List NamedImage) (k : Kernel) (flat : FlatState) (pid : ℕ) (regs : Regs) (e : Entry) (q : Process) (s : Space) → SameTables k flat → process_of flat pid ≡ Some q → q.holding ≡ Holds s → is_out k.place pid ≡ false
+pub lend_stands : (images : List NamedImage) (k : Kernel) (flat : FlatState) (pid : ℕ) (regs : Regs) (e : Entry) (q : Process) (s : Space)
+    → SameTables k flat → process_of flat pid ≡ Some q → q.holding ≡ Holds s → is_out k.place pid ≡ false
     → Stands images k flat → Stands images (pass_step (change_step (facts_of images) k pid regs e (Lend flat.next_pid)) pid flat.next_pid) (apply_change images flat pid regs (Lend flat.next_pid))
 lend_stands images k flat pid regs e q s t f h out st =
     let x : Stands images (change_step (facts_of images) k pid regs e (Lend flat.next_pid)) (apply_change images flat pid regs (Lend flat.next_pid)) = by_step images k flat pid regs e (Lend flat.next_pid) q s t f h (λ kp i.
@@ -286,7 +299,8 @@ exec_back_stands images k flat pid regs e number top named q m s c due f h is ou
 
 -- The end.
 
-end_stands_core : (images : List NamedImage) (k : Kernel) (flat : FlatState) (q : Process) (regs : Regs) (s : Space) (status pid sid : ℕ) (borrowed : Bool) (ps : List Proc) (journal : List Entry) → pid ≡ q.pid → Stands images k flat
+end_stands_core : (images : List NamedImage) (k : Kernel) (flat : FlatState) (q : Process) (regs : Regs) (s : Space) (status pid sid : ℕ) (borrowed : Bool) (ps : List Proc) (journal : List Entry)
+    → pid ≡ q.pid → Stands images k flat
     → Stands images (end_kernel k pid sid borrowed ps journal) (ended flat (record q { regs = regs }) s status)
 end_stands_core images k flat q regs s status pid sid borrowed ps journal i st =
     subst (Stands images l) (sym (left_is (q.parent == 0) (orphaned (given_back (with_process flat fp) q.pid s) q.pid) q.pid q.parent))
@@ -312,13 +326,15 @@ end_stands_core images k flat q regs s status pid sid borrowed ps journal i st =
     g : Gone k.place p1 borrowed sid
     g = gone_unless borrowed k.place sid
 
-pub end_stands : (images : List NamedImage) (k : Kernel) (flat : FlatState) (pid : ℕ) (regs : Regs) (e : Entry) (status : ℕ) (q : Process) (s : Space) → SameTables k flat
+pub end_stands : (images : List NamedImage) (k : Kernel) (flat : FlatState) (pid : ℕ) (regs : Regs) (e : Entry) (status : ℕ) (q : Process) (s : Space)
+    → SameTables k flat
     → process_of flat pid ≡ Some q → q.holding ≡ Holds s → Stands images k flat
     → Stands images (change_step (facts_of images) k pid regs e (End status)) (apply_change images flat pid regs (End status))
 end_stands images k flat pid regs e status q s t f h st = by_step images k flat pid regs e (End status) q s t f h (λ kp i.
     end_stands_core images k flat q regs s status kp.pid s.sid false (left_procs (kp.parent == 0) (orphaned_procs k.processes kp.pid) kp status) (append k.journal e) (i ∙ sym (found_at flat pid q f).0) st)
 
-pub end_back_stands : (images : List NamedImage) (k : Kernel) (flat : FlatState) (pid : ℕ) (regs : Regs) (e : Entry) (status : ℕ) (q m : Process) (s : Space) → SameTables k flat
+pub end_back_stands : (images : List NamedImage) (k : Kernel) (flat : FlatState) (pid : ℕ) (regs : Regs) (e : Entry) (status : ℕ) (q m : Process) (s : Space)
+    → SameTables k flat
     → process_of flat pid ≡ Some q → q.holding ≡ Holds s → IsLender flat pid s.sid m → Stands images k flat
     → Stands images (change_step (facts_of images) (pass_step k pid m.pid) pid regs e (End status)) (apply_change images flat pid regs (End status))
 end_back_stands images k flat pid regs e status q m s c f h is st =

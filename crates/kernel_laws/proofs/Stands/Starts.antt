@@ -28,7 +28,8 @@ use Rattle.kernel_laws.proofs.Machine.Starts.{all_in}
 -- Numbers.
 
 -- each first process has its own space of its number
-sids_are : (images : List NamedImage) (numbers : List ℕ) (n : ℕ) → map sid_of (held (start_processes images n numbers)) ≡ map pid_of (start_processes images n numbers)
+sids_are : (images : List NamedImage) (numbers : List ℕ) (n : ℕ)
+    → map sid_of (held (start_processes images n numbers)) ≡ map pid_of (start_processes images n numbers)
 sids_are images [] n = refl
 sids_are images (x ∷ numbers) n = go (image_numbered images x) (sids_are images numbers (n + 1))
   where
@@ -80,7 +81,8 @@ start_numbered A = record {
 
 -- Nobody lent a space.
 
-first_hold : (images : List NamedImage) (numbers : List ℕ) (n m : ℕ) (q : Process) → numbered pid_of m (start_processes images n numbers) ≡ Some q → (s : Space) × (q.holding ≡ Holds s)
+first_hold : (images : List NamedImage) (numbers : List ℕ) (n m : ℕ) (q : Process) → numbered pid_of m (start_processes images n numbers) ≡ Some q
+    → (s : Space) × (q.holding ≡ Holds s)
 first_hold images [] n m q e = none_some q e
 first_hold images (x ∷ numbers) n m q e = go (image_numbered images x) e (first_hold images numbers (n + 1) m q)
   where
@@ -105,7 +107,8 @@ start_lent A = record {
 
 -- What is kept is due.
 
-starts_due : (images : List NamedImage) (numbers : List ℕ) (first : List Starting) (n : ℕ) (w : Page) → AreStarting images numbers first → is_start (due_at (due_from n first) w) ≡ false
+starts_due : (images : List NamedImage) (numbers : List ℕ) (first : List Starting) (n : ℕ) (w : Page) → AreStarting images numbers first
+    → is_start (due_at (due_from n first) w) ≡ false
     → has_start (map start_of (held (start_processes images n numbers))) w ≡ false
 starts_due images [] [] n w a e = refl
 starts_due images [] (y ∷ first) n w a e = absurd a
@@ -137,7 +140,8 @@ no_text : (images : List Image) (m : ℕ) → 0 < m → numbered image_number 0 
 no_text [] m l = refl
 no_text (x ∷ images) m l = numbered_miss image_number 0 (Rattle.page_model.specs.Placement.new_text m x) (texts_from (m + 1) images) (λ h. absurd (let y : m ≡ 0 = h in omega arith)) ∙ no_text images (m + 1) (omega arith)
 
-pub start_beside : (A : Inputs) (first : List Starting) (hs : Holdings) (frames : List (List ℕ)) → AreStarting A.images A.first first → ImagesFit A.images → Stands A.images (start_kernel A first hs frames) (start_state A)
+pub start_beside : (A : Inputs) (first : List Starting) (hs : Holdings) (frames : List (List ℕ)) → AreStarting A.images A.first first
+    → ImagesFit A.images → Stands A.images (start_kernel A first hs frames) (start_state A)
 start_beside A first hs frames a fit = record {
   starts = λ w e. starts_due A.images A.first first 1 w a e;
   texts = texts;

@@ -32,7 +32,8 @@ use Rattle.kernel_laws.proofs.Machine.Swaps.{out_other, out_same}
 -- Steps that leave what is due, who is out and what is kept.
 
 -- what is kept and due stays, and so do the texts and who is out
-pub stands_still : (images : List NamedImage) (k l : Kernel) (flat : FlatState) → l.starts ≡ k.starts → l.place.due ≡ k.place.due → Shaped k.place l.place → Stands images k flat → Stands images l flat
+pub stands_still : (images : List NamedImage) (k l : Kernel) (flat : FlatState) → l.starts ≡ k.starts → l.place.due ≡ k.place.due
+    → Shaped k.place l.place → Stands images k flat → Stands images l flat
 stands_still images k l flat ss ds sh s = record {
   starts = λ q e. ap (λ (x : List StartBytes). has_start x q) ss ∙ s.starts q (ap (λ (x : List Due). is_start (due_at x q)) (sym ds) ∙ e);
   texts = λ i. s.texts i ∙ ap (λ (n : ℕ). 1024 * n) (sym (sizes_kept k.place l.place sh (Text i 0)));
@@ -49,20 +50,23 @@ moves_due (suc n) p locked = let s : Stays p (hand_move p locked) = move_stays p
 pub note_stands : (images : List NamedImage) (k : Kernel) (flat : FlatState) (e : Entry) → Stands images k flat → Stands images (note_step k e) flat
 note_stands images k flat e s = stands_still images k (note_step k e) flat refl refl (shaped_self k.place) s
 
-pub get_stands : (images : List NamedImage) (k : Kernel) (flat : FlatState) (q : Page) (lo n : ℕ) → Stands images k flat → Stands images (get_step k q lo n) flat
+pub get_stands : (images : List NamedImage) (k : Kernel) (flat : FlatState) (q : Page) (lo n : ℕ) → Stands images k flat
+    → Stands images (get_step k q lo n) flat
 get_stands images k flat q lo n s = stands_still images k (get_step k q lo n) flat refl (get_due_list (pages_from q lo n) (begin k.place (read_errand k.place q)) (read_errand k.place q)) (get_run_shaped k.place (read_errand k.place q) (pages_from q lo n)) s
 
 pub reclaim_stands : (images : List NamedImage) (k : Kernel) (flat : FlatState) (q : Page) → Stands images k flat → Stands images (reclaim_step k q) flat
 reclaim_stands images k flat q s = stands_still images k (reclaim_step k q) flat refl (reclaim_due k.place q) (reclaim_shaped k.place q) s
 
-pub hand_stands : (images : List NamedImage) (k : Kernel) (flat : FlatState) (locked : List Page) → Stands images k flat → Stands images (hand_step k locked) flat
+pub hand_stands : (images : List NamedImage) (k : Kernel) (flat : FlatState) (locked : List Page) → Stands images k flat
+    → Stands images (hand_step k locked) flat
 hand_stands images k flat locked s = stands_still images k (hand_step k locked) flat refl (moves_due 1 k.place locked) (moves_shaped 1 k.place locked) s
 
 pub push_stands : (images : List NamedImage) (k : Kernel) (flat : FlatState) (q : Page) (n : ℕ) → Stands images k flat → Stands images (push_step k q n) flat
 push_stands images k flat q n s = let t : Steady k.place (put_step k.place q (pages_from q (number_of q) n)) = put_steady k.place q (pages_from q (number_of q) n) in
     stands_still images k (push_step k q n) flat refl t.due (put_step_shaped k.place q (pages_from q (number_of q) n)) s
 
-pub done_stands : (size : ℕ) (images : List NamedImage) (k : Kernel) (flat : FlatState) (read : List (List ℕ)) → Sound size k → Stands images k flat → Stands images (done_step k read) flat
+pub done_stands : (size : ℕ) (images : List NamedImage) (k : Kernel) (flat : FlatState) (read : List (List ℕ)) → Sound size k → Stands images k flat
+    → Stands images (done_step k read) flat
 done_stands size images k flat read so s =
     let o : OneOwner size (lives k.processes) k.place k.holdings = so.owner in
     let t : Steady k.place (done k.place) = done_steady k.place o.frames in
@@ -102,7 +106,8 @@ zero_stands images k flat q s = record {
 }
 
 -- a page that is copied has nothing that is kept for it
-pub copy_stands : (images : List NamedImage) (k : Kernel) (flat : FlatState) (q r parent : Page) → due_at k.place.due q ≡ Some (CopyOf r parent) → Stands images k flat → Stands images (copy_step k q) flat
+pub copy_stands : (images : List NamedImage) (k : Kernel) (flat : FlatState) (q r parent : Page) → due_at k.place.due q ≡ Some (CopyOf r parent)
+    → Stands images k flat → Stands images (copy_step k q) flat
 copy_stands images k flat q r parent d s = record {
   starts = λ w e. elim (page_cases w q) [
     | inl i ↦ s.starts w (ap (λ (x : Page). is_start (due_at k.place.due x)) i ∙ ap is_start d)
@@ -114,7 +119,8 @@ copy_stands images k flat q r parent d s = record {
 
 -- Processes that go out and come in.
 
-pub out_stands : (images : List NamedImage) (k : Kernel) (flat : FlatState) (pid : ℕ) (q : Process) (s : Space) → process_of flat pid ≡ Some q → q.holding ≡ Holds s → Stands images k flat → Stands images (out_step k pid) flat
+pub out_stands : (images : List NamedImage) (k : Kernel) (flat : FlatState) (pid : ℕ) (q : Process) (s : Space) → process_of flat pid ≡ Some q
+    → q.holding ≡ Holds s → Stands images k flat → Stands images (out_step k pid) flat
 out_stands images k flat pid q s f h st = record {
   starts = st.starts;
   texts = st.texts;
@@ -124,7 +130,8 @@ out_stands images k flat pid q s f h st = record {
   ];
 }
 
-pub in_stands : (images : List NamedImage) (k : Kernel) (flat : FlatState) (pid : ℕ) (regs : Regs) → Stands images k flat → Stands images (in_step k pid regs) flat
+pub in_stands : (images : List NamedImage) (k : Kernel) (flat : FlatState) (pid : ℕ) (regs : Regs) → Stands images k flat
+    → Stands images (in_step k pid regs) flat
 in_stands images k flat pid regs st = record {
   starts = st.starts;
   texts = st.texts;

@@ -57,7 +57,8 @@ busy_shared p v image n a b e z =
       | inr h ↦ absurd (let k = invalid_busy p (state_of p v) h.0 h.1 b in let l = h.2 in omega arith)
     ]
 
-pub turn_aside : (p : Placement) (v : Page) (f : ℕ) (s : PageState) (m : Bool) (free : List ℕ) (ts : List Transfer) → OwnsFrames p → Turns p v f s m free ts → TextAside p → IsBusy p (state_of p v) → TextAside (turn p v s m free ts)
+pub turn_aside : (p : Placement) (v : Page) (f : ℕ) (s : PageState) (m : Bool) (free : List ℕ) (ts : List Transfer) → OwnsFrames p
+    → Turns p v f s m free ts → TextAside p → IsBusy p (state_of p v) → TextAside (turn p v s m free ts)
 turn_aside p v f s m free ts o t a b = local_aside p (turn p v s m free ts) v f o (turn_local p v f s m free ts o t) (put_sharers p v s m) a (λ i n e z. busy_shared p v i n a b e z)
 
 pub shared_not : {C : Type 0} (p : Placement) (v : Page) (image n : ℕ) → IsShared p v → v ≡ Text image n → sharers p image ≡ 0 → C
@@ -85,7 +86,8 @@ evict_sharers p f image = go (page_of p f)
     go None = refl
     go (Some v) = put_sharers p v (left_state v (mark_of p v)) (mark_of p v) image
 
-pub enter_aside : (p : Placement) (v : Page) (f : ℕ) (s : PageState) (m : Bool) (ts : List Transfer) → OwnsFrames p → 0 < times f p.free → Enters (evict p f) v f s m ts → TextAside p → IsShared p v → TextAside (enter (evict p f) v f s m ts)
+pub enter_aside : (p : Placement) (v : Page) (f : ℕ) (s : PageState) (m : Bool) (ts : List Transfer) → OwnsFrames p → 0 < times f p.free
+    → Enters (evict p f) v f s m ts → TextAside p → IsShared p v → TextAside (enter (evict p f) v f s m ts)
 enter_aside p v f s m ts o b t a sh = local_aside (evict p f) (enter (evict p f) v f s m ts) v f (evict_owner p f o b) (enter_local (evict p f) v f s m ts (evict_owner p f o b) t) (put_sharers (evict p f) v s m) (evict_aside p f o a b)
     (λ i n e z. shared_not p v i n sh e (sym (evict_sharers p f i) ∙ z))
 
@@ -96,7 +98,8 @@ unshared_or zero = inl refl
 unshared_or (suc k) = inr (k, refl)
 
 -- a page of a space or of shared text has its blocks
-pub has_blocks : (size : ℕ) (lives : ℕ → Bool) (p : Placement) (hs : Holdings) (q : Page) → OwnsBlocks size lives p hs → IsThere p q → IsShared p q → IsSome (block_of hs q)
+pub has_blocks : (size : ℕ) (lives : ℕ → Bool) (p : Placement) (hs : Holdings) (q : Page) → OwnsBlocks size lives p hs → IsThere p q → IsShared p q
+    → IsSome (block_of hs q)
 has_blocks size lives p hs (Data sid v) o there sh = let a : ArePlacesApart size hs = places_apart_of size hs o.book in a.found (owners.Data sid) (2 * length (slots_of p (Data sid 0))) v (o.data_held sid) tt (let l : v < length (slots_of p (Data sid 0)) = there in omega arith)
 has_blocks size lives p hs (Stack sid v) o there sh = let a : ArePlacesApart size hs = places_apart_of size hs o.book in a.found (owners.Stack sid) (2 * length (slots_of p (Stack sid 0))) v (o.stack_held sid) tt (let l : v < length (slots_of p (Stack sid 0)) = there in omega arith)
 has_blocks size lives p hs (Text image v) o there sh = elim (unshared_or (sharers p image)) [
@@ -145,18 +148,22 @@ found_own size hs q book some = go (block_of hs q) refl some
     go (Some b) e s = record { first = b; found = e; own = apart.own (owner_of q) (number_of q) b e }
 
 -- Each page on swap, in a transfer, and each saved text page, has its two blocks in its own owner's holding.
-pub needed_found : (size : ℕ) (lives : ℕ → Bool) (p : Placement) (hs : Holdings) → OwnsBlocks size lives p hs → TextAside p → (q : Page) → needs_blocks p q ≡ true → HasBlocks size hs q
+pub needed_found : (size : ℕ) (lives : ℕ → Bool) (p : Placement) (hs : Holdings) → OwnsBlocks size lives p hs → TextAside p → (q : Page)
+    → needs_blocks p q ≡ true → HasBlocks size hs q
 needed_found size lives p hs o a q e = found_own size hs q o.book (has_blocks size lives p hs q o (needs_there p q e) (needs_shared p q a e))
 
 -- The frames, the blocks and the text have their owners, and so each page has the blocks that it needs.
-pub one_owner : (size : ℕ) (lives : ℕ → Bool) (p : Placement) (hs : Holdings) → OwnsFrames p → OwnsBlocks size lives p hs → TextAside p → OneOwner size lives p hs
+pub one_owner : (size : ℕ) (lives : ℕ → Bool) (p : Placement) (hs : Holdings) → OwnsFrames p → OwnsBlocks size lives p hs → TextAside p
+    → OneOwner size lives p hs
 one_owner size lives p hs f o a = record { frames = f; blocks = o; aside = a; places = needed_found size lives p hs o a }
 
-pub places_found : (size : ℕ) (lives : ℕ → Bool) (p : Placement) (hs : Holdings) (q : Page) → OneOwner size lives p hs → needs_blocks p q ≡ true → IsSome (block_of hs q)
+pub places_found : (size : ℕ) (lives : ℕ → Bool) (p : Placement) (hs : Holdings) (q : Page) → OneOwner size lives p hs → needs_blocks p q ≡ true
+    → IsSome (block_of hs q)
 places_found size lives p hs q o e = let b : HasBlocks size hs q = o.places q e in subst IsSome (sym b.found) refl
 
 -- the same sizes and sharers, the same holdings
-pub blocks_still : (size : ℕ) (lives : ℕ → Bool) (p q : Placement) (hs : Holdings) → ((w : Page) → length (slots_of q w) ≡ length (slots_of p w)) → ((image : ℕ) → sharers q image ≡ sharers p image)
+pub blocks_still : (size : ℕ) (lives : ℕ → Bool) (p q : Placement) (hs : Holdings) → ((w : Page) → length (slots_of q w) ≡ length (slots_of p w))
+    → ((image : ℕ) → sharers q image ≡ sharers p image)
     → OwnsBlocks size lives p hs → OwnsBlocks size lives q hs
 blocks_still size lives p q hs s sh o = record {
   book = o.book;

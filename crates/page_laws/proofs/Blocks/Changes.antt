@@ -90,17 +90,20 @@ add_aside p x due a = text_still p (record p { spaces = p.spaces ++ x ∷ []; du
 
 -- A space that goes, and its text with the last sharer.
 
-image_changed_by : (sid image t : ℕ) (change : SpacePages → SpacePages) (b : Bool) (s : SpacePages) (ss rs : List SpacePages) → (change s).sid ≡ s.sid → (change s).image ≡ s.image
+image_changed_by : (sid image t : ℕ) (change : SpacePages → SpacePages) (b : Bool) (s : SpacePages) (ss rs : List SpacePages) → (change s).sid ≡ s.sid
+    → (change s).image ≡ s.image
     → (s.sid ≡ sid → s.image ≡ image) → HasImage sid image ss → HasImage sid image rs → HasImage sid image (cond b (change s ∷ ss) (s ∷ rs))
 image_changed_by sid image t change true s ss rs a i h k g = ((λ e. i ∙ h (sym a ∙ e)), k)
 image_changed_by sid image t change false s ss rs a i h k g = (h, g)
 
-image_changed : (sid image t : ℕ) (change : SpacePages → SpacePages) → ((x : SpacePages) → (change x).sid ≡ x.sid) → ((x : SpacePages) → (change x).image ≡ x.image) → (ss : List SpacePages)
+image_changed : (sid image t : ℕ) (change : SpacePages → SpacePages) → ((x : SpacePages) → (change x).sid ≡ x.sid)
+    → ((x : SpacePages) → (change x).image ≡ x.image) → (ss : List SpacePages)
     → HasImage sid image ss → HasImage sid image (changed space_number t change ss)
 image_changed sid image t change a i [] h = tt
 image_changed sid image t change a i (s ∷ ss) h = image_changed_by sid image t change (space_number s == t) s ss (changed space_number t change ss) (a s) (i s) h.0 h.1 (image_changed sid image t change a i ss h.1)
 
-put_image : (p : Placement) (v : Page) (s : PageState) (m : Bool) (sid image : ℕ) → HasImage sid image p.spaces → HasImage sid image (spaces_with p.spaces v s m)
+put_image : (p : Placement) (v : Page) (s : PageState) (m : Bool) (sid image : ℕ) → HasImage sid image p.spaces
+    → HasImage sid image (spaces_with p.spaces v s m)
 put_image p (Data t v) s m sid image h = image_changed sid image t (with_data v s m) (λ x. refl) (λ x. refl) p.spaces h
 put_image p (Stack t v) s m sid image h = image_changed sid image t (with_stack v s m) (λ x. refl) (λ x. refl) p.spaces h
 put_image p (Text t v) s m sid image h = h
@@ -117,7 +120,8 @@ drop_all_image [] p sid image h = h
 drop_all_image (v ∷ qs) p sid image h = drop_all_image qs (drop_page p v) sid image (drop_image p v sid image h)
 
 -- no other image loses a sharer
-pub removed_sharers : (sid image j : ℕ) (ss : List SpacePages) → HasImage sid image ss → j ≢ image → sharers_in j (filter (λ (s : SpacePages). not (s.sid == sid)) ss) ≡ sharers_in j ss
+pub removed_sharers : (sid image j : ℕ) (ss : List SpacePages) → HasImage sid image ss → j ≢ image
+    → sharers_in j (filter (λ (s : SpacePages). not (s.sid == sid)) ss) ≡ sharers_in j ss
 removed_sharers sid image j [] h n = refl
 removed_sharers sid image j (s ∷ ss) h n = go (s.sid == sid) refl (removed_sharers sid image j ss h.1 n)
   where
@@ -256,7 +260,8 @@ absent_aside : (p : Placement) (q : Page) → length (slots_of p q) ≤ number_o
 absent_aside p q l = let e = get_or_past (slots_of p q) (number_of q) no_slot l in record { unsaved = ap (λ (x : Slot). x.mark) e; rests = inl (ap (λ (x : Slot). x.state) e) }
 
 -- Text of this image is aside once it is left, and all else is as it was.
-leave_text_aside : (p : Placement) (image : ℕ) → ((j n : ℕ) → j ≢ image → sharers p j ≡ 0 → IsAside p (Text j n)) → (sharers p image ≡ 0 → (n : ℕ) → AtRest (state_of p (Text image n))) → TextAside (leave_text p image)
+leave_text_aside : (p : Placement) (image : ℕ) → ((j n : ℕ) → j ≢ image → sharers p j ≡ 0 → IsAside p (Text j n))
+    → (sharers p image ≡ 0 → (n : ℕ) → AtRest (state_of p (Text image n))) → TextAside (leave_text p image)
 leave_text_aside p image others rest = go (sharers p image) refl
   where
     can : sharers p image ≡ 0 → EachPage (CanLeave p) (pages_of_text p image)
@@ -287,17 +292,20 @@ filtered_by sid j x y xs ys e i h = ap (λ (k : ℕ). sharers_in j (cond (not (k
 abbrev pub rest_of : ℕ → List SpacePages → List SpacePages
 rest_of sid ss = filter (λ (s : SpacePages). not (s.sid == sid)) ss
 
-rest_changed_by : (sid j t : ℕ) (change : SpacePages → SpacePages) (b : Bool) (s : SpacePages) (ss rs : List SpacePages) → (change s).sid ≡ s.sid → (change s).image ≡ s.image → sharers_in j (rest_of sid rs) ≡ sharers_in j (rest_of sid ss)
+rest_changed_by : (sid j t : ℕ) (change : SpacePages → SpacePages) (b : Bool) (s : SpacePages) (ss rs : List SpacePages) → (change s).sid ≡ s.sid
+    → (change s).image ≡ s.image → sharers_in j (rest_of sid rs) ≡ sharers_in j (rest_of sid ss)
     → sharers_in j (rest_of sid (cond b (change s ∷ ss) (s ∷ rs))) ≡ sharers_in j (rest_of sid (s ∷ ss))
 rest_changed_by sid j t change true s ss rs a i h = filtered_by sid j s (change s) (rest_of sid ss) (rest_of sid ss) a i refl
 rest_changed_by sid j t change false s ss rs a i h = filtered_by sid j s s (rest_of sid ss) (rest_of sid rs) refl refl h
 
-rest_changed : (sid j t : ℕ) (change : SpacePages → SpacePages) → ((x : SpacePages) → (change x).sid ≡ x.sid) → ((x : SpacePages) → (change x).image ≡ x.image) → (ss : List SpacePages)
+rest_changed : (sid j t : ℕ) (change : SpacePages → SpacePages) → ((x : SpacePages) → (change x).sid ≡ x.sid)
+    → ((x : SpacePages) → (change x).image ≡ x.image) → (ss : List SpacePages)
     → sharers_in j (rest_of sid (changed space_number t change ss)) ≡ sharers_in j (rest_of sid ss)
 rest_changed sid j t change a i [] = refl
 rest_changed sid j t change a i (s ∷ ss) = rest_changed_by sid j t change (space_number s == t) s ss (changed space_number t change ss) (a s) (i s) (rest_changed sid j t change a i ss)
 
-rest_put : (p : Placement) (v : Page) (s : PageState) (m : Bool) (sid j : ℕ) → sharers_in j (rest_of sid (spaces_with p.spaces v s m)) ≡ sharers_in j (rest_of sid p.spaces)
+rest_put : (p : Placement) (v : Page) (s : PageState) (m : Bool) (sid j : ℕ)
+    → sharers_in j (rest_of sid (spaces_with p.spaces v s m)) ≡ sharers_in j (rest_of sid p.spaces)
 rest_put p (Data t v) s m sid j = rest_changed sid j t (with_data v s m) (λ x. refl) (λ x. refl) p.spaces
 rest_put p (Stack t v) s m sid j = rest_changed sid j t (with_stack v s m) (λ x. refl) (λ x. refl) p.spaces
 rest_put p (Text t v) s m sid j = refl
@@ -335,7 +343,8 @@ give_up_aside p sid a c = leave_text_aside removed (image_of p sid)
 
 -- Changes.
 
-give_up_unless_aside : (borrowed : Bool) (p : Placement) (sid : ℕ) → TextAside p → (borrowed ≡ false → CanForget p sid) → TextAside (give_up_unless borrowed p sid)
+give_up_unless_aside : (borrowed : Bool) (p : Placement) (sid : ℕ) → TextAside p → (borrowed ≡ false → CanForget p sid)
+    → TextAside (give_up_unless borrowed p sid)
 give_up_unless_aside true p sid a c = a
 give_up_unless_aside false p sid a c = give_up_aside p sid a (c refl)
 
@@ -343,7 +352,8 @@ enter_image_aside : (p : Placement) (sid image : ℕ) (facts : Option Image) →
 enter_image_aside p sid image None a = a
 enter_image_aside p sid image (Some facts) a = add_aside p (new_pages sid image facts) (enter_space p sid image facts).due a
 
-pub place_change_aside : (images : List Image) (p : Placement) (pid sid : ℕ) (borrowed : Bool) (next_sid at : ℕ) (change : Change) → TextAside p → MayForget images p sid borrowed next_sid change
+pub place_change_aside : (images : List Image) (p : Placement) (pid sid : ℕ) (borrowed : Bool) (next_sid at : ℕ) (change : Change) → TextAside p
+    → MayForget images p sid borrowed next_sid change
     → TextAside (place_change images p pid sid borrowed next_sid at change)
 place_change_aside images p pid sid borrowed next_sid at Keep a c = a
 place_change_aside images p pid sid borrowed next_sid at (Resize d s) a c = resize_aside p sid d s a

@@ -25,7 +25,8 @@ same_owners (Stack a v) (Text b w) e n = absurd cc
 same_owners (Text a v) (Data b w) e n = absurd cc
 same_owners (Text a v) (Stack b w) e n = absurd cc
 
-pub pages_apart : (size : ℕ) (hs : Holdings) (q r : Page) (x y : ℕ) → IsBook size hs → q ≢ r → block_of hs q ≡ Some x → block_of hs r ≡ Some y → (x + 2 ≤ y) ⊎ (y + 2 ≤ x)
+pub pages_apart : (size : ℕ) (hs : Holdings) (q r : Page) (x y : ℕ) → IsBook size hs → q ≢ r → block_of hs q ≡ Some x → block_of hs r ≡ Some y
+    → (x + 2 ≤ y) ⊎ (y + 2 ≤ x)
 pages_apart size hs q r x y book n e h =
     let a : ArePlacesApart size hs = places_apart_of size hs book in
     elim (a.apart (owner_of q) (owner_of r) (number_of q) (number_of r) x y e h) [
@@ -40,16 +41,19 @@ page_within size hs q x book e =
     p.within
 
 -- A write of a page changes what the image has of it, and of no other page.
-pub store_own : (size : ℕ) (hs : Holdings) (image bytes : List ℕ) (q : Page) (x : ℕ) → IsBook size hs → 512 * size ≤ length image → length bytes ≡ 1024 → block_of hs q ≡ Some x → stored hs (store_at image (block_of hs q) bytes) q ≡ bytes
+pub store_own : (size : ℕ) (hs : Holdings) (image bytes : List ℕ) (q : Page) (x : ℕ) → IsBook size hs → 512 * size ≤ length image
+    → length bytes ≡ 1024 → block_of hs q ≡ Some x → stored hs (store_at image (block_of hs q) bytes) q ≡ bytes
 store_own size hs image bytes q x book l lb e =
     let w = page_within size hs q x book e in
     ap (λ (o : Option ℕ). stored_at (store_at image o bytes) o) e ∙ blocks_at-put_blocks_same image bytes x (omega arith) lb
 
-pub stored_other : (image bytes : List ℕ) (x : ℕ) (o : Option ℕ) → 512 * x + 1024 ≤ length image → length bytes ≡ 1024 → ((y : ℕ) → o ≡ Some y → (x + 2 ≤ y) ⊎ (y + 2 ≤ x)) → stored_at (put_blocks image x bytes) o ≡ stored_at image o
+pub stored_other : (image bytes : List ℕ) (x : ℕ) (o : Option ℕ) → 512 * x + 1024 ≤ length image → length bytes ≡ 1024
+    → ((y : ℕ) → o ≡ Some y → (x + 2 ≤ y) ⊎ (y + 2 ≤ x)) → stored_at (put_blocks image x bytes) o ≡ stored_at image o
 stored_other image bytes x None l lb n = refl
 stored_other image bytes x (Some y) l lb n = blocks_at-put_blocks_other image bytes x y l lb (n y refl)
 
-pub store_other : (size : ℕ) (hs : Holdings) (image bytes : List ℕ) (q r : Page) (x : ℕ) → IsBook size hs → 512 * size ≤ length image → length bytes ≡ 1024 → block_of hs q ≡ Some x → r ≢ q
+pub store_other : (size : ℕ) (hs : Holdings) (image bytes : List ℕ) (q r : Page) (x : ℕ) → IsBook size hs → 512 * size ≤ length image
+    → length bytes ≡ 1024 → block_of hs q ≡ Some x → r ≢ q
     → stored hs (store_at image (block_of hs q) bytes) r ≡ stored hs image r
 store_other size hs image bytes q r x book l lb e n =
     let w = page_within size hs q x book e in
@@ -57,7 +61,8 @@ store_other size hs image bytes q r x book l lb e n =
     ∙ stored_other image bytes x (block_of hs r) (omega arith) lb (λ y h. pages_apart size hs q r x y book (λ k. n (sym k)) e h)
 
 -- what a write changes beside, over a swap image
-pub image_stores : (size : ℕ) (hs : Holdings) (image bytes : List ℕ) (q : Page) (x : ℕ) (b : Bytes) → IsBook size hs → 512 * size ≤ length image → length bytes ≡ 1024 → block_of hs q ≡ Some x
+pub image_stores : (size : ℕ) (hs : Holdings) (image bytes : List ℕ) (q : Page) (x : ℕ) (b : Bytes) → IsBook size hs → 512 * size ≤ length image
+    → length bytes ≡ 1024 → block_of hs q ≡ Some x
     → Stores (record b { swap = stored hs image }) (record b { swap = stored hs (store_at image (block_of hs q) bytes) }) q bytes
 image_stores size hs image bytes q x b book l lb e = record {
   frames = refl;

@@ -38,7 +38,8 @@ filled_aside p v o c a s = λ i n z. let k = go p.free refl i n z in record { un
     go [] e = a
     go (f ∷ rest) e = enter_aside p v f (Valid f) true p.transfers o (some_free p f rest e) (fill_enters p v f rest o c e) a s
 
-pub get_aside : (p : Placement) (source : Source) (demanded v : Page) → OwnsFrames p → CanEnter p v → IsOpen p.transfers (Reads source demanded) → TextAside p → IsShared p v → TextAside (get_one p (Reads source demanded) v)
+pub get_aside : (p : Placement) (source : Source) (demanded v : Page) → OwnsFrames p → CanEnter p v → IsOpen p.transfers (Reads source demanded)
+    → TextAside p → IsShared p v → TextAside (get_one p (Reads source demanded) v)
 get_aside p source demanded v o c latest a s = go p.free refl
   where
     go : (fr : List ℕ) → p.free ≡ fr → TextAside (get_at p (Reads source demanded) v fr)
@@ -57,7 +58,8 @@ shared_as p q (Data sid n) h s = tt
 shared_as p q (Stack sid n) h s = tt
 shared_as p q (Text image n) h s = subst (λ (k : ℕ). 0 < k) (sym (h image)) s
 
-get_all_aside : (qs : List Page) (p : Placement) (source : Source) (demanded : Page) → OwnsFrames p → EachPage (CanEnter p) qs → AllApart qs → IsOpen p.transfers (Reads source demanded) → TextAside p
+get_all_aside : (qs : List Page) (p : Placement) (source : Source) (demanded : Page) → OwnsFrames p → EachPage (CanEnter p) qs → AllApart qs
+    → IsOpen p.transfers (Reads source demanded) → TextAside p
     → EachPage (IsShared p) qs → TextAside (get_all p (Reads source demanded) qs)
 get_all_aside [] p source demanded o c d latest a s = a
 get_all_aside (v ∷ qs) p source demanded o c d latest a s =
@@ -66,7 +68,8 @@ get_all_aside (v ∷ qs) p source demanded o c d latest a s =
     d.1 (get_open_still p (Reads source demanded) v latest) (get_aside p source demanded v o c.0 latest a s.0)
     (each_page_imp (IsShared p) (IsShared (get_one p (Reads source demanded) v)) qs s.1 (λ w h. shared_as p (get_one p (Reads source demanded) v) w (get_sharers p (Reads source demanded) v) h))
 
-pub get_run_aside : (p : Placement) (source : Source) (demanded : Page) (qs : List Page) → OwnsFrames p → EachPage (CanEnter p) qs → AllApart qs → TextAside p → EachPage (IsShared p) qs → TextAside (get_run p (Reads source demanded) qs)
+pub get_run_aside : (p : Placement) (source : Source) (demanded : Page) (qs : List Page) → OwnsFrames p → EachPage (CanEnter p) qs → AllApart qs
+    → TextAside p → EachPage (IsShared p) qs → TextAside (get_run p (Reads source demanded) qs)
 get_run_aside p source demanded qs o c d a s =
     get_all_aside qs (begin p (Reads source demanded)) source demanded (begin_owner p (Reads source demanded) o)
     (each_page_imp (CanEnter p) (CanEnter (begin p (Reads source demanded))) qs c (λ q h. record { there = h.there; frameless = h.frameless })) d (begin_open p.transfers (Reads source demanded))
@@ -120,7 +123,8 @@ launch_aside p v f o c latest a = elim c.state [
     there : TextAside (turn p v (Going f) (mark_of p v) p.free (join_last p.transfers Writes (record { page = v; frame = f })))
     there = turn_aside p v f (Going f) (mark_of p v) p.free (join_last p.transfers Writes (record { page = v; frame = f })) o (launch_turns p v f o c latest) a (seat_busy p v f c)
 
-retire_aside : (p : Placement) (v : Page) (f : ℕ) → OwnsFrames p → IsSeated p v f → Rattle.page_model.specs.Ownership.is_marked_dirty v (mark_of p v) ≡ false → TextAside p → TextAside (retire p v)
+retire_aside : (p : Placement) (v : Page) (f : ℕ) → OwnsFrames p → IsSeated p v f
+    → Rattle.page_model.specs.Ownership.is_marked_dirty v (mark_of p v) ≡ false → TextAside p → TextAside (retire p v)
 retire_aside p v f o c clean a = elim c.state [
   | inl e ↦ subst (λ (s : PageState). TextAside (retire_to p v s)) (sym e) there
   | inr e ↦ subst (λ (s : PageState). TextAside (retire_to p v s)) (sym e.0) there
@@ -129,7 +133,8 @@ retire_aside p v f o c clean a = elim c.state [
     there : TextAside (turn p v (Invalid f) (mark_of p v) (p.free ++ f ∷ []) p.transfers)
     there = turn_aside p v f (Invalid f) (mark_of p v) (p.free ++ f ∷ []) p.transfers o (retire_turns p v f (mark_of p v) o c clean) a (seat_busy p v f c)
 
-launch_all_aside : (qs : List Page) (p : Placement) → OwnsFrames p → EachPage (HasSeat p) qs → AllApart qs → IsOpen p.transfers Writes → TextAside p → TextAside (launch_all p qs)
+launch_all_aside : (qs : List Page) (p : Placement) → OwnsFrames p → EachPage (HasSeat p) qs → AllApart qs → IsOpen p.transfers Writes → TextAside p
+    → TextAside (launch_all p qs)
 launch_all_aside [] p o c d latest a = a
 launch_all_aside (v ∷ qs) p o c d latest a =
     let h : HasSeat p v = c.0 in
@@ -143,7 +148,8 @@ launch_run_aside p qs o c d a =
     (each_page_imp (HasSeat p) (HasSeat (begin p Writes)) qs c (λ q h. record { frame = h.frame; seat = record { state = let k : IsSeated p q h.frame = h.seat in k.state } })) d
     (begin_open p.transfers Writes) (λ i n z. let k = a i n z in record { unsaved = k.unsaved; rests = k.rests })
 
-put_step_aside : (p : Placement) (v : Page) (qs : List Page) → OwnsFrames p → HasSeat p v → EachPage (HasSeat p) qs → AllApart qs → TextAside p → TextAside (put_step p v qs)
+put_step_aside : (p : Placement) (v : Page) (qs : List Page) → OwnsFrames p → HasSeat p v → EachPage (HasSeat p) qs → AllApart qs → TextAside p
+    → TextAside (put_step p v qs)
 put_step_aside p v qs o c cs d a = go (is_dirty p v) refl
   where
     go : (x : Bool) → is_dirty p v ≡ x → TextAside (put_by p v qs x)
@@ -195,7 +201,8 @@ land_aside p (Reads source demanded) x rest o l a = go (same_page x.page demande
     go false = turn_aside p x.page x.frame (Invalid x.frame) (mark_of p x.page) (p.free ++ x.frame ∷ []) rest o
         (tail_turns p (Reads source demanded) x rest (mark_of p x.page) o l (coming_clean p x.page x.frame o (landing_state p (Reads source demanded) x rest o l))) a busy
 
-land_all_aside : (xs : List Part) (p : Placement) (e : Errand) (ts : List Transfer) → OwnsFrames p → p.transfers ≡ record { errand = e; parts = xs } ∷ ts → TextAside p → TextAside (land_all p e xs ts)
+land_all_aside : (xs : List Part) (p : Placement) (e : Errand) (ts : List Transfer) → OwnsFrames p
+    → p.transfers ≡ record { errand = e; parts = xs } ∷ ts → TextAside p → TextAside (land_all p e xs ts)
 land_all_aside [] p e ts o h a = λ i n z. let k = a i n z in record { unsaved = k.unsaved; rests = k.rests }
 land_all_aside (x ∷ xs) p e ts o h a =
     let l : Landing p e x (record { errand = e; parts = xs } ∷ ts) = record { parts = ap parts_of h } in
@@ -216,7 +223,8 @@ beside_shared p (Data sid n) w s = tt
 beside_shared p (Stack sid n) w s = tt
 beside_shared p (Text image n) w s = s
 
-entry_aside : (locked : List Page) (at : ℕ) (p : Placement) (e : Entry) → OwnsFrames p → CanPlace p e → EntryShared p e → TextAside p → TextAside (place_entry locked at p e)
+entry_aside : (locked : List Page) (at : ℕ) (p : Placement) (e : Entry) → OwnsFrames p → CanPlace p e → EntryShared p e → TextAside p
+    → TextAside (place_entry locked at p e)
 entry_aside locked at p (entries.Zero q) o c s a = filled_aside p q o c a s
 entry_aside locked at p (entries.Get q lo n) o c s a = get_run_aside p (source_for (state_of p q)) q (pages_from q lo n) o c (pages_from_apart q lo n) a (pages_from_each (IsShared p) q lo n (λ w l m. beside_shared p q w s))
 entry_aside locked at p (entries.Copy q) o c s a = filled_aside p q o c a s
@@ -264,7 +272,8 @@ entry_shape = entry_kept shape_by_puts (λ p ds. shape_alike p (record p { due =
     (λ p pid out at. shape_alike p (moved p pid out at) refl refl)
 
 -- Each paging entry keeps one owner of each frame and each block.
-pub place_entry_one : (size : ℕ) (lives : ℕ → Bool) (hs : Holdings) (locked : List Page) (at : ℕ) (p : Placement) (e : Entry) → OneOwner size lives p hs → CanPlace p e → EntryShared p e → OneOwner size lives (place_entry locked at p e) hs
+pub place_entry_one : (size : ℕ) (lives : ℕ → Bool) (hs : Holdings) (locked : List Page) (at : ℕ) (p : Placement) (e : Entry)
+    → OneOwner size lives p hs → CanPlace p e → EntryShared p e → OneOwner size lives (place_entry locked at p e) hs
 place_entry_one size lives hs locked at p e o c s =
     let k : SameShape p (place_entry locked at p e) = entry_shape locked at p e in
     one_owner size lives (place_entry locked at p e) hs (place_entry_owner locked at p e o.frames c)

@@ -42,7 +42,8 @@ drop_all_rest [] p = (refl, refl)
 drop_all_rest (v ∷ qs) p = let a = drop_all_rest qs (drop_page p v) in let b = drop_rest p v in (a.0 ∙ b.0, a.1 ∙ b.1)
 
 -- a page whose slot stays, with the same transfers and nothing due
-pub still_unmoved : (p q : Placement) (b c : Bytes) (w : Page) → slot_of q w ≡ slot_of p w → q.transfers ≡ p.transfers → due_at q.due w ≡ None → due_at p.due w ≡ None → SameBytes b c w → Unmoved p q b c w
+pub still_unmoved : (p q : Placement) (b c : Bytes) (w : Page) → slot_of q w ≡ slot_of p w → q.transfers ≡ p.transfers → due_at q.due w ≡ None
+    → due_at p.due w ≡ None → SameBytes b c w → Unmoved p q b c w
 still_unmoved p q b c w s t d e x = record {
   slot = s;
   due = d ∙ sym e;
@@ -82,7 +83,8 @@ abbrev pub cut : ℕ → ℕ → SpacePages → SpacePages
 cut d s x = record x { data_pages = sized d x.data_pages; stack_pages = sized s x.stack_pages }
 
 -- a new page, of zeros
-pub zero_keeps : (q : Placement) (c : Bytes) (w : Page) → slot_of q w ≡ unfilled Zeros → ((image v : ℕ) → w ≢ Text image v) → due_at q.due w ≡ None → zeros ≡ c.memory w → Keeps q c w
+pub zero_keeps : (q : Placement) (c : Bytes) (w : Page) → slot_of q w ≡ unfilled Zeros → ((image v : ℕ) → w ≢ Text image v) → due_at q.due w ≡ None
+    → zeros ≡ c.memory w → Keeps q c w
 zero_keeps q c (Data sid v) e n d z = subst (KeepsBy q c (Data sid v)) (sym (ap (λ (x : Slot). x.state) e))
     (subst (λ (f : Filling). Rattle.page_model.specs.PageBytes.KeepsUnfilled c (Data sid v) (due_at q.due (Data sid v)) f) (sym (ap (λ (x : Slot). x.filling) e)) (subst (λ (o : Option Due). Rattle.page_model.specs.PageBytes.KeepsUnfilled c (Data sid v) o Zeros) (sym d) z), tt)
 zero_keeps q c (Stack sid v) e n d z = subst (KeepsBy q c (Stack sid v)) (sym (ap (λ (x : Slot). x.state) e))
@@ -93,7 +95,8 @@ zero_keeps q c (Text image v) e n d z = absurd (n image v refl)
 abbrev Resized : Placement → Placement → Page → Type 0
 Resized p q w = (IsThere p w × (slot_of q w ≡ slot_of p w)) ⊎ ((slot_of q w ≡ unfilled Zeros) × ((image v : ℕ) → w ≢ Text image v) × (length (slots_of p w) ≤ number_of w))
 
-resized_slot : (old new : List Slot) (n w : ℕ) → new ≡ sized n old → w < length new → ((w < length old) × (get_or new w no_slot ≡ get_or old w no_slot)) ⊎ ((get_or new w no_slot ≡ unfilled Zeros) × (length old ≤ w))
+resized_slot : (old new : List Slot) (n w : ℕ) → new ≡ sized n old → w < length new
+    → ((w < length old) × (get_or new w no_slot ≡ get_or old w no_slot)) ⊎ ((get_or new w no_slot ≡ unfilled Zeros) × (length old ≤ w))
 resized_slot old new n w e l =
     let m : w < n = (let h = ap length e ∙ length_sized n old in omega arith) in
     elim (cases_lt w (length old)) [
@@ -109,7 +112,8 @@ stack_after : (d s : ℕ) (o : Option SpacePages) → (stack_in (mapped (cut d s
 stack_after d s None = inl refl
 stack_after d s (Some x) = inr refl
 
-by_segment : (p q : Placement) (w : Page) (n : ℕ) → ((image v : ℕ) → w ≢ Text image v) → (slots_of q w ≡ slots_of p w) ⊎ (slots_of q w ≡ sized n (slots_of p w)) → IsThere q w → Resized p q w
+by_segment : (p q : Placement) (w : Page) (n : ℕ) → ((image v : ℕ) → w ≢ Text image v)
+    → (slots_of q w ≡ slots_of p w) ⊎ (slots_of q w ≡ sized n (slots_of p w)) → IsThere q w → Resized p q w
 by_segment p q w n t (inl e) there = inl (subst (λ (k : ℕ). number_of w < k) (ap length e) there, ap (λ (xs : List Slot). get_or xs (number_of w) no_slot) e)
 by_segment p q w n t (inr e) there = elim (resized_slot (slots_of p w) (slots_of q w) n (number_of w) e there) [
   | inl h ↦ inl h
@@ -135,11 +139,13 @@ cut_within : (n w : ℕ) (new old : List Slot) → (new ≡ old × (old ≡ []))
 cut_within n w new old (inl e) l = absurd (let a = ap length e.0 in let b = ap length e.1 in omega arith)
 cut_within n w new old (inr e) l = let a = ap length e ∙ length_sized n old in omega arith
 
-data_cut : (d s : ℕ) (o : Option SpacePages) → ((data_in (mapped (cut d s) o) ≡ data_in o) × (data_in o ≡ [])) ⊎ (data_in (mapped (cut d s) o) ≡ sized d (data_in o))
+data_cut : (d s : ℕ) (o : Option SpacePages)
+    → ((data_in (mapped (cut d s) o) ≡ data_in o) × (data_in o ≡ [])) ⊎ (data_in (mapped (cut d s) o) ≡ sized d (data_in o))
 data_cut d s None = inl (refl, refl)
 data_cut d s (Some x) = inr refl
 
-stack_cut : (d s : ℕ) (o : Option SpacePages) → ((stack_in (mapped (cut d s) o) ≡ stack_in o) × (stack_in o ≡ [])) ⊎ (stack_in (mapped (cut d s) o) ≡ sized s (stack_in o))
+stack_cut : (d s : ℕ) (o : Option SpacePages)
+    → ((stack_in (mapped (cut d s) o) ≡ stack_in o) × (stack_in o ≡ [])) ⊎ (stack_in (mapped (cut d s) o) ≡ sized s (stack_in o))
 stack_cut d s None = inl (refl, refl)
 stack_cut d s (Some x) = inr refl
 
@@ -193,7 +199,8 @@ resize_coupled p sid d s b c k due same new text = changed_coupled p (resize p s
 
 -- A space that goes: the pages of all others have their bytes.
 
-pub removed_there : (p : Placement) (sid : ℕ) (w : Page) → IsThere (remove_space p sid) w → ((v : ℕ) → w ≢ Data sid v) × ((v : ℕ) → w ≢ Stack sid v) × (slots_of (remove_space p sid) w ≡ slots_of p w)
+pub removed_there : (p : Placement) (sid : ℕ) (w : Page) → IsThere (remove_space p sid) w
+    → ((v : ℕ) → w ≢ Data sid v) × ((v : ℕ) → w ≢ Stack sid v) × (slots_of (remove_space p sid) w ≡ slots_of p w)
 removed_there p sid (Data t v) there = elim (cases_eq t sid) [
   | inl e ↦ absurd (let h : numbered space_number t (remove_space p sid).spaces ≡ None = ap (λ (x : ℕ). numbered space_number x (remove_space p sid).spaces) e ∙ removed_same sid p.spaces in let l = ap (λ (o : Option SpacePages). length (data_in o)) h in omega arith)
   | inr n ↦ ((λ x h. n (data_sid t sid v x h)), (λ x h. absurd cc), ap data_in (removed_other sid t p.spaces n))

@@ -39,7 +39,8 @@ unfilled_same b c w (Some (Start r)) x fi st me cp k = st ∙ k ∙ sym me
 unfilled_same b c w (Some (CopyOf r parent)) x fi st me (inl h) k = h parent ∙ k ∙ sym me
 unfilled_same b c w (Some (CopyOf r parent)) x fi st me (inr h) k = absurd h
 
-coming_same : (b c : Bytes) (w : Page) (m : Bool) (e : Option Errand) → c.file w ≡ b.file w → c.swap w ≡ b.swap w → c.memory w ≡ b.memory w → KeepsComing b w m e → KeepsComing c w m e
+coming_same : (b c : Bytes) (w : Page) (m : Bool) (e : Option Errand) → c.file w ≡ b.file w → c.swap w ≡ b.swap w → c.memory w ≡ b.memory w
+    → KeepsComing b w m e → KeepsComing c w m e
 coming_same b c w m None fi sw me k = k
 coming_same b c w m (Some Writes) fi sw me k = k
 coming_same b c w m (Some (Reads FromSwap d)) fi sw me k = sw ∙ k ∙ sym me
@@ -49,7 +50,8 @@ coming_same b c w m (Some (Reads FromFile d)) fi sw me k = (fi ∙ k.0 ∙ sym m
 pub record Unmoved (p q : Placement) (b c : Bytes) (w : Page) : Type 0 where
   pub slot : slot_of q w ≡ slot_of p w
   pub due : due_at q.due w ≡ due_at p.due w
-  pub frames : (g : ℕ) → frame_of (state_of p w) ≡ Some g → (bytes_in c g ≡ bytes_in b g) × (errand_at (parts_of q.transfers) g ≡ errand_at (parts_of p.transfers) g)
+  pub frames : (g : ℕ) → frame_of (state_of p w) ≡ Some g
+      → (bytes_in c g ≡ bytes_in b g) × (errand_at (parts_of q.transfers) g ≡ errand_at (parts_of p.transfers) g)
   pub swap : c.swap w ≡ b.swap w
   pub file : c.file w ≡ b.file w
   pub start : c.start w ≡ b.start w
@@ -62,7 +64,8 @@ mark_same p q b c w u = ap (λ (x : Slot). x.mark) u.slot
 filling_same : (p q : Placement) (b c : Bytes) (w : Page) → Unmoved p q b c w → filling_of q w ≡ filling_of p w
 filling_same p q b c w u = ap (λ (x : Slot). filling_by w x.filling) u.slot
 
-in_frame_same : (p q : Placement) (b c : Bytes) (w : Page) (f : ℕ) → Unmoved p q b c w → frame_of (state_of p w) ≡ Some f → IsInFrame b (is_dirty p w) f w → IsInFrame c (is_dirty q w) f w
+in_frame_same : (p q : Placement) (b c : Bytes) (w : Page) (f : ℕ) → Unmoved p q b c w → frame_of (state_of p w) ≡ Some f
+    → IsInFrame b (is_dirty p w) f w → IsInFrame c (is_dirty q w) f w
 in_frame_same p q b c w f u e k = record { here = (u.frames f e).0 ∙ k.here ∙ sym u.memory; there = λ h. u.swap ∙ k.there (sym (ap (is_dirty_by w) (mark_same p q b c w u)) ∙ h) ∙ sym u.memory }
 
 saved_same : (b c : Bytes) (w : Page) (m : Bool) → c.swap w ≡ b.swap w → c.memory w ≡ b.memory w → IfSaved b w m → IfSaved c w m

@@ -64,7 +64,8 @@ get_lasts p e v w o n = go p.free
       | inr h ↦ inr (ap frame_of (put_other_state (evict p f) v (Coming f) (mark_of p v) w n) ∙ h)
     ]
 
-get_all_lasts : (qs : List Page) (p : Placement) (source : Source) (demanded w : Page) → OwnsFrames p → EachPage (CanEnter p) qs → Rattle.page_model.specs.Conditions.AllApart qs
+get_all_lasts : (qs : List Page) (p : Placement) (source : Source) (demanded w : Page) → OwnsFrames p → EachPage (CanEnter p) qs
+    → Rattle.page_model.specs.Conditions.AllApart qs
     → Rattle.page_laws.proofs.Lists.Parts.IsOpen p.transfers (Reads source demanded)
     → EachPage (λ r. w ≢ r) qs → Lasts p (get_all p (Reads source demanded) qs) w
 get_all_lasts [] p source demanded w o c a latest n = inl refl
@@ -83,7 +84,8 @@ get_run_same p source demanded qs b w o c a n = lasts_same p (get_run p (Reads s
     (Rattle.page_laws.proofs.Lists.Parts.begin_open p.transfers (Reads source demanded)) n)
 
 -- A fill leaves each other page the same.
-pub filled_same : (p : Placement) (v : Page) (f : ℕ) (rest : List ℕ) (b : Bytes) (bytes : List ℕ) (w : Page) → OwnsFrames p → p.free ≡ f ∷ rest → w ≢ v → SamePage p (filled p v) b (with_frame b f bytes) w
+pub filled_same : (p : Placement) (v : Page) (f : ℕ) (rest : List ℕ) (b : Bytes) (bytes : List ℕ) (w : Page) → OwnsFrames p → p.free ≡ f ∷ rest
+    → w ≢ v → SamePage p (filled p v) b (with_frame b f bytes) w
 filled_same p v f rest b bytes w o e n = record {
   frames = λ g h a k.
       let now : frame_of (state_of (evict p f) w) ≡ Some h = ap frame_of (sym (put_other_state (evict p f) v (Valid f) true w n)) ∙ subst (λ (fr : List ℕ). frame_of (state_of (fill_at p v fr) w) ≡ Some h) e k in
@@ -108,11 +110,13 @@ read_frames : (xs : List Part) (b : Bytes) (source : Source) (f : ℕ) → NotFr
 read_frames [] b source f n = refl
 read_frames (x ∷ xs) b source f n = read_frames xs (with_frame b x.frame (source_bytes b source x.page)) source f n.1 ∙ at_set_other b.frames x.frame f (source_bytes b source x.page) [] n.0
 
-read_swap : (xs : List Part) (b : Bytes) (source : Source) (w : Page) → ((bytes_read b source xs).swap w ≡ b.swap w) × ((bytes_read b source xs).start w ≡ b.start w)
+read_swap : (xs : List Part) (b : Bytes) (source : Source) (w : Page)
+    → ((bytes_read b source xs).swap w ≡ b.swap w) × ((bytes_read b source xs).start w ≡ b.start w)
 read_swap [] b source w = (refl, refl)
 read_swap (x ∷ xs) b source w = read_swap xs (with_frame b x.frame (source_bytes b source x.page)) source w
 
-stored_rest : (xs : List Part) (b c : Bytes) (w : Page) → StoresAll b xs c → NotIn w xs → (c.frames ≡ b.frames) × (c.swap w ≡ b.swap w) × (c.start w ≡ b.start w)
+stored_rest : (xs : List Part) (b c : Bytes) (w : Page) → StoresAll b xs c → NotIn w xs
+    → (c.frames ≡ b.frames) × (c.swap w ≡ b.swap w) × (c.start w ≡ b.start w)
 stored_rest [] b c w s n = (ap (λ (x : Bytes). x.frames) (sym s), ap (λ (x : Bytes). x.swap w) (sym s), ap (λ (x : Bytes). x.start w) (sym s))
 stored_rest (x ∷ xs) b c w s n =
     let k = stored_rest xs s.0 c w s.2 n.1 in
@@ -120,7 +124,8 @@ stored_rest (x ∷ xs) b c w s n =
     (k.0 ∙ m.frames, k.1 ∙ m.others w n.0, k.2 ∙ m.start w)
 
 -- a page that isn't in the transfer has none of its frames
-other_frames : (p : Placement) (e : Errand) (xs : List Part) (w : Page) (f : ℕ) → OwnsFrames p → Each (IsMoving p) (map (moving e) xs) → NotIn w xs → frame_of (state_of p w) ≡ Some f → NotFrames f xs
+other_frames : (p : Placement) (e : Errand) (xs : List Part) (w : Page) (f : ℕ) → OwnsFrames p → Each (IsMoving p) (map (moving e) xs) → NotIn w xs
+    → frame_of (state_of p w) ≡ Some f → NotFrames f xs
 other_frames p e [] w f o m n h = tt
 other_frames p e (x ∷ xs) w f o m n h =
     ((λ z. n.0 (same_Some w x.page (sym (o.names w f h) ∙ ap (page_of p) z ∙ o.names x.page x.frame (ap frame_of m.0 ∙ frame_of_moving e x.frame)))), other_frames p e xs w f o m.1 n.1 h)
@@ -129,7 +134,8 @@ pub each_front : (P : Moving → Type 0) (ms ns : List Moving) → Each P (ms ++
 each_front P [] ns h = tt
 each_front P (m ∷ ms) ns h = (h.0, each_front P ms ns h.1)
 
-pub done_same : (p : Placement) (t : Transfer) (ts : List Transfer) (b c : Bytes) (w : Page) → OwnsFrames p → p.transfers ≡ t ∷ ts → BytesAfter b (t ∷ ts) c → NotIn w t.parts → SamePage p (done p) b c w
+pub done_same : (p : Placement) (t : Transfer) (ts : List Transfer) (b c : Bytes) (w : Page) → OwnsFrames p → p.transfers ≡ t ∷ ts
+    → BytesAfter b (t ∷ ts) c → NotIn w t.parts → SamePage p (done p) b c w
 done_same p t ts b c w o h s n = by t.errand refl
   where
     st : Steady p (done p)
@@ -196,7 +202,8 @@ touch_steady p v = go v (state_of p v) refl
     go (Stack sid n) OnSwap e = steady_self p
     go (Text image n) s e = steady_self p
 
-pub touch_same : (p : Placement) (v : Page) (f : ℕ) (b c : Bytes) (bytes : List ℕ) (w : Page) → OwnsFrames p → state_of p v ≡ Valid f → WritesBoth b c v f bytes → w ≢ v → SamePage p (touch p v) b c w
+pub touch_same : (p : Placement) (v : Page) (f : ℕ) (b c : Bytes) (bytes : List ℕ) (w : Page) → OwnsFrames p → state_of p v ≡ Valid f
+    → WritesBoth b c v f bytes → w ≢ v → SamePage p (touch p v) b c w
 touch_same p v f b c bytes w o e s n = record {
   frames = λ g h a k.
       let t : Steady p (touch p v) = touch_steady p v in
@@ -209,7 +216,8 @@ touch_same p v f b c bytes w o e s n = record {
 
 -- Settling.
 
-named_in : (p : Placement) (test : Page → Bool) (q : Page) (f : ℕ) (ms : List Moving) → OwnsFrames p → test q ≡ true → page_of p f ≡ Some q → Each (IsMoving p) ms → 0 < times f (flying ms) → names_page test ms ≡ true
+named_in : (p : Placement) (test : Page → Bool) (q : Page) (f : ℕ) (ms : List Moving) → OwnsFrames p → test q ≡ true → page_of p f ≡ Some q
+    → Each (IsMoving p) ms → 0 < times f (flying ms) → names_page test ms ≡ true
 named_in p test q f [] o t h m l = absurd (omega arith)
 named_in p test q f (x ∷ ms) o t h m l = elim (cases_eq x.frame f) [
   | inl e ↦ or_left (test x.page) (names_page test ms) (ap test (same_Some x.page q (sym (o.names x.page x.frame (ap frame_of m.0 ∙ frame_of_moving x.errand x.frame)) ∙ ap (page_of p) e ∙ h)) ∙ t)
@@ -217,7 +225,8 @@ named_in p test q f (x ∷ ms) o t h m l = elim (cases_eq x.frame f) [
 ]
 
 -- a page in flight is named by a transfer
-flight_named : (p : Placement) (test : Page → Bool) (q : Page) (f : ℕ) → OwnsFrames p → test q ≡ true → frame_of (state_of p q) ≡ Some f → seats 0 (state_of p q) ≡ 0 → (state_of p q ≡ Invalid f → ⊥)
+flight_named : (p : Placement) (test : Page → Bool) (q : Page) (f : ℕ) → OwnsFrames p → test q ≡ true → frame_of (state_of p q) ≡ Some f
+    → seats 0 (state_of p q) ≡ 0 → (state_of p q ≡ Invalid f → ⊥)
     → names_page test (parts_of p.transfers) ≡ true
 flight_named p test q f o t e z n = named_in p test q f (parts_of p.transfers) o t (o.names q f e) o.moves (elim (zero_or (times f p.free)) [
   | inl y ↦ (let a = once_at p q f o e in let b : seats (times f p.free) (state_of p q) ≡ 0 = ap (λ (k : ℕ). seats k (state_of p q)) y ∙ z in omega arith)
@@ -227,7 +236,8 @@ flight_named p test q f o t e z n = named_in p test q f (parts_of p.transfers) o
     zero_or : (m : ℕ) → (m ≡ 0) ⊎ (0 < m)
     zero_or m = grind arith
 
-pub unnamed_rests : (p : Placement) (test : Page → Bool) (q : Page) → OwnsFrames p → test q ≡ true → names_page test (parts_of p.transfers) ≡ false → AtRest (state_of p q)
+pub unnamed_rests : (p : Placement) (test : Page → Bool) (q : Page) → OwnsFrames p → test q ≡ true → names_page test (parts_of p.transfers) ≡ false
+    → AtRest (state_of p q)
 unnamed_rests p test q o t n = go (state_of p q) refl
   where
     never : (f : ℕ) (s : PageState) → state_of p q ≡ s → frame_of s ≡ Some f → seats 0 s ≡ 0 → (s ≡ Invalid f → ⊥) → ⊥

@@ -26,7 +26,8 @@ use Rattle.page_laws.proofs.Ownership.Runs.{Landing, landing_state, landing_fram
 use Rattle.page_laws.proofs.Bytes.Couples.{Beside, local_coupled}
 
 -- what stands beside, where it stays as it is
-pub beside_still : (p q : Placement) (v : Page) (f : ℕ) (b : Bytes) → q.due ≡ p.due → ((g : ℕ) → g ≢ f → errand_at (parts_of q.transfers) g ≡ errand_at (parts_of p.transfers) g) → Beside p q v f b b
+pub beside_still : (p q : Placement) (v : Page) (f : ℕ) (b : Bytes) → q.due ≡ p.due
+    → ((g : ℕ) → g ≢ f → errand_at (parts_of q.transfers) g ≡ errand_at (parts_of p.transfers) g) → Beside p q v f b b
 beside_still p q v f b d e = record {
   frames = λ g n. refl;
   swap = λ w n. refl;
@@ -40,7 +41,8 @@ beside_still p q v f b d e = record {
   errands = e;
 }
 
-pub beside_frame : (p q : Placement) (v : Page) (f : ℕ) (b : Bytes) (bytes : List ℕ) → q.due ≡ p.due → ((g : ℕ) → g ≢ f → errand_at (parts_of q.transfers) g ≡ errand_at (parts_of p.transfers) g) → Beside p q v f b (with_frame b f bytes)
+pub beside_frame : (p q : Placement) (v : Page) (f : ℕ) (b : Bytes) (bytes : List ℕ) → q.due ≡ p.due
+    → ((g : ℕ) → g ≢ f → errand_at (parts_of q.transfers) g ≡ errand_at (parts_of p.transfers) g) → Beside p q v f b (with_frame b f bytes)
 beside_frame p q v f b bytes d e = record {
   frames = λ g n. at_set_other b.frames f g bytes [] n;
   swap = λ w n. refl;
@@ -59,18 +61,21 @@ pub keeps_at : (p : Placement) (b : Bytes) (v : Page) (s : PageState) → Couple
 keeps_at p b v s k there e = subst (KeepsBy p b v) e (k.each v there)
 
 -- A page that moves on with its frame.
-pub turn_coupled : (p : Placement) (v : Page) (f : ℕ) (s : PageState) (m : Bool) (free : List ℕ) (ts : List Transfer) (b c : Bytes) → OwnsFrames p → Turns p v f s m free ts
+pub turn_coupled : (p : Placement) (v : Page) (f : ℕ) (s : PageState) (m : Bool) (free : List ℕ) (ts : List Transfer) (b c : Bytes) → OwnsFrames p
+    → Turns p v f s m free ts
     → Beside p (turn p v s m free ts) v f b c → CouplesPages p b → KeepsBy (turn p v s m free ts) c v s → CouplesPages (turn p v s m free ts) c
 turn_coupled p v f s m free ts b c o t sd k keep = local_coupled p (turn p v s m free ts) v f b c o (turn_local p v f s m free ts o t) sd k
     (λ _. subst (KeepsBy (turn p v s m free ts) c v) (sym (put_state p v s m (page_in p v f t.from))) keep)
 
 -- in its frame, with the mark that it was put with
-pub marked : (p : Placement) (v : Page) (f : ℕ) (s : PageState) (m : Bool) (free : List ℕ) (ts : List Transfer) (c : Bytes) → IsThere p v → IsInFrame c (is_dirty_by v m) f v → IsInFrame c (is_dirty (turn p v s m free ts) v) f v
+pub marked : (p : Placement) (v : Page) (f : ℕ) (s : PageState) (m : Bool) (free : List ℕ) (ts : List Transfer) (c : Bytes) → IsThere p v
+    → IsInFrame c (is_dirty_by v m) f v → IsInFrame c (is_dirty (turn p v s m free ts) v) f v
 marked p v f s m free ts c there k = subst (λ (d : Bool). IsInFrame c d f v) (sym (ap (is_dirty_by v) (put_mark p v s m there))) k
 
 -- Taking a frame.
 
-left_keeps : (p : Placement) (b : Bytes) (f : ℕ) (v : Page) (m : Bool) → mark_of (evict_at p f (Some v)) v ≡ m → is_marked_dirty v m ≡ false → b.file v ≡ b.memory v ⊎ ((image n : ℕ) → v ≢ Text image n)
+left_keeps : (p : Placement) (b : Bytes) (f : ℕ) (v : Page) (m : Bool) → mark_of (evict_at p f (Some v)) v ≡ m → is_marked_dirty v m ≡ false
+    → b.file v ≡ b.memory v ⊎ ((image n : ℕ) → v ≢ Text image n)
     → ((image n : ℕ) → v ≡ Text image n → due_at p.due v ≡ None) → IsInFrame b (is_dirty_by v m) f v → KeepsBy (evict_at p f (Some v)) b v (left_state v m)
 left_keeps p b f (Data sid n) m e c h d k = k.there c
 left_keeps p b f (Stack sid n) m e c h d k = k.there c
@@ -127,7 +132,8 @@ writable_dirty (Stack sid n) w = refl
 writable_dirty (Text image n) w = absurd w
 
 -- The page takes the first free frame, which now has its bytes, and is no longer due.
-pub filled_coupled : (p : Placement) (v : Page) (f : ℕ) (rest : List ℕ) (b : Bytes) (bytes : List ℕ) → OwnsFrames p → CanEnter p v → p.free ≡ f ∷ rest → length b.frames ≡ length p.holds → IsWritable v
+pub filled_coupled : (p : Placement) (v : Page) (f : ℕ) (rest : List ℕ) (b : Bytes) (bytes : List ℕ) → OwnsFrames p → CanEnter p v → p.free ≡ f ∷ rest
+    → length b.frames ≡ length p.holds → IsWritable v
     → bytes ≡ b.memory v → CouplesPages p b → CouplesPages (filled p v) (with_frame b f bytes)
 filled_coupled p v f rest b bytes o c fr tokens w is k = subst (λ (q : Placement). CouplesPages q (with_frame b f bytes)) (sym (ap (λ (l : List ℕ). record (fill_at p v l) { due = due_after p.due v }) fr))
     (local_coupled (evict p f) q v f b (with_frame b f bytes) (evict_owner p f o some) l sd (evict_coupled p f b o some k)
@@ -172,13 +178,15 @@ from_file (Data sid n) m demanded u h = h tt
 from_file (Stack sid n) m demanded u h = h tt
 from_file (Text image n) m demanded u h = u
 
-coming_keeps : (p : Placement) (b : Bytes) (source : Source) (demanded v : Page) → CouplesPages p b → IsThere p v → ReadsFrom p source demanded v → KeepsComing b v (mark_of p v) (Some (Reads source demanded))
+coming_keeps : (p : Placement) (b : Bytes) (source : Source) (demanded v : Page) → CouplesPages p b → IsThere p v → ReadsFrom p source demanded v
+    → KeepsComing b v (mark_of p v) (Some (Reads source demanded))
 coming_keeps p b FromSwap demanded v k there h = keeps_at p b v OnSwap k there h
 coming_keeps p b FromFile demanded v k there h =
     let u : KeepsUnfilled b v (due_at p.due v) (filling_of p v) × IsUnsaved v (mark_of p v) = keeps_at p b v Unfilled k there h.0 in
     (subst (λ (x : Filling). KeepsUnfilled b v None x) h.1 (subst (λ (d : Option Due). KeepsUnfilled b v d (filling_of p v)) h.2 u.0), from_file v (mark_of p v) demanded u.1 h.3)
 
-pub get_coupled : (p : Placement) (source : Source) (demanded v : Page) (b : Bytes) → OwnsFrames p → CanEnter p v → IsOpen p.transfers (Reads source demanded) → ReadsFrom p source demanded v
+pub get_coupled : (p : Placement) (source : Source) (demanded v : Page) (b : Bytes) → OwnsFrames p → CanEnter p v
+    → IsOpen p.transfers (Reads source demanded) → ReadsFrom p source demanded v
     → CouplesPages p b → CouplesPages (get_one p (Reads source demanded) v) b
 get_coupled p source demanded v b o c latest h k = go p.free refl
   where
@@ -259,7 +267,8 @@ saved_there b (Data sid n) m h = tt
 saved_there b (Stack sid n) m h = tt
 saved_there b (Text image n) m h = λ e. h (ap not e)
 
-pub launch_coupled : (p : Placement) (v : Page) (f : ℕ) (b : Bytes) → OwnsFrames p → IsSeated p v f → IsOpen p.transfers Writes → CouplesPages p b → CouplesPages (launch p v) b
+pub launch_coupled : (p : Placement) (v : Page) (f : ℕ) (b : Bytes) → OwnsFrames p → IsSeated p v f → IsOpen p.transfers Writes → CouplesPages p b
+    → CouplesPages (launch p v) b
 launch_coupled p v f b o c latest k = elim c.state [
   | inl e ↦ subst (λ (s : PageState). CouplesPages (launch_to p v s) b) (sym e) there
   | inr e ↦ subst (λ (s : PageState). CouplesPages (launch_to p v s) b) (sym e.0) there
@@ -274,7 +283,8 @@ launch_coupled p v f b o c latest k = elim c.state [
         k (let i : IsInFrame b (is_dirty p v) f v = seated_keeps p b v f k c in
         (i.here, subst (IfSaved b v) (sym (put_mark p v (Going f) (mark_of p v) (seated_there p v f c))) (saved_there b v (mark_of p v) i.there)))
 
-pub retire_coupled : (p : Placement) (v : Page) (f : ℕ) (b : Bytes) → OwnsFrames p → IsSeated p v f → is_marked_dirty v (mark_of p v) ≡ false → CouplesPages p b → CouplesPages (retire p v) b
+pub retire_coupled : (p : Placement) (v : Page) (f : ℕ) (b : Bytes) → OwnsFrames p → IsSeated p v f → is_marked_dirty v (mark_of p v) ≡ false
+    → CouplesPages p b → CouplesPages (retire p v) b
 retire_coupled p v f b o c clean k = elim c.state [
   | inl e ↦ subst (λ (s : PageState). CouplesPages (retire_to p v s) b) (sym e) there
   | inr e ↦ subst (λ (s : PageState). CouplesPages (retire_to p v s) b) (sym e.0) there
@@ -287,14 +297,16 @@ retire_coupled p v f b o c clean k = elim c.state [
 
 -- The end of a transfer.
 
-landing_errands : (p : Placement) (e : Errand) (x : Part) (rest : List Transfer) → Landing p e x rest → (g : ℕ) → g ≢ x.frame → errand_at (parts_of rest) g ≡ errand_at (parts_of p.transfers) g
+landing_errands : (p : Placement) (e : Errand) (x : Part) (rest : List Transfer) → Landing p e x rest → (g : ℕ) → g ≢ x.frame
+    → errand_at (parts_of rest) g ≡ errand_at (parts_of p.transfers) g
 landing_errands p e x rest l g n = sym (ap (λ (ms : List Moving). errand_at ms g) l.parts ∙ errand_tail (moving e x) (parts_of rest) g n)
 
 landing_errand : (p : Placement) (e : Errand) (x : Part) (rest : List Transfer) → Landing p e x rest → errand_at (parts_of p.transfers) x.frame ≡ Some e
 landing_errand p e x rest l = ap (λ (ms : List Moving). errand_at ms x.frame) l.parts ∙ errand_head (moving e x) (parts_of rest)
 
 -- A page that was written: its blocks have the bytes of its frame.
-pub land_write_coupled : (p : Placement) (x : Part) (rest : List Transfer) (b c : Bytes) → OwnsFrames p → Landing p Writes x rest → Stores b c x.page (bytes_in b x.frame) → CouplesPages p b → CouplesPages (land p Writes x rest) c
+pub land_write_coupled : (p : Placement) (x : Part) (rest : List Transfer) (b c : Bytes) → OwnsFrames p → Landing p Writes x rest
+    → Stores b c x.page (bytes_in b x.frame) → CouplesPages p b → CouplesPages (land p Writes x rest) c
 land_write_coupled p x rest b c o l st k = turn_coupled p x.page x.frame (Invalid x.frame) (written_mark x.page) (p.free ++ x.frame ∷ []) rest b c o (tail_turns p Writes x rest (written_mark x.page) o l (written_clean x.page))
     (record {
       frames = λ g n. ap (λ (fs : List (List ℕ)). at_frame fs g []) st.frames;
@@ -322,21 +334,24 @@ came b FromSwap demanded v m k = k
 came b FromFile demanded v m k = k.0
 
 -- a page that is demanded is stored, or dirty from now on
-arrived_there : (b : Bytes) (source : Source) (demanded v : Page) (m : Bool) → KeepsComing b v m (Some (Reads source demanded)) → is_dirty_by v (arrived_mark source v m) ≡ false → b.swap v ≡ b.memory v
+arrived_there : (b : Bytes) (source : Source) (demanded v : Page) (m : Bool) → KeepsComing b v m (Some (Reads source demanded))
+    → is_dirty_by v (arrived_mark source v m) ≡ false → b.swap v ≡ b.memory v
 arrived_there b FromSwap demanded v m k e = k
 arrived_there b FromFile demanded (Data sid n) m k e = absurd cc
 arrived_there b FromFile demanded (Stack sid n) m k e = absurd cc
 arrived_there b FromFile demanded (Text image n) m k e = absurd (let h : true ≡ false = ap not (sym k.1) ∙ e in cc)
 
 -- a neighbour is stored, or is text that isn't saved
-beside_there : (b : Bytes) (source : Source) (demanded v : Page) (m : Bool) → v ≢ demanded → KeepsComing b v m (Some (Reads source demanded)) → is_dirty_by v m ≡ false → b.swap v ≡ b.memory v
+beside_there : (b : Bytes) (source : Source) (demanded v : Page) (m : Bool) → v ≢ demanded → KeepsComing b v m (Some (Reads source demanded))
+    → is_dirty_by v m ≡ false → b.swap v ≡ b.memory v
 beside_there b FromSwap demanded v m n k e = k
 beside_there b FromFile demanded (Data sid x) m n k e = absurd (n k.1)
 beside_there b FromFile demanded (Stack sid x) m n k e = absurd (n k.1)
 beside_there b FromFile demanded (Text image x) m n k e = absurd (let h : true ≡ false = ap not (sym k.1) ∙ e in cc)
 
 -- A page that was read: its frame has the bytes of its blocks, or of its file.
-pub land_read_coupled : (p : Placement) (source : Source) (demanded : Page) (x : Part) (rest : List Transfer) (b : Bytes) → OwnsFrames p → Landing p (Reads source demanded) x rest → length b.frames ≡ length p.holds
+pub land_read_coupled : (p : Placement) (source : Source) (demanded : Page) (x : Part) (rest : List Transfer) (b : Bytes) → OwnsFrames p
+    → Landing p (Reads source demanded) x rest → length b.frames ≡ length p.holds
     → CouplesPages p b → CouplesPages (land p (Reads source demanded) x rest) (with_frame b x.frame (source_bytes b source x.page))
 land_read_coupled p source demanded x rest b o l tokens k = go (same_page x.page demanded) refl
   where
@@ -369,7 +384,8 @@ land_read_coupled p source demanded x rest b o l tokens k = go (same_page x.page
 
 -- A user write.
 
-pub touch_coupled : (p : Placement) (v : Page) (f : ℕ) (b c : Bytes) (bytes : List ℕ) → OwnsFrames p → state_of p v ≡ Valid f → IsWritable v → p.due ≡ [] → length b.frames ≡ length p.holds
+pub touch_coupled : (p : Placement) (v : Page) (f : ℕ) (b c : Bytes) (bytes : List ℕ) → OwnsFrames p → state_of p v ≡ Valid f → IsWritable v
+    → p.due ≡ [] → length b.frames ≡ length p.holds
     → WritesBoth b c v f bytes → CouplesPages p b → CouplesPages (touch p v) c
 touch_coupled p v f b c bytes o e w due tokens wr k = go v w refl
   where

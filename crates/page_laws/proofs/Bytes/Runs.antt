@@ -32,7 +32,8 @@ use Rattle.page_laws.proofs.Bytes.Couples.{unmoved_keeps}
 use Rattle.page_laws.proofs.Bytes.Pages.{get_coupled, launch_coupled, retire_coupled, expire_coupled, land_write_coupled, land_read_coupled}
 
 -- where nothing is moved, all pages keep
-pub still_coupled : (p q : Placement) (b : Bytes) → ((w : Page) → slots_of q w ≡ slots_of p w) → q.due ≡ p.due → parts_of q.transfers ≡ parts_of p.transfers → CouplesPages p b → CouplesPages q b
+pub still_coupled : (p q : Placement) (b : Bytes) → ((w : Page) → slots_of q w ≡ slots_of p w) → q.due ≡ p.due
+    → parts_of q.transfers ≡ parts_of p.transfers → CouplesPages p b → CouplesPages q b
 still_coupled p q b s d t k = record {
   each = λ w there. unmoved_keeps p q b b w (record {
     slot = ap (λ (xs : List Slot). Rattle.std.specs.Prelude.get_or xs (number_of w) Rattle.page_model.specs.Pages.no_slot) (s w);
@@ -63,7 +64,8 @@ get_slot p e v w o n h = go p.free
 pub get_due : (p : Placement) (e : Errand) (v : Page) → (get_one p e v).due ≡ p.due
 get_due p e v = (get_kept rest_by_puts p e v).due
 
-reads_still : (p : Placement) (e : Errand) (source : Source) (demanded v w : Page) → OwnsFrames p → w ≢ v → CanEnter p w → ReadsFrom p source demanded w → ReadsFrom (get_one p e v) source demanded w
+reads_still : (p : Placement) (e : Errand) (source : Source) (demanded v w : Page) → OwnsFrames p → w ≢ v → CanEnter p w
+    → ReadsFrom p source demanded w → ReadsFrom (get_one p e v) source demanded w
 reads_still p e FromSwap demanded v w o n c h = ap (λ (x : Slot). x.state) (get_slot p e v w o n c.frameless) ∙ h
 reads_still p e FromFile demanded v w o n c h = (
   ap (λ (x : Slot). x.state) (get_slot p e v w o n c.frameless) ∙ h.0,
@@ -77,13 +79,15 @@ pub record Reading (p : Placement) (source : Source) (demanded v : Page) : Type 
   pub enters : CanEnter p v
   pub from : ReadsFrom p source demanded v
 
-reading_still : (p : Placement) (source : Source) (demanded v w : Page) → OwnsFrames p → w ≢ v → Reading p source demanded w → Reading (get_one p (Reads source demanded) v) source demanded w
+reading_still : (p : Placement) (source : Source) (demanded v w : Page) → OwnsFrames p → w ≢ v → Reading p source demanded w
+    → Reading (get_one p (Reads source demanded) v) source demanded w
 reading_still p source demanded v w o n r = record {
   enters = get_enters_still p (Reads source demanded) v w o n r.enters;
   from = reads_still p (Reads source demanded) source demanded v w o n r.enters r.from;
 }
 
-get_all_coupled : (qs : List Page) (p : Placement) (source : Source) (demanded : Page) (b : Bytes) → OwnsFrames p → EachPage (Reading p source demanded) qs → AllApart qs
+get_all_coupled : (qs : List Page) (p : Placement) (source : Source) (demanded : Page) (b : Bytes) → OwnsFrames p
+    → EachPage (Reading p source demanded) qs → AllApart qs
     → IsOpen p.transfers (Reads source demanded) → CouplesPages p b → CouplesPages (get_all p (Reads source demanded) qs) b
 get_all_coupled [] p source demanded b o c a latest k = k
 get_all_coupled (v ∷ qs) p source demanded b o c a latest k =
@@ -97,7 +101,8 @@ from_begin p e FromSwap demanded v h = h
 from_begin p e FromFile demanded v h = h
 
 -- The beginning of a read.
-pub get_run_coupled : (p : Placement) (source : Source) (demanded : Page) (qs : List Page) (b : Bytes) → OwnsFrames p → EachPage (Reading p source demanded) qs → AllApart qs → CouplesPages p b
+pub get_run_coupled : (p : Placement) (source : Source) (demanded : Page) (qs : List Page) (b : Bytes) → OwnsFrames p
+    → EachPage (Reading p source demanded) qs → AllApart qs → CouplesPages p b
     → CouplesPages (get_run p (Reads source demanded) qs) b
 get_run_coupled p source demanded qs b o c a k =
     get_all_coupled qs (begin p (Reads source demanded)) source demanded b (begin_owner p (Reads source demanded) o)
@@ -107,7 +112,8 @@ get_run_coupled p source demanded qs b o c a k =
 
 -- Writes.
 
-launch_all_coupled : (qs : List Page) (p : Placement) (b : Bytes) → OwnsFrames p → EachPage (HasSeat p) qs → AllApart qs → IsOpen p.transfers Writes → CouplesPages p b → CouplesPages (launch_all p qs) b
+launch_all_coupled : (qs : List Page) (p : Placement) (b : Bytes) → OwnsFrames p → EachPage (HasSeat p) qs → AllApart qs → IsOpen p.transfers Writes
+    → CouplesPages p b → CouplesPages (launch_all p qs) b
 launch_all_coupled [] p b o c a latest k = k
 launch_all_coupled (v ∷ qs) p b o c a latest k =
     let h : HasSeat p v = c.0 in
@@ -116,13 +122,15 @@ launch_all_coupled (v ∷ qs) p b o c a latest k =
     (launch_coupled p v h.frame b o h.seat latest k)
 
 -- The beginning of a write.
-pub launch_run_coupled : (p : Placement) (qs : List Page) (b : Bytes) → OwnsFrames p → EachPage (HasSeat p) qs → AllApart qs → CouplesPages p b → CouplesPages (launch_run p qs) b
+pub launch_run_coupled : (p : Placement) (qs : List Page) (b : Bytes) → OwnsFrames p → EachPage (HasSeat p) qs → AllApart qs → CouplesPages p b
+    → CouplesPages (launch_run p qs) b
 launch_run_coupled p qs b o c a k =
     launch_all_coupled qs (begin p Writes) b (begin_owner p Writes o)
     (each_page_imp (HasSeat p) (HasSeat (begin p Writes)) qs c (λ q h. record { frame = h.frame; seat = record { state = let k : IsSeated p q h.frame = h.seat in k.state } })) a
     (begin_open p.transfers Writes) (begin_coupled p Writes b k)
 
-pub put_step_coupled : (p : Placement) (v : Page) (qs : List Page) (b : Bytes) → OwnsFrames p → HasSeat p v → EachPage (HasSeat p) qs → AllApart qs → CouplesPages p b → CouplesPages (put_step p v qs) b
+pub put_step_coupled : (p : Placement) (v : Page) (qs : List Page) (b : Bytes) → OwnsFrames p → HasSeat p v → EachPage (HasSeat p) qs → AllApart qs
+    → CouplesPages p b → CouplesPages (put_step p v qs) b
 put_step_coupled p v qs b o c cs a k = go (is_dirty p v) refl
   where
     go : (d : Bool) → is_dirty p v ≡ d → CouplesPages (put_by p v qs d) b
@@ -163,7 +171,8 @@ move_coupled p locked b o k = still_coupled (sweep (expire p locked) locked) (ha
 
 -- The end of a transfer.
 
-landed_writes : (xs : List Part) (p : Placement) (ts : List Transfer) (b c : Bytes) → OwnsFrames p → p.transfers ≡ record { errand = Writes; parts = xs } ∷ ts → StoresAll b xs c → CouplesPages p b → CouplesPages (land_all p Writes xs ts) c
+landed_writes : (xs : List Part) (p : Placement) (ts : List Transfer) (b c : Bytes) → OwnsFrames p
+    → p.transfers ≡ record { errand = Writes; parts = xs } ∷ ts → StoresAll b xs c → CouplesPages p b → CouplesPages (land_all p Writes xs ts) c
 landed_writes [] p ts b c o h s k = subst (CouplesPages (record p { transfers = ts })) s (still_coupled p (record p { transfers = ts }) b (λ w. refl) refl (sym (ap parts_of h)) k)
 landed_writes (x ∷ xs) p ts b c o h s k =
     let l : Landing p Writes x (record { errand = Writes; parts = xs } ∷ ts) = record { parts = ap parts_of h } in
@@ -189,7 +198,8 @@ landed_reads (x ∷ xs) p source demanded ts b o h tokens k =
     (land_read_coupled p source demanded x (record { errand = Reads source demanded; parts = xs } ∷ ts) b o l tokens k)
 
 -- The end of the oldest transfer.
-pub done_coupled : (p : Placement) (b c : Bytes) → OwnsFrames p → length b.frames ≡ length p.holds → BytesAfter b p.transfers c → CouplesPages p b → CouplesPages (done p) c
+pub done_coupled : (p : Placement) (b c : Bytes) → OwnsFrames p → length b.frames ≡ length p.holds → BytesAfter b p.transfers c → CouplesPages p b
+    → CouplesPages (done p) c
 done_coupled p b c o tokens s k = go p.transfers refl s
   where
     by : (e : Errand) (xs : List Part) (ts : List Transfer) → p.transfers ≡ record { errand = e; parts = xs } ∷ ts → BytesBy b e xs c → CouplesPages (land_all p e xs ts) c
@@ -206,7 +216,8 @@ each_both : (P Q : Page → Type 0) (R : Page → Type 0) (qs : List Page) → E
 each_both P Q R qs h g k = each_page_both P Q R qs h g k
 
 -- each page of the run is read from where the demanded one is
-pub run_in_reads : (p : Placement) (b : Bytes) (q : Page) → CouplesPages p b → ReadsFrom p (source_for (state_of p q)) q q → EachPage (ReadsFrom p (source_for (state_of p q)) q) (pages_of_run q (run_in p q))
+pub run_in_reads : (p : Placement) (b : Bytes) (q : Page) → CouplesPages p b → ReadsFrom p (source_for (state_of p q)) q q
+    → EachPage (ReadsFrom p (source_for (state_of p q)) q) (pages_of_run q (run_in p q))
 run_in_reads p b q k h = go q (state_of p q) (spare_frames p) h
   where
     alone : (q : Page) (source : Source) → ReadsFrom p source q q → EachPage (ReadsFrom p source q) (pages_of_run q (run_alone q))
@@ -238,7 +249,8 @@ run_in_reads p b q k h = go q (state_of p q) (spare_frames p) h
     go (Stack sid v) (Coming f) spare h = alone (Stack sid v) FromFile h
     go (Stack sid v) (Going f) spare h = alone (Stack sid v) FromFile h
 
-pub read_coupled : (p : Placement) (q : Page) (b : Bytes) → OwnsFrames p → CanEnter p q → ReadsFrom p (source_for (state_of p q)) q q → CouplesPages p b → CouplesPages (read_step p q) b
+pub read_coupled : (p : Placement) (q : Page) (b : Bytes) → OwnsFrames p → CanEnter p q → ReadsFrom p (source_for (state_of p q)) q q
+    → CouplesPages p b → CouplesPages (read_step p q) b
 read_coupled p q b o c h k = get_run_coupled p (source_for (state_of p q)) q (pages_of_run q (run_in p q)) b o
     (each_both (CanEnter p) (ReadsFrom p (source_for (state_of p q)) q) (Reading p (source_for (state_of p q)) q) (pages_of_run q (run_in p q)) (run_in_enters p q c) (run_in_reads p b q k h) (λ r a d. record { enters = a; from = d }))
     (run_apart q (run_in p q)) k

@@ -82,7 +82,8 @@ leave_page_coupled p image n b o k = go (state_of p (Text image n)) (listed p (T
 abbrev pub IsOfText : ℕ → Page → Type 0
 IsOfText image q = (n : ℕ) × (q ≡ Text image n)
 
-leave_all_coupled : (qs : List Page) (p : Placement) (image : ℕ) (b : Bytes) → OwnsFrames p → EachPage (IsOfText image) qs → CouplesPages p b → CouplesPages (leave_all p qs) b
+leave_all_coupled : (qs : List Page) (p : Placement) (image : ℕ) (b : Bytes) → OwnsFrames p → EachPage (IsOfText image) qs → CouplesPages p b
+    → CouplesPages (leave_all p qs) b
 leave_all_coupled [] p image b o t k = k
 leave_all_coupled (v ∷ qs) p image b o t k = leave_all_coupled qs (leave_page p v) image b (leave_page_owner p v o) t.1
     (subst (λ (x : Page). CouplesPages (leave_page p x) b) (sym t.0.1) (leave_page_coupled p image t.0.0 b o k))
@@ -172,7 +173,8 @@ DueOf child parent (Coming f) = Some (CopyOf child parent)
 DueOf child parent (Going f) = Some (CopyOf child parent)
 DueOf child parent OnSwap = Some (CopyOf child parent)
 
-copies_here : (child parent : ℕ → Page) (s : PageState) (v : ℕ) (rest : List Due) → due_at rest (child v) ≡ None → due_at (copy_due (child v) (parent v) s ++ rest) (child v) ≡ DueOf (child v) (parent v) s
+copies_here : (child parent : ℕ → Page) (s : PageState) (v : ℕ) (rest : List Due) → due_at rest (child v) ≡ None
+    → due_at (copy_due (child v) (parent v) s ++ rest) (child v) ≡ DueOf (child v) (parent v) s
 copies_here child parent Unfilled v rest e = e
 copies_here child parent (Valid f) v rest e = ap (λ (b : Bool). cond b (Some (CopyOf (child v) (parent v))) (due_at rest (child v))) (same_page_self (child v))
 copies_here child parent (Invalid f) v rest e = ap (λ (b : Bool). cond b (Some (CopyOf (child v) (parent v))) (due_at rest (child v))) (same_page_self (child v))
@@ -180,7 +182,8 @@ copies_here child parent (Coming f) v rest e = ap (λ (b : Bool). cond b (Some (
 copies_here child parent (Going f) v rest e = ap (λ (b : Bool). cond b (Some (CopyOf (child v) (parent v))) (due_at rest (child v))) (same_page_self (child v))
 copies_here child parent OnSwap v rest e = ap (λ (b : Bool). cond b (Some (CopyOf (child v) (parent v))) (due_at rest (child v))) (same_page_self (child v))
 
-copies_skip : (child parent : ℕ → Page) → Numbers child → (s : PageState) (v w : ℕ) (rest : List Due) → w ≢ v → due_at (copy_due (child v) (parent v) s ++ rest) (child w) ≡ due_at rest (child w)
+copies_skip : (child parent : ℕ → Page) → Numbers child → (s : PageState) (v w : ℕ) (rest : List Due) → w ≢ v
+    → due_at (copy_due (child v) (parent v) s ++ rest) (child w) ≡ due_at rest (child w)
 copies_skip child parent num s v w rest n = go s
   where
     one : same_page (child v) (child w) ≡ false
@@ -194,7 +197,8 @@ copies_skip child parent num s v w rest n = go s
     go (Going f) = ap (λ (b : Bool). cond b (Some (CopyOf (child v) (parent v))) (due_at rest (child w))) one
     go OnSwap = ap (λ (b : Bool). cond b (Some (CopyOf (child v) (parent v))) (due_at rest (child w))) one
 
-pub copies_at : (child parent : ℕ → Page) → Numbers child → (xs : List Slot) (v i : ℕ) → i < length xs → due_at (copies_from child parent v xs) (child (v + i)) ≡ DueOf (child (v + i)) (parent (v + i)) (get_or xs i no_slot).state
+pub copies_at : (child parent : ℕ → Page) → Numbers child → (xs : List Slot) (v i : ℕ) → i < length xs
+    → due_at (copies_from child parent v xs) (child (v + i)) ≡ DueOf (child (v + i)) (parent (v + i)) (get_or xs i no_slot).state
 copies_at child parent num [] v i l = absurd (omega arith)
 copies_at child parent num (x ∷ xs) v zero l = let e : v + 0 ≡ v = omega arith in
     subst (λ (w : ℕ). due_at (copies_from child parent v (x ∷ xs)) (child w) ≡ DueOf (child w) (parent w) x.state) (sym e) (copies_here child parent x.state v (copies_from child parent (v + 1) xs) (copies_later child parent num (v + 1) v xs (omega arith)))
@@ -202,7 +206,8 @@ copies_at child parent num (x ∷ xs) v (suc i) l = let e : (v + 1) + i ≡ v + 
     copies_skip child parent num x.state v (v + suc i) (copies_from child parent (v + 1) xs) (λ h. absurd (omega arith))
     ∙ subst (λ (w : ℕ). due_at (copies_from child parent (v + 1) xs) (child w) ≡ DueOf (child w) (parent w) (get_or xs i no_slot).state) e (copies_at child parent num xs (v + 1) i (omega arith))
 
-copies_start : (child parent : ℕ → Page) → Numbers child → (xs : List Slot) (i : ℕ) → i < length xs → due_at (copies_from child parent 0 xs) (child i) ≡ DueOf (child i) (parent i) (get_or xs i no_slot).state
+copies_start : (child parent : ℕ → Page) → Numbers child → (xs : List Slot) (i : ℕ) → i < length xs
+    → due_at (copies_from child parent 0 xs) (child i) ≡ DueOf (child i) (parent i) (get_or xs i no_slot).state
 copies_start child parent num xs i l = let e : 0 + i ≡ i = omega arith in
     subst (λ (w : ℕ). due_at (copies_from child parent 0 xs) (child w) ≡ DueOf (child w) (parent w) (get_or xs i no_slot).state) e (copies_at child parent num xs 0 i l)
 
@@ -244,7 +249,8 @@ child_unfilled : (b c : Bytes) (child parent : Page) (x : Filling) → Copies b 
 child_unfilled b c child parent Zeros e k = k ∙ sym e.memory
 child_unfilled b c child parent OfImage e k = e.file ∙ k ∙ sym e.memory
 
-child_keeps : (b c : Bytes) (child parent : Page) (x : Slot) (s : PageState) → Copies b c child parent → c.memory parent ≡ b.memory parent → (s ≡ Unfilled → KeepsUnfilled b parent None x.filling)
+child_keeps : (b c : Bytes) (child parent : Page) (x : Slot) (s : PageState) → Copies b c child parent → c.memory parent ≡ b.memory parent
+    → (s ≡ Unfilled → KeepsUnfilled b parent None x.filling)
     → KeepsUnfilled c child (DueOf child parent s) (child_slot_by x s).filling
 child_keeps b c child parent x Unfilled e m k = child_unfilled b c child parent x.filling e (k refl)
 child_keeps b c child parent x (Valid f) e m k = m ∙ sym e.memory
@@ -273,7 +279,8 @@ not_new p sid w n there = (
   (λ v e. absurd (let h : v < length (slots_of p (Stack sid v)) = subst (IsThere p) (sym e) there in let k = ap (λ (o : Option SpacePages). length (stack_in o)) n in omega arith)),
 )
 
-pub fork_coupled : (p : Placement) (parent child : ℕ) (b c : Bytes) → CouplesPages p b → IsNew p child → p.due ≡ [] → ((w : Page) → IsThere p w → SameBytes b c w)
+pub fork_coupled : (p : Placement) (parent child : ℕ) (b c : Bytes) → CouplesPages p b → IsNew p child → p.due ≡ []
+    → ((w : Page) → IsThere p w → SameBytes b c w)
     → ((v : ℕ) → Copies b c (Data child v) (Data parent v)) → ((v : ℕ) → Copies b c (Stack child v) (Stack parent v))
     → ((image v : ℕ) → c.file (Text image v) ≡ c.memory (Text image v)) → CouplesPages (fork_space p parent child) c
 fork_coupled p parent child b c k new none same datas stacks text = added_coupled p x (q.due) b c k new none
@@ -341,7 +348,8 @@ unfilled_length facts lo (suc n) = ap suc (unfilled_length facts (lo + 1) n)
 start_other : (sid : ℕ) (q : Page) → Stack sid 0 ≢ q → due_at (Start (Stack sid 0) ∷ []) q ≡ None
 start_other sid q n = ap (λ (b : Bool). cond b (Some (Start (Stack sid 0))) None) (apart_page (Stack sid 0) q n)
 
-pub enter_coupled : (p : Placement) (sid image : ℕ) (facts : Image) (b c : Bytes) → CouplesPages p b → IsNew p sid → p.due ≡ [] → ((w : Page) → IsThere p w → SameBytes b c w)
+pub enter_coupled : (p : Placement) (sid image : ℕ) (facts : Image) (b c : Bytes) → CouplesPages p b → IsNew p sid → p.due ≡ []
+    → ((w : Page) → IsThere p w → SameBytes b c w)
     → ((v : ℕ) → v < data_pages_of facts → FillsBy c (Data sid v) (data_filling facts v)) → c.start (Stack sid 0) ≡ c.memory (Stack sid 0)
     → ((i v : ℕ) → c.file (Text i v) ≡ c.memory (Text i v)) → CouplesPages (enter_space p sid image facts) c
 enter_coupled p sid image facts b c k new none same datas start text = added_coupled p (new_pages sid image facts) (Start (Stack sid 0) ∷ []) b c k new none

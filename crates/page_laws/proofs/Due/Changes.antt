@@ -131,14 +131,16 @@ start_others sid next q d n e = go (same_page (Stack next 0) q) refl e
     go false h k = none_some d k
     go true h k = subst (OfOthers sid q) (same_Some (Start (Stack next 0)) d k) (subst (λ (x : Page). space_in x ≢ sid) (same_page_is (Stack next 0) q h) n)
 
-exec_due : (borrowed : Bool) (p : Placement) (next image sid : ℕ) (facts : Option Image) → p.due ≡ [] → IsNew p next → (borrowed ≡ false → next ≢ sid) → DueStand (give_up_unless borrowed (enter_image p next image facts) sid)
+exec_due : (borrowed : Bool) (p : Placement) (next image sid : ℕ) (facts : Option Image) → p.due ≡ [] → IsNew p next → (borrowed ≡ false → next ≢ sid)
+    → DueStand (give_up_unless borrowed (enter_image p next image facts) sid)
 exec_due true p next image sid None e new a = none_due p e
 exec_due false p next image sid None e new a = none_due (give_up p sid) (give_up_due p sid ∙ e)
 exec_due true p next image sid (Some facts) e new a = enter_due p next image facts new
 exec_due false p next image sid (Some facts) e new a = given_due (enter_space p next image facts) sid (λ q d h. start_others sid next q d (a refl) h) (enter_due p next image facts new)
 
 -- A change that comes while nothing is due.
-pub change_due : (images : List Image) (p : Placement) (pid sid : ℕ) (borrowed : Bool) (next at : ℕ) (change : Change) → p.due ≡ [] → CanChange p sid borrowed next change
+pub change_due : (images : List Image) (p : Placement) (pid sid : ℕ) (borrowed : Bool) (next at : ℕ) (change : Change) → p.due ≡ []
+    → CanChange p sid borrowed next change
     → ApartFrom sid borrowed next change → DueStand (place_change images p pid sid borrowed next at change)
 change_due images p pid sid borrowed next at Keep e c a = none_due p e
 change_due images p pid sid borrowed next at (Resize d s) e c a = none_due (place_change images p pid sid borrowed next at (Resize d s)) ((drop_all_rest (dropped_pages p sid d s) p).1 ∙ e)

@@ -129,7 +129,8 @@ get_fills D p e v o c n = go p.free
         let t = fills_both D p (evict p f) (put (evict p f) v (Coming f) (mark_of p v)) (evict_fills D p f o) (enter_fills D (evict p f) v (Coming f) (mark_of p v) (evict_enters p f v o c) n (λ h. absurd cc)) in
         record { sizes = t.sizes; slots = t.slots; fills = t.fills }
 
-get_all_fills : (D : Page → Type 0) (qs : List Page) (p : Placement) (source : Source) (demanded : Page) → OwnsFrames p → EachPage (CanEnter p) qs → AllApart qs → IsOpen p.transfers (Reads source demanded)
+get_all_fills : (D : Page → Type 0) (qs : List Page) (p : Placement) (source : Source) (demanded : Page) → OwnsFrames p → EachPage (CanEnter p) qs
+    → AllApart qs → IsOpen p.transfers (Reads source demanded)
     → EachPage (λ r. D r → ⊥) qs → KeepsFills D p (get_all p (Reads source demanded) qs)
 get_all_fills D [] p source demanded o c a latest n = fills_self D p
 get_all_fills D (v ∷ qs) p source demanded o c a latest n = fills_both D p (get_one p (Reads source demanded) v) (get_all (get_one p (Reads source demanded) v) (Reads source demanded) qs)
@@ -138,7 +139,8 @@ get_all_fills D (v ∷ qs) p source demanded o c a latest n = fills_both D p (ge
     (each_page_both (CanEnter p) (λ r. r ≢ v) (CanEnter (get_one p (Reads source demanded) v)) qs c.1 a.0 (λ x h k. get_enters_still p (Reads source demanded) v x o k h))
     a.1 (get_open_still p (Reads source demanded) v latest) n.1)
 
-get_run_fills : (D : Page → Type 0) (p : Placement) (source : Source) (demanded : Page) (qs : List Page) → OwnsFrames p → EachPage (CanEnter p) qs → AllApart qs → EachPage (λ r. D r → ⊥) qs
+get_run_fills : (D : Page → Type 0) (p : Placement) (source : Source) (demanded : Page) (qs : List Page) → OwnsFrames p → EachPage (CanEnter p) qs
+    → AllApart qs → EachPage (λ r. D r → ⊥) qs
     → KeepsFills D p (get_run p (Reads source demanded) qs)
 get_run_fills D p source demanded qs o c a n =
     let t = get_all_fills D qs (begin p (Reads source demanded)) source demanded (begin_owner p (Reads source demanded) o)
@@ -156,7 +158,8 @@ source_still : (p q : Placement) (d : Due) → KeepsFills (Waits q.due) p q → 
 source_still p q (Start r) k h = tt
 source_still p q (CopyOf r parent) k h = (h.0, k.fills parent h.0 h.1)
 
-due_still : (p q : Placement) → KeepsFills (Waits q.due) p q → ((w : Page) (d : Due) → due_at q.due w ≡ Some d → due_at p.due w ≡ Some d) → DueStand p → DueStand q
+due_still : (p q : Placement) → KeepsFills (Waits q.due) p q → ((w : Page) (d : Due) → due_at q.due w ≡ Some d → due_at p.due w ≡ Some d) → DueStand p
+    → DueStand q
 due_still p q k less s w d e =
     let was : IsDue p w d = s w d (less w d e) in
     let same : slot_of q w ≡ slot_of p w = k.slots w (d, e) was.unfilled in
@@ -183,7 +186,8 @@ filled_due p v o c n = due_still p (filled p v) (filled_fills (Waits (due_after 
 pub get_due_list : (qs : List Page) (p : Placement) (e : Errand) → (get_all p e qs).due ≡ p.due
 get_due_list qs p e = (get_all_kept rest_by_puts qs p e).due
 
-get_run_due : (p : Placement) (source : Source) (demanded : Page) (qs : List Page) → OwnsFrames p → EachPage (CanEnter p) qs → AllApart qs → EachPage (NotDue p.due) qs → DueStand p → DueStand (get_run p (Reads source demanded) qs)
+get_run_due : (p : Placement) (source : Source) (demanded : Page) (qs : List Page) → OwnsFrames p → EachPage (CanEnter p) qs → AllApart qs
+    → EachPage (NotDue p.due) qs → DueStand p → DueStand (get_run p (Reads source demanded) qs)
 get_run_due p source demanded qs o c a n =
     let same : (get_run p (Reads source demanded) qs).due ≡ p.due = get_due_list qs (begin p (Reads source demanded)) (Reads source demanded) in
     due_still p (get_run p (Reads source demanded) qs)
@@ -203,7 +207,8 @@ resident_due p rs s w d e = let was : IsDue p w d = s w d e in record { writable
     go (Start r) h = h
     go (CopyOf r parent) h = h
 
-pub entry_due : (locked : List Page) (at : ℕ) (p : Placement) (e : Entry) → OwnsFrames p → CanPlace p e → LeavesDue p e → DueStand p → DueStand (place_entry locked at p e)
+pub entry_due : (locked : List Page) (at : ℕ) (p : Placement) (e : Entry) → OwnsFrames p → CanPlace p e → LeavesDue p e → DueStand p
+    → DueStand (place_entry locked at p e)
 entry_due locked at p (entries.Zero q) o c n s = filled_due p q o c n s
 entry_due locked at p (entries.Get q lo n) o c l s = get_run_due p (source_for (state_of p q)) q (pages_from q lo n) o c (pages_from_apart q lo n) l s
 entry_due locked at p (entries.Copy q) o c n s = filled_due p q o c n s

@@ -25,17 +25,20 @@ record CopiesAt (child parent : ℕ → Page) (xs : List Slot) (v : ℕ) (w : Pa
   pub within : at < length xs
   pub filled : (get_or xs at no_slot).state ≢ Unfilled
 
-copies_at_here : (child parent : ℕ → Page) (x : Slot) (xs : List Slot) (v : ℕ) (w : Page) (d : Due) → x.state ≢ Unfilled → w ≡ child v → d ≡ CopyOf (child v) (parent v) → CopiesAt child parent (x ∷ xs) v w d
+copies_at_here : (child parent : ℕ → Page) (x : Slot) (xs : List Slot) (v : ℕ) (w : Page) (d : Due) → x.state ≢ Unfilled → w ≡ child v
+    → d ≡ CopyOf (child v) (parent v) → CopiesAt child parent (x ∷ xs) v w d
 copies_at_here child parent x xs v w d n a b =
     let e : v ≡ v + 0 = omega arith in
     record { at = 0; page = a ∙ ap child e; due = b ∙ ap (λ (k : ℕ). CopyOf (child k) (parent k)) e; within = omega arith; filled = n }
 
-copies_at_later : (child parent : ℕ → Page) (x : Slot) (xs : List Slot) (v : ℕ) (w : Page) (d : Due) → CopiesAt child parent xs (v + 1) w d → CopiesAt child parent (x ∷ xs) v w d
+copies_at_later : (child parent : ℕ → Page) (x : Slot) (xs : List Slot) (v : ℕ) (w : Page) (d : Due) → CopiesAt child parent xs (v + 1) w d
+    → CopiesAt child parent (x ∷ xs) v w d
 copies_at_later child parent x xs v w d r =
     let e : (v + 1) + r.at ≡ v + suc r.at = omega arith in
     record { at = suc r.at; page = r.page ∙ ap child e; due = r.due ∙ ap (λ (k : ℕ). CopyOf (child k) (parent k)) e; within = let l = r.within in omega arith; filled = r.filled }
 
-copies_found : (child parent : ℕ → Page) (xs : List Slot) (v : ℕ) (w : Page) (d : Due) → due_at (copies_from child parent v xs) w ≡ Some d → CopiesAt child parent xs v w d
+copies_found : (child parent : ℕ → Page) (xs : List Slot) (v : ℕ) (w : Page) (d : Due) → due_at (copies_from child parent v xs) w ≡ Some d
+    → CopiesAt child parent xs v w d
 copies_found child parent [] v w d e = none_some d e
 copies_found child parent (x ∷ xs) v w d e = go x.state refl e (λ k. copies_at_later child parent x xs v w d (copies_found child parent xs (v + 1) w d k))
   where

@@ -74,7 +74,8 @@ pages_differ p f g o u w n e =
     let same : u.page ≡ w.page = sym (ap page_or u.held) ∙ e ∙ ap page_or w.held in
     n (same_Some f g (sym (o.named f u.page u.held) ∙ subst (λ (x : Page). frame_of (state_of p x) ≡ Some g) (sym same) (o.named g w.page w.held)))
 
-pub reach_found : (p : Placement) (locked : List Page) (d : ℕ) → OwnsFrames p → p.free ≡ [] → p.transfers ≡ [] → 0 < p.back → p.back ≤ length p.holds → length locked + d < length p.holds
+pub reach_found : (p : Placement) (locked : List Page) (d : ℕ) → OwnsFrames p → p.free ≡ [] → p.transfers ≡ [] → 0 < p.back → p.back ≤ length p.holds
+    → length locked + d < length p.holds
     → reach p locked (length p.holds) d p.back < length p.holds
 reach_found p locked d o e t low high enough = elim (lt_or (reach p locked (length p.holds) d p.back) (length p.holds) (reach_le p locked (length p.holds) d p.back)) [
   | inl l ↦ l
@@ -121,7 +122,8 @@ invalid_kept p locked q i = go (page_of p p.front)
     go None = i
     go (Some v) = at v (is_among v locked)
 
-front_invalid : (p : Placement) (locked : List Page) (u : Full p p.front) → is_among u.page locked ≡ false → is_invalid (state_of (expire p locked) u.page) ≡ true
+front_invalid : (p : Placement) (locked : List Page) (u : Full p p.front) → is_among u.page locked ≡ false
+    → is_invalid (state_of (expire p locked) u.page) ≡ true
 front_invalid p locked u n = subst (λ (r : Placement). is_invalid (state_of r u.page) ≡ true) (sym (ap (expire_of p locked) u.held ∙ ap (expire_if p u.page) n)) (elim u.state [
   | inl e ↦ subst (λ (s : PageState). is_invalid (state_of (expire_to p u.page s) u.page) ≡ true) (sym e) (ap is_invalid (put_state p u.page (Invalid p.front) (mark_of p u.page) (page_in p u.page p.front (ap frame_of e))))
   | inr e ↦ subst (λ (s : PageState). is_invalid (state_of (expire_to p u.page s) u.page) ≡ true) (sym e) (ap is_invalid e)
@@ -199,7 +201,8 @@ some_pages q lo (suc n) l e = absurd cc
 abbrev pub Freed : Placement → Type 0
 Freed p = (p.free ≡ [] → ⊥) ⊎ HasWrite p.transfers
 
-pub sweep_frees : (p : Placement) (locked : List Page) → OwnsFrames p → p.free ≡ [] → p.transfers ≡ [] → is_usable p locked p.back ≡ true → Freed (sweep p locked)
+pub sweep_frees : (p : Placement) (locked : List Page) → OwnsFrames p → p.free ≡ [] → p.transfers ≡ [] → is_usable p locked p.back ≡ true
+    → Freed (sweep p locked)
 sweep_frees p locked o fr t e = go (page_of p p.back) refl e
   where
     by : (q : Page) (f : ℕ) (d : Bool) → state_of p q ≡ Invalid f → times f p.free ≡ 0 → Freed (sweep_by p locked q d)
@@ -258,7 +261,8 @@ freed_near p locked h = go p.free refl h
     go [] e (inr w) = write p.transfers w
     go (f ∷ fs) e k = omega arith
 
-far_hands : (p : Placement) (locked : List Page) → p.free ≡ [] → p.transfers ≡ [] → far p locked ≡ 2 + reach p locked (length p.holds) (length p.holds / 4) p.back
+far_hands : (p : Placement) (locked : List Page) → p.free ≡ [] → p.transfers ≡ []
+    → far p locked ≡ 2 + reach p locked (length p.holds) (length p.holds / 4) p.back
 far_hands p locked e t = ap (far_by p locked) e ∙ ap (far_transfers p locked) t
 
 step_by : (p : Placement) (locked : List Page) (n d : ℕ) (b : Bool) → 0 < n → 0 < d → is_usable p locked p.back ≡ b → (b ≡ true → ⊥)
@@ -275,7 +279,8 @@ walk_back : (n d f : ℕ) → 0 < d → walk n (d - 1) (next_frame n f) ≡ walk
 walk_back n zero f l = absurd (omega arith)
 walk_back n (suc d) f l = ap (λ (k : ℕ). walk n k (next_frame n f)) (let h : suc d - 1 ≡ d = omega arith in h)
 
-shifted : (p q : Placement) (locked : List Page) (m d f : ℕ) → Passed p q locked p.front → 0 < m → 0 < d → walk (length p.holds) (d - 1) f ≡ p.front → reach p locked (m - 1) (d - 1) f < m - 1
+shifted : (p q : Placement) (locked : List Page) (m d f : ℕ) → Passed p q locked p.front → 0 < m → 0 < d → walk (length p.holds) (d - 1) f ≡ p.front
+    → reach p locked (m - 1) (d - 1) f < m - 1
     → reach q locked m d f ≤ reach p locked (m - 1) (d - 1) f
 shifted p q locked zero d f s lm ld e l = absurd (omega arith)
 shifted p q locked (suc m) zero f s lm ld e l = absurd (omega arith)
@@ -287,7 +292,8 @@ shifted p q locked (suc m) (suc d) f s lm ld e l =
     (reach_shift p q locked p.front m d f s (subst (λ (y : ℕ). walk (length p.holds) y f ≡ p.front) b e)
     (subst (λ (x : ℕ). reach p locked x d f < x) a (subst (λ (y : ℕ). reach p locked (suc m - 1) y f < suc m - 1) b l))))
 
-pub move_falls : (p : Placement) (locked : List Page) → OwnsFrames p → HandsStand p → HasRoom p locked → p.free ≡ [] → p.transfers ≡ [] → far (hand_move p locked) locked < far p locked
+pub move_falls : (p : Placement) (locked : List Page) → OwnsFrames p → HandsStand p → HasRoom p locked → p.free ≡ [] → p.transfers ≡ []
+    → far (hand_move p locked) locked < far p locked
 move_falls p locked o h r e t = go (is_usable (expire p locked) locked (expire p locked).back) refl
   where
     s : Steady p (expire p locked)

@@ -81,7 +81,8 @@ far_le p locked = go p.free
     go (f ∷ fs) = omega arith
 
 -- The oldest transfer brings a frame nearer.
-done_falls : (p : Placement) (locked : List Page) (t : Transfer) (ts : List Transfer) → OwnsFrames p → p.free ≡ [] → p.transfers ≡ t ∷ ts → far (done p) locked < far p locked
+done_falls : (p : Placement) (locked : List Page) (t : Transfer) (ts : List Transfer) → OwnsFrames p → p.free ≡ [] → p.transfers ≡ t ∷ ts
+    → far (done p) locked < far p locked
 done_falls p locked t ts o e h = subst (λ (n : ℕ). far (done p) locked < n) (sym (ap (far_by p locked) e ∙ ap (far_transfers p locked) h)) (by t.errand t.parts refl refl)
   where
     is : done p ≡ land_all p t.errand t.parts ts
@@ -107,7 +108,8 @@ done_falls p locked t ts o e h = subst (λ (n : ℕ). far (done p) locked < n) (
     by (Reads source demanded) xs a b = omega (arith, after)
 
 -- Each unit of forcing falls.
-pub force_falls : (p : Placement) (locked : List Page) → OwnsFrames p → HandsStand p → HasRoom p locked → p.free ≡ [] → far (force p locked) locked < far p locked
+pub force_falls : (p : Placement) (locked : List Page) → OwnsFrames p → HandsStand p → HasRoom p locked → p.free ≡ []
+    → far (force p locked) locked < far p locked
 force_falls p locked o h r e = go p.transfers refl
   where
     go : (ts : List Transfer) → p.transfers ≡ ts → far (force_by p locked ts) locked < far p locked
@@ -131,7 +133,8 @@ coming_frame OnSwap e h = absurd cc
 not_coming : (s : PageState) (f : ℕ) → s ≡ Invalid f → is_coming s ≡ true → ⊥
 not_coming s f e h = absurd (let k : true ≡ false = sym h ∙ ap is_coming e in cc)
 
-evict_coming : (p : Placement) (f : ℕ) (q : Page) → OwnsFrames p → 0 < times f p.free → is_coming (state_of p q) ≡ true → is_coming (state_of (evict p f) q) ≡ true
+evict_coming : (p : Placement) (f : ℕ) (q : Page) → OwnsFrames p → 0 < times f p.free → is_coming (state_of p q) ≡ true
+    → is_coming (state_of (evict p f) q) ≡ true
 evict_coming p f q o b c = go (page_of p f) refl
   where
     go : (h : Option Page) → page_of p f ≡ h → is_coming (state_of (evict_at p f h) q) ≡ true
@@ -139,7 +142,8 @@ evict_coming p f q o b c = go (page_of p f) refl
     go (Some v) e = let k : IsListed p f v = o.listed f v b e in ap is_coming (put_other_state p v (Rattle.page_model.specs.Pages.left_state v (mark_of p v)) (mark_of p v) q
         (λ h. not_coming (state_of p v) f k.state (subst (λ (x : Page). is_coming (state_of p x) ≡ true) h c))) ∙ c
 
-get_coming_still : (p : Placement) (e : Errand) (v q : Page) → OwnsFrames p → CanEnter p v → is_coming (state_of p q) ≡ true → is_coming (state_of (get_one p e v) q) ≡ true
+get_coming_still : (p : Placement) (e : Errand) (v q : Page) → OwnsFrames p → CanEnter p v → is_coming (state_of p q) ≡ true
+    → is_coming (state_of (get_one p e v) q) ≡ true
 get_coming_still p e v q o c h = go p.free refl
   where
     go : (fr : List ℕ) → p.free ≡ fr → is_coming (state_of (get_at p e v fr) q) ≡ true
@@ -168,7 +172,8 @@ get_takes p e v o = go p.free refl
         let left : without f (evict p f).free ≡ rest = ap (without f) (r.free ∙ k) ∙ without_head f rest one in
         let h = ap length left in omega arith
 
-get_all_still : (qs : List Page) (p : Placement) (source : Source) (demanded q : Page) → OwnsFrames p → EachPage (CanEnter p) qs → AllApart qs → IsOpen p.transfers (Reads source demanded)
+get_all_still : (qs : List Page) (p : Placement) (source : Source) (demanded q : Page) → OwnsFrames p → EachPage (CanEnter p) qs → AllApart qs
+    → IsOpen p.transfers (Reads source demanded)
     → is_coming (state_of p q) ≡ true → is_coming (state_of (get_all p (Reads source demanded) qs) q) ≡ true
 get_all_still [] p source demanded q o c a latest h = h
 get_all_still (v ∷ qs) p source demanded q o c a latest h =
@@ -176,7 +181,8 @@ get_all_still (v ∷ qs) p source demanded q o c a latest h =
     (each_page_both (CanEnter p) (λ r. r ≢ v) (CanEnter (get_one p (Reads source demanded) v)) qs c.1 a.0 (λ w k n. get_enters_still p (Reads source demanded) v w o n k))
     a.1 (get_open_still p (Reads source demanded) v latest) (get_coming_still p (Reads source demanded) v q o c.0 h)
 
-get_all_comes : (qs : List Page) (p : Placement) (source : Source) (demanded q : Page) → OwnsFrames p → EachPage (CanEnter p) qs → AllApart qs → IsOpen p.transfers (Reads source demanded)
+get_all_comes : (qs : List Page) (p : Placement) (source : Source) (demanded q : Page) → OwnsFrames p → EachPage (CanEnter p) qs → AllApart qs
+    → IsOpen p.transfers (Reads source demanded)
     → length qs ≤ length p.free → is_among q qs ≡ true → is_coming (state_of (get_all p (Reads source demanded) qs) q) ≡ true
 get_all_comes [] p source demanded q o c a latest l h = absurd cc
 get_all_comes (v ∷ qs) p source demanded q o c a latest l h =
@@ -264,7 +270,8 @@ read_length p q = get_all_length (pages_of_run q (run_in p q)) (begin p (read_er
 
 -- Serving.
 
-launch_length : (p : Placement) (v : Page) → IsOpen p.transfers Writes → (IsOpen (launch p v).transfers Writes) × (length (launch p v).transfers ≡ length p.transfers)
+launch_length : (p : Placement) (v : Page) → IsOpen p.transfers Writes
+    → (IsOpen (launch p v).transfers Writes) × (length (launch p v).transfers ≡ length p.transfers)
 launch_length p v latest = go (state_of p v)
   where
     go : (s : PageState) → (IsOpen (launch_to p v s).transfers Writes) × (length (launch_to p v s).transfers ≡ length p.transfers)
@@ -306,7 +313,8 @@ landed_rank p locked x (Coming f) l = absurd l
 landed_rank p locked x (Going f) l = absurd l
 landed_rank p locked x OnSwap l = absurd l
 
-put_lands : (p : Placement) (v : Page) (s : PageState) (m : Bool) (q : Page) (was : PageState) → Landed s → IsThere p q → ((state_of p q ≡ was) ⊎ Landed (state_of p q)) → (state_of (put p v s m) q ≡ was) ⊎ Landed (state_of (put p v s m) q)
+put_lands : (p : Placement) (v : Page) (s : PageState) (m : Bool) (q : Page) (was : PageState) → Landed s → IsThere p q
+    → ((state_of p q ≡ was) ⊎ Landed (state_of p q)) → (state_of (put p v s m) q ≡ was) ⊎ Landed (state_of (put p v s m) q)
 put_lands p v s m q was l there h = elim (page_cases q v) [
   | inl e ↦ inr (subst (λ (x : Page). Landed (state_of (put p v s m) x)) (sym e) (subst Landed (sym (put_state p v s m (subst (IsThere p) e there))) l))
   | inr n ↦ elim h [
@@ -315,7 +323,8 @@ put_lands p v s m q was l there h = elim (page_cases q v) [
   ]
 ]
 
-land_lands : (p : Placement) (e : Errand) (x : Part) (rest : List Transfer) (q : Page) (was : PageState) → IsThere p q → ((state_of p q ≡ was) ⊎ Landed (state_of p q))
+land_lands : (p : Placement) (e : Errand) (x : Part) (rest : List Transfer) (q : Page) (was : PageState) → IsThere p q
+    → ((state_of p q ≡ was) ⊎ Landed (state_of p q))
     → (state_of (land p e x rest) q ≡ was) ⊎ Landed (state_of (land p e x rest) q)
 land_lands p Writes x rest q was there h = put_lands p x.page (Invalid x.frame) (written_mark x.page) q was tt there h
 land_lands p (Reads source demanded) x rest q was there h = go (same_page x.page demanded)
@@ -332,14 +341,16 @@ land_there p (Reads source demanded) x rest q there = go (same_page x.page deman
     go true = let h = put_length p x.page (Valid x.frame) (arrived_mark source x.page (mark_of p x.page)) q in omega arith
     go false = let h = put_length p x.page (Invalid x.frame) (mark_of p x.page) q in omega arith
 
-pub land_all_lands : (xs : List Part) (p : Placement) (e : Errand) (ts : List Transfer) (q : Page) (was : PageState) → IsThere p q → ((state_of p q ≡ was) ⊎ Landed (state_of p q))
+pub land_all_lands : (xs : List Part) (p : Placement) (e : Errand) (ts : List Transfer) (q : Page) (was : PageState) → IsThere p q
+    → ((state_of p q ≡ was) ⊎ Landed (state_of p q))
     → (state_of (land_all p e xs ts) q ≡ was) ⊎ Landed (state_of (land_all p e xs ts) q)
 land_all_lands [] p e ts q was there h = h
 land_all_lands (x ∷ xs) p e ts q was there h = land_all_lands xs (land p e x (record { errand = e; parts = xs } ∷ ts)) e ts q was
     (land_there p e x (record { errand = e; parts = xs } ∷ ts) q there) (land_lands p e x (record { errand = e; parts = xs } ∷ ts) q was there h)
 
 -- a page on its way is in a transfer
-pub in_flight : (p : Placement) (q : Page) (f : ℕ) → OwnsFrames p → frame_of (state_of p q) ≡ Some f → (state_of p q ≡ Invalid f → ⊥) → seats 0 (state_of p q) ≡ 0 → p.transfers ≡ [] → ⊥
+pub in_flight : (p : Placement) (q : Page) (f : ℕ) → OwnsFrames p → frame_of (state_of p q) ≡ Some f → (state_of p q ≡ Invalid f → ⊥)
+    → seats 0 (state_of p q) ≡ 0 → p.transfers ≡ [] → ⊥
 in_flight p q f o e n z t = elim (zero_or (times f p.free)) [
   | inl y ↦ absurd (
       let a = once_at p q f o e in
@@ -353,7 +364,8 @@ in_flight p q f o e n z t = elim (zero_or (times f p.free)) [
     zero_or m = grind arith
 
 -- the oldest transfer brings a page in flight nearer
-done_rank : (p : Placement) (locked : List Page) (q : Page) → IsThere p q → (p.transfers ≡ [] → ⊥) → ((r : Placement) (x : Filling) → rank_by r locked x (state_of p q) ≡ 2 + length r.transfers)
+done_rank : (p : Placement) (locked : List Page) (q : Page) → IsThere p q → (p.transfers ≡ [] → ⊥)
+    → ((r : Placement) (x : Filling) → rank_by r locked x (state_of p q) ≡ 2 + length r.transfers)
     → rank (done p) locked q < 2 + length p.transfers
 done_rank p locked q there n is = go p.transfers refl
   where
@@ -398,7 +410,8 @@ fill_rank p locked q f fs there e = ap (λ (fr : List ℕ). rank (fill_at p q fr
     ∙ ap (rank_by (enter (evict p f) q f (Valid f) true p.transfers) locked (filling_of (enter (evict p f) q f (Valid f) true p.transfers) q))
     (put_state (evict p f) q (Valid f) true (let r : EvictRest p (evict p f) = evict_rest p f in let h = r.sizes q in omega arith))
 
-pub serve_falls : (p : Placement) (locked : List Page) (q : Page) → OwnsFrames p → HandsStand p → HasRoom p locked → IsThere p q → is_valid (state_of p q) ≡ false → rank (serve_step p locked q) locked q < rank p locked q
+pub serve_falls : (p : Placement) (locked : List Page) (q : Page) → OwnsFrames p → HandsStand p → HasRoom p locked → IsThere p q
+    → is_valid (state_of p q) ≡ false → rank (serve_step p locked q) locked q < rank p locked q
 serve_falls p locked q o h r there nv = go (state_of p q) refl nv
   where
     forced : frame_of (state_of p q) ≡ None → slot_of (force p locked) q ≡ slot_of p q

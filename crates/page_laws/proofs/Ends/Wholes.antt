@@ -97,7 +97,8 @@ serve_shape p locked q o = go (state_of p q)
     go OnSwap = feed OnSwap (filling_of p q) p.free (is_full p)
 
 -- each segment is as long as before
-pub serve_sizes : (p : Placement) (locked : List Page) (q : Page) → OwnsFrames p → (w : Page) → length (slots_of (serve_step p locked q) w) ≡ length (slots_of p w)
+pub serve_sizes : (p : Placement) (locked : List Page) (q : Page) → OwnsFrames p → (w : Page)
+    → length (slots_of (serve_step p locked q) w) ≡ length (slots_of p w)
 serve_sizes p locked q o = let s = serve_shape p locked q o in s.sizes
 
 pub serve_room : (p : Placement) (locked : List Page) (q : Page) → OwnsFrames p → HasRoom p locked → HasRoom (serve_step p locked q) locked
@@ -106,7 +107,8 @@ serve_room p locked q o r = room_still p (serve_step p locked q) locked (serve_f
 serve_there : (p : Placement) (locked : List Page) (q : Page) → OwnsFrames p → IsThere p q → IsThere (serve_step p locked q) q
 serve_there p locked q o there = subst (λ (n : ℕ). number_of q < n) (sym (serve_sizes p locked q o q)) there
 
-served_within : (n : ℕ) (p : Placement) (locked : List Page) (q : Page) → OwnsFrames p → HandsStand p → HasRoom p locked → IsThere p q → rank p locked q < n → EndsServing p locked q
+served_within : (n : ℕ) (p : Placement) (locked : List Page) (q : Page) → OwnsFrames p → HandsStand p → HasRoom p locked → IsThere p q
+    → rank p locked q < n → EndsServing p locked q
 served_within zero p locked q o h r there l = absurd (omega arith)
 served_within (suc n) p locked q o h r there l = go (is_valid (state_of p q)) refl
     (λ e. served_within n (serve_step p locked q) locked q (serve_owner p locked q o there) (serve_stands p locked q o h) (serve_room p locked q o r) (serve_there p locked q o there)

@@ -209,7 +209,8 @@ give_up_frame p sid w = go w
     go (Text image v) = inl (leave_text_frame (remove_space d sid) (image_of p sid) (Text image v)
         ∙ slot_frame p d (Text image v) (drop_all_other (pages_of_space p sid) p (Text image v) (text_not_dropped image v sid (data_count p sid) (stack_count p sid))))
 
-unless_frame : (borrowed : Bool) (p : Placement) (sid : ℕ) (w : Page) → StaysOrGoes p (give_up_unless borrowed p sid) w ((borrowed ≡ false) × (is_of_space sid w ≡ true))
+unless_frame : (borrowed : Bool) (p : Placement) (sid : ℕ) (w : Page)
+    → StaysOrGoes p (give_up_unless borrowed p sid) w ((borrowed ≡ false) × (is_of_space sid w ≡ true))
 unless_frame true p sid w = inl refl
 unless_frame false p sid w = elim (give_up_frame p sid w) [
   | inl e ↦ inl e

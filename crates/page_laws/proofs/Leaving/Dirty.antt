@@ -85,18 +85,21 @@ give_up_dirty p sid (Stack t v) f h = elim (cases_eq t sid) [
 ]
 give_up_dirty p sid (Text image v) f h = absurd (let k = h.dirty in cc)
 
-unless_dirty : (borrowed : Bool) (p : Placement) (sid : ℕ) (w : Page) (f : ℕ) → IsDirtyIn p w f → IsDirtyIn (give_up_unless borrowed p sid) w f ⊎ ((borrowed ≡ false) × (is_of_space sid w ≡ true))
+unless_dirty : (borrowed : Bool) (p : Placement) (sid : ℕ) (w : Page) (f : ℕ) → IsDirtyIn p w f
+    → IsDirtyIn (give_up_unless borrowed p sid) w f ⊎ ((borrowed ≡ false) × (is_of_space sid w ≡ true))
 unless_dirty true p sid w f h = inl h
 unless_dirty false p sid w f h = elim (give_up_dirty p sid w f h) [
   | inl k ↦ inl k
   | inr k ↦ inr (refl, k)
 ]
 
-enter_dirty : (p : Placement) (sid image : ℕ) (facts : Option Image) (w : Page) (f : ℕ) → IsNew p sid → IsDirtyIn p w f → IsDirtyIn (enter_image p sid image facts) w f
+enter_dirty : (p : Placement) (sid image : ℕ) (facts : Option Image) (w : Page) (f : ℕ) → IsNew p sid → IsDirtyIn p w f
+    → IsDirtyIn (enter_image p sid image facts) w f
 enter_dirty p sid image None w f n h = h
 enter_dirty p sid image (Some facts) w f n h = alike_dirty p (enter_image p sid image (Some facts)) w f (enter_alike p sid image facts n w) h
 
-pub change_dirty : (images : List Image) (p : Placement) (pid sid : ℕ) (borrowed : Bool) (next_sid at : ℕ) (change : Change) (w : Page) (f : ℕ) → IsNew p next_sid → IsDirtyIn p w f
+pub change_dirty : (images : List Image) (p : Placement) (pid sid : ℕ) (borrowed : Bool) (next_sid at : ℕ) (change : Change) (w : Page) (f : ℕ)
+    → IsNew p next_sid → IsDirtyIn p w f
     → IsDirtyIn (place_change images p pid sid borrowed next_sid at change) w f ⊎ IsGivenUp sid borrowed change w
 change_dirty images p pid sid borrowed next_sid at Keep w f n h = inl h
 change_dirty images p pid sid borrowed next_sid at (Resize d s) w f n h = resize_dirty p sid d s w f h

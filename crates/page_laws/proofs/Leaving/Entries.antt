@@ -34,11 +34,13 @@ use Rattle.page_laws.proofs.Bytes.Others.{put_steady, reclaim_steady}
 pub enters_other : (p : Placement) (v w : Page) (f : ℕ) → CanEnter p v → frame_of (state_of p w) ≡ Some f → w ≢ v
 enters_other p v w f c e s = none_some f (sym c.frameless ∙ ap (λ (x : Page). frame_of (state_of p x)) (sym s) ∙ e)
 
-pub entering_others : (qs : List Page) (p : Placement) (w : Page) (f : ℕ) → EachPage (CanEnter p) qs → frame_of (state_of p w) ≡ Some f → EachPage (λ r. w ≢ r) qs
+pub entering_others : (qs : List Page) (p : Placement) (w : Page) (f : ℕ) → EachPage (CanEnter p) qs → frame_of (state_of p w) ≡ Some f
+    → EachPage (λ r. w ≢ r) qs
 entering_others [] p w f c e = tt
 entering_others (v ∷ qs) p w f c e = (enters_other p v w f c.0 e, entering_others qs p w f c.1 e)
 
-evict_kept : (p : Placement) (g : ℕ) (w : Page) (f : ℕ) → OwnsFrames p → 0 < times g p.free → frame_of (state_of p w) ≡ Some f → (slot_of (evict p g) w ≡ slot_of p w) ⊎ IsTaken p (evict p g) w f
+evict_kept : (p : Placement) (g : ℕ) (w : Page) (f : ℕ) → OwnsFrames p → 0 < times g p.free → frame_of (state_of p w) ≡ Some f
+    → (slot_of (evict p g) w ≡ slot_of p w) ⊎ IsTaken p (evict p g) w f
 evict_kept p g w f o l e = go (page_of p g) refl
   where
     go : (h : Option Page) → page_of p g ≡ h → (slot_of (evict p g) w ≡ slot_of p w) ⊎ IsTaken p (evict p g) w f
@@ -61,7 +63,8 @@ evict_kept p g w f o l e = go (page_of p g) refl
 later : (p q r : Placement) (w : Page) (f : ℕ) → slot_of r w ≡ slot_of q w → IsTaken p q w f → IsTaken p r w f
 later p q r w f e t = record { state = t.state; free = t.free; clean = t.clean; left = ap (λ (x : Slot). x.state) e ∙ t.left }
 
-fill_kept : (p : Placement) (v w : Page) (f : ℕ) → OwnsFrames p → CanEnter p v → frame_of (state_of p w) ≡ Some f → (slot_of (fill p v) w ≡ slot_of p w) ⊎ IsTaken p (fill p v) w f
+fill_kept : (p : Placement) (v w : Page) (f : ℕ) → OwnsFrames p → CanEnter p v → frame_of (state_of p w) ≡ Some f
+    → (slot_of (fill p v) w ≡ slot_of p w) ⊎ IsTaken p (fill p v) w f
 fill_kept p v w f o c e = go p.free refl
   where
     go : (fr : List ℕ) → p.free ≡ fr → (slot_of (fill_at p v fr) w ≡ slot_of p w) ⊎ IsTaken p (fill_at p v fr) w f
@@ -89,7 +92,8 @@ get_kept p source demanded v w f o c e = go p.free refl
         ]
 
 -- a page with no frame that isn't read stays as it is
-get_frameless : (p : Placement) (source : Source) (demanded v w : Page) → OwnsFrames p → w ≢ v → frame_of (state_of p w) ≡ None → slot_of (get_one p (Reads source demanded) v) w ≡ slot_of p w
+get_frameless : (p : Placement) (source : Source) (demanded v w : Page) → OwnsFrames p → w ≢ v → frame_of (state_of p w) ≡ None
+    → slot_of (get_one p (Reads source demanded) v) w ≡ slot_of p w
 get_frameless p source demanded v w o n e = go p.free
   where
     go : (fr : List ℕ) → slot_of (get_at p (Reads source demanded) v fr) w ≡ slot_of p w
@@ -123,7 +127,8 @@ pub record CanReadAll (qs : List Page) (p : Placement) (source : Source) (demand
   pub apart : AllApart qs
   pub latest : IsOpen p.transfers (Reads source demanded)
 
-pub reads_on : (v : Page) (qs : List Page) (p : Placement) (source : Source) (demanded : Page) → CanReadAll (v ∷ qs) p source demanded → CanReadAll qs (get_one p (Reads source demanded) v) source demanded
+pub reads_on : (v : Page) (qs : List Page) (p : Placement) (source : Source) (demanded : Page) → CanReadAll (v ∷ qs) p source demanded
+    → CanReadAll qs (get_one p (Reads source demanded) v) source demanded
 reads_on v qs p source demanded r = record {
   owns = get_owner p source demanded v r.owns r.enter.0 r.latest;
   enter = each_page_both (CanEnter p) (λ x. x ≢ v) (CanEnter (get_one p (Reads source demanded) v)) qs r.enter.1 r.apart.0 (λ w h n. get_enters_still p (Reads source demanded) v w r.owns n h);
@@ -131,7 +136,8 @@ reads_on v qs p source demanded r = record {
   latest = get_open_still p (Reads source demanded) v r.latest;
 }
 
-get_all_frameless : (qs : List Page) (p : Placement) (source : Source) (demanded w : Page) → CanReadAll qs p source demanded → EachPage (λ r. w ≢ r) qs → frame_of (state_of p w) ≡ None
+get_all_frameless : (qs : List Page) (p : Placement) (source : Source) (demanded w : Page) → CanReadAll qs p source demanded
+    → EachPage (λ r. w ≢ r) qs → frame_of (state_of p w) ≡ None
     → slot_of (get_all p (Reads source demanded) qs) w ≡ slot_of p w
 get_all_frameless [] p source demanded w r n e = refl
 get_all_frameless (v ∷ qs) p source demanded w r n e =
@@ -141,7 +147,8 @@ get_all_frameless (v ∷ qs) p source demanded w r n e =
 left_none : (w : Page) (s : PageState) (m : Bool) → s ≡ left_state w m → frame_of s ≡ None
 left_none w s m e = ap frame_of e ∙ left_frameless w m
 
-get_all_kept : (qs : List Page) (p : Placement) (source : Source) (demanded w : Page) (f : ℕ) → CanReadAll qs p source demanded → frame_of (state_of p w) ≡ Some f
+get_all_kept : (qs : List Page) (p : Placement) (source : Source) (demanded w : Page) (f : ℕ) → CanReadAll qs p source demanded
+    → frame_of (state_of p w) ≡ Some f
     → (slot_of (get_all p (Reads source demanded) qs) w ≡ slot_of p w) ⊎ IsTaken p (get_all p (Reads source demanded) qs) w f
 get_all_kept [] p source demanded w f r e = inl refl
 get_all_kept (v ∷ qs) p source demanded w f r e = elim (get_kept p source demanded v w f r.owns r.enter.0 e) [
@@ -163,7 +170,8 @@ get_all_kept (v ∷ qs) p source demanded w f r e = elim (get_kept p source dema
     on : CanReadAll qs q source demanded
     on = reads_on v qs p source demanded r
 
-pub reading : (p : Placement) (q : Page) (lo n : ℕ) → OwnsFrames p → EachPage (CanEnter p) (pages_from q lo n) → CanReadAll (pages_from q lo n) (begin p (read_errand p q)) (source_for (state_of p q)) q
+pub reading : (p : Placement) (q : Page) (lo n : ℕ) → OwnsFrames p → EachPage (CanEnter p) (pages_from q lo n)
+    → CanReadAll (pages_from q lo n) (begin p (read_errand p q)) (source_for (state_of p q)) q
 reading p q lo n o c = record {
   owns = begin_owner p (read_errand p q) o;
   enter = each_page_imp (CanEnter p) (CanEnter (begin p (read_errand p q))) (pages_from q lo n) c (λ x h. record { there = h.there; frameless = h.frameless });
@@ -171,7 +179,8 @@ reading p q lo n o c = record {
   latest = begin_open p.transfers (read_errand p q);
 }
 
-read_kept : (p : Placement) (q : Page) (lo n : ℕ) (w : Page) (f : ℕ) → OwnsFrames p → EachPage (CanEnter p) (pages_from q lo n) → frame_of (state_of p w) ≡ Some f
+read_kept : (p : Placement) (q : Page) (lo n : ℕ) (w : Page) (f : ℕ) → OwnsFrames p → EachPage (CanEnter p) (pages_from q lo n)
+    → frame_of (state_of p w) ≡ Some f
     → (slot_of (get_all (begin p (read_errand p q)) (read_errand p q) (pages_from q lo n)) w ≡ slot_of p w) ⊎ IsTaken p (get_all (begin p (read_errand p q)) (read_errand p q) (pages_from q lo n)) w f
 read_kept p q lo n w f o c e = elim (get_all_kept (pages_from q lo n) (begin p (read_errand p q)) (source_for (state_of p q)) q w f (reading p q lo n o c) e) [
   | inl h ↦ inl h

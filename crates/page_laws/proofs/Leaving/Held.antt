@@ -114,7 +114,8 @@ get_held p e v w f o n u = go p.free refl
     go (g ∷ rest) h = still p (get_at p e v (g ∷ rest)) w f (put_other (evict p g) v (Coming g) (mark_of p v) w n ∙ evict_held p g w f o (some_free p g rest h) u)
         (λ z. without_none f g (evict p g).free (ap (times f) (evict_free p g) ∙ z)) u
 
-get_all_held : (qs : List Page) (p : Placement) (source : Source) (demanded w : Page) (f : ℕ) → CanReadAll qs p source demanded → EachPage (λ r. w ≢ r) qs → IsUnwritten p w f → IsUnwritten (get_all p (Reads source demanded) qs) w f
+get_all_held : (qs : List Page) (p : Placement) (source : Source) (demanded w : Page) (f : ℕ) → CanReadAll qs p source demanded
+    → EachPage (λ r. w ≢ r) qs → IsUnwritten p w f → IsUnwritten (get_all p (Reads source demanded) qs) w f
 get_all_held [] p source demanded w f r n u = u
 get_all_held (v ∷ qs) p source demanded w f r n u =
     get_all_held qs (get_one p (Reads source demanded) v) source demanded w f (reads_on v qs p source demanded r) n.1 (get_held p (Reads source demanded) v w f r.owns n.0 u)
@@ -308,7 +309,8 @@ not_coming p w f g u e = elim u.held [
   ]
 ]
 
-land_own : (p : Placement) (e : Errand) (x : Part) (rest : List Transfer) (w : Page) (f : ℕ) → OwnsFrames p → Landing p e x rest → w ≡ x.page → IsUnwritten p w f → (state_of p w ≡ Going f) × IsClean (land p e x rest) w f
+land_own : (p : Placement) (e : Errand) (x : Part) (rest : List Transfer) (w : Page) (f : ℕ) → OwnsFrames p → Landing p e x rest → w ≡ x.page
+    → IsUnwritten p w f → (state_of p w ≡ Going f) × IsClean (land p e x rest) w f
 land_own p (Reads source demanded) x rest w f o l s u = absurd (not_coming p w f x.frame u (ap (state_of p) s ∙ landing_state p (Reads source demanded) x rest o l))
 land_own p Writes x rest w f o l s u =
     let is : state_of p w ≡ Going x.frame = ap (state_of p) s ∙ landing_state p Writes x rest o l in
@@ -321,14 +323,16 @@ land_own p Writes x rest w f o l s u =
       },
     )
 
-landing_at : (x : Part) (xs : List Part) (p : Placement) (e : Errand) (ts : List Transfer) → p.transfers ≡ record { errand = e; parts = x ∷ xs } ∷ ts → Landing p e x (record { errand = e; parts = xs } ∷ ts)
+landing_at : (x : Part) (xs : List Part) (p : Placement) (e : Errand) (ts : List Transfer) → p.transfers ≡ record { errand = e; parts = x ∷ xs } ∷ ts
+    → Landing p e x (record { errand = e; parts = xs } ∷ ts)
 landing_at x xs p e ts h = record { parts = ap parts_of h }
 
 not_moving : (e : Errand) (g f : ℕ) → moving_state e g ≡ Invalid f → ⊥
 not_moving Writes g f h = absurd cc
 not_moving (Reads source demanded) g f h = absurd cc
 
-land_all_clean : (xs : List Part) (p : Placement) (e : Errand) (ts : List Transfer) (w : Page) (f : ℕ) → OwnsFrames p → p.transfers ≡ record { errand = e; parts = xs } ∷ ts → IsClean p w f → IsClean (land_all p e xs ts) w f
+land_all_clean : (xs : List Part) (p : Placement) (e : Errand) (ts : List Transfer) (w : Page) (f : ℕ) → OwnsFrames p
+    → p.transfers ≡ record { errand = e; parts = xs } ∷ ts → IsClean p w f → IsClean (land_all p e xs ts) w f
 land_all_clean [] p e ts w f o h c = record { state = c.state; clean = c.clean }
 land_all_clean (x ∷ xs) p e ts w f o h c =
     let l = landing_at x xs p e ts h in
@@ -337,7 +341,8 @@ land_all_clean (x ∷ xs) p e ts w f o h c =
     land_all_clean xs (land p e x (record { errand = e; parts = xs } ∷ ts)) e ts w f (land_owner p e x (record { errand = e; parts = xs } ∷ ts) o l) (land_transfers p e x (record { errand = e; parts = xs } ∷ ts))
     (record { state = ap (λ (y : Slot). y.state) k ∙ c.state; clean = ap (λ (y : Slot). is_dirty_by w y.mark) k ∙ c.clean })
 
-land_all_held : (xs : List Part) (p : Placement) (e : Errand) (ts : List Transfer) (w : Page) (f : ℕ) → OwnsFrames p → p.transfers ≡ record { errand = e; parts = xs } ∷ ts → IsUnwritten p w f
+land_all_held : (xs : List Part) (p : Placement) (e : Errand) (ts : List Transfer) (w : Page) (f : ℕ) → OwnsFrames p
+    → p.transfers ≡ record { errand = e; parts = xs } ∷ ts → IsUnwritten p w f
     → IsUnwritten (land_all p e xs ts) w f ⊎ ((state_of p w ≡ Going f) × IsClean (land_all p e xs ts) w f)
 land_all_held [] p e ts w f o h u = inl (record { dirty = u.dirty; held = u.held })
 land_all_held (x ∷ xs) p e ts w f o h u = elim (page_cases w x.page) [

@@ -21,7 +21,8 @@ use Rattle.page_laws.proofs.Blocks.Places.{stored_other}
 use Rattle.page_laws.proofs.Leaving.Changes.{change_frame}
 use Rattle.aout_image.specs.declared.Image.{Image}
 
-pub change_same : (images : List Image) (p : Placement) (pid sid : ℕ) (borrowed : Bool) (next_sid at : ℕ) (change : Change) (b c : Bytes) (w : Page) → IsNew p next_sid → SameBytes b c w
+pub change_same : (images : List Image) (p : Placement) (pid sid : ℕ) (borrowed : Bool) (next_sid at : ℕ) (change : Change) (b c : Bytes) (w : Page)
+    → IsNew p next_sid → SameBytes b c w
     → SamePage p (place_change images p pid sid borrowed next_sid at change) b c w
 change_same images p pid sid borrowed next_sid at change b c w n s = record {
   frames = λ f g e k. elim (change_frame images p pid sid borrowed next_sid at change w n) [
@@ -36,7 +37,8 @@ pub residence_same : (p : Placement) (pid : ℕ) (out : Bool) (at : ℕ) (b : By
 residence_same p pid out at b w = record { frames = λ f g e k. ap (bytes_in b) (same_Some g f (sym k ∙ e)); swap = refl; start = refl }
 
 -- what is written of a process that goes out isn't a page's
-pub out_same : (size : ℕ) (hs : Holdings) (image bytes : List ℕ) (pid : ℕ) (w : Page) → IsBook size hs → 512 * size ≤ length image → length bytes ≡ 1024 → stored hs (store_at image (block_in hs (owners.U pid) 0) bytes) w ≡ stored hs image w
+pub out_same : (size : ℕ) (hs : Holdings) (image bytes : List ℕ) (pid : ℕ) (w : Page) → IsBook size hs → 512 * size ≤ length image
+    → length bytes ≡ 1024 → stored hs (store_at image (block_in hs (owners.U pid) 0) bytes) w ≡ stored hs image w
 out_same size hs image bytes pid w book l lb = go (block_in hs (owners.U pid) 0) refl
   where
     apart : ArePlacesApart size hs

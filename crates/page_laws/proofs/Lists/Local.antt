@@ -39,7 +39,8 @@ other_state p q v f l w n = ap (λ (x : Slot). x.state) (l.other_slots w n)
 pub other_mark : (p q : Placement) (v : Page) (f : ℕ) → Local p q v f → (w : Page) → w ≢ v → mark_of q w ≡ mark_of p w
 other_mark p q v f l w n = ap (λ (x : Slot). x.mark) (l.other_slots w n)
 
-seated_same : (p q : Placement) (g : ℕ) (o : Option Page) → page_of p g ≡ o → page_of q g ≡ o → times g q.free ≡ times g p.free → ((w : Page) → o ≡ Some w → state_of q w ≡ state_of p w) → seated q g ≡ seated p g
+seated_same : (p q : Placement) (g : ℕ) (o : Option Page) → page_of p g ≡ o → page_of q g ≡ o → times g q.free ≡ times g p.free
+    → ((w : Page) → o ≡ Some w → state_of q w ≡ state_of p w) → seated q g ≡ seated p g
 seated_same p q g None a b t s = ap (seated_of q g) b ∙ sym (ap (seated_of p g) a)
 seated_same p q g (Some w) a b t s = ap (seated_of q g) b ∙ ap (λ (n : ℕ). seats n (state_of q w)) t ∙ ap (seats (times g p.free)) (s w refl) ∙ sym (ap (seated_of p g) a)
 
@@ -55,7 +56,8 @@ frame_was p q v f l g b = (b.0, let s = l.frames in let k = b.1 in omega arith)
 frame_is : (p q : Placement) (v : Page) (f : ℕ) → Local p q v f → (g : ℕ) → IsFrame p g → IsFrame q g
 frame_is p q v f l g b = (b.0, let s = l.frames in let k = b.1 in omega arith)
 
-once_of : (p q : Placement) (v : Page) (f : ℕ) → OwnsFrames p → Local p q v f → Here q v f → (g : ℕ) → IsFrame q g → times g q.free + times g (flying (parts_of q.transfers)) + seated q g ≡ 1
+once_of : (p q : Placement) (v : Page) (f : ℕ) → OwnsFrames p → Local p q v f → Here q v f → (g : ℕ) → IsFrame q g
+    → times g q.free + times g (flying (parts_of q.transfers)) + seated q g ≡ 1
 once_of p q v f o l h g b = elim (cases_eq g f) [
   | inl e ↦ subst (λ (x : ℕ). times x q.free + times x (flying (parts_of q.transfers)) + seated q x ≡ 1) (sym e) h.once
   | inr n ↦
@@ -72,7 +74,8 @@ frames_of p q v f o l g b = elim (cases_eq g f) [
   | inr n ↦ frame_is p q v f l g (o.frames g (subst (λ (x : ℕ). 0 < x) (l.other_free g n) b))
 ]
 
-names_of : (p q : Placement) (v : Page) (f : ℕ) → OwnsFrames p → Local p q v f → Here q v f → (w : Page) (g : ℕ) → frame_of (state_of q w) ≡ Some g → page_of q g ≡ Some w
+names_of : (p q : Placement) (v : Page) (f : ℕ) → OwnsFrames p → Local p q v f → Here q v f → (w : Page) (g : ℕ) → frame_of (state_of q w) ≡ Some g
+    → page_of q g ≡ Some w
 names_of p q v f o l h w g e = elim (page_cases w v) [
   | inl s ↦
       let e2 : frame_of (state_of q v) ≡ Some g = subst (λ (x : Page). frame_of (state_of q x) ≡ Some g) s e in
@@ -91,7 +94,8 @@ names_of p q v f o l h w g e = elim (page_cases w v) [
       ]
 ]
 
-named_of : (p q : Placement) (v : Page) (f : ℕ) → OwnsFrames p → Local p q v f → Here q v f → (g : ℕ) (w : Page) → page_of q g ≡ Some w → frame_of (state_of q w) ≡ Some g
+named_of : (p q : Placement) (v : Page) (f : ℕ) → OwnsFrames p → Local p q v f → Here q v f → (g : ℕ) (w : Page) → page_of q g ≡ Some w
+    → frame_of (state_of q w) ≡ Some g
 named_of p q v f o l h g w e = elim (cases_eq g f) [
   | inl s ↦
       let e2 : page_of q f ≡ Some w = subst (λ (x : ℕ). page_of q x ≡ Some w) s e in
@@ -107,7 +111,8 @@ named_of p q v f o l h g w e = elim (cases_eq g f) [
       ap frame_of (other_state p q v f l w m) ∙ o.named g w e2
 ]
 
-listed_of : (p q : Placement) (v : Page) (f : ℕ) → OwnsFrames p → Local p q v f → Here q v f → (g : ℕ) (w : Page) → 0 < times g q.free → page_of q g ≡ Some w → IsListed q g w
+listed_of : (p q : Placement) (v : Page) (f : ℕ) → OwnsFrames p → Local p q v f → Here q v f → (g : ℕ) (w : Page) → 0 < times g q.free
+    → page_of q g ≡ Some w → IsListed q g w
 listed_of p q v f o l h g w b e = elim (cases_eq g f) [
   | inl s ↦
       let e2 : page_of q f ≡ Some w = subst (λ (x : ℕ). page_of q x ≡ Some w) s e in
@@ -125,7 +130,8 @@ listed_of p q v f o l h g w b e = elim (cases_eq g f) [
       record { state = other_state p q v f l w m ∙ was.state; clean = ap (is_marked_dirty w) (other_mark p q v f l w m) ∙ was.clean }
 ]
 
-dirty_of : (p q : Placement) (v : Page) (f : ℕ) → OwnsFrames p → Local p q v f → Here q v f → (w : Page) → is_marked_dirty w (mark_of q w) ≡ true → may_be_dirty (state_of q w) ≡ true
+dirty_of : (p q : Placement) (v : Page) (f : ℕ) → OwnsFrames p → Local p q v f → Here q v f → (w : Page) → is_marked_dirty w (mark_of q w) ≡ true
+    → may_be_dirty (state_of q w) ≡ true
 dirty_of p q v f o l h w e = elim (page_cases w v) [
   | inl s ↦ subst (λ (x : Page). may_be_dirty (state_of q x) ≡ true) (sym s) (h.dirty (subst (λ (x : Page). is_marked_dirty x (mark_of q x) ≡ true) s e))
   | inr n ↦ ap may_be_dirty (other_state p q v f l w n) ∙ o.dirty w (ap (is_marked_dirty w) (sym (other_mark p q v f l w n)) ∙ e)

@@ -39,7 +39,8 @@ page_cases (Text a v) (Stack b w) = inr (λ h. absurd cc)
 
 -- Slots of a segment.
 
-pub change_same : (xs : List Slot) (v : ℕ) (s : PageState) (m : Bool) → v < length xs → get_or (change_slot xs v s m) v no_slot ≡ record { state = s; mark = m; filling = filling_behind s (get_or xs v no_slot).filling }
+pub change_same : (xs : List Slot) (v : ℕ) (s : PageState) (m : Bool) → v < length xs
+    → get_or (change_slot xs v s m) v no_slot ≡ record { state = s; mark = m; filling = filling_behind s (get_or xs v no_slot).filling }
 change_same [] v s m l = absurd (omega arith)
 change_same (x ∷ xs) zero s m l = refl
 change_same (x ∷ xs) (suc v) s m l = change_same xs v s m (omega arith)
@@ -71,7 +72,8 @@ numbered_miss number n x xs e = grind (arith, nat_tests)
 changed_hit : {A : Type 0} (number : A → ℕ) (n : ℕ) (change : A → A) (x : A) (xs : List A) → number x ≡ n → changed number n change (x ∷ xs) ≡ change x ∷ xs
 changed_hit number n change x xs e = grind (arith, nat_tests)
 
-changed_miss : {A : Type 0} (number : A → ℕ) (n : ℕ) (change : A → A) (x : A) (xs : List A) → number x ≢ n → changed number n change (x ∷ xs) ≡ x ∷ changed number n change xs
+changed_miss : {A : Type 0} (number : A → ℕ) (n : ℕ) (change : A → A) (x : A) (xs : List A) → number x ≢ n
+    → changed number n change (x ∷ xs) ≡ x ∷ changed number n change xs
 changed_miss number n change x xs e = grind (arith, nat_tests)
 
 pub changed_same : {A : Type 0} (number : A → ℕ) (n : ℕ) (change : A → A) → ((x : A) → number (change x) ≡ number x) → (xs : List A)
@@ -135,7 +137,8 @@ put_at_data p sid v s m (Stack t w) = elim (cases_eq t sid) [
 ]
 put_at_data p sid v s m (Text i w) = inl refl
 
-put_at_stack : (p : Placement) (sid v : ℕ) (s : PageState) (m : Bool) (r : Page) → PutAt (slots_of (put p (Stack sid v) s m) r) (slots_of p r) (Stack sid v) r s m
+put_at_stack : (p : Placement) (sid v : ℕ) (s : PageState) (m : Bool) (r : Page)
+    → PutAt (slots_of (put p (Stack sid v) s m) r) (slots_of p r) (Stack sid v) r s m
 put_at_stack p sid v s m (Stack t w) = elim (cases_eq t sid) [
   | inl e ↦ inr (
     ap (λ (x : ℕ). Stack x w) e,
@@ -151,7 +154,8 @@ put_at_stack p sid v s m (Data t w) = elim (cases_eq t sid) [
 ]
 put_at_stack p sid v s m (Text i w) = inl refl
 
-put_at_text : (p : Placement) (image v : ℕ) (s : PageState) (m : Bool) (r : Page) → PutAt (slots_of (put p (Text image v) s m) r) (slots_of p r) (Text image v) r s m
+put_at_text : (p : Placement) (image v : ℕ) (s : PageState) (m : Bool) (r : Page)
+    → PutAt (slots_of (put p (Text image v) s m) r) (slots_of p r) (Text image v) r s m
 put_at_text p image v s m (Text t w) = elim (cases_eq t image) [
   | inl e ↦ inr (
     ap (λ (x : ℕ). Text x w) e,
@@ -178,7 +182,8 @@ slots_put p (Data sid v) s m = ap data_in (changed_same space_number sid (with_d
 slots_put p (Stack sid v) s m = ap stack_in (changed_same space_number sid (with_stack v s m) (λ x. refl) p.spaces) ∙ stack_with_stack v s m (numbered space_number sid p.spaces)
 slots_put p (Text image v) s m = ap text_in (changed_same image_number image (with_text v s m) (λ x. refl) p.texts) ∙ text_with_text v s m (numbered image_number image p.texts)
 
-pub put_same : (p : Placement) (q : Page) (s : PageState) (m : Bool) → IsThere p q → slot_of (put p q s m) q ≡ record { state = s; mark = m; filling = filling_behind s (slot_of p q).filling }
+pub put_same : (p : Placement) (q : Page) (s : PageState) (m : Bool) → IsThere p q
+    → slot_of (put p q s m) q ≡ record { state = s; mark = m; filling = filling_behind s (slot_of p q).filling }
 put_same p q s m l = ap (λ (xs : List Slot). get_or xs (number_of q) no_slot) (slots_put p q s m) ∙ change_same (slots_of p q) (number_of q) s m l
 
 pub put_state : (p : Placement) (q : Page) (s : PageState) (m : Bool) → IsThere p q → state_of (put p q s m) q ≡ s
@@ -201,7 +206,8 @@ put_length p q s m r = elim (put_at p q s m r) [
 
 -- a put keeps the images of spaces
 
-pub sharers_changed : (sid i : ℕ) (change : SpacePages → SpacePages) → ((x : SpacePages) → (change x).image ≡ x.image) → (xs : List SpacePages) → sharers_in i (changed space_number sid change xs) ≡ sharers_in i xs
+pub sharers_changed : (sid i : ℕ) (change : SpacePages → SpacePages) → ((x : SpacePages) → (change x).image ≡ x.image) → (xs : List SpacePages)
+    → sharers_in i (changed space_number sid change xs) ≡ sharers_in i xs
 sharers_changed sid i change k [] = refl
 sharers_changed sid i change k (x ∷ xs) = elim (cases_eq (space_number x) sid) [
   | inl e ↦ rw (changed_hit space_number sid change x xs e) (ap (λ (n : ℕ). cond (n == i) 1 0 + sharers_in i xs) (k x))

@@ -56,7 +56,8 @@ length_join (t ∷ u ∷ us) e x o = ap suc (length_join (u ∷ us) e x o)
 pub times_pushed : (g : ℕ) (ms : List Moving) (m : Moving) → times g (flying (ms ++ m ∷ [])) ≡ times g (flying ms) + times g (m.frame ∷ [])
 times_pushed g ms m = ap (times g) (flying-append ms (m ∷ [])) ∙ times-append g (flying ms) (m.frame ∷ [])
 
-pub times_joined : (g : ℕ) (ts : List Transfer) (e : Errand) (x : Part) → IsOpen ts e → times g (flying (parts_of (join_last ts e x))) ≡ times g (flying (parts_of ts)) + times g (x.frame ∷ [])
+pub times_joined : (g : ℕ) (ts : List Transfer) (e : Errand) (x : Part) → IsOpen ts e
+    → times g (flying (parts_of (join_last ts e x))) ≡ times g (flying (parts_of ts)) + times g (x.frame ∷ [])
 times_joined g ts e x o = ap (λ ms. times g (flying ms)) (parts_join ts e x o) ∙ times_pushed g (parts_of ts) (moving e x)
 
 -- What is so of each.

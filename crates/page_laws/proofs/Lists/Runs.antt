@@ -39,7 +39,8 @@ pages_from_apart q lo (suc n) = (
 
 -- What passes.
 
-above_by : (passes : ℕ → Bool) (v room : ℕ) (b : Bool) → passes (v + 1) ≡ b → ((w : ℕ) → v + 1 < w → w ≤ v + 1 + passing_above passes (v + 1) room → passes w ≡ true)
+above_by : (passes : ℕ → Bool) (v room : ℕ) (b : Bool) → passes (v + 1) ≡ b
+    → ((w : ℕ) → v + 1 < w → w ≤ v + 1 + passing_above passes (v + 1) room → passes w ≡ true)
     → (w : ℕ) → v < w → w ≤ v + cond b (1 + passing_above passes (v + 1) room) 0 → passes w ≡ true
 above_by passes v room true e ih w l m = elim (cases_eq w (v + 1)) [
   | inl s ↦ ap passes s ∙ e
@@ -102,7 +103,8 @@ pub run_alone_in : (passes : ℕ → Bool) (q : Page) → InRun passes (number_o
 run_alone_in passes q w l m = inl (omega arith)
 
 -- what is so of the page and of each that passes is so of the run
-pub run_each : (P : Page → Type 0) (passes : ℕ → Bool) (q : Page) (r : Run) → InRun passes (number_of q) r → P q → ((w : ℕ) → passes w ≡ true → P (beside q w)) → EachPage P (pages_of_run q r)
+pub run_each : (P : Page → Type 0) (passes : ℕ → Bool) (q : Page) (r : Run) → InRun passes (number_of q) r → P q
+    → ((w : ℕ) → passes w ≡ true → P (beside q w)) → EachPage P (pages_of_run q r)
 run_each P passes q r h here others = pages_from_each P q r.lo r.n (λ w l m. elim (h w l m) [
   | inl e ↦ subst (λ (x : ℕ). P (beside q x)) (sym e) (subst P (sym (beside_self q)) here)
   | inr e ↦ others w e

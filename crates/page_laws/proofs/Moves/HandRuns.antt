@@ -24,7 +24,8 @@ retire_flies p q = go (state_of p q)
 
 -- the write that is named is the one that begins
 
-by_begun : (p : Placement) (locked : List Page) (v : Page) (w : Page × Run) (d : Bool) → write_by p locked v d ≡ Some w → sweep_by p locked v d ≡ launch_run p (pages_of_run w.0 w.1)
+by_begun : (p : Placement) (locked : List Page) (v : Page) (w : Page × Run) (d : Bool) → write_by p locked v d ≡ Some w
+    → sweep_by p locked v d ≡ launch_run p (pages_of_run w.0 w.1)
 by_begun p locked v w true e =
     let same : (v, run_out p locked v) ≡ w = cc in
     ap (λ (x : Page × Run). launch_run p (pages_of_run x.0 x.1)) same
@@ -41,11 +42,13 @@ to_begun p locked v w (Coming f) n b e = absurd cc
 to_begun p locked v w (Going f) n b e = absurd cc
 to_begun p locked v w OnSwap n b e = absurd cc
 
-of_begun : (p : Placement) (locked : List Page) (f : ℕ) (w : Page × Run) (o : Option Page) → write_of p locked f o ≡ Some w → sweep_of p locked f o ≡ launch_run p (pages_of_run w.0 w.1)
+of_begun : (p : Placement) (locked : List Page) (f : ℕ) (w : Page × Run) (o : Option Page) → write_of p locked f o ≡ Some w
+    → sweep_of p locked f o ≡ launch_run p (pages_of_run w.0 w.1)
 of_begun p locked f w None e = absurd cc
 of_begun p locked f w (Some v) e = to_begun p locked v w (state_of p v) (times f p.free) (is_among v locked) e
 
-pub hand_begun : (p : Placement) (locked : List Page) (q : Page) (r : Run) → hand_run p locked ≡ Some (q, r) → hand_move p locked ≡ advance (launch_run (expire p locked) (pages_of_run q r))
+pub hand_begun : (p : Placement) (locked : List Page) (q : Page) (r : Run) → hand_run p locked ≡ Some (q, r)
+    → hand_move p locked ≡ advance (launch_run (expire p locked) (pages_of_run q r))
 hand_begun p locked q r e = ap advance (of_begun (expire p locked) locked (expire p locked).back (q, r) (page_of (expire p locked) (expire p locked).back) e)
 
 -- where none is named, none begins
@@ -54,7 +57,8 @@ by_rests : (p : Placement) (locked : List Page) (v : Page) (d : Bool) → write_
 by_rests p locked v true e = absurd cc
 by_rests p locked v false e = retire_flies p v
 
-to_rests : (p : Placement) (locked : List Page) (v : Page) (s : PageState) (n : ℕ) (b : Bool) → write_to p locked v s n b ≡ None → (sweep_to p locked v s n b).transfers ≡ p.transfers
+to_rests : (p : Placement) (locked : List Page) (v : Page) (s : PageState) (n : ℕ) (b : Bool) → write_to p locked v s n b ≡ None
+    → (sweep_to p locked v s n b).transfers ≡ p.transfers
 to_rests p locked v (Invalid f) zero false e = by_rests p locked v (is_dirty p v) e
 to_rests p locked v (Invalid f) zero true e = refl
 to_rests p locked v (Invalid f) (suc n) b e = refl

@@ -68,7 +68,8 @@ unfolding without_page
 without_le q [] = omega arith
 without_le q (r ∷ rs) = shorter_by (same_page q r) r (without_page q rs) rs (without_le q rs)
 
-less_if : (b : Bool) (r : Page) (xs rs : List Page) → length xs ≤ length rs → (b ≡ false → length xs < length rs) → length (cond b xs (r ∷ xs)) < length (r ∷ rs)
+less_if : (b : Bool) (r : Page) (xs rs : List Page) → length xs ≤ length rs → (b ≡ false → length xs < length rs)
+    → length (cond b xs (r ∷ xs)) < length (r ∷ rs)
 less_if true r xs rs l k = omega arith
 less_if false r xs rs l k = let h = k refl in omega arith
 
@@ -81,7 +82,8 @@ unfolding without_page
 without_less q [] h = absurd cc
 without_less q (r ∷ rs) h = less_if (same_page q r) r (without_page q rs) rs (without_le q rs) (λ e. without_less q rs (or_second (same_page q r) (is_among q rs) h e))
 
-kept_if : (b : Bool) (w r : Page) (xs : List Page) → (b ≡ true → same_page w r ≡ false) → (same_page w r ≡ false → is_among w xs ≡ true) → is_among w (cond b xs (r ∷ xs)) ≡ true
+kept_if : (b : Bool) (w r : Page) (xs : List Page) → (b ≡ true → same_page w r ≡ false) → (same_page w r ≡ false → is_among w xs ≡ true)
+    → is_among w (cond b xs (r ∷ xs)) ≡ true
 kept_if true w r xs n k = k (n refl)
 kept_if false w r xs n k = go (same_page w r) refl
   where
@@ -101,7 +103,8 @@ unfolding without_page
 without_kept q w [] n h = h
 without_kept q w (r ∷ rs) n h = kept_if (same_page q r) w r (without_page q rs) (differ q w r n) (λ e. without_kept q w rs n (or_second (same_page w r) (is_among w rs) h e))
 
-pub pigeons : (m : ℕ) (at : ℕ → Page) (rs : List Page) → ((k : ℕ) → k < m → is_among (at k) rs ≡ true) → ((i j : ℕ) → i < j → j < m → at i ≢ at j) → m ≤ length rs
+pub pigeons : (m : ℕ) (at : ℕ → Page) (rs : List Page) → ((k : ℕ) → k < m → is_among (at k) rs ≡ true) → ((i j : ℕ) → i < j → j < m → at i ≢ at j)
+    → m ≤ length rs
 pigeons zero at rs h a = omega arith
 pigeons (suc m) at rs h a =
     let l = without_less (at m) rs (h m (omega arith)) in
@@ -124,7 +127,8 @@ none_by true x m e = absurd (omega arith)
 none_by false x m e = (refl, omega arith)
 
 -- where none is found, no frame from the front hand on is open
-pub reach_none : (p : Placement) (locked : List Page) (m d f k : ℕ) → reach p locked m d f ≡ m → d ≤ k → k < m → is_open p locked (walk (length p.holds) k f) ≡ false
+pub reach_none : (p : Placement) (locked : List Page) (m d f k : ℕ) → reach p locked m d f ≡ m → d ≤ k → k < m
+    → is_open p locked (walk (length p.holds) k f) ≡ false
 reach_none p locked zero d f k e l h = absurd (omega arith)
 reach_none p locked (suc m) zero f zero e l h = (none_by (is_open p locked f) (reach p locked m zero (next_frame (length p.holds) f)) m e).0
 reach_none p locked (suc m) zero f (suc k) e l h = reach_none p locked m zero (next_frame (length p.holds) f) k (none_by (is_open p locked f) (reach p locked m zero (next_frame (length p.holds) f)) m e).1 (omega arith) (omega arith)
@@ -144,7 +148,8 @@ shift_by false true x y m h l k = omega arith
 shift_by false false x y m h l k = let j = k (omega arith) in omega arith
 
 -- one step on, no frame is further than it was
-pub reach_shift : (p q : Placement) (locked : List Page) (front m d f : ℕ) → Passed p q locked front → walk (length p.holds) d f ≡ front → reach p locked m d f < m → reach q locked (suc m) (suc d) f ≤ reach p locked m d f
+pub reach_shift : (p q : Placement) (locked : List Page) (front m d f : ℕ) → Passed p q locked front → walk (length p.holds) d f ≡ front
+    → reach p locked m d f < m → reach q locked (suc m) (suc d) f ≤ reach p locked m d f
 reach_shift p q locked front zero d f s e l = absurd (omega arith)
 reach_shift p q locked front (suc m) zero f s e l = shift_by (is_open p locked f) (is_usable q locked f) (reach p locked m zero (next_frame (length p.holds) f)) (reach q locked (suc m) zero (next_frame (length q.holds) f)) m
     (λ h. subst (λ (g : ℕ). is_usable q locked g ≡ true) (sym e) (s.here (subst (λ (g : ℕ). is_open p locked g ≡ true) e h))) l

@@ -31,7 +31,8 @@ not_valid : (s : PageState) → is_valid s ≡ false → is_valid s ≡ true →
 not_valid s e h = absurd (let k : true ≡ false = sym h ∙ e in cc)
 
 -- another state at a page that wasn't valid, or isn't locked
-pub put_spares : (p : Placement) (v : Page) (s : PageState) (m : Bool) (locked : List Page) → (is_among v locked ≡ true → is_valid (state_of p v) ≡ true → ⊥) → Spares p (put p v s m) locked
+pub put_spares : (p : Placement) (v : Page) (s : PageState) (m : Bool) (locked : List Page)
+    → (is_among v locked ≡ true → is_valid (state_of p v) ≡ true → ⊥) → Spares p (put p v s m) locked
 put_spares p v s m locked n w i h = elim (page_cases w v) [
   | inl e ↦ absurd (n (subst (λ (x : Page). is_among x locked ≡ true) e i) (subst (λ (x : Page). is_valid (state_of p x) ≡ true) e h))
   | inr d ↦ ap is_valid (put_other_state p v s m w d) ∙ h
@@ -57,7 +58,8 @@ evict_spares p f locked o b = go (page_of p f) refl
     go None e = λ w i h. h
     go (Some v) e = let k : IsListed p f v = o.listed f v b e in λ w i h. put_invalid p v (left_state v (mark_of p v)) (mark_of p v) locked (ap is_valid k.state) w i h
 
-enter_spares : (p : Placement) (v : Page) (f : ℕ) (s : PageState) (m : Bool) (ts : List Transfer) (locked : List Page) → OwnsFrames p → 0 < times f p.free → frame_of (state_of p v) ≡ None → Spares p (enter (evict p f) v f s m ts) locked
+enter_spares : (p : Placement) (v : Page) (f : ℕ) (s : PageState) (m : Bool) (ts : List Transfer) (locked : List Page) → OwnsFrames p
+    → 0 < times f p.free → frame_of (state_of p v) ≡ None → Spares p (enter (evict p f) v f s m ts) locked
 enter_spares p v f s m ts locked o b n = spares_both p (evict p f) (enter (evict p f) v f s m ts) locked (evict_spares p f locked o b)
     (λ w i h. put_invalid (evict p f) v s m locked (ap (λ (x : Slot). is_valid x.state) (evict_other p f v o n) ∙ frameless_not (state_of p v) n) w i h)
 
@@ -75,7 +77,8 @@ get_spares p e v locked o c = go p.free refl
     go [] h = λ w i k. k
     go (f ∷ rest) h = enter_spares p v f (Coming f) (mark_of p v) (join_last p.transfers e (record { page = v; frame = f })) locked o (some_free p f rest h) c.frameless
 
-get_all_spares : (qs : List Page) (p : Placement) (source : Source) (demanded : Page) (locked : List Page) → OwnsFrames p → EachPage (CanEnter p) qs → AllApart qs
+get_all_spares : (qs : List Page) (p : Placement) (source : Source) (demanded : Page) (locked : List Page) → OwnsFrames p → EachPage (CanEnter p) qs
+    → AllApart qs
     → IsOpen p.transfers (Reads source demanded) → Spares p (get_all p (Reads source demanded) qs) locked
 get_all_spares [] p source demanded locked o c a latest = λ w i h. h
 get_all_spares (v ∷ qs) p source demanded locked o c a latest =
@@ -144,7 +147,8 @@ launch_still p v w n = go (state_of p v)
     go (Going f) = refl
     go OnSwap = refl
 
-launch_all_spares : (qs : List Page) (p : Placement) (locked : List Page) → EachPage (λ q. is_valid (state_of p q) ≡ false) qs → AllApart qs → Spares p (launch_all p qs) locked
+launch_all_spares : (qs : List Page) (p : Placement) (locked : List Page) → EachPage (λ q. is_valid (state_of p q) ≡ false) qs → AllApart qs
+    → Spares p (launch_all p qs) locked
 launch_all_spares [] p locked n a = λ w i h. h
 launch_all_spares (v ∷ qs) p locked n a = spares_both p (launch p v) (launch_all (launch p v) qs) locked (launch_spares p v locked n.0)
     (launch_all_spares qs (launch p v) locked (each_page_both (λ q. is_valid (state_of p q) ≡ false) (λ r. r ≢ v) (λ q. is_valid (state_of (launch p v) q) ≡ false) qs n.1 a.0 (λ w e d. ap is_valid (launch_still p v w d) ∙ e)) a.1)
@@ -191,7 +195,8 @@ moving_not : (e : Errand) (f : ℕ) → is_valid (moving_state e f) ≡ false
 moving_not Writes f = refl
 moving_not (Reads source demanded) f = refl
 
-land_spares : (p : Placement) (e : Errand) (x : Part) (rest : List Transfer) (locked : List Page) → is_valid (state_of p x.page) ≡ false → Spares p (land p e x rest) locked
+land_spares : (p : Placement) (e : Errand) (x : Part) (rest : List Transfer) (locked : List Page) → is_valid (state_of p x.page) ≡ false
+    → Spares p (land p e x rest) locked
 land_spares p Writes x rest locked n = λ w i h. put_invalid p x.page (Invalid x.frame) (written_mark x.page) locked n w i h
 land_spares p (Reads source demanded) x rest locked n = go (same_page x.page demanded)
   where
@@ -199,7 +204,8 @@ land_spares p (Reads source demanded) x rest locked n = go (same_page x.page dem
     go true = λ w i h. put_invalid p x.page (Valid x.frame) (arrived_mark source x.page (mark_of p x.page)) locked n w i h
     go false = λ w i h. put_invalid p x.page (Invalid x.frame) (mark_of p x.page) locked n w i h
 
-land_all_spares : (xs : List Part) (p : Placement) (e : Errand) (ts : List Transfer) (locked : List Page) → OwnsFrames p → p.transfers ≡ record { errand = e; parts = xs } ∷ ts → Spares p (land_all p e xs ts) locked
+land_all_spares : (xs : List Part) (p : Placement) (e : Errand) (ts : List Transfer) (locked : List Page) → OwnsFrames p
+    → p.transfers ≡ record { errand = e; parts = xs } ∷ ts → Spares p (land_all p e xs ts) locked
 land_all_spares [] p e ts locked o h = λ w i k. k
 land_all_spares (x ∷ xs) p e ts locked o h =
     let l : Landing p e x (record { errand = e; parts = xs } ∷ ts) = record { parts = ap Rattle.page_model.specs.Placement.parts_of h } in

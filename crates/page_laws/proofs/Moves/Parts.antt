@@ -53,7 +53,8 @@ get_first p e v l h = go p.free l
     go [] m = absurd (omega arith)
     go (f ∷ rest) m = begun p.transfers e e (record { page = v; frame = f }) h
 
-get_run_parts : (p : Placement) (e : Errand) (q : Page) (lo n : ℕ) → 0 < n → 0 < length p.free → HaveParts p.transfers → HaveParts (get_run p e (pages_from q lo n)).transfers
+get_run_parts : (p : Placement) (e : Errand) (q : Page) (lo n : ℕ) → 0 < n → 0 < length p.free → HaveParts p.transfers
+    → HaveParts (get_run p e (pages_from q lo n)).transfers
 get_run_parts p e q lo zero m l h = absurd (omega arith)
 get_run_parts p e q lo (suc n) m l h = get_all_parts (pages_from q (lo + 1) n) (get_one (begin p e) e (beside q lo)) e (get_first p e (beside q lo) l h)
 
@@ -78,7 +79,8 @@ launch_first p v c h = let k : IsSeated p v c.frame = c.seat in elim k.state [
   | inr e ↦ subst (λ (s : PageState). HaveParts (launch_to (begin p Writes) v s).transfers) (sym e.0) (begun p.transfers Writes Writes (record { page = v; frame = c.frame }) h)
 ]
 
-launch_run_parts : (p : Placement) (q : Page) (lo n : ℕ) → 0 < n → EachPage (HasSeat p) (pages_from q lo n) → HaveParts p.transfers → HaveParts (launch_run p (pages_from q lo n)).transfers
+launch_run_parts : (p : Placement) (q : Page) (lo n : ℕ) → 0 < n → EachPage (HasSeat p) (pages_from q lo n) → HaveParts p.transfers
+    → HaveParts (launch_run p (pages_from q lo n)).transfers
 launch_run_parts p q lo zero m c h = absurd (omega arith)
 launch_run_parts p q lo (suc n) m c h = launch_all_parts (pages_from q (lo + 1) n) (launch (begin p Writes) (beside q lo)) (launch_first p (beside q lo) c.0 h)
 
@@ -151,14 +153,16 @@ moves_parts : (n : ℕ) (p : Placement) (locked : List Page) → OwnsFrames p �
 moves_parts zero p locked o h = h
 moves_parts (suc n) p locked o h = moves_parts n (hand_move p locked) locked (move_owner p locked o) (move_parts p locked o h)
 
-put_parts : (p : Placement) (q : Page) (n : ℕ) → 0 < n → EachPage (HasSeat p) (pages_from q (number_of q) n) → HaveParts p.transfers → HaveParts (put_step p q (pages_from q (number_of q) n)).transfers
+put_parts : (p : Placement) (q : Page) (n : ℕ) → 0 < n → EachPage (HasSeat p) (pages_from q (number_of q) n) → HaveParts p.transfers
+    → HaveParts (put_step p q (pages_from q (number_of q) n)).transfers
 put_parts p q n l c h = go (is_dirty p q)
   where
     go : (d : Bool) → HaveParts (put_by p q (pages_from q (number_of q) n) d).transfers
     go true = launch_run_parts p q (number_of q) n l c h
     go false = retire_parts p q h
 
-pub entry_parts : (locked : List Page) (at : ℕ) (p : Placement) (e : Entry) → OwnsFrames p → CanPlace p e → CanBegin p e → HaveParts p.transfers → HaveParts (place_entry locked at p e).transfers
+pub entry_parts : (locked : List Page) (at : ℕ) (p : Placement) (e : Entry) → OwnsFrames p → CanPlace p e → CanBegin p e → HaveParts p.transfers
+    → HaveParts (place_entry locked at p e).transfers
 entry_parts locked at p (entries.Zero q) o c b h = fill_parts p q h
 entry_parts locked at p (entries.Get q lo n) o c b h = get_run_parts p (read_errand p q) q lo n b.0 b.1 h
 entry_parts locked at p (entries.Copy q) o c b h = fill_parts p q h

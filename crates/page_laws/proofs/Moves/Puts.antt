@@ -50,13 +50,15 @@ self_kept : {R : Placement → Placement → Type 0} → KeptByPuts R → (p : P
 self_kept k p = k.still p p refl refl (rest_self p)
 
 -- the frames, the free list and the transfers are others
-aside_kept : {R : Placement → Placement → Type 0} → KeptByPuts R → (p : Placement) (holds : List (Option Page)) (free : List ℕ) (ts : List Transfer) → length holds ≡ length p.holds
+aside_kept : {R : Placement → Placement → Type 0} → KeptByPuts R → (p : Placement) (holds : List (Option Page)) (free : List ℕ) (ts : List Transfer)
+    → length holds ≡ length p.holds
     → R p (record p { holds = holds; free = free; transfers = ts })
 aside_kept k p holds free ts e =
     k.still p (record p { holds = holds; free = free; transfers = ts }) refl refl (record { residents = refl; due = refl; front = refl; back = refl; count = e })
 
 -- and a page was put
-put_kept : {R : Placement → Placement → Type 0} → KeptByPuts R → (p : Placement) (v : Page) (s : PageState) (m : Bool) (holds : List (Option Page)) (free : List ℕ) (ts : List Transfer)
+put_kept : {R : Placement → Placement → Type 0} → KeptByPuts R
+    → (p : Placement) (v : Page) (s : PageState) (m : Bool) (holds : List (Option Page)) (free : List ℕ) (ts : List Transfer)
     → length holds ≡ length p.holds → R p (record (put p v s m) { holds = holds; free = free; transfers = ts })
 put_kept k p v s m holds free ts e =
     k.both p (put p v s m) (record (put p v s m) { holds = holds; free = free; transfers = ts }) (k.puts p v s m) (aside_kept k (put p v s m) holds free ts e)
@@ -73,10 +75,12 @@ evict_kept {R} k p f = go (page_of p f)
     go None = self_kept k p
     go (Some v) = put_kept k p v (left_state v (mark_of p v)) (mark_of p v) (set_frame p.holds f None) p.free p.transfers (length_set_frame p.holds f None)
 
-enter_kept : {R : Placement → Placement → Type 0} → KeptByPuts R → (p : Placement) (v : Page) (f : ℕ) (s : PageState) (m : Bool) (ts : List Transfer) → R p (enter p v f s m ts)
+enter_kept : {R : Placement → Placement → Type 0} → KeptByPuts R → (p : Placement) (v : Page) (f : ℕ) (s : PageState) (m : Bool) (ts : List Transfer)
+    → R p (enter p v f s m ts)
 enter_kept k p v f s m ts = put_kept k p v s m (set_frame p.holds f (Some v)) (without f p.free) ts (length_set_frame p.holds f (Some v))
 
-turn_kept : {R : Placement → Placement → Type 0} → KeptByPuts R → (p : Placement) (v : Page) (s : PageState) (m : Bool) (free : List ℕ) (ts : List Transfer) → R p (turn p v s m free ts)
+turn_kept : {R : Placement → Placement → Type 0} → KeptByPuts R
+    → (p : Placement) (v : Page) (s : PageState) (m : Bool) (free : List ℕ) (ts : List Transfer) → R p (turn p v s m free ts)
 turn_kept k p v s m free ts = put_kept k p v s m p.holds free ts refl
 
 pub fill_kept : {R : Placement → Placement → Type 0} → KeptByPuts R → (p : Placement) (v : Page) → R p (fill p v)
@@ -88,7 +92,8 @@ fill_kept {R} k p v = go p.free
         (enter_kept k (evict p f) v f (Valid f) true p.transfers)
 
 -- what is due is another list
-pub filled_kept : {R : Placement → Placement → Type 0} → KeptByPuts R → ((p : Placement) (ds : List Due) → R p (record p { due = ds })) → (p : Placement) (v : Page) → R p (filled p v)
+pub filled_kept : {R : Placement → Placement → Type 0} → KeptByPuts R → ((p : Placement) (ds : List Due) → R p (record p { due = ds }))
+    → (p : Placement) (v : Page) → R p (filled p v)
 filled_kept k d p v = k.both p (fill p v) (filled p v) (fill_kept k p v) (d (fill p v) (due_after p.due v))
 
 pub get_kept : {R : Placement → Placement → Type 0} → KeptByPuts R → (p : Placement) (e : Errand) (v : Page) → R p (get_one p e v)
@@ -198,13 +203,15 @@ sweep_kept {R} k p locked = go (page_of p p.back)
     go (Some q) = to q (state_of p q) (times p.back p.free) (is_among q locked)
 
 -- the hands go on by one frame
-pub move_kept : {R : Placement → Placement → Type 0} → KeptByPuts R → ((p : Placement) → R p (advance p)) → (p : Placement) (locked : List Page) → R p (hand_move p locked)
+pub move_kept : {R : Placement → Placement → Type 0} → KeptByPuts R → ((p : Placement) → R p (advance p)) → (p : Placement) (locked : List Page)
+    → R p (hand_move p locked)
 move_kept k g p locked =
     k.both p (sweep (expire p locked) locked) (hand_move p locked)
     (k.both p (expire p locked) (sweep (expire p locked) locked) (expire_kept k p locked) (sweep_kept k (expire p locked) locked))
     (g (sweep (expire p locked) locked))
 
-pub moves_kept : {R : Placement → Placement → Type 0} → KeptByPuts R → ((p : Placement) → R p (advance p)) → (n : ℕ) (p : Placement) (locked : List Page) → R p (hand_moves p locked n)
+pub moves_kept : {R : Placement → Placement → Type 0} → KeptByPuts R → ((p : Placement) → R p (advance p))
+    → (n : ℕ) (p : Placement) (locked : List Page) → R p (hand_moves p locked n)
 moves_kept k g zero p locked = self_kept k p
 moves_kept k g (suc n) p locked = k.both p (hand_move p locked) (hand_moves p locked (suc n)) (move_kept k g p locked) (moves_kept k g n (hand_move p locked) locked)
 
@@ -218,7 +225,8 @@ land_kept {R} k p (Reads source demanded) x rest = go (same_page x.page demanded
     go true = turn_kept k p x.page (Valid x.frame) (arrived_mark source x.page (mark_of p x.page)) p.free rest
     go false = turn_kept k p x.page (Invalid x.frame) (mark_of p x.page) (p.free ++ x.frame ∷ []) rest
 
-land_all_kept : {R : Placement → Placement → Type 0} → KeptByPuts R → (xs : List Part) (p : Placement) (e : Errand) (ts : List Transfer) → R p (land_all p e xs ts)
+land_all_kept : {R : Placement → Placement → Type 0} → KeptByPuts R → (xs : List Part) (p : Placement) (e : Errand) (ts : List Transfer)
+    → R p (land_all p e xs ts)
 land_all_kept k [] p e ts = aside_kept k p p.holds p.free ts refl
 land_all_kept k (x ∷ xs) p e ts =
     let l : Placement = land p e x (record { errand = e; parts = xs } ∷ ts) in
@@ -273,7 +281,8 @@ touch_all_kept k [] p = self_kept k p
 touch_all_kept k (v ∷ qs) p = k.both p (touch p v) (touch_all p (v ∷ qs)) (touch_kept k p v) (touch_all_kept k qs (touch p v))
 
 -- Entries: beside the moves, a process goes out or comes in.
-pub entry_kept : {R : Placement → Placement → Type 0} → KeptByPuts R → ((p : Placement) (ds : List Due) → R p (record p { due = ds })) → ((p : Placement) → R p (advance p))
+pub entry_kept : {R : Placement → Placement → Type 0} → KeptByPuts R → ((p : Placement) (ds : List Due) → R p (record p { due = ds }))
+    → ((p : Placement) → R p (advance p))
     → ((p : Placement) (pid : ℕ) (out : Bool) (at : ℕ) → R p (moved p pid out at)) → (locked : List Page) (at : ℕ) (p : Placement) (e : Entry) → R p (place_entry locked at p e)
 entry_kept k d g m locked at p (entries.Zero q) = filled_kept k d p q
 entry_kept k d g m locked at p (entries.Get q lo n) = get_run_kept k p (read_errand p q) (pages_from q lo n)

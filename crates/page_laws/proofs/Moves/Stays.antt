@@ -42,7 +42,8 @@ steady_both p q r s t = record {
   back = t.back ∙ s.back;
 }
 
-pub turn_steady : (p : Placement) (v : Page) (f : ℕ) (s : PageState) (m : Bool) (free : List ℕ) (ts : List Transfer) → frame_of (state_of p v) ≡ Some f → frame_of s ≡ Some f → Steady p (turn p v s m free ts)
+pub turn_steady : (p : Placement) (v : Page) (f : ℕ) (s : PageState) (m : Bool) (free : List ℕ) (ts : List Transfer)
+    → frame_of (state_of p v) ≡ Some f → frame_of s ≡ Some f → Steady p (turn p v s m free ts)
 turn_steady p v f s m free ts e t = record {
   sizes = put_length p v s m;
   holds = refl;
@@ -193,7 +194,8 @@ land_steady p (Reads source demanded) x rest h = go (same_page x.page demanded)
     go true = turn_steady p x.page x.frame (Valid x.frame) (arrived_mark source x.page (mark_of p x.page)) p.free rest h refl
     go false = turn_steady p x.page x.frame (Invalid x.frame) (mark_of p x.page) (p.free ++ x.frame ∷ []) rest h refl
 
-land_all_steady : (xs : List Part) (p : Placement) (e : Errand) (ts : List Transfer) → OwnsFrames p → p.transfers ≡ record { errand = e; parts = xs } ∷ ts → Steady p (land_all p e xs ts)
+land_all_steady : (xs : List Part) (p : Placement) (e : Errand) (ts : List Transfer) → OwnsFrames p
+    → p.transfers ≡ record { errand = e; parts = xs } ∷ ts → Steady p (land_all p e xs ts)
 land_all_steady [] p e ts o h = record { sizes = λ w. refl; holds = refl; frames = λ w. refl; others = λ w e. refl; due = refl; sharing = λ i. refl; front = refl; back = refl }
 land_all_steady (x ∷ xs) p e ts o h =
     let l : Landing p e x (record { errand = e; parts = xs } ∷ ts) = record { parts = ap parts_of h } in

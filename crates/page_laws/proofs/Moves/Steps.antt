@@ -44,7 +44,8 @@ pub frame_in : (p : Placement) (v : Page) (f : ℕ) → page_of p f ≡ Some v �
 frame_in p v f e = frame_there p.holds f v e
 
 -- how the frame of a page stands
-pub once_at : (p : Placement) (v : Page) (f : ℕ) → OwnsFrames p → frame_of (state_of p v) ≡ Some f → times f p.free + times f (flying (parts_of p.transfers)) + seats (times f p.free) (state_of p v) ≡ 1
+pub once_at : (p : Placement) (v : Page) (f : ℕ) → OwnsFrames p → frame_of (state_of p v) ≡ Some f
+    → times f p.free + times f (flying (parts_of p.transfers)) + seats (times f p.free) (state_of p v) ≡ 1
 once_at p v f o e =
     let h : page_of p f ≡ Some v = o.names v f e in
     let k : seated p f ≡ seats (times f p.free) (state_of p v) = ap (seated_of p f) h in
@@ -84,7 +85,8 @@ frameless_rest (Going f) e = none_some f (sym e)
 frameless_rest OnSwap e = tt
 
 -- transfers keep where a page changes that none has
-pub moves_kept : (p q : Placement) (v : Page) (ms : List Moving) → AtRest (state_of p v) → ((w : Page) → w ≢ v → state_of q w ≡ state_of p w) → Each (IsMoving p) ms → Each (IsMoving q) ms
+pub moves_kept : (p q : Placement) (v : Page) (ms : List Moving) → AtRest (state_of p v) → ((w : Page) → w ≢ v → state_of q w ≡ state_of p w)
+    → Each (IsMoving p) ms → Each (IsMoving q) ms
 moves_kept p q v ms r same h = all_imp (IsMoving p) (IsMoving q) ms h
     (λ m k. same m.page (λ e. not_moving (state_of p v) m.errand m.frame r (subst (λ (x : Page). state_of p x ≡ moving_state m.errand m.frame) e k)) ∙ k)
 
@@ -102,7 +104,8 @@ pub record Turns (p : Placement) (v : Page) (f : ℕ) (s : PageState) (m : Bool)
   pub dirty : is_marked_dirty v m ≡ true → may_be_dirty s ≡ true
   pub moves : Each (IsMoving (put p v s m)) (parts_of transfers)
 
-pub turn_local : (p : Placement) (v : Page) (f : ℕ) (s : PageState) (m : Bool) (free : List ℕ) (transfers : List Transfer) → OwnsFrames p → Turns p v f s m free transfers → Local p (turn p v s m free transfers) v f
+pub turn_local : (p : Placement) (v : Page) (f : ℕ) (s : PageState) (m : Bool) (free : List ℕ) (transfers : List Transfer) → OwnsFrames p
+    → Turns p v f s m free transfers → Local p (turn p v s m free transfers) v f
 turn_local p v f s m free transfers o t = record {
   sizes = put_length p v s m;
   frames = refl;
@@ -115,7 +118,8 @@ turn_local p v f s m free transfers o t = record {
   old_page = λ w e. same_Some w v (sym e ∙ o.names v f t.from);
 }
 
-pub turn_owner : (p : Placement) (v : Page) (f : ℕ) (s : PageState) (m : Bool) (free : List ℕ) (transfers : List Transfer) → OwnsFrames p → Turns p v f s m free transfers → OwnsFrames (turn p v s m free transfers)
+pub turn_owner : (p : Placement) (v : Page) (f : ℕ) (s : PageState) (m : Bool) (free : List ℕ) (transfers : List Transfer) → OwnsFrames p
+    → Turns p v f s m free transfers → OwnsFrames (turn p v s m free transfers)
 turn_owner p v f s m free transfers o t = local_owner p (turn p v s m free transfers) v f o (turn_local p v f s m free transfers o t) here
   where
     is : state_of (put p v s m) v ≡ s
@@ -151,7 +155,8 @@ pub record Enters (p : Placement) (v : Page) (f : ℕ) (s : PageState) (m : Bool
   pub dirty : is_marked_dirty v m ≡ true → may_be_dirty s ≡ true
   pub moves : Each (IsMoving (put p v s m)) (parts_of transfers)
 
-pub enter_local : (p : Placement) (v : Page) (f : ℕ) (s : PageState) (m : Bool) (transfers : List Transfer) → OwnsFrames p → Enters p v f s m transfers → Local p (enter p v f s m transfers) v f
+pub enter_local : (p : Placement) (v : Page) (f : ℕ) (s : PageState) (m : Bool) (transfers : List Transfer) → OwnsFrames p
+    → Enters p v f s m transfers → Local p (enter p v f s m transfers) v f
 enter_local p v f s m transfers o t = record {
   sizes = put_length p v s m;
   frames = length_set_frame p.holds f (Some v);
@@ -164,7 +169,8 @@ enter_local p v f s m transfers o t = record {
   old_page = λ w e. none_some w (sym t.none ∙ e);
 }
 
-pub enter_owner : (p : Placement) (v : Page) (f : ℕ) (s : PageState) (m : Bool) (transfers : List Transfer) → OwnsFrames p → Enters p v f s m transfers → OwnsFrames (enter p v f s m transfers)
+pub enter_owner : (p : Placement) (v : Page) (f : ℕ) (s : PageState) (m : Bool) (transfers : List Transfer) → OwnsFrames p
+    → Enters p v f s m transfers → OwnsFrames (enter p v f s m transfers)
 enter_owner p v f s m transfers o t = local_owner p (enter p v f s m transfers) v f o (enter_local p v f s m transfers o t) here
   where
     is : state_of (put p v s m) v ≡ s
@@ -326,5 +332,6 @@ drop_here p v f o r e = record {
     none : page_of (drop_at p v (Some f)) f ≡ None
     none = let k = frame_in p v f (o.names v f e) in at_set_same p.holds f None None k.0 k.1
 
-pub drop_owner : (p : Placement) (v : Page) (f : ℕ) → OwnsFrames p → AtRest (state_of p v) → frame_of (state_of p v) ≡ Some f → OwnsFrames (drop_at p v (Some f))
+pub drop_owner : (p : Placement) (v : Page) (f : ℕ) → OwnsFrames p → AtRest (state_of p v) → frame_of (state_of p v) ≡ Some f
+    → OwnsFrames (drop_at p v (Some f))
 drop_owner p v f o r e = local_owner p (drop_at p v (Some f)) v f o (drop_local p v f o e) (drop_here p v f o r e)

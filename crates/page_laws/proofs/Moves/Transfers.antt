@@ -167,7 +167,8 @@ force_few p locked l = go p.transfers refl
     go (t ∷ ts) e = let k = done_count p in omega arith
 
 -- Serving begins one only where fewer than 16 are.
-pub serve_few : (p : Placement) (locked : List Page) (q : Page) → length p.transfers ≤ most_in_flight → length (serve_step p locked q).transfers ≤ most_in_flight
+pub serve_few : (p : Placement) (locked : List Page) (q : Page) → length p.transfers ≤ most_in_flight
+    → length (serve_step p locked q).transfers ≤ most_in_flight
 serve_few p locked q l = go (state_of p q)
   where
     read : (full : Bool) → is_full p ≡ full → length (read_if p q full).transfers ≤ most_in_flight

@@ -48,7 +48,8 @@ unit_is p q now e h = go (state_of p q) h
     go OnSwap k = (refl, feed OnSwap (filling_of p q) p.free (is_full p) k)
 
 -- the step is what the entry does, where the page isn't the first that is due
-pub entry_steps : (locked : List Page) (at : ℕ) (p : Placement) (q : Page) → is_valid (state_of p q) ≡ false → due_after p.due q ≡ p.due → place_entry locked at p (serve_entry p q) ≡ serve_step p locked q
+pub entry_steps : (locked : List Page) (at : ℕ) (p : Placement) (q : Page) → is_valid (state_of p q) ≡ false → due_after p.due q ≡ p.due
+    → place_entry locked at p (serve_entry p q) ≡ serve_step p locked q
 entry_steps locked at p q n due = go (state_of p q) n
   where
     filled_is : filled p q ≡ fill p q

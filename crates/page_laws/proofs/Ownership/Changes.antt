@@ -30,7 +30,8 @@ blank_alike : (x y : Slot) → BlankSlot x → BlankSlot y → Alike x y
 blank_alike x y a b = (a.0 ∙ sym b.0, a.1 ∙ sym b.1)
 
 -- the same frames and transfers, and each page's slot alike
-pub alike_owner : (p q : Placement) → OwnsFrames p → q.holds ≡ p.holds → q.free ≡ p.free → q.transfers ≡ p.transfers → ((w : Page) → Alike (slot_of q w) (slot_of p w)) → OwnsFrames q
+pub alike_owner : (p q : Placement) → OwnsFrames p → q.holds ≡ p.holds → q.free ≡ p.free → q.transfers ≡ p.transfers
+    → ((w : Page) → Alike (slot_of q w) (slot_of p w)) → OwnsFrames q
 alike_owner p q o h f t a = reshaped_owner p q o (record { holds = h; free = f; transfers = t; states = λ w. (a w).0; marks = λ w. ap (is_marked_dirty w) (a w).1 })
 
 -- Sizes.
@@ -60,11 +61,13 @@ sized_alike n w xs b = elim (le_or w n) [
 abbrev pub cut : ℕ → ℕ → SpacePages → SpacePages
 cut d s x = record x { data_pages = sized d x.data_pages; stack_pages = sized s x.stack_pages }
 
-data_cut : (d s w : ℕ) (o : Option SpacePages) → (d ≤ w → BlankSlot (get_or (data_in o) w no_slot)) → Alike (get_or (data_in (mapped (cut d s) o)) w no_slot) (get_or (data_in o) w no_slot)
+data_cut : (d s w : ℕ) (o : Option SpacePages) → (d ≤ w → BlankSlot (get_or (data_in o) w no_slot))
+    → Alike (get_or (data_in (mapped (cut d s) o)) w no_slot) (get_or (data_in o) w no_slot)
 data_cut d s w None b = (refl, refl)
 data_cut d s w (Some x) b = sized_alike d w x.data_pages b
 
-stack_cut : (d s w : ℕ) (o : Option SpacePages) → (s ≤ w → BlankSlot (get_or (stack_in o) w no_slot)) → Alike (get_or (stack_in (mapped (cut d s) o)) w no_slot) (get_or (stack_in o) w no_slot)
+stack_cut : (d s w : ℕ) (o : Option SpacePages) → (s ≤ w → BlankSlot (get_or (stack_in o) w no_slot))
+    → Alike (get_or (stack_in (mapped (cut d s) o)) w no_slot) (get_or (stack_in o) w no_slot)
 stack_cut d s w None b = (refl, refl)
 stack_cut d s w (Some x) b = sized_alike s w x.stack_pages b
 
@@ -108,7 +111,8 @@ each_back P [] rs h = h
 each_back P (q ∷ qs) rs h = each_back P qs rs h.1
 
 -- the pages from some on to the end were dropped, so all from there on are blank
-blank_from : (p : Placement) (q : Page) (lo n : ℕ) → EachPage (IsBlank p) (pages_from q lo n) → ((w : ℕ) → lo + n ≤ w → length (slots_of p (beside q w)) ≤ w) → ((w : ℕ) → number_of (beside q w) ≡ w)
+blank_from : (p : Placement) (q : Page) (lo n : ℕ) → EachPage (IsBlank p) (pages_from q lo n)
+    → ((w : ℕ) → lo + n ≤ w → length (slots_of p (beside q w)) ≤ w) → ((w : ℕ) → number_of (beside q w) ≡ w)
     → (w : ℕ) → lo ≤ w → BlankSlot (slot_of p (beside q w))
 blank_from p q lo n h past num w l = elim (le_or w (lo + n)) [
   | inl m ↦ let b : IsBlank p (beside q w) = each_at (IsBlank p) q lo n w h l m in (b.state, b.mark)
@@ -123,7 +127,8 @@ abbrev pub dropped_pages : Placement → ℕ → ℕ → ℕ → List Page
 dropped_pages p sid d s = data_from sid d (data_count p sid - d) ++ stack_from sid s (stack_count p sid - s)
 
 -- Growth and break, where no page that goes is in a transfer.
-pub resize_owner : (p : Placement) (sid d s : ℕ) → OwnsFrames p → EachPage (λ q. AtRest (state_of p q)) (dropped_pages p sid d s) → OwnsFrames (resize p sid d s)
+pub resize_owner : (p : Placement) (sid d s : ℕ) → OwnsFrames p → EachPage (λ q. AtRest (state_of p q)) (dropped_pages p sid d s)
+    → OwnsFrames (resize p sid d s)
 resize_owner p sid d s o r = cut_owner (drop_all p (dropped_pages p sid d s)) sid d s (drop_all_owner (dropped_pages p sid d s) p o r) (record {
   data_blank = blank_from (drop_all p (dropped_pages p sid d s)) (Data sid d) d (data_count p sid - d)
       (each_front (IsBlank (drop_all p (dropped_pages p sid d s))) (data_from sid d (data_count p sid - d)) (stack_from sid s (stack_count p sid - s)) (drop_all_blank (dropped_pages p sid d s) p))
@@ -148,7 +153,8 @@ added_other t (s ∷ ss) x n = elim (cases_eq (space_number s) t) [
   | inr m ↦ numbered_miss t s (ss ++ x ∷ []) m ∙ added_other t ss x n ∙ sym (numbered_miss t s ss m)
 ]
 
-pub added_same : (t : ℕ) (ss : List SpacePages) (x : SpacePages) → space_number x ≡ t → numbered space_number t ss ≡ None → numbered space_number t (ss ++ x ∷ []) ≡ Some x
+pub added_same : (t : ℕ) (ss : List SpacePages) (x : SpacePages) → space_number x ≡ t → numbered space_number t ss ≡ None
+    → numbered space_number t (ss ++ x ∷ []) ≡ Some x
 added_same t [] x e n = numbered_hit t x [] e
 added_same t (s ∷ ss) x e n = elim (cases_eq (space_number s) t) [
   | inl k ↦ absurd (let h : Some s ≡ None = sym (numbered_hit t s ss k) ∙ n in cc)
@@ -165,7 +171,8 @@ blank_slot_at [] w b = (refl, refl)
 blank_slot_at (x ∷ xs) zero b = b.0
 blank_slot_at (x ∷ xs) (suc w) b = blank_slot_at xs w b.1
 
-pub add_alike : (p : Placement) (x : SpacePages) (due : List Due) → IsNew p x.sid → AllBlank x.data_pages → AllBlank x.stack_pages → (w : Page) → Alike (slot_of (record p { spaces = p.spaces ++ x ∷ []; due = due }) w) (slot_of p w)
+pub add_alike : (p : Placement) (x : SpacePages) (due : List Due) → IsNew p x.sid → AllBlank x.data_pages → AllBlank x.stack_pages → (w : Page)
+    → Alike (slot_of (record p { spaces = p.spaces ++ x ∷ []; due = due }) w) (slot_of p w)
 add_alike p x due n bd bs = alike
   where
     alike : (w : Page) → Alike (slot_of (record p { spaces = p.spaces ++ x ∷ []; due = due }) w) (slot_of p w)
@@ -183,7 +190,8 @@ add_alike p x due n bd bs = alike
     ]
     alike (Text i w) = (refl, refl)
 
-pub add_owner : (p : Placement) (x : SpacePages) (due : List Due) → OwnsFrames p → IsNew p x.sid → AllBlank x.data_pages → AllBlank x.stack_pages → OwnsFrames (record p { spaces = p.spaces ++ x ∷ []; due = due })
+pub add_owner : (p : Placement) (x : SpacePages) (due : List Due) → OwnsFrames p → IsNew p x.sid → AllBlank x.data_pages → AllBlank x.stack_pages
+    → OwnsFrames (record p { spaces = p.spaces ++ x ∷ []; due = due })
 add_owner p x due o n bd bs = alike_owner p (record p { spaces = p.spaces ++ x ∷ []; due = due }) o refl refl refl (add_alike p x due n bd bs)
 
 pub child_blank : (xs : List Slot) → AllBlank (map child_slot xs)
@@ -220,7 +228,8 @@ enter_space_owner p sid image facts o n = add_owner p (new_pages sid image facts
 
 -- A space that goes.
 
-pub removed_other : (sid t : ℕ) (ss : List SpacePages) → t ≢ sid → numbered space_number t (filter (λ (s : SpacePages). not (s.sid == sid)) ss) ≡ numbered space_number t ss
+pub removed_other : (sid t : ℕ) (ss : List SpacePages) → t ≢ sid
+    → numbered space_number t (filter (λ (s : SpacePages). not (s.sid == sid)) ss) ≡ numbered space_number t ss
 removed_other sid t [] n = refl
 removed_other sid t (s ∷ ss) n = go (s.sid == sid) refl (removed_other sid t ss n)
   where
@@ -241,7 +250,8 @@ removed_same sid (s ∷ ss) = go (s.sid == sid) refl (removed_same sid ss)
     go true e ih = ih
     go false e ih = ap (λ (b : Bool). cond b (Some s) (numbered space_number sid (filter (λ (s : SpacePages). not (s.sid == sid)) ss))) e ∙ ih
 
-pub remove_owner : (p : Placement) (sid : ℕ) → OwnsFrames p → ((w : ℕ) → BlankSlot (slot_of p (Data sid w))) → ((w : ℕ) → BlankSlot (slot_of p (Stack sid w))) → OwnsFrames (remove_space p sid)
+pub remove_owner : (p : Placement) (sid : ℕ) → OwnsFrames p → ((w : ℕ) → BlankSlot (slot_of p (Data sid w)))
+    → ((w : ℕ) → BlankSlot (slot_of p (Stack sid w))) → OwnsFrames (remove_space p sid)
 remove_owner p sid o bd bs = alike_owner p (remove_space p sid) o refl refl refl alike
   where
     alike : (w : Page) → Alike (slot_of (remove_space p sid) w) (slot_of p w)
@@ -265,7 +275,8 @@ leave_text_owner p image o = go (sharers p image)
     go (suc n) = o
 
 -- A space goes of which no page is in a transfer.
-pub gone_owner : (p : Placement) (sid : ℕ) → OwnsFrames p → EachPage (λ q. AtRest (state_of p q)) (pages_of_space p sid) → OwnsFrames (remove_space (drop_all p (pages_of_space p sid)) sid)
+pub gone_owner : (p : Placement) (sid : ℕ) → OwnsFrames p → EachPage (λ q. AtRest (state_of p q)) (pages_of_space p sid)
+    → OwnsFrames (remove_space (drop_all p (pages_of_space p sid)) sid)
 gone_owner p sid o r = remove_owner (drop_all p (pages_of_space p sid)) sid (drop_all_owner (pages_of_space p sid) p o r)
     (λ w. blank_from (drop_all p (pages_of_space p sid)) (Data sid 0) 0 (data_count p sid)
     (each_front (IsBlank (drop_all p (pages_of_space p sid))) (data_from sid 0 (data_count p sid)) (stack_from sid 0 (stack_count p sid)) (drop_all_blank (pages_of_space p sid) p))

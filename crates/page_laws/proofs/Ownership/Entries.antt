@@ -53,12 +53,14 @@ settled_from p sid k d dn s sn = each_page_append (λ q. AtRest (state_of p q)) 
     (pages_from_each (λ q. AtRest (state_of p q)) (Stack sid s) s sn (λ w l m. k.stack_rests w))
 
 -- so do those that a smaller size drops, where that asks for a settled space
-lost_from : (p : Placement) (sid d s : ℕ) → (LosesPages p sid d s → IsSettled p sid) → AllAtRest p (data_from sid d (data_count p sid - d) ++ stack_from sid s (stack_count p sid - s))
+lost_from : (p : Placement) (sid d s : ℕ) → (LosesPages p sid d s → IsSettled p sid)
+    → AllAtRest p (data_from sid d (data_count p sid - d) ++ stack_from sid s (stack_count p sid - s))
 lost_from p sid d s k = each_page_append (λ q. AtRest (state_of p q)) (data_from sid d (data_count p sid - d)) (stack_from sid s (stack_count p sid - s))
     (pages_from_each (λ q. AtRest (state_of p q)) (Data sid d) d (data_count p sid - d) (λ w l m. let r : IsSettled p sid = k (inl (omega arith)) in r.data_rests w))
     (pages_from_each (λ q. AtRest (state_of p q)) (Stack sid s) s (stack_count p sid - s) (λ w l m. let r : IsSettled p sid = k (inr (omega arith)) in r.stack_rests w))
 
-give_up_unless_owner : (borrowed : Bool) (p : Placement) (sid : ℕ) → OwnsFrames p → (borrowed ≡ false → IsSettled p sid) → OwnsFrames (give_up_unless borrowed p sid)
+give_up_unless_owner : (borrowed : Bool) (p : Placement) (sid : ℕ) → OwnsFrames p → (borrowed ≡ false → IsSettled p sid)
+    → OwnsFrames (give_up_unless borrowed p sid)
 give_up_unless_owner true p sid o k = o
 give_up_unless_owner false p sid o k = give_up_owner p sid o (settled_from p sid (k refl) 0 (data_count p sid) 0 (stack_count p sid))
 
@@ -67,14 +69,16 @@ enter_image_owner p sid image None o n = o
 enter_image_owner p sid image (Some facts) o n = enter_space_owner p sid image facts o n
 
 -- a new image leaves all pages of a settled space at rest
-pub enter_settled : (p : Placement) (next_sid image sid : ℕ) (facts : Option Image) → OwnsFrames p → IsNew p next_sid → IsSettled p sid → IsSettled (enter_image p next_sid image facts) sid
+pub enter_settled : (p : Placement) (next_sid image sid : ℕ) (facts : Option Image) → OwnsFrames p → IsNew p next_sid → IsSettled p sid
+    → IsSettled (enter_image p next_sid image facts) sid
 enter_settled p next_sid image sid None o n k = k
 enter_settled p next_sid image sid (Some facts) o n k = record {
   data_rests = λ v. subst AtRest (sym ((Rattle.page_laws.proofs.Ownership.Changes.enter_alike p next_sid image facts n (Data sid v)).0)) (k.data_rests v);
   stack_rests = λ v. subst AtRest (sym ((Rattle.page_laws.proofs.Ownership.Changes.enter_alike p next_sid image facts n (Stack sid v)).0)) (k.stack_rests v);
 }
 
-pub place_change_owner : (images : List Image) (p : Placement) (pid sid : ℕ) (borrowed : Bool) (next_sid at : ℕ) (change : Change) → OwnsFrames p → CanChange p sid borrowed next_sid change
+pub place_change_owner : (images : List Image) (p : Placement) (pid sid : ℕ) (borrowed : Bool) (next_sid at : ℕ) (change : Change) → OwnsFrames p
+    → CanChange p sid borrowed next_sid change
     → OwnsFrames (place_change images p pid sid borrowed next_sid at change)
 place_change_owner images p pid sid borrowed next_sid at Keep o c = o
 place_change_owner images p pid sid borrowed next_sid at (Resize d s) o c = resize_owner p sid d s o (lost_from p sid d s c)

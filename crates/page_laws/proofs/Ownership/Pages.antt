@@ -19,7 +19,8 @@ use Rattle.page_laws.proofs.Lists.Parts.{IsOpen, parts_join, times_joined, all_p
 use Rattle.page_laws.proofs.Moves.Steps.{Turns, turn_owner, Enters, enter_owner, once_at, page_in, frameless_clean, frameless_rest, moves_kept, put_other_state, evict_owner, evict_page, evict_other, EvictRest, evict_rest}
 
 -- a page at rest moves on, with the same transfers
-pub rest_moves : (p : Placement) (v : Page) (s : PageState) (m : Bool) → OwnsFrames p → AtRest (state_of p v) → Each (IsMoving (put p v s m)) (parts_of p.transfers)
+pub rest_moves : (p : Placement) (v : Page) (s : PageState) (m : Bool) → OwnsFrames p → AtRest (state_of p v)
+    → Each (IsMoving (put p v s m)) (parts_of p.transfers)
 rest_moves p v s m o r = moves_kept p (put p v s m) v (parts_of p.transfers) r (put_other_state p v s m) o.moves
 
 clean_is : (d : Bool) {C : Type 0} → d ≡ false → d ≡ true → C
@@ -36,7 +37,8 @@ entered_frameless p v f o c = ap (λ (x : Slot). frame_of x.state) (evict_other 
 pub none_flying : (p : Placement) (f : ℕ) → OwnsFrames p → 0 < times f p.free → times f (flying (parts_of p.transfers)) ≡ 0
 none_flying p f o b = let h = o.once f (o.frames f b) in omega arith
 
-pub fill_enters : (p : Placement) (v : Page) (f : ℕ) (rest : List ℕ) → OwnsFrames p → CanEnter p v → p.free ≡ f ∷ rest → Enters (evict p f) v f (Valid f) true p.transfers
+pub fill_enters : (p : Placement) (v : Page) (f : ℕ) (rest : List ℕ) → OwnsFrames p → CanEnter p v → p.free ≡ f ∷ rest
+    → Enters (evict p f) v f (Valid f) true p.transfers
 fill_enters p v f rest o c e = record {
   page_in = entered_there p v f c;
   free = subst (λ (l : List ℕ). 0 < times f l) (sym r.free) some;
@@ -63,7 +65,8 @@ fill_owner p v o c = go p.free refl
     go [] e = o
     go (f ∷ rest) e = enter_owner (evict p f) v f (Valid f) true p.transfers (evict_owner p f o (some_free p f rest e)) (fill_enters p v f rest o c e)
 
-pub get_enters : (p : Placement) (e : Errand) (v : Page) (f : ℕ) (rest : List ℕ) → OwnsFrames p → CanEnter p v → IsOpen p.transfers e → moving_state e f ≡ Coming f → p.free ≡ f ∷ rest
+pub get_enters : (p : Placement) (e : Errand) (v : Page) (f : ℕ) (rest : List ℕ) → OwnsFrames p → CanEnter p v → IsOpen p.transfers e
+    → moving_state e f ≡ Coming f → p.free ≡ f ∷ rest
     → Enters (evict p f) v f (Coming f) (mark_of p v) (join_last p.transfers e (record { page = v; frame = f }))
 get_enters p e v f rest o c latest reads fr = record {
   page_in = entered_there p v f c;
@@ -95,7 +98,8 @@ get_enters p e v f rest o c latest reads fr = record {
     some : 0 < times f p.free
     some = some_free p f rest fr
 
-pub get_owner : (p : Placement) (source : Source) (demanded v : Page) → OwnsFrames p → CanEnter p v → IsOpen p.transfers (Reads source demanded) → OwnsFrames (get_one p (Reads source demanded) v)
+pub get_owner : (p : Placement) (source : Source) (demanded v : Page) → OwnsFrames p → CanEnter p v → IsOpen p.transfers (Reads source demanded)
+    → OwnsFrames (get_one p (Reads source demanded) v)
 get_owner p source demanded v o c latest = go p.free refl
   where
     go : (fr : List ℕ) → p.free ≡ fr → OwnsFrames (get_at p (Reads source demanded) v fr)
@@ -105,7 +109,8 @@ get_owner p source demanded v o c latest = go p.free refl
 
 -- Moving on in a frame.
 
-pub reclaim_turns : (p : Placement) (v : Page) (f : ℕ) → OwnsFrames p → state_of p v ≡ Invalid f → Turns p v f (Valid f) (mark_of p v) (without f p.free) p.transfers
+pub reclaim_turns : (p : Placement) (v : Page) (f : ℕ) → OwnsFrames p → state_of p v ≡ Invalid f
+    → Turns p v f (Valid f) (mark_of p v) (without f p.free) p.transfers
 reclaim_turns p v f o e = record {
   from = ap frame_of e;
   to = refl;
@@ -188,7 +193,8 @@ seated_alone p v f o c = elim c.state [
   | inr e ↦ (let a = once_at p v f o (ap frame_of e.0) in let b : seats (times f p.free) (state_of p v) ≡ 1 - times f p.free = ap (seats (times f p.free)) e.0 in let z = e.1 in (omega arith, omega arith))
 ]
 
-pub launch_turns : (p : Placement) (v : Page) (f : ℕ) → OwnsFrames p → IsSeated p v f → IsOpen p.transfers Writes → Turns p v f (Going f) (mark_of p v) p.free (join_last p.transfers Writes (record { page = v; frame = f }))
+pub launch_turns : (p : Placement) (v : Page) (f : ℕ) → OwnsFrames p → IsSeated p v f → IsOpen p.transfers Writes
+    → Turns p v f (Going f) (mark_of p v) p.free (join_last p.transfers Writes (record { page = v; frame = f }))
 launch_turns p v f o c latest = record {
   from = seated_frame p v f c;
   to = refl;
@@ -213,7 +219,8 @@ launch_owner p v f o c latest = elim c.state [
 ]
 
 -- a seated page's frame goes to the tail, with this mark
-pub retire_turns : (p : Placement) (v : Page) (f : ℕ) (m : Bool) → OwnsFrames p → IsSeated p v f → is_marked_dirty v m ≡ false → Turns p v f (Invalid f) m (p.free ++ f ∷ []) p.transfers
+pub retire_turns : (p : Placement) (v : Page) (f : ℕ) (m : Bool) → OwnsFrames p → IsSeated p v f → is_marked_dirty v m ≡ false
+    → Turns p v f (Invalid f) m (p.free ++ f ∷ []) p.transfers
 retire_turns p v f m o c clean = record {
   from = seated_frame p v f c;
   to = refl;

@@ -59,7 +59,8 @@ get_open_still p e v latest = go p.free
     go [] = latest
     go (f ∷ rest) = join_open p.transfers e (record { page = v; frame = f }) latest
 
-pub get_all_owner : (qs : List Page) (p : Placement) (source : Source) (demanded : Page) → OwnsFrames p → EachPage (CanEnter p) qs → AllApart qs → IsOpen p.transfers (Reads source demanded)
+pub get_all_owner : (qs : List Page) (p : Placement) (source : Source) (demanded : Page) → OwnsFrames p → EachPage (CanEnter p) qs → AllApart qs
+    → IsOpen p.transfers (Reads source demanded)
     → OwnsFrames (get_all p (Reads source demanded) qs)
 get_all_owner [] p source demanded o c a latest = o
 get_all_owner (v ∷ qs) p source demanded o c a latest =
@@ -67,7 +68,8 @@ get_all_owner (v ∷ qs) p source demanded o c a latest =
     (each_page_both (CanEnter p) (λ r. r ≢ v) (CanEnter (get_one p (Reads source demanded) v)) qs c.1 a.0 (λ w h n. get_enters_still p (Reads source demanded) v w o n h))
     a.1 (get_open_still p (Reads source demanded) v latest)
 
-pub get_run_owner : (p : Placement) (source : Source) (demanded : Page) (qs : List Page) → OwnsFrames p → EachPage (CanEnter p) qs → AllApart qs → OwnsFrames (get_run p (Reads source demanded) qs)
+pub get_run_owner : (p : Placement) (source : Source) (demanded : Page) (qs : List Page) → OwnsFrames p → EachPage (CanEnter p) qs → AllApart qs
+    → OwnsFrames (get_run p (Reads source demanded) qs)
 get_run_owner p source demanded qs o c a =
     get_all_owner qs (begin p (Reads source demanded)) source demanded (begin_owner p (Reads source demanded) o)
     (each_page_imp (CanEnter p) (CanEnter (begin p (Reads source demanded))) qs c (λ q h. record { there = h.there; frameless = h.frameless })) a
@@ -75,7 +77,8 @@ get_run_owner p source demanded qs o c a =
 
 -- Writes.
 
-launch_is : (p : Placement) (v : Page) (c : HasSeat p v) → launch p v ≡ turn p v (Going c.frame) (mark_of p v) p.free (join_last p.transfers Writes (record { page = v; frame = c.frame }))
+launch_is : (p : Placement) (v : Page) (c : HasSeat p v)
+    → launch p v ≡ turn p v (Going c.frame) (mark_of p v) p.free (join_last p.transfers Writes (record { page = v; frame = c.frame }))
 launch_is p v c = let k : IsSeated p v c.frame = c.seat in elim k.state [
   | inl e ↦ ap (launch_to p v) e
   | inr e ↦ ap (launch_to p v) e.0
@@ -95,7 +98,8 @@ launch_still p v w c n h = subst (λ (q : Placement). HasSeat q w) (sym (launch_
 pub launch_open_still : (p : Placement) (v : Page) → HasSeat p v → IsOpen p.transfers Writes → IsOpen (launch p v).transfers Writes
 launch_open_still p v c latest = subst (λ (q : Placement). IsOpen q.transfers Writes) (sym (launch_is p v c)) (join_open p.transfers Writes (record { page = v; frame = c.frame }) latest)
 
-pub launch_all_owner : (qs : List Page) (p : Placement) → OwnsFrames p → EachPage (HasSeat p) qs → AllApart qs → IsOpen p.transfers Writes → OwnsFrames (launch_all p qs)
+pub launch_all_owner : (qs : List Page) (p : Placement) → OwnsFrames p → EachPage (HasSeat p) qs → AllApart qs → IsOpen p.transfers Writes
+    → OwnsFrames (launch_all p qs)
 launch_all_owner [] p o c a latest = o
 launch_all_owner (v ∷ qs) p o c a latest =
     let h : HasSeat p v = c.0 in
@@ -140,7 +144,8 @@ clean_unmarked (Stack sid n) m e = e
 clean_unmarked (Text image n) m e = refl
 
 -- `Put`
-pub put_step_owner : (p : Placement) (v : Page) (qs : List Page) → OwnsFrames p → HasSeat p v → EachPage (HasSeat p) qs → AllApart qs → OwnsFrames (put_step p v qs)
+pub put_step_owner : (p : Placement) (v : Page) (qs : List Page) → OwnsFrames p → HasSeat p v → EachPage (HasSeat p) qs → AllApart qs
+    → OwnsFrames (put_step p v qs)
 put_step_owner p v qs o c cs a = go (is_dirty p v) refl
   where
     go : (d : Bool) → is_dirty p v ≡ d → OwnsFrames (put_by p v qs d)
@@ -153,31 +158,38 @@ put_step_owner p v qs o c cs a = go (is_dirty p v) refl
 pub record Landing (p : Placement) (e : Errand) (x : Part) (rest : List Transfer) : Type 0 where
   pub parts : parts_of p.transfers ≡ moving e x ∷ parts_of rest
 
-landing_moves : (p : Placement) (e : Errand) (x : Part) (rest : List Transfer) → OwnsFrames p → Landing p e x rest → Each (IsMoving p) (moving e x ∷ parts_of rest)
+landing_moves : (p : Placement) (e : Errand) (x : Part) (rest : List Transfer) → OwnsFrames p → Landing p e x rest
+    → Each (IsMoving p) (moving e x ∷ parts_of rest)
 landing_moves p e x rest o l = subst (Each (IsMoving p)) l.parts o.moves
 
-pub landing_state : (p : Placement) (e : Errand) (x : Part) (rest : List Transfer) → OwnsFrames p → Landing p e x rest → state_of p x.page ≡ moving_state e x.frame
+pub landing_state : (p : Placement) (e : Errand) (x : Part) (rest : List Transfer) → OwnsFrames p → Landing p e x rest
+    → state_of p x.page ≡ moving_state e x.frame
 landing_state p e x rest o l = (landing_moves p e x rest o l).0
 
-pub landing_frame : (p : Placement) (e : Errand) (x : Part) (rest : List Transfer) → OwnsFrames p → Landing p e x rest → frame_of (state_of p x.page) ≡ Some x.frame
+pub landing_frame : (p : Placement) (e : Errand) (x : Part) (rest : List Transfer) → OwnsFrames p → Landing p e x rest
+    → frame_of (state_of p x.page) ≡ Some x.frame
 landing_frame p e x rest o l = ap frame_of (landing_state p e x rest o l) ∙ frame_of_moving e x.frame
 
 -- its frame is in no other transfer, and off the free list
-pub landing_alone : (p : Placement) (e : Errand) (x : Part) (rest : List Transfer) → OwnsFrames p → Landing p e x rest → (times x.frame p.free ≡ 0) × (times x.frame (flying (parts_of rest)) ≡ 0)
+pub landing_alone : (p : Placement) (e : Errand) (x : Part) (rest : List Transfer) → OwnsFrames p → Landing p e x rest
+    → (times x.frame p.free ≡ 0) × (times x.frame (flying (parts_of rest)) ≡ 0)
 landing_alone p e x rest o l =
     let a = once_at p x.page x.frame o (landing_frame p e x rest o l) in
     let b : times x.frame (flying (parts_of p.transfers)) ≡ 1 + times x.frame (flying (parts_of rest)) = ap (λ (ms : List Moving). times x.frame (flying ms)) l.parts ∙ times_head x.frame (flying (parts_of rest)) in
     (omega arith, omega arith)
 
-land_moves : (p : Placement) (e : Errand) (x : Part) (rest : List Transfer) (s : PageState) (m : Bool) → OwnsFrames p → Landing p e x rest → Each (IsMoving (put p x.page s m)) (parts_of rest)
+land_moves : (p : Placement) (e : Errand) (x : Part) (rest : List Transfer) (s : PageState) (m : Bool) → OwnsFrames p → Landing p e x rest
+    → Each (IsMoving (put p x.page s m)) (parts_of rest)
 land_moves p e x rest s m o l = all_absent (IsMoving p) (IsMoving (put p x.page s m)) x.frame (parts_of rest) (landing_alone p e x rest o l).1 (landing_moves p e x rest o l).1
     (λ y n k. put_other_state p x.page s m y.page (λ h. n (same_Some y.frame x.frame (sym (frame_of_moving y.errand y.frame) ∙ ap frame_of (sym k) ∙ ap (λ (w : Page). frame_of (state_of p w)) h ∙ landing_frame p e x rest o l))) ∙ k)
 
-other_landing : (p : Placement) (e : Errand) (x : Part) (rest : List Transfer) → Landing p e x rest → (g : ℕ) → g ≢ x.frame → times g (flying (parts_of rest)) ≡ times g (flying (parts_of p.transfers))
+other_landing : (p : Placement) (e : Errand) (x : Part) (rest : List Transfer) → Landing p e x rest → (g : ℕ) → g ≢ x.frame
+    → times g (flying (parts_of rest)) ≡ times g (flying (parts_of p.transfers))
 other_landing p e x rest l g n = sym (ap (λ (ms : List Moving). times g (flying ms)) l.parts ∙ times_other g x.frame (flying (parts_of rest)) (λ i. n (sym i)))
 
 -- a page that lands goes to the tail of the free list
-pub tail_turns : (p : Placement) (e : Errand) (x : Part) (rest : List Transfer) (m : Bool) → OwnsFrames p → Landing p e x rest → is_marked_dirty x.page m ≡ false → Turns p x.page x.frame (Invalid x.frame) m (p.free ++ x.frame ∷ []) rest
+pub tail_turns : (p : Placement) (e : Errand) (x : Part) (rest : List Transfer) (m : Bool) → OwnsFrames p → Landing p e x rest
+    → is_marked_dirty x.page m ≡ false → Turns p x.page x.frame (Invalid x.frame) m (p.free ++ x.frame ∷ []) rest
 tail_turns p e x rest m o l clean = record {
   from = landing_frame p e x rest o l;
   to = refl;
@@ -190,7 +202,8 @@ tail_turns p e x rest m o l clean = record {
 }
 
 -- a page that lands is valid
-pub valid_turns : (p : Placement) (e : Errand) (x : Part) (rest : List Transfer) (m : Bool) → OwnsFrames p → Landing p e x rest → Turns p x.page x.frame (Valid x.frame) m p.free rest
+pub valid_turns : (p : Placement) (e : Errand) (x : Part) (rest : List Transfer) (m : Bool) → OwnsFrames p → Landing p e x rest
+    → Turns p x.page x.frame (Valid x.frame) m p.free rest
 valid_turns p e x rest m o l = record {
   from = landing_frame p e x rest o l;
   to = refl;
@@ -232,7 +245,8 @@ land_transfers p (Reads source demanded) x rest = go (same_page x.page demanded)
     go true = refl
     go false = refl
 
-pub land_all_owner : (xs : List Part) (p : Placement) (e : Errand) (ts : List Transfer) → OwnsFrames p → p.transfers ≡ record { errand = e; parts = xs } ∷ ts → OwnsFrames (land_all p e xs ts)
+pub land_all_owner : (xs : List Part) (p : Placement) (e : Errand) (ts : List Transfer) → OwnsFrames p
+    → p.transfers ≡ record { errand = e; parts = xs } ∷ ts → OwnsFrames (land_all p e xs ts)
 land_all_owner [] p e ts o h = same_parts_owner p ts o (sym (ap parts_of h))
 land_all_owner (x ∷ xs) p e ts o h = land_all_owner xs (land p e x (record { errand = e; parts = xs } ∷ ts)) e ts
     (land_owner p e x (record { errand = e; parts = xs } ∷ ts) o (record { parts = ap parts_of h }))

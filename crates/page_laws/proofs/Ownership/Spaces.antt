@@ -60,7 +60,8 @@ reshaped_owner p q o r = record {
     seated_same f (Some w) e = ap (seated_of q f) (page f ∙ e) ∙ ap (λ (l : List ℕ). seats (times f l) (state_of q w)) r.free ∙ ap (seats (times f p.free)) (r.states w) ∙ sym (ap (seated_of p f) e)
 
 -- A page with no frame goes to another state with no frame.
-pub frameless_owner : (p : Placement) (v : Page) (s : PageState) (m : Bool) → OwnsFrames p → frame_of (state_of p v) ≡ None → frame_of s ≡ None → is_marked_dirty v m ≡ false → OwnsFrames (put p v s m)
+pub frameless_owner : (p : Placement) (v : Page) (s : PageState) (m : Bool) → OwnsFrames p → frame_of (state_of p v) ≡ None → frame_of s ≡ None
+    → is_marked_dirty v m ≡ false → OwnsFrames (put p v s m)
 frameless_owner p v s m o from to clean = record {
   once = λ f b.
       let k : seated (put p v s m) f ≡ seated p f = seated_still f (page_of p f) refl in

@@ -101,12 +101,14 @@ data_in p (Stack sid v) w e = subst (λ (s : PageState). IsWidestRun (IsSwappedB
     (widest (comes_from_swap p (Stack sid v)) (IsSwappedBeside p (Stack sid v)) (MayRead p 4) v (min 4 (spare_frames p)) (some_spare 4 (length p.free - desired_free p) (omega arith))
     (swapped_joins p (Stack sid v)) (swapped_passes p (Stack sid v)) (spared 4 (desired_free p) (length p.free)) (too_many 4 (desired_free p) (length p.free)))
 
-pub text_in : (p : Placement) (image v : ℕ) → state_of p (Text image v) ≡ OnSwap → IsLongestRun (IsSwappedBeside p (Text image v)) (MayRead p 2) v (run_in p (Text image v))
+pub text_in : (p : Placement) (image v : ℕ) → state_of p (Text image v) ≡ OnSwap
+    → IsLongestRun (IsSwappedBeside p (Text image v)) (MayRead p 2) v (run_in p (Text image v))
 text_in p image v e = subst (λ (s : PageState). IsLongestRun (IsSwappedBeside p (Text image v)) (MayRead p 2) v (run_in_by p (Text image v) s (spare_frames p))) (sym e)
     (longest (comes_from_swap p (Text image v)) (IsSwappedBeside p (Text image v)) (MayRead p 2) v (min 2 (spare_frames p)) (some_spare 2 (length p.free - desired_free p) (omega arith))
     (swapped_joins p (Text image v)) (swapped_passes p (Text image v)) (spared 2 (desired_free p) (length p.free)) (too_many 2 (desired_free p) (length p.free)))
 
-pub file_in : (p : Placement) (image v : ℕ) → state_of p (Text image v) ≡ Unfilled → IsLongestRun (IsUnfilledBeside p (Text image v)) (MayRead p 2) v (run_in p (Text image v))
+pub file_in : (p : Placement) (image v : ℕ) → state_of p (Text image v) ≡ Unfilled
+    → IsLongestRun (IsUnfilledBeside p (Text image v)) (MayRead p 2) v (run_in p (Text image v))
 file_in p image v e = subst (λ (s : PageState). IsLongestRun (IsUnfilledBeside p (Text image v)) (MayRead p 2) v (run_in_by p (Text image v) s (spare_frames p))) (sym e)
     (longest (comes_from_file p (Text image v)) (IsUnfilledBeside p (Text image v)) (MayRead p 2) v (min 2 (spare_frames p)) (some_spare 2 (length p.free - desired_free p) (omega arith))
     (filed_joins p (Text image v)) (filed_passes p (Text image v)) (spared 2 (desired_free p) (length p.free)) (too_many 2 (desired_free p) (length p.free)))

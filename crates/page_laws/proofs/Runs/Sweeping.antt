@@ -84,7 +84,8 @@ record IsPicked (p : Placement) (locked : List Page) (w : Page) (f : ℕ) (dirty
   mark : is_dirty p w ≡ dirty
 
 -- what was invalid behind the front hand
-swept_from : (p : Placement) (locked : List Page) (w : Page) (f : ℕ) (dirty : Bool) → OwnsFrames p → IsPicked (expire p locked) locked w f dirty → MayBeSwept p locked w f × (is_dirty p w ≡ dirty)
+swept_from : (p : Placement) (locked : List Page) (w : Page) (f : ℕ) (dirty : Bool) → OwnsFrames p → IsPicked (expire p locked) locked w f dirty
+    → MayBeSwept p locked w f × (is_dirty p w ≡ dirty)
 swept_from p locked w f dirty o t = elim (expire_slot p locked w o) [
   | inl e ↦ (
     record { unlocked = t.unlocked; idle = inl (sym (ap (λ (x : Slot). x.state) e) ∙ t.state, ap (times f) (sym (expire_free p locked)) ∙ t.off) },
@@ -122,7 +123,8 @@ retired p q g f e z l = elim (cases_eq f g) [
       omega arith)
 ]
 
-swept_freed : (p : Placement) (locked : List Page) (f : ℕ) → OwnsFrames p → times f p.free ≡ 0 → 0 < times f (sweep p locked).free → (w : Page) × (page_of p f ≡ Some w) × IsPicked p locked w f false
+swept_freed : (p : Placement) (locked : List Page) (f : ℕ) → OwnsFrames p → times f p.free ≡ 0 → 0 < times f (sweep p locked).free
+    → (w : Page) × (page_of p f ≡ Some w) × IsPicked p locked w f false
 swept_freed p locked f o z l = of (page_of p p.back) refl l
   where
     still : (0 < times f p.free) → ⊥
@@ -177,7 +179,8 @@ launch_all_other [] p w n = refl
 launch_all_other (v ∷ qs) p w n = launch_all_other qs (launch p v) w n.1 ∙ launch_other p v w n.0
 
 -- a page that goes once these are launched was going, or is one of them
-going_from : (P : Page → Type 0) (p : Placement) (qs : List Page) (w : Page) (f : ℕ) → EachPage P qs → state_of (launch_run p qs) w ≡ Going f → (state_of p w ≡ Going f) ⊎ (P w × (frame_of (state_of p w) ≡ Some f))
+going_from : (P : Page → Type 0) (p : Placement) (qs : List Page) (w : Page) (f : ℕ) → EachPage P qs → state_of (launch_run p qs) w ≡ Going f
+    → (state_of p w ≡ Going f) ⊎ (P w × (frame_of (state_of p w) ≡ Some f))
 going_from P p qs w f h e = elim (among_or P w qs h) [
   | inl k ↦ inr (k, let s : Steady p (launch_run p qs) = launch_run_steady p qs in sym (s.frames w) ∙ ap frame_of e)
   | inr n ↦ inl (sym (ap (λ (x : Slot). x.state) (launch_all_other qs (begin p Writes) w n)) ∙ e)
@@ -206,7 +209,8 @@ retire_going p q w g f e h = elim (page_cases w q) [
     at : state_of (retire p q) w ≡ state_of (retire_to p q (Invalid g)) w
     at = ap (λ (s : PageState). state_of (retire_to p q s) w) e
 
-swept_going : (p : Placement) (locked : List Page) (w : Page) (f : ℕ) → OwnsFrames p → state_of (sweep p locked) w ≡ Going f → (state_of p w ≡ Going f) ⊎ IsPicked p locked w f true
+swept_going : (p : Placement) (locked : List Page) (w : Page) (f : ℕ) → OwnsFrames p → state_of (sweep p locked) w ≡ Going f
+    → (state_of p w ≡ Going f) ⊎ IsPicked p locked w f true
 swept_going p locked w f o l = of (page_of p p.back) refl l
   where
     by : (q : Page) (g : ℕ) (d : Bool) → state_of p q ≡ Invalid g → times g p.free ≡ 0 → is_among q locked ≡ false → is_dirty p q ≡ d → state_of (sweep_by p locked q d) w ≡ Going f → (state_of p w ≡ Going f) ⊎ IsPicked p locked w f true
@@ -235,14 +239,16 @@ swept_going p locked w f o l = of (page_of p p.back) refl l
 
 -- Both hands.
 
-pub move_freed : (p : Placement) (locked : List Page) (f : ℕ) → OwnsFrames p → times f p.free ≡ 0 → 0 < times f (hand_move p locked).free → (w : Page) × (page_of p f ≡ Some w) × MayBeSwept p locked w f × (is_dirty p w ≡ false)
+pub move_freed : (p : Placement) (locked : List Page) (f : ℕ) → OwnsFrames p → times f p.free ≡ 0 → 0 < times f (hand_move p locked).free
+    → (w : Page) × (page_of p f ≡ Some w) × MayBeSwept p locked w f × (is_dirty p w ≡ false)
 move_freed p locked f o z l =
     let t = swept_freed (expire p locked) locked f (expire_owner p locked o) (ap (times f) (expire_free p locked) ∙ z) l in
     let s : Steady p (expire p locked) = expire_steady p locked in
     let k = swept_from p locked t.0 f false o t.2 in
     (t.0, ap (λ (hs : List (Option Page)). Rattle.page_model.specs.Frames.at_frame hs f None) (sym s.holds) ∙ t.1, k.0, k.1)
 
-pub move_written : (p : Placement) (locked : List Page) (w : Page) (f : ℕ) → OwnsFrames p → state_of (hand_move p locked) w ≡ Going f → (state_of p w ≡ Going f) ⊎ (MayBeSwept p locked w f × (is_dirty p w ≡ true))
+pub move_written : (p : Placement) (locked : List Page) (w : Page) (f : ℕ) → OwnsFrames p → state_of (hand_move p locked) w ≡ Going f
+    → (state_of p w ≡ Going f) ⊎ (MayBeSwept p locked w f × (is_dirty p w ≡ true))
 move_written p locked w f o e = elim (swept_going (expire p locked) locked w f (expire_owner p locked o) e) [
   | inl g ↦ elim (expire_slot p locked w o) [
     | inl h ↦ inl (sym (ap (λ (x : Slot). x.state) h) ∙ g)

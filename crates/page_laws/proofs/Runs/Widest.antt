@@ -26,7 +26,8 @@ above_stops passes v (suc room) l = by (passes (v + 1)) refl (above_stops passes
         ap passes same ∙ ih (omega arith)
     by false e ih l = let same : v + 0 + 1 ≡ v + 1 = omega arith in ap passes same ∙ e
 
-below_stops : (passes : ℕ → Bool) (v room : ℕ) → passing_below passes v room < room → passing_below passes v room < v → passes (v - passing_below passes v room - 1) ≡ false
+below_stops : (passes : ℕ → Bool) (v room : ℕ) → passing_below passes v room < room → passing_below passes v room < v
+    → passes (v - passing_below passes v room - 1) ≡ false
 below_stops passes zero room l m = absurd (omega arith)
 below_stops passes (suc v) zero l m = absurd (omega arith)
 below_stops passes (suc v) (suc room) l m = by (passes v) refl (below_stops passes v room) l m
@@ -48,7 +49,8 @@ passed : (passes : ℕ → Bool) (v w : ℕ) → w ≢ v → (w ≡ v) ⊎ (pass
 passed passes v w n (inl e) = absurd (n e)
 passed passes v w n (inr e) = e
 
-pub widest : (passes : ℕ → Bool) (Joins MayBe : ℕ → Type 0) (v most : ℕ) → 0 < most → ((w : ℕ) → passes w ≡ true → Joins w) → ((w : ℕ) → Joins w → passes w ≡ true)
+pub widest : (passes : ℕ → Bool) (Joins MayBe : ℕ → Type 0) (v most : ℕ) → 0 < most → ((w : ℕ) → passes w ≡ true → Joins w)
+    → ((w : ℕ) → Joins w → passes w ≡ true)
     → ((n : ℕ) → 0 < n → n ≤ most → MayBe n) → (MayBe (most + 1) → ⊥) → IsWidestRun Joins MayBe v (run_both passes v most)
 widest passes Joins MayBe v most some to back may full = let a = above_few in let b = below_few in let c = below_in in record {
   has = (omega arith, omega arith);
@@ -87,7 +89,8 @@ widest passes Joins MayBe v most some to back may full = let a = above_few in le
         let same : v - below + (below + 1 + above) ≡ v + above + 1 = omega arith in
         never passes Joins (v + above + 1) back (above_stops passes v (most - 1) l) (subst Joins same j)
 
-pub longest : (passes : ℕ → Bool) (Joins MayBe : ℕ → Type 0) (v most : ℕ) → 0 < most → ((w : ℕ) → passes w ≡ true → Joins w) → ((w : ℕ) → Joins w → passes w ≡ true)
+pub longest : (passes : ℕ → Bool) (Joins MayBe : ℕ → Type 0) (v most : ℕ) → 0 < most → ((w : ℕ) → passes w ≡ true → Joins w)
+    → ((w : ℕ) → Joins w → passes w ≡ true)
     → ((n : ℕ) → 0 < n → n ≤ most → MayBe n) → (MayBe (most + 1) → ⊥) → IsLongestRun Joins MayBe v (run_up passes v most)
 longest passes Joins MayBe v most some to back may full = let a = above_few in record {
   from = refl;

@@ -309,7 +309,8 @@ awake_or x rs p e o = go x.asleep refl
     go true h = absurd (longest_none p (sleepers rs) x e (asleep_in rs x o h))
     go false h = refl
 
-sleeper_out : (p : Placement) (rs : List Runner) (r : Runner) (pid : ℕ) → longest p (sleepers (filter (may_go_out p) rs)) ≡ Some r → r.pid ≡ pid → length p.free < desired_free p → GoesOut p rs pid
+sleeper_out : (p : Placement) (rs : List Runner) (r : Runner) (pid : ℕ) → longest p (sleepers (filter (may_go_out p) rs)) ≡ Some r → r.pid ≡ pid
+    → length p.free < desired_free p → GoesOut p rs pid
 sleeper_out p rs r pid l e m =
     let c = filter (may_go_out p) rs in
     let i : IsLongest p (sleepers (filter (may_go_out p) rs)) r = longest_is p (sleepers c) r l in
@@ -324,7 +325,8 @@ sleeper_out p rs r pid l e m =
       few = m;
     }
 
-large_out : (p : Placement) (rs : List Runner) (r : Runner) (pid : ℕ) → longest p (sleepers (filter (may_go_out p) rs)) ≡ None → longest p (take 4 (ranked p (filter (may_go_out p) rs))) ≡ Some r
+large_out : (p : Placement) (rs : List Runner) (r : Runner) (pid : ℕ) → longest p (sleepers (filter (may_go_out p) rs)) ≡ None
+    → longest p (take 4 (ranked p (filter (may_go_out p) rs))) ≡ Some r
     → r.pid ≡ pid → length p.free < desired_free p → GoesOut p rs pid
 large_out p rs r pid n l e m =
     let c = filter (may_go_out p) rs in

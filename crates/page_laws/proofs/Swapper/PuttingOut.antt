@@ -64,7 +64,8 @@ active_less p q l (Going f) e = e
 active_less p q l OnSwap e = e
 
 -- where a page is active after it was put into a state, that is an active state
-put_active : (p : Placement) (v : Page) (s : PageState) (m : Bool) (free : List ℕ) (ts : List Transfer) → is_active (turn p v s m free ts) v ≡ true → is_active_by (turn p v s m free ts) s ≡ true
+put_active : (p : Placement) (v : Page) (s : PageState) (m : Bool) (free : List ℕ) (ts : List Transfer) → is_active (turn p v s m free ts) v ≡ true
+    → is_active_by (turn p v s m free ts) s ≡ true
 put_active p v s m free ts e = elim (cases_lt (number_of v) (length (slots_of p v))) [
   | inl l ↦ sym (ap (is_active_by (turn p v s m free ts)) (put_state p v s m l)) ∙ e
   | inr l ↦ absurd (
@@ -73,7 +74,8 @@ put_active p v s m free ts e = elim (cases_lt (number_of v) (length (slots_of p 
       let z : true ≡ false = sym e ∙ n in cc)
 ]
 
-turn_calm : (p : Placement) (v : Page) (s : PageState) (m : Bool) (free : List ℕ) (ts : List Transfer) → Frees p free → (is_active_by (turn p v s m free ts) s ≡ true → is_active p v ≡ true) → Calmer p (turn p v s m free ts)
+turn_calm : (p : Placement) (v : Page) (s : PageState) (m : Bool) (free : List ℕ) (ts : List Transfer) → Frees p free
+    → (is_active_by (turn p v s m free ts) s ≡ true → is_active p v ≡ true) → Calmer p (turn p v s m free ts)
 turn_calm p v s m free ts l h w e = elim (page_cases w v) [
   | inl k ↦ subst (λ (x : Page). is_active p x ≡ true) (sym k) (h (put_active p v s m free ts (subst (λ (x : Page). is_active (turn p v s m free ts) x ≡ true) k e)))
   | inr n ↦ active_less p (turn p v s m free ts) l (state_of p w) (sym (ap (is_active_by (turn p v s m free ts)) (put_other_state p v s m w n)) ∙ e)
@@ -106,7 +108,8 @@ land_calm p (Reads source demanded) x rest o l = go (same_page x.page demanded)
     go true = turn_calm p x.page (Valid x.frame) (arrived_mark source x.page (mark_of p x.page)) p.free rest (same_frees p) (λ e. ap (is_active_by p) (landing_state p (Reads source demanded) x rest o l))
     go false = tail_calm p x.page x.frame (mark_of p x.page) rest
 
-land_all_calm : (xs : List Part) (p : Placement) (e : Errand) (ts : List Transfer) → OwnsFrames p → p.transfers ≡ record { errand = e; parts = xs } ∷ ts → Calmer p (land_all p e xs ts)
+land_all_calm : (xs : List Part) (p : Placement) (e : Errand) (ts : List Transfer) → OwnsFrames p
+    → p.transfers ≡ record { errand = e; parts = xs } ∷ ts → Calmer p (land_all p e xs ts)
 land_all_calm [] p e ts o h = λ w k. active_less p (land_all p e [] ts) (same_frees p) (state_of p w) k
 land_all_calm (x ∷ xs) p e ts o h =
     let rest = record { errand = e; parts = xs } ∷ ts in
@@ -236,7 +239,8 @@ seated_first p (q ∷ qs) v e = go (is_seated p q) refl e (seated_first p qs v)
     go true h k ih = ap (is_seated p) (sym (same_Some q v k)) ∙ h
     go false h k ih = ih k
 
-count_less : (p q : Placement) (qs : List Page) (v : Page) → Calmer p q → first_seated p qs ≡ Some v → is_active q v ≡ false → active_count q qs < active_count p qs
+count_less : (p q : Placement) (qs : List Page) (v : Page) → Calmer p q → first_seated p qs ≡ Some v → is_active q v ≡ false
+    → active_count q qs < active_count p qs
 count_less p q [] v c e i = none_some v e
 count_less p q (w ∷ qs) v c e i = go (is_seated p w) refl e (λ k. count_less p q qs v c k i)
   where
@@ -274,7 +278,8 @@ same_out p q pid e = ap (λ (rs : List Residence). (residence_of rs pid).out) e
 rank_is : (p : Placement) (pid sid : ℕ) → is_out p pid ≡ false → put_rank p pid sid ≡ 1 + length p.transfers + 2 * active_count p (pages_of_space p sid)
 rank_is p pid sid e = ap (put_rank_by p sid) e
 
-done_rank : (p : Placement) (pid sid : ℕ) (t : Transfer) (ts : List Transfer) → OwnsFrames p → is_out p pid ≡ false → p.transfers ≡ t ∷ ts → put_rank (done p) pid sid < put_rank p pid sid
+done_rank : (p : Placement) (pid sid : ℕ) (t : Transfer) (ts : List Transfer) → OwnsFrames p → is_out p pid ≡ false → p.transfers ≡ t ∷ ts
+    → put_rank (done p) pid sid < put_rank p pid sid
 done_rank p pid sid t ts o e h =
     let a = rank_is p pid sid e in
     let b = rank_is (done p) pid sid (same_out p (done p) pid (done_residents p) ∙ e) in
@@ -285,7 +290,8 @@ done_rank p pid sid t ts o e h =
     let l = count_le p (done p) (pages_of_space p sid) (done_calm p o) in
     omega arith
 
-put_rank_falls : (locked : List Page) (at : ℕ) (p : Placement) (pid sid : ℕ) (v : Page) (n : ℕ) → is_out p pid ≡ false → 0 < n → first_seated p (pages_of_space p sid) ≡ Some v
+put_rank_falls : (locked : List Page) (at : ℕ) (p : Placement) (pid sid : ℕ) (v : Page) (n : ℕ) → is_out p pid ≡ false → 0 < n
+    → first_seated p (pages_of_space p sid) ≡ Some v
     → put_rank (place_entry locked at p (entries.Put v n)) pid sid < put_rank p pid sid
 put_rank_falls locked at p pid sid v n e m h =
     let qs = pages_from v (number_of v) n in
@@ -297,7 +303,8 @@ put_rank_falls locked at p pid sid v n e m h =
     let l = count_less p q (pages_of_space p sid) v (put_calm p v qs) h (put_idle p v n m (seated_seat p v (seated_first p (pages_of_space p sid) v h))) in
     omega arith
 
-out_now : (rs : List Residence) (pid at : ℕ) → numbered (λ (r : Residence). r.pid) pid rs ≢ None → (residence_of (changed (λ (r : Residence). r.pid) pid (λ (r : Residence). record r { out = true; since = at }) rs) pid).out ≡ true
+out_now : (rs : List Residence) (pid at : ℕ) → numbered (λ (r : Residence). r.pid) pid rs ≢ None
+    → (residence_of (changed (λ (r : Residence). r.pid) pid (λ (r : Residence). record r { out = true; since = at }) rs) pid).out ≡ true
 out_now [] pid at n = absurd (n refl)
 out_now (r ∷ rs) pid at n = go (r.pid == pid) refl n (out_now rs pid at)
   where
@@ -382,13 +389,15 @@ unit_can p pid sid = unit_case (CanPlace p) p pid sid (λ t ts h. tt) (λ v e h 
 pub unit_owner : (locked : List Page) (at : ℕ) (p : Placement) (pid sid : ℕ) → OwnsFrames p → OwnsFrames (place_entry locked at p (put_out_unit p pid sid))
 unit_owner locked at p pid sid o = place_entry_owner locked at p (put_out_unit p pid sid) o (unit_can p pid sid)
 
-pub unit_falls : (locked : List Page) (at : ℕ) (p : Placement) (pid sid : ℕ) → OwnsFrames p → IsResident p pid → is_out p pid ≡ false → put_rank (place_entry locked at p (put_out_unit p pid sid)) pid sid < put_rank p pid sid
+pub unit_falls : (locked : List Page) (at : ℕ) (p : Placement) (pid sid : ℕ) → OwnsFrames p → IsResident p pid → is_out p pid ≡ false
+    → put_rank (place_entry locked at p (put_out_unit p pid sid)) pid sid < put_rank p pid sid
 unit_falls locked at p pid sid o i e = unit_case (λ (u : Entry). put_rank (place_entry locked at p u) pid sid < put_rank p pid sid) p pid sid
     (λ t ts h. done_rank p pid sid t ts o e h)
     (λ v s h k. put_rank_falls locked at p pid sid v (run_put p v).n e (run_some p v) h)
     (λ s h. out_rank p pid sid at i e)
 
-pub unit_few : (locked : List Page) (at : ℕ) (p : Placement) (pid sid : ℕ) → length p.transfers ≤ 16 → length (place_entry locked at p (put_out_unit p pid sid)).transfers ≤ 16
+pub unit_few : (locked : List Page) (at : ℕ) (p : Placement) (pid sid : ℕ) → length p.transfers ≤ 16
+    → length (place_entry locked at p (put_out_unit p pid sid)).transfers ≤ 16
 unit_few locked at p pid sid l = unit_case (λ (u : Entry). length (place_entry locked at p u).transfers ≤ 16) p pid sid
     (λ t ts h.
     let c : (done p).transfers ≡ ts = ap (λ (us : List Transfer). (done_of p us).transfers) h ∙ land_all_rest t.parts p t.errand ts in
@@ -421,13 +430,15 @@ first_same p rs (q ∷ qs) = ap₂ (λ (b : Bool) (o : Option Page). cond b (Som
 abbrev IsLast : Placement → ℕ → ℕ → Entry → Type 0
 IsLast p pid sid u = (u ≡ entries.SwapOut pid) × (is_settled p sid ≡ true) × (first_seated p (pages_of_space p sid) ≡ None)
 
-unit_ends : (locked : List Page) (at : ℕ) (p : Placement) (pid sid : ℕ) → IsLast p pid sid (put_out_unit p pid sid) ⊎ ((place_entry locked at p (put_out_unit p pid sid)).residents ≡ p.residents)
+unit_ends : (locked : List Page) (at : ℕ) (p : Placement) (pid sid : ℕ)
+    → IsLast p pid sid (put_out_unit p pid sid) ⊎ ((place_entry locked at p (put_out_unit p pid sid)).residents ≡ p.residents)
 unit_ends locked at p pid sid = unit_case (λ (u : Entry). IsLast p pid sid u ⊎ ((place_entry locked at p u).residents ≡ p.residents)) p pid sid
     (λ t ts h. inr (done_residents p))
     (λ v s h k. inr (put_residents p v (pages_from v (number_of v) (run_put p v).n)))
     (λ s h. inl (refl, s, h))
 
-put_out_within : (n at : ℕ) (p : Placement) (pid sid : ℕ) → OwnsFrames p → length p.transfers ≤ 16 → IsResident p pid → is_out p pid ≡ false → put_rank p pid sid < n → EndsPuttingOut at p pid sid
+put_out_within : (n at : ℕ) (p : Placement) (pid sid : ℕ) → OwnsFrames p → length p.transfers ≤ 16 → IsResident p pid → is_out p pid ≡ false
+    → put_rank p pid sid < n → EndsPuttingOut at p pid sid
 put_out_within zero at p pid sid o w i e l = absurd (omega arith)
 put_out_within (suc n) at p pid sid o w i e l = go (unit_ends [] (at + 1) p pid sid) (λ r.
     put_out_within n (at + 1) (place_entry [] (at + 1) p (put_out_unit p pid sid)) pid sid (unit_owner [] (at + 1) p pid sid o) (unit_few [] (at + 1) p pid sid w)
@@ -463,7 +474,8 @@ put_out_within (suc n) at p pid sid o w i e l = go (unit_ends [] (at + 1) p pid 
         }
 
 -- After no more units than its number says the process is out.
-pub put_out : (at : ℕ) (p : Placement) (pid sid : ℕ) → OwnsFrames p → length p.transfers ≤ 16 → IsResident p pid → is_out p pid ≡ false → EndsPuttingOut at p pid sid
+pub put_out : (at : ℕ) (p : Placement) (pid sid : ℕ) → OwnsFrames p → length p.transfers ≤ 16 → IsResident p pid → is_out p pid ≡ false
+    → EndsPuttingOut at p pid sid
 put_out at p pid sid o w i e = put_out_within (1 + put_rank p pid sid) at p pid sid o w i e (omega arith)
 
 -- Each write that a unit begins has a page, and what is due stands.
@@ -471,11 +483,13 @@ put_out at p pid sid o w i e = put_out_within (1 + put_rank p pid sid) at p pid 
 unit_begins : (p : Placement) (pid sid : ℕ) → CanBegin p (put_out_unit p pid sid)
 unit_begins p pid sid = unit_case (CanBegin p) p pid sid (λ t ts h. tt) (λ v e h k. run_some p v) (λ e h. tt)
 
-pub unit_parts : (locked : List Page) (at : ℕ) (p : Placement) (pid sid : ℕ) → OwnsFrames p → HaveParts p.transfers → HaveParts (place_entry locked at p (put_out_unit p pid sid)).transfers
+pub unit_parts : (locked : List Page) (at : ℕ) (p : Placement) (pid sid : ℕ) → OwnsFrames p → HaveParts p.transfers
+    → HaveParts (place_entry locked at p (put_out_unit p pid sid)).transfers
 unit_parts locked at p pid sid o h = entry_parts locked at p (put_out_unit p pid sid) o (unit_can p pid sid) (unit_begins p pid sid) h
 
 unit_leaves : (p : Placement) (pid sid : ℕ) → LeavesDue p (put_out_unit p pid sid)
 unit_leaves p pid sid = unit_case (LeavesDue p) p pid sid (λ t ts h. tt) (λ v e h k. tt) (λ e h. tt)
 
-pub unit_due : (locked : List Page) (at : ℕ) (p : Placement) (pid sid : ℕ) → OwnsFrames p → DueStand p → DueStand (place_entry locked at p (put_out_unit p pid sid))
+pub unit_due : (locked : List Page) (at : ℕ) (p : Placement) (pid sid : ℕ) → OwnsFrames p → DueStand p
+    → DueStand (place_entry locked at p (put_out_unit p pid sid))
 unit_due locked at p pid sid o s = entry_due locked at p (put_out_unit p pid sid) o (unit_can p pid sid) (unit_leaves p pid sid) s

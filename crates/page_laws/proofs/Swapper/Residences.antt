@@ -11,7 +11,8 @@ use Rattle.page_model.specs.PuttingOut.{IsResident}
 abbrev set_out : List Residence → ℕ → Bool → ℕ → List Residence
 set_out rs pid out at = changed (λ (r : Residence). r.pid) pid (λ (r : Residence). record r { out = out; since = at }) rs
 
-own_in : (rs : List Residence) (pid : ℕ) (out : Bool) (at : ℕ) → numbered (λ (r : Residence). r.pid) pid rs ≢ None → residence_of (set_out rs pid out at) pid ≡ record { pid = pid; out = out; since = at }
+own_in : (rs : List Residence) (pid : ℕ) (out : Bool) (at : ℕ) → numbered (λ (r : Residence). r.pid) pid rs ≢ None
+    → residence_of (set_out rs pid out at) pid ≡ record { pid = pid; out = out; since = at }
 own_in [] pid out at n = absurd (n refl)
 own_in (r ∷ rs) pid out at n = go (r.pid == pid) refl n (own_in rs pid out at)
   where
@@ -32,7 +33,8 @@ other_in (r ∷ rs) pid n out at d = go (r.pid == pid) refl (other_in rs pid n o
     go false e ih = ap (λ (x : Residence). cond (r.pid == n) r x) ih
 
 -- it is in or out since that place
-pub moved_own : (p : Placement) (pid : ℕ) (out : Bool) (at : ℕ) → IsResident p pid → residence_of (moved p pid out at).residents pid ≡ record { pid = pid; out = out; since = at }
+pub moved_own : (p : Placement) (pid : ℕ) (out : Bool) (at : ℕ) → IsResident p pid
+    → residence_of (moved p pid out at).residents pid ≡ record { pid = pid; out = out; since = at }
 moved_own p pid out at i = own_in p.residents pid out at i
 
 -- and all others are as they were

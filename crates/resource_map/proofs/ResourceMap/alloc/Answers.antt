@@ -47,12 +47,14 @@ found c =
     ap (position (λ (e : Extent). nat_le c.args.n e.length)) (sym c.deref.ensures.value) ∙ sym c.first_fit.ensures ∙ c.in-Some.is
 
 -- the place that was found is one of the extents, and it has n blocks
-at_found : (c : goal.After-self-1) → (c.in-Some.at < length c.self.inside.extents.items) × (c.args.n ≤ (get_or c.self.inside.extents.items c.in-Some.at none_here).length)
+at_found : (c : goal.After-self-1)
+    → (c.in-Some.at < length c.self.inside.extents.items) × (c.args.n ≤ (get_or c.self.inside.extents.items c.in-Some.at none_here).length)
 at_found c =
     let p = position-Some (λ (e : Extent). nat_le c.args.n e.length) c.self.inside.extents.items c.in-Some.at none_here (found c) in
     (p.0, leb-true c.args.n (get_or c.self.inside.extents.items c.in-Some.at none_here).length p.1)
 
-cut : (c : goal.After-self-1) → c.take_front-start.new.extents.items ≡ cut_front c.self.inside.extents.items c.in-Some.at c.args.n (get_or c.self.inside.extents.items c.in-Some.at none_here) ((get_or c.self.inside.extents.items c.in-Some.at none_here).length == c.args.n)
+cut : (c : goal.After-self-1)
+    → c.take_front-start.new.extents.items ≡ cut_front c.self.inside.extents.items c.in-Some.at c.args.n (get_or c.self.inside.extents.items c.in-Some.at none_here) ((get_or c.self.inside.extents.items c.in-Some.at none_here).length == c.args.n)
 cut c =
     c.take_front-start.ensures.cut none_here ∙
     ap (λ (fs : List Extent). cut_front fs c.in-Some.at c.args.n (get_or fs c.in-Some.at none_here) ((get_or fs c.in-Some.at none_here).length == c.args.n)) c.reserve.ensures.items

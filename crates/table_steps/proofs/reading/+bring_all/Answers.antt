@@ -29,7 +29,8 @@ pub bring-part-requires-clause-texts : goal.bring-part-requires-clause-texts
 bring-part-requires-clause-texts t c = texts_here (opened c.args.tables.now c.args.parts.now.items (source_by c.args.from_file) c.args.page) c.requires.may.known
 
 -- one page more
-step : (t u : Tables) (xs : List Inbound) (b : Bool) (q v : Page) (x : Inbound) (lo n m : ℕ) → n ≡ suc m → v ≡ beside q lo → BroughtPage t u v b x → IsSound u.core.free u.core.slots
+step : (t u : Tables) (xs : List Inbound) (b : Bool) (q v : Page) (x : Inbound) (lo n m : ℕ) → n ≡ suc m → v ≡ beside q lo → BroughtPage t u v b x
+    → IsSound u.core.free u.core.slots
     → MayBring (opened t xs (source_by b) q) q lo n → Brings t u xs (source_by b) q x lo m
 step t u xs b q v x lo n m e is d core may =
     brings t u xs (source_by b) q b x lo m (d.page ∙ is) (subst (λ (w : Page). BroughtPage t u w b x) (sym d.page) d) core (subst (λ (k : ℕ). MayBring (opened t xs (source_by b) q) q lo k) e may)

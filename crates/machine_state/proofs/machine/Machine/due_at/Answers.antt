@@ -9,7 +9,8 @@ use Rattle.table_steps.specs.View.{due_shown}
 use Rattle.page_model.specs.Placement.{Due}
 use Rattle.machine_state.proofs.machine.Machine.due_at.Goals as goal
 
-shown_at : (ds : List DueFill) (place : ℕ) → option_map due_and_parent (option_map due_shown (slice_get ds place)) ≡ option_map due_and_parent (slice_get (map due_shown ds) place)
+shown_at : (ds : List DueFill) (place : ℕ)
+    → option_map due_and_parent (option_map due_shown (slice_get ds place)) ≡ option_map due_and_parent (slice_get (map due_shown ds) place)
 shown_at ds place = sym (ap (λ (o : Option Due). option_map due_and_parent o) (slice_get-map due_shown ds place))
 
 pub returns : goal.returns
