@@ -40,6 +40,7 @@ use Rattle.kernel_model.specs.Unit.{proc_of}
 use Rattle.machine_state.proofs.Shapes.{shape_in}
 use Rattle.machine_state.specs.Sourced.{ImageNamed}
 use Rattle.machine_state.specs.Machine.{Standing}
+use Rattle.machine_state.specs.Done.{KeepsThrough}
 use Rattle.machine_state.specs.Files.{AreFiles}
 use Rattle.machine_state.specs.Settled.{IsSameBeside}
 use Rattle.machine_state.specs.Calls.{life_in, AreAlike, CanPush, CanGoOut}
@@ -48,7 +49,7 @@ use Rattle.machine_state.specs.Swapping.{WritesU, SwapBehind}
 use Rattle.paging_units.specs.Made.{Made, MakesUnit, Ground, ground}
 use Rattle.paging_units.specs.Stops.{StopsAt, SpoilsBy}
 use Rattle.paging_units.proofs.Units.{unit_place, unit_journal, unit_same, unit_whole, same_ground}
-use Rattle.paging_units.proofs.Keeping.{unit_shaped}
+use Rattle.paging_units.proofs.Keeping.{unit_shaped, keeps_both}
 use Rattle.paging_units.proofs.Stopping.{plain_longer, held_here}
 use Rattle.swapper.specs.declared.putting_out.Step.{Step}
 use Rattle.swapper.specs.declared.putting_out.Step.TheVariants as steps
@@ -333,3 +334,23 @@ on_ok_with (Err e) f p q r = p
 pub if_err : {A E : Type 0} {P Q : E → Type 0} (r : Result A E) → ((e : E) → P e → Q e) → IfErr r P → IfErr r Q
 if_err (Ok x) f h = h
 if_err (Err e) f h = f e h
+
+-- What is put out so far and what is left make the whole.
+
+pub record PutsSoFar (pid sid : ℕ) (old now : Standing) (holds later : Option (List NamedFile)) (i h : Option (List ℕ)) : Type 0 where
+  pub more : (new : Standing) (j : Option (List ℕ)) → PutOut pid sid now new later h j → PutOut pid sid old new holds i j
+  pub stops : (stop : Stop) (new : Standing) (j : Option (List ℕ)) → StopsPutting pid sid now stop new later h j → StopsPutting pid sid old stop new holds i j
+  pub keeps : (new : Standing) (j : Option (List ℕ)) → KeepsThrough now new later h j → KeepsThrough old new holds i j
+
+pub puts_none : (pid sid : ℕ) (old : Standing) (holds : Option (List NamedFile)) (i : Option (List ℕ)) → PutsSoFar pid sid old old holds holds i i
+puts_none pid sid old holds i = record { more = λ new j p. p; stops = λ stop new j s. s; keeps = λ new j k. k }
+
+pub puts_one : (pid sid : ℕ) (old now next : Standing) (step : Step) (holds later latest : Option (List NamedFile)) (i h k : Option (List ℕ)) → latest ≡ later
+    → IsStep now.kernel.place sid step → is_out now.kernel.place pid ≡ false → MakesUnit (ground now later []) (put_out_unit now.kernel.place pid sid) now next h k
+    → KeepsThrough now next later h k → PutsSoFar pid sid old now holds later i h → PutsSoFar pid sid old next holds latest i k
+puts_one pid sid old now next step holds later latest i h k e s n m t so = record {
+  more = λ new j p. so.more new j (put_first now next pid sid step later h k s m latest new j e n p);
+  stops = λ stop new j p. so.stops stop new j (stops_first now next pid sid step later h k s m latest stop new j e n p);
+  keeps = λ new j f. so.keeps new j
+      (keeps_both now next new later latest h k j m.beside.images (unit_shaped (ground now later []) (put_out_unit now.kernel.place pid sid) now.kernel next.kernel h m.made) e t f);
+}

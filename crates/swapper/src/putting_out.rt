@@ -235,12 +235,11 @@ fn put_all<F: Files, D: SwapDev>(
     ensures read_faults { CountsReads result (D.read_faults swap.old) (D.read_faults swap.new) }
     ensures write_faults { CountsWrites result (D.write_faults swap.old) (D.write_faults swap.new) }
 {
-    m.sound();
-    let Some(step) = next_step(m, sid) else {
-        return leave(m, swap, pid, sid);
-    };
-    put_once(m, files, swap, pid, sid, step)?;
-    put_all(m, files, swap, pid, sid)
+    while let Some(step) = next_step(m, sid) {
+        m.sound();
+        put_once(m, files, swap, pid, sid, step)?;
+    }
+    leave(m, swap, pid, sid)
 }
 
 // The space that a process holds.

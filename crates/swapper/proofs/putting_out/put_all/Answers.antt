@@ -1,0 +1,75 @@
+use Rattle.std.proofs.Common.{refl, ◌∙◌, subst, rules}
+use Rattle.swapper.specs.Putting.{IsStep, IsNext}
+use Rattle.swapper.proofs.PutUnits.{puts_on, falls_on, stops_here, holder_resides, on_ok, if_err, puts_none, puts_one}
+use Rattle.swapper.proofs.putting_out.put_all.Goals as goal
+
+pub loop-step-init : goal.loop-step-init
+loop-step-init g c =
+    let r = c.requires in
+    record {
+      puts = record { running = r.running; whole = r.whole; area = r.area; files = r.files; clear = r.clear; holds_there = r.holds; resident = r.resident };
+      so_far = puts_none c.args.pid c.args.sid c.args.m.now (g.F.Files.holds c.args.files.now) (g.D.SwapDev.image c.args.swap.now);
+      files_lead = g.met.F.Files.leads_nowhere c.args.files.now;
+      swap_leads = g.met.D.SwapDev.leads_nowhere c.args.swap.now;
+      holds = refl;
+      blocks = refl;
+      open_faults = refl;
+      page_faults = refl;
+      read_faults = refl;
+      write_faults = refl;
+    }
+
+pub loop-step-preserved : goal.loop-step-preserved
+loop-step-preserved g c =
+    let so = c.loop-step.invariant in
+    let now = c.loop-step.m in
+    let next = c.put_once.new.m in
+    let s : IsStep now.kernel.place c.args.sid c.in-Some.step = subst (IsNext now.kernel.place c.args.sid) c.in-Some.is c.next_step.ensures in
+    let m = c.in_ok-put_once.ensures.made in
+    let later = g.F.Files.holds c.loop-step.files in
+    let latest = g.F.Files.holds c.put_once.new.files in
+    let h = g.D.SwapDev.image c.loop-step.swap in
+    let k = g.D.SwapDev.image c.put_once.new.swap in
+    record {
+      puts = puts_on now next c.args.pid c.args.sid c.in-Some.step later h k s m latest (g.D.SwapDev.blocks c.loop-step.swap) (g.D.SwapDev.blocks c.put_once.new.swap)
+          c.in_ok-put_once.ensures.holds c.in_ok-put_once.ensures.blocks so.puts;
+      so_far = puts_one c.args.pid c.args.sid c.args.m.now now next c.in-Some.step (g.F.Files.holds c.args.files.now) later latest (g.D.SwapDev.image c.args.swap.now) h k
+          c.in_ok-put_once.ensures.holds s so.puts.resident m c.in_ok-put_once.ensures.keeps so.so_far;
+      files_lead = g.met.F.Files.leads_through c.args.files.now c.loop-step.files c.put_once.new.files so.files_lead c.in_ok-put_once.ensures.files_lead;
+      swap_leads = g.met.D.SwapDev.leads_through c.args.swap.now c.loop-step.swap c.put_once.new.swap so.swap_leads c.in_ok-put_once.ensures.swap_leads;
+      holds = c.in_ok-put_once.ensures.holds ∙ so.holds;
+      blocks = c.in_ok-put_once.ensures.blocks ∙ so.blocks;
+      open_faults = c.in_ok-put_once.ensures.open_faults ∙ so.open_faults;
+      page_faults = c.in_ok-put_once.ensures.page_faults ∙ so.page_faults;
+      read_faults = c.in_ok-put_once.ensures.read_faults ∙ so.read_faults;
+      write_faults = c.in_ok-put_once.ensures.write_faults ∙ so.write_faults;
+    }
+
+pub loop-step-smaller : goal.loop-step-smaller
+loop-step-smaller g c =
+    let so = c.loop-step.invariant in
+    let now = c.loop-step.m in
+    let s : IsStep now.kernel.place c.args.sid c.in-Some.step = subst (IsNext now.kernel.place c.args.sid) c.in-Some.is c.next_step.ensures in
+    falls_on now c.put_once.new.m c.args.pid c.args.sid c.in-Some.step (g.F.Files.holds c.loop-step.files) (g.D.SwapDev.image c.loop-step.swap) (g.D.SwapDev.image c.put_once.new.swap) s
+    c.in_ok-put_once.ensures.made c.sound.ensures.sound.owner.frames
+    (holder_resides now.kernel c.args.pid c.args.sid c.sound.ensures.numbered.residents so.puts.holds_there.holds) so.puts.resident
+
+pub returns-in_err-put_once-clause-stopped : goal.returns-in_err-put_once-clause-stopped
+returns-in_err-put_once-clause-stopped g c =
+    let so = c.loop-step.invariant in
+    let now = c.loop-step.m in
+    let new = c.put_once.new.m in
+    let j = g.D.SwapDev.image c.put_once.new.swap in
+    let here = if_err c.put_once.result (λ stop s. so.so_far.stops stop new j (stops_here c.args.pid c.args.sid now stop new (g.F.Files.holds c.loop-step.files) (g.D.SwapDev.image c.loop-step.swap) j so.puts.resident
+    c.put_once.ensures.params c.put_once.ensures.images s)) c.put_once.ensures.stopped in
+    search (here, rules)
+
+pub returns-clause-put : goal.returns-clause-put
+returns-clause-put g c =
+    let so = c.loop-step.invariant in
+    on_ok c.leave.result (so.so_far.more c.leave.new.m (g.D.SwapDev.image c.leave.new.swap)) (c.leave.ensures.put (g.F.Files.holds c.loop-step.files))
+
+pub returns-clause-stopped : goal.returns-clause-stopped
+returns-clause-stopped g c =
+    let so = c.loop-step.invariant in
+    if_err c.leave.result (λ stop. so.so_far.stops stop c.leave.new.m (g.D.SwapDev.image c.leave.new.swap)) (c.leave.ensures.stopped (g.F.Files.holds c.loop-step.files))
