@@ -19,13 +19,14 @@ use Rattle.span_laws.specs.Spans.{moves, moves_of}
 use Rattle.span_laws.proofs.Spanning.{units_added_false}
 use Rattle.span_laws.proofs.Forcing.{Short, forced_short, forced_moves}
 use Rattle.machine_state.specs.Machine.{Standing}
+use Rattle.machine_state.specs.Done.{KeepsThrough}
 use Rattle.paging_units.specs.Made.{ground, MakesUnit}
 use Rattle.paging_units.specs.LastMoves.{last_moves}
 use Rattle.paging_units.specs.Stops.{StopsAt}
 use Rattle.paging_units.proofs.Units.{unit_journal, forced_place, made_journal, makes_none, makes_first, makes_on}
 use Rattle.paging_units.proofs.LastMoves.{last_done, last_more}
 use Rattle.clock_hands.specs.Forced.{Forced, StopsForcing}
-use Rattle.clock_hands.proofs.Units.{made_on}
+use Rattle.clock_hands.proofs.Units.{made_on, keeps_on}
 
 pub none_free : (free : List ℕ) → length free ≤ 0 → free ≡ []
 none_free [] l = refl
@@ -176,3 +177,23 @@ units_spare (e ∷ us) p r locked o f = spares_both p (force p locked) r locked 
 
 pub forced_spares : (locked : List Page) (old new : Standing) (holds : Option (List NamedFile)) (i j : Option (List ℕ)) → OwnsFrames old.kernel.place → Forced locked old new holds i j → Spares old.kernel.place new.kernel.place locked
 forced_spares locked old new holds i j o f = units_spare f.units old.kernel.place new.kernel.place locked o f.forces
+
+-- What is forced so far and what is left make the whole.
+
+pub record ForcesSoFar (locked : List Page) (old now : Standing) (holds later : Option (List NamedFile)) (i h : Option (List ℕ)) : Type 0 where
+  pub more : (new : Standing) (j : Option (List ℕ)) → Forced locked now new later h j → Forced locked old new holds i j
+  pub stops : (stop : Stop) (new : Standing) (j : Option (List ℕ)) → StopsForcing locked now stop new later h j → StopsForcing locked old stop new holds i j
+  pub keeps : (new : Standing) (j : Option (List ℕ)) → KeepsThrough now new later h j → KeepsThrough old new holds i j
+
+pub forces_none : (locked : List Page) (old : Standing) (holds : Option (List NamedFile)) (i : Option (List ℕ)) → ForcesSoFar locked old old holds holds i i
+forces_none locked old holds i = record { more = λ new j f. f; stops = λ stop new j f. f; keeps = λ new j k. k }
+
+pub forces_one : (locked : List Page) (old now next : Standing) (holds later latest : Option (List NamedFile)) (i h k : Option (List ℕ)) → latest ≡ later
+    → OwnsFrames now.kernel.place → HandsStand now.kernel.place → HasRoom now.kernel.place locked → now.kernel.place.free ≡ []
+    → MakesUnit (ground now later locked) (force_entry now.kernel.place.transfers) now next h k → KeepsThrough now next later h k
+    → ForcesSoFar locked old now holds later i h → ForcesSoFar locked old next holds latest i k
+forces_one locked old now next holds later latest i h k e o s r n m t so = record {
+  more = λ new j f. so.more new j (forced_first locked now next new later latest h k j e o s r n m f);
+  stops = λ stop new j f. so.stops stop new j (stops_first locked now next stop new later latest h k j e n m f);
+  keeps = λ new j f. so.keeps new j (keeps_on (ground now later locked) (force_entry now.kernel.place.transfers) now next new h later latest k j m e t f);
+}

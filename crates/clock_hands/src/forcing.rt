@@ -76,12 +76,11 @@ fn force_frame<F: Files, D: SwapDev>(
     ensures read_faults { CountsReads result (D.read_faults swap.old) (D.read_faults swap.new) }
     ensures write_faults { CountsWrites result (D.write_faults swap.old) (D.write_faults swap.new) }
 {
-    m.sound();
-    if m.free_frames() > 0 {
-        return Ok(());
+    while m.free_frames() == 0 {
+        m.sound();
+        force_once(m, files, swap, locked)?;
     }
-    force_once(m, files, swap, locked)?;
-    force_frame(m, files, swap, locked)
+    Ok(())
 }
 
 /// Forces a frame, unless one is free: transfers complete while some are in flight, and else the hands move, which pass

@@ -1,0 +1,89 @@
+use Rattle.std.proofs.Common.{◌≡◌, ◌<◌, [], ◌∙◌, refl, arith}
+use Rattle.std.proofs.lemmas.Result.{err_from_is_err_and}
+use Rattle.page_model.specs.Rank.{far}
+use Rattle.page_model.specs.Serve.{force_entry}
+use Rattle.paging_units.specs.Made.{ground}
+use Rattle.clock_hands.proofs.Units.{asks_on}
+use Rattle.clock_hands.proofs.Forces.{none_free, falls_on, room_on, fits_on, forced_none, stops_here, forces_none, forces_one}
+use Rattle.clock_hands.proofs.forcing.force_frame.Goals as goal
+
+pub loop-m-init : goal.loop-m-init
+loop-m-init g c = record {
+  asks = record { running = c.requires.running; whole = c.requires.whole; area = c.requires.area; files = c.requires.files };
+  room = c.requires.room;
+  fits = c.requires.fits;
+  so_far = forces_none c.args.locked.now c.args.m.now (g.F.Files.holds c.args.files.now) (g.D.SwapDev.image c.args.swap.now);
+  files_lead = g.met.F.Files.leads_nowhere c.args.files.now;
+  swap_leads = g.met.D.SwapDev.leads_nowhere c.args.swap.now;
+  holds = refl;
+  blocks = refl;
+  open_faults = refl;
+  page_faults = refl;
+  read_faults = refl;
+  write_faults = refl;
+}
+
+pub loop-m-preserved : goal.loop-m-preserved
+loop-m-preserved g c =
+    let so = c.loop-m.invariant in
+    let locked = c.args.locked.now in
+    let now = c.loop-m.m in
+    let next = c.force_once.new.m in
+    let holds = g.F.Files.holds c.args.files.now in
+    let later = g.F.Files.holds c.loop-m.files in
+    let latest = g.F.Files.holds c.force_once.new.files in
+    let h = g.D.SwapDev.image c.loop-m.swap in
+    let k = g.D.SwapDev.image c.force_once.new.swap in
+    let s = c.sound.ensures.sound in
+    let made = c.in_ok-force_once.ensures.made in
+    let none : now.kernel.place.free ≡ [] = none_free now.kernel.place.free (omega arith) in
+    let falls : far next.kernel.place locked < far now.kernel.place locked = falls_on locked now next later h k s.owner.frames s.hands so.room none made in
+    record {
+      asks = asks_on (ground now later locked) (force_entry now.kernel.place.transfers) now next h k later latest (g.D.SwapDev.blocks c.loop-m.swap) (g.D.SwapDev.blocks c.force_once.new.swap)
+          made c.in_ok-force_once.ensures.holds c.in_ok-force_once.ensures.blocks so.asks;
+      room = room_on locked now next later h k s.owner.frames so.room made;
+      fits = fits_on locked now next later h k falls made so.fits;
+      so_far = forces_one locked c.args.m.now now next holds later latest (g.D.SwapDev.image c.args.swap.now) h k c.in_ok-force_once.ensures.holds s.owner.frames s.hands so.room none made
+          c.in_ok-force_once.ensures.keeps so.so_far;
+      files_lead = g.met.F.Files.leads_through c.args.files.now c.loop-m.files c.force_once.new.files so.files_lead c.in_ok-force_once.ensures.files_lead;
+      swap_leads = g.met.D.SwapDev.leads_through c.args.swap.now c.loop-m.swap c.force_once.new.swap so.swap_leads c.in_ok-force_once.ensures.swap_leads;
+      holds = c.in_ok-force_once.ensures.holds ∙ so.holds;
+      blocks = c.in_ok-force_once.ensures.blocks ∙ so.blocks;
+      open_faults = c.in_ok-force_once.ensures.open_faults ∙ so.open_faults;
+      page_faults = c.in_ok-force_once.ensures.page_faults ∙ so.page_faults;
+      read_faults = c.in_ok-force_once.ensures.read_faults ∙ so.read_faults;
+      write_faults = c.in_ok-force_once.ensures.write_faults ∙ so.write_faults;
+    }
+
+pub loop-m-smaller : goal.loop-m-smaller
+loop-m-smaller g c =
+    let so = c.loop-m.invariant in
+    let now = c.loop-m.m in
+    let s = c.sound.ensures.sound in
+    let none : now.kernel.place.free ≡ [] = none_free now.kernel.place.free (omega arith) in
+    falls_on c.args.locked.now now c.force_once.new.m (g.F.Files.holds c.loop-m.files) (g.D.SwapDev.image c.loop-m.swap) (g.D.SwapDev.image c.force_once.new.swap)
+    s.owner.frames s.hands so.room none c.in_ok-force_once.ensures.made
+
+pub returns-in_err-force_once-clause-stopped : goal.returns-in_err-force_once-clause-stopped
+returns-in_err-force_once-clause-stopped g c =
+    let so = c.loop-m.invariant in
+    let now = c.loop-m.m in
+    let none : now.kernel.place.free ≡ [] = none_free now.kernel.place.free (omega arith) in
+    let p = err_from_is_err_and c.from_residual.result c.from_residual.ensures.1 in
+    let stop = c.in_err-force_once.field-0.0 in
+    let new = c.force_once.new.m in
+    let j = g.D.SwapDev.image c.force_once.new.swap in
+    rw (p.1, p.2) (so.so_far.stops stop new j
+    (stops_here c.args.locked.now now stop new (g.F.Files.holds c.loop-m.files) (g.D.SwapDev.image c.loop-m.swap) j none c.in_err-force_once.ensures.params c.in_err-force_once.ensures.images
+    c.in_err-force_once.ensures.stopped))
+
+pub returns-clause-forced : goal.returns-clause-forced
+returns-clause-forced g c =
+    let so = c.loop-m.invariant in
+    let h = g.D.SwapDev.image c.loop-m.swap in
+    so.so_far.more c.loop-m.m h (forced_none c.args.locked.now c.loop-m.m (g.F.Files.holds c.loop-m.files) h (omega arith))
+
+pub returns-clause-keeps : goal.returns-clause-keeps
+returns-clause-keeps g c =
+    let so = c.loop-m.invariant in
+    so.so_far.keeps c.loop-m.m (g.D.SwapDev.image c.loop-m.swap) (λ images flat a f t. t)
