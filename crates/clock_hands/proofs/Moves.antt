@@ -24,14 +24,14 @@ use Rattle.kernel_model.specs.Kernel.{hand_step}
 use Rattle.machine_state.specs.Calls.{IsRunOf}
 use Rattle.machine_state.specs.Machine.{Standing}
 use Rattle.run_model.specs.Next.{move_by, move_unit}
-use Rattle.machine_state.specs.Done.{sources, IsDone}
+use Rattle.machine_state.specs.Done.{sources, IsDone, KeepsThrough}
 use Rattle.paging_units.specs.Made.{ground, MadeBy, MakesUnit}
 use Rattle.paging_units.specs.LastMoves.{last_moves}
 use Rattle.paging_units.specs.Stops.{StopsAt}
-use Rattle.paging_units.proofs.Units.{unit_place, unit_journal, makes_first, makes_on}
+use Rattle.paging_units.proofs.Units.{unit_place, unit_journal, makes_none, makes_first, makes_on}
 use Rattle.paging_units.proofs.LastMoves.{last_done, last_more}
 use Rattle.clock_hands.specs.Moved.{Moves, IsMoveOf, Moved, StopsMoving}
-use Rattle.clock_hands.proofs.Units.{made_on}
+use Rattle.clock_hands.proofs.Units.{made_on, keeps_on}
 
 -- a write that a move begins has a page
 
@@ -206,3 +206,48 @@ done_last n old next holds i h k m l =
     let e = ap last_moves (unit_journal (ground old holds []) (move_unit old.kernel.place []) old.kernel next.kernel i m.made ∙ ap (append old.kernel.journal) k) in
     let none = last_done old.kernel.journal in
     omega arith
+
+-- What is moved so far and what is left make the whole.
+
+pub record MovesSoFar (n left : ℕ) (old now : Standing) (holds later : Option (List NamedFile)) (i h : Option (List ℕ)) : Type 0 where
+  pub more : (new : Standing) (j : Option (List ℕ)) (made : ℕ) → Moved left now new made later h j → Moved n old new (n - left + made) holds i j
+  pub stops : (stop : Stop) (new : Standing) (j : Option (List ℕ)) → StopsMoving left now stop new later h j → StopsMoving n old stop new holds i j
+  pub keeps : (new : Standing) (j : Option (List ℕ)) → KeepsThrough now new later h j → KeepsThrough old new holds i j
+
+none_moved : (n made : ℕ) → made ≡ n - n + made
+none_moved n made = omega arith
+
+pub moves_none : (n : ℕ) (old : Standing) (holds : Option (List NamedFile)) (i : Option (List ℕ)) → MovesSoFar n n old old holds holds i i
+moves_none n old holds i = record {
+  more = λ new j made f. subst (λ (k : ℕ). Moved n old new k holds i j) (none_moved n made) f;
+  stops = λ stop new j f. f;
+  keeps = λ new j k. k;
+}
+
+one_moved : (n left made : ℕ) → left ≤ n → 0 < left → n - left + (1 + made) ≡ n - (left - 1) + made
+one_moved n left made l s = omega (arith, l, s)
+
+pub moves_one : (n left : ℕ) (old now next : Standing) (holds later latest : Option (List NamedFile)) (i h k : Option (List ℕ)) → latest ≡ later → left ≤ n → 0 < left
+    → wants_moves now.kernel.place ≡ true → MakesUnit (ground now later []) (move_unit now.kernel.place []) now next h k → IsMoveOf (move_unit now.kernel.place []) true
+    → KeepsThrough now next later h k → MovesSoFar n left old now holds later i h → MovesSoFar n (left - 1) old next holds latest i k
+moves_one n left old now next holds later latest i h k e l s w m u t so = record {
+  more = λ new j made f. subst (λ (a : ℕ). Moved n old new a holds i j) (one_moved n left made l s)
+      (so.more new j (1 + made) (moved_by_move left now next new later latest h k j e s w m made u f));
+  stops = λ stop new j f. so.stops stop new j (stops_by_move left now next new later latest h k j e s w m stop u f);
+  keeps = λ new j f. so.keeps new j (keeps_on (ground now later []) (move_unit now.kernel.place []) now next new h later latest k j m e t f);
+}
+
+pub moves_done : (n left : ℕ) (old now next : Standing) (holds later latest : Option (List NamedFile)) (i h k : Option (List ℕ)) → latest ≡ later → 0 < left
+    → wants_moves now.kernel.place ≡ true → MakesUnit (ground now later []) (move_unit now.kernel.place []) now next h k → IsMoveOf (move_unit now.kernel.place []) false
+    → KeepsThrough now next later h k → MovesSoFar n left old now holds later i h → MovesSoFar n left old next holds latest i k
+moves_done n left old now next holds later latest i h k e s w m u t so = record {
+  more = λ new j made f. so.more new j made (moved_by_done left now next new later latest h k j e s w m made u f);
+  stops = λ stop new j f. so.stops stop new j (stops_by_done left now next new later latest h k j e s w m stop u f);
+  keeps = λ new j f. so.keeps new j (keeps_on (ground now later []) (move_unit now.kernel.place []) now next new h later latest k j m e t f);
+}
+
+pub moves_all : (n left : ℕ) (old now : Standing) (holds later : Option (List NamedFile)) (i h : Option (List ℕ)) → (0 < left → wants_moves now.kernel.place ≡ false)
+    → MovesSoFar n left old now holds later i h → Moved n old now (n - left) holds i h
+moves_all n left old now holds later i h f so =
+    let none : n - left + 0 ≡ n - left = omega arith in
+    subst (λ (k : ℕ). Moved n old now k holds i h) none (so.more now h 0 (record { units = []; moves = refl; makes = makes_none (ground now later []) now now h h refl refl; counted = refl; most = omega arith; fewer = f }))

@@ -89,12 +89,11 @@ pub fn move_hands<F: Files, D: SwapDev>(
     ensures read_faults { CountsReads result (D.read_faults swap.old) (D.read_faults swap.new) }
     ensures write_faults { CountsWrites result (D.write_faults swap.old) (D.write_faults swap.new) }
 {
-    if n == 0 || !wants_moves(m) {
-        return Ok(0);
+    let mut left = n;
+    while left > 0 && wants_moves(m) {
+        if move_once(m, files, swap)? {
+            left -= 1;
+        }
     }
-    if move_once(m, files, swap)? {
-        Ok(1 + move_hands(m, files, swap, n - 1)?)
-    } else {
-        move_hands(m, files, swap, n)
-    }
+    Ok(n - left)
 }
