@@ -25,12 +25,12 @@ use Rattle.run_start.specs.Leading.{IsTold, machine_at_start}
 use Rattle.vm_core.specs.Cores.{Underway, GoesOn, InputsOf}
 use Rattle.vm_core.specs.Starting.{CoreStarted, StartsRun, StopsStartingRun}
 use Rattle.vm_core.specs.Schedules.{IsBeforeLines, StopsLines, FinishesLines}
-use Rattle.vm_core.specs.Full.{RunFull, RunOver}
+use Rattle.vm_core.specs.Full.{RunFull, RunOver, RunWhole}
 use Rattle.vm_core.specs.RunEnds.{IsAskedOf, NoneMade, RunStops, RunEnds}
 use Rattle.vm_core.specs.declared.schedule.Unfinished.{Unfinished}
 use Rattle.vm_core.specs.declared.schedule.Unfinished.TheVariants.{NoSpace, Stopped}
 use Rattle.vm_core.proofs.Standing.{leads_to_stop}
-use Rattle.vm_core.proofs.Journals.{finished_run, over_run, halted_run, full_run, starved_run}
+use Rattle.vm_core.proofs.Journals.{finished_run, over_run, whole_run, halted_run, full_run, starved_run}
 
 -- what is so of an answer that is this stop
 pub stopped_so : (r : Result (Unit {0}) Unfinished) (stop : Stop) (Q : Result (Unit {0}) Unfinished → Type 0) → IsErrAnd r (λ (e : Unfinished). e ≡ Stopped stop) → Q (Err (Stopped stop)) → Q r
@@ -147,3 +147,11 @@ module _ (A : Inputs) (old : Underway) (numbers : List ℕ) (lines : List Event)
         (both_lead A (start A started.holdings) started.state d.state (machine_at_start A started.holdings) mid.machine.kernel new.machine.kernel image (Some started.behind) j started.units d.units start_told
         (λ between same. subst (λ (y : List ℕ). Leads A started.state mid.machine.kernel y d.units d.state new.machine.kernel j) (same_Some started.behind between same) d.leads))
         d.none on
+
+    pub lines_whole : (new : Underway) (j : Option (List ℕ)) → FinishesLines mid new lines holds h j → RunWhole A new.machine image
+    lines_whole new j f =
+        let d = f A started.state started.behind before_lines in
+        whole_run A started.holdings started.can first_few image is.room new j (started.units ++ d.units) d.state
+        (both_lead A (start A started.holdings) started.state d.state (machine_at_start A started.holdings) mid.machine.kernel new.machine.kernel image (Some started.behind) j started.units d.units start_told
+        (λ between same. subst (λ (y : List ℕ). Leads A started.state mid.machine.kernel y d.units d.state new.machine.kernel j) (same_Some started.behind between same) d.leads))
+        d.none

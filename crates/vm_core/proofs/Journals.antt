@@ -39,7 +39,7 @@ use Rattle.journal_laws.proofs.Journals.{leads_follow, journal_lawful, journal_a
 use Rattle.vm_core.specs.Cores.{Underway, GoesOn}
 use Rattle.vm_core.specs.Halting.{HaltsFor, SpoilsParts, SpoilsOldest, LeavesImage}
 use Rattle.vm_core.specs.Lawful.{IsJournalOf, RunFinished, RunHalted, RunStarved}
-use Rattle.vm_core.specs.Full.{RunFull, RunOver}
+use Rattle.vm_core.specs.Full.{RunFull, RunOver, RunWhole}
 
 module _ (A : Inputs) (hs : Holdings) (can : CanRun A hs) (few : length A.first ≤ 64) (image : List ℕ) (room : 512 * A.swap_blocks ≤ length image) where
   at_start : StandsAt A (start A hs) (machine_at_start A hs) image
@@ -108,6 +108,18 @@ over_run A hs can few image room new j us t a none on =
         processes = at.keeps.coupled.tables.processes;
       };
     }
+
+-- and it stands for the whole of the state
+pub whole_run : (A : Inputs) (hs : Holdings) (can : CanRun A hs) (few : length A.first ≤ 64) (image : List ℕ) (room : 512 * A.swap_blocks ≤ length image) (new : Underway) (j : Option (List ℕ)) (us : List Entry) (t : State)
+    → Leads A (start A hs) (machine_at_start A hs) image us t new.machine.kernel j → next_unit A t ≡ None → RunWhole A new.machine image
+whole_run A hs can few image room new j us t a none = record {
+  state = t;
+  made = made A hs can few image room us t new.machine.kernel j a;
+  none = none;
+  at = subst (StandsAt A t new.machine.kernel)
+      (same_Some a.behind (swapped A new.machine.kernel.journal image) (sym a.told ∙ image_told A hs can few image room us t new.machine.kernel j a))
+      (stands A hs can few image room us t new.machine.kernel j a);
+}
 
 -- Why it halts.
 

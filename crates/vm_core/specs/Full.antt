@@ -1,5 +1,5 @@
 -- Where a machine stands behind a run: the run is over, or its journal is full.
-use Rattle.std.specs.Prelude.{◌≡◌, ◌<◌, ◌≤◌, false, length, map, Some, None}
+use Rattle.std.specs.Prelude.{◌≡◌, ℕ, ◌<◌, ◌≤◌, false, List, length, map, Some, None}
 use Rattle.vm_facts.specs.declared.entry.Entry.{Entry}
 use Rattle.flat_state.specs.Flat.{Inputs}
 use Rattle.flat_state.specs.Journal.{append}
@@ -7,6 +7,8 @@ use Rattle.kernel_model.specs.Coupled.{outline_of, outline_kept}
 use Rattle.machine_state.specs.Machine.{Standing}
 use Rattle.run_model.specs.State.{State}
 use Rattle.run_model.specs.Next.{next_unit}
+use Rattle.run_model.specs.Swapped.{swapped}
+use Rattle.run_laws.specs.Machine.{StandsAt}
 use Rattle.vm_core.specs.Lawful.{IsJournalOf}
 
 -- The machine runs on, with all pages and processes where a state has them, and with its holdings, but for pieces of swap that were
@@ -33,3 +35,11 @@ pub record RunOver (A : Inputs) (m : Standing) : Type 0 where
   pub made : IsJournalOf A m.kernel.journal state
   pub none : next_unit A state ≡ None
   pub stands : StandsThere state m
+
+-- There is no next unit, and the machine stands for the state to which its journal leads, with the swap image that its journal makes
+-- of this one: its frames, its records and that image have the bytes and registers of the flat machine.
+pub record RunWhole (A : Inputs) (m : Standing) (image : List ℕ) : Type 0 where
+  pub state : State
+  pub made : IsJournalOf A m.kernel.journal state
+  pub none : next_unit A state ≡ None
+  pub at : StandsAt A state m.kernel (swapped A m.kernel.journal image)

@@ -8,7 +8,8 @@ ghost use Rattle.run_start.specs.Starting.{StartsFrom};
 ghost use Rattle.vm_core.specs.Cores.{GoesOn};
 ghost use Rattle.vm_core.specs.Starting.{IsFresh};
 ghost use Rattle.vm_core.specs.Schedules.{HaveFewMoves, TakesLines, StopsLines, FinishesLines};
-ghost use Rattle.vm_core.specs.Full.{RunFull, RunOver};
+ghost use Rattle.vm_core.specs.Sound.{RunsSound};
+ghost use Rattle.vm_core.specs.Full.{RunFull, RunOver, RunWhole};
 ghost use Rattle.vm_core.specs.RunEnds.{stopped_as, IsAskedOf, RunEnds};
 ghost use Rattle.vm_core.specs.declared.schedule.Unfinished.TheVariants.{Stopped};
 
@@ -88,6 +89,7 @@ fn finish<F: Files, D: SwapDev>(
     requires count { length lines.now < 2 ^ 32 }
     ensures goes_on { OnOk result (GoesOn core.new) }
     ensures params { OnOk result (core.new.machine.params ≡ core.old.machine.params) }
+    ensures images { OnOk result (core.new.machine.images ≡ core.old.machine.images) }
     ensures finishes { OnOk result (FinishesLines core.old core.new lines.now (F.holds files.old) (D.image swap.old) (D.image swap.new)) }
     ensures stops { IfErr result (StopsLines core.old core.new lines.now (F.holds files.old) (D.image swap.old) (D.image swap.new)) }
     ensures files_lead { F.leads files.old files.new }
@@ -130,6 +132,15 @@ pub fn run_schedule<F: Files, D: SwapDev>(
         → result ≡ Err (Unfinished.Stopped Stop.JournalFull) → RunFull A core.new.machine }
     ensures over { OnOk result ((A : Inputs) (image : List ℕ) → IsAskedOf A core.old.machine first.now lines.now (F.holds files.old) image → D.image swap.old ≡ Some image
         → RunOver A core.new.machine) }
+    ensures whole { OnOk result ((A : Inputs) (image : List ℕ) → IsAskedOf A core.old.machine first.now lines.now (F.holds files.old) image → D.image swap.old ≡ Some image
+        → RunWhole A core.new.machine image) }
+    ensures goes_on { OnOk result (GoesOn core.new) }
+    ensures sound { OnOk result (RunsSound core.new.machine) }
+    ensures unmade_sound { (pid : ℕ) → result ≡ Err (Unfinished.NoSpace pid) → RunsSound core.new.machine }
+    ensures params { OnOk result (core.new.machine.params ≡ core.old.machine.params) }
+    ensures unmade_params { (pid : ℕ) → result ≡ Err (Unfinished.NoSpace pid) → core.new.machine.params ≡ core.old.machine.params }
+    ensures images { OnOk result (core.new.machine.images ≡ core.old.machine.images) }
+    ensures unmade_images { (pid : ℕ) → result ≡ Err (Unfinished.NoSpace pid) → core.new.machine.images ≡ core.old.machine.images }
     ensures no_space { (A : Inputs) → StartsFrom A core.old.machine first.now → (pid : ℕ) → result ≡ Err (Unfinished.NoSpace pid) → start_held A ≡ Err pid }
     ensures within { OnOk result (length core.new.machine.kernel.journal ≤ core.old.machine.params.journal) }
     ensures none_made { (pid : ℕ) → result ≡ Err (Unfinished.NoSpace pid) → core.new.machine.kernel.journal ≡ [] }
@@ -144,7 +155,10 @@ pub fn run_schedule<F: Files, D: SwapDev>(
     ensures write_faults { CountsWrites (stopped_as result) (D.write_faults swap.old) (D.write_faults swap.new) }
 {
     match core.start(files, swap, first)? {
-        Started::NoSpace(pid) => Err(Unfinished::NoSpace(pid)),
+        Started::NoSpace(pid) => {
+            core.machine().sound();
+            Err(Unfinished::NoSpace(pid))
+        }
         Started::Ok => {
             finish(core, files, swap, lines)?;
             core.machine().sound();

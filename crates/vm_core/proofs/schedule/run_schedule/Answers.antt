@@ -6,7 +6,7 @@ use Rattle.vm_core.specs.Schedules.{StopsLines, FinishesLines}
 use Rattle.vm_core.specs.Full.{RunFull}
 use Rattle.vm_core.specs.RunEnds.{RunEnds}
 use Rattle.vm_core.specs.declared.schedule.Unfinished.TheVariants.{Stopped}
-use Rattle.vm_core.proofs.Ending.{stopped_so, same_stop, are_among, start_stops, start_full, lines_stop, lines_full, lines_finish, lines_over}
+use Rattle.vm_core.proofs.Ending.{stopped_so, same_stop, are_among, start_stops, start_full, lines_stop, lines_full, lines_finish, lines_over, lines_whole}
 use Rattle.vm_core.proofs.schedule.run_schedule.Goals as goal
 
 pub start-requires-clause-numbers : goal.start-requires-clause-numbers
@@ -87,3 +87,15 @@ returns-in_ok-finish-in-Ok-clause-over g c A image is told =
     let j = g.D.SwapDev.image c.finish.new.swap in
     lines_over A c.args.core.now c.args.first.now c.args.lines.now holds image c.requires.few is mid i h told (c.start.ensures.starts ok) new j
     (subst (λ hs. FinishesLines mid new c.args.lines.now hs h j) c.start.ensures.holds c.in_ok-finish-in-Ok.ensures.finishes) c.in_ok-finish-in-Ok.ensures.goes_on
+
+pub returns-in_ok-finish-in-Ok-clause-whole : goal.returns-in_ok-finish-in-Ok-clause-whole
+returns-in_ok-finish-in-Ok-clause-whole g c A image is told =
+    let ok = c.in_ok-pid.was ∙ ap (λ (s : Started). let r : Result Started Stop = Ok s in r) c.in-Ok.is in
+    let mid = c.start.new.self in
+    let new = c.finish.new.core in
+    let holds = g.F.Files.holds c.args.files.now in
+    let i = g.D.SwapDev.image c.args.swap.now in
+    let h = g.D.SwapDev.image c.start.new.swap in
+    let j = g.D.SwapDev.image c.finish.new.swap in
+    lines_whole A c.args.core.now c.args.first.now c.args.lines.now holds image c.requires.few is mid i h told (c.start.ensures.starts ok) new j
+    (subst (λ hs. FinishesLines mid new c.args.lines.now hs h j) c.start.ensures.holds c.in_ok-finish-in-Ok.ensures.finishes)
