@@ -1,5 +1,5 @@
 -- Why a transcript is none of a run, as a line of text.
-use Rattle.std.specs.Prelude.{◌≡◌, ℕ, List, ◌++◌, codes, decimal, Option, Some, None, Ok}
+use Rattle.std.specs.Prelude.{◌≡◌, ℕ, List, ◌++◌, codes, decimal, Option, Some, None, Ok, Err}
 use Rattle.io_edge.specs.FileHolding.{NamedFile}
 use Rattle.vm_facts.specs.declared.entry.Entry.{Entry}
 use Rattle.flat_state.specs.Flat.{Inputs}
@@ -10,7 +10,11 @@ use Rattle.replay_check.specs.Expecting.{IsExplained}
 use Rattle.replay_check.specs.declared.expecting.Expected.{Expected}
 use Rattle.replay_check.specs.declared.expecting.Expected.TheVariants.{Comes, Unrefused, CannotStep, NoProcess, TooMany}
 use Rattle.replay_check.specs.declared.expecting.Misfit.{Misfit}
+use Rattle.command_ending.specs.declared.fault.Fault.{Fault}
+use Rattle.command_ending.specs.declared.fault.Fault.TheVariants.{NotFlatRun}
+use Rattle.command_ending.specs.Command.{Faults, Made}
 use Rattle.replay_command.specs.Reading.{Read, HasEntries, read_told}
+use Rattle.replay_command.specs.Command.{EndsReplay}
 
 abbrev pub before_line : List ℕ → Entry → List ℕ
 before_line before e = before ++ line_of e
@@ -44,3 +48,12 @@ pub record ExplainsTranscript (name : List ℕ) (words : List (List ℕ)) (holds
   pub images : List FlatFile
   pub are : read.images ≡ Ok images
   pub explained : (A : Inputs) → A.images ≡ images_of images → A.first ≡ first_images (image_names words) words → Explained A entries text
+
+-- a fault that is no verdict on entries
+abbrev pub IsUnjudged : Fault → Type 0
+IsUnjudged (NotFlatRun line) = ⊥
+IsUnjudged fault = Unit {0}
+
+-- no reason is told: a replay of this transcript over the images of these words ends by the same fault
+abbrev pub LacksTranscript : List ℕ → List (List ℕ) → Option (List NamedFile) → Faults → Fault → Type 0
+LacksTranscript name words holds f fault = Made (EndsReplay name words) (read_told name words) holds f (Err fault) × IsUnjudged fault

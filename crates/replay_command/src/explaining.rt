@@ -1,9 +1,9 @@
 // Why a transcript is none of a run.
-ghost use Rattle.std.specs.Prelude.{◌≡◌, ◌<◌, ◌^◌, ◌++◌, map, length, All, IfOk, OnOk, option_map};
+ghost use Rattle.std.specs.Prelude.{◌≡◌, ◌<◌, ◌^◌, ◌++◌, map, length, All, IfOk, IfErr, OnOk, option_map};
 ghost use Rattle.flat_state.specs.Flat.{Inputs};
 ghost use Rattle.run_files.specs.ImageWords.{name_in};
 ghost use Rattle.replay_check.specs.Images.{AreImageFiles, AreNumbers, images_of};
-ghost use Rattle.replay_command.specs.Explaining.{around_number, before_line, expected_text, explanation, Explained, ExplainsTranscript};
+ghost use Rattle.replay_command.specs.Explaining.{around_number, before_line, expected_text, explanation, Explained, ExplainsTranscript, LacksTranscript};
 
 use crate::images::load_images;
 use crate::naming::name_images;
@@ -100,7 +100,8 @@ fn explained(
 
 /// Why `replay_file` says of the transcript of this name that it is no run: a line with the number of the first line
 /// after which it is none and what the flat machine gives there, as `vmrun: line 3: the flat machine gives r 1 5`. None
-/// where it is a run. The files are read again, and nothing is written (this project's profile).
+/// where it is a run. The files are read again, and nothing is written (this project's profile). It is an error where the
+/// transcript or an image isn't read, or memory is refused: the fault by which `replay_file` would end.
 pub fn explain_transcript<'a, F: Files>(
     alloc: Global,
     files: &mut F,
@@ -110,6 +111,13 @@ pub fn explain_transcript<'a, F: Files>(
     requires few { length words.now < 2 ^ 31 }
     requires names { All (λ word. length (name_in word.now) < 64) words.now }
     ensures explains { IfOk result (λ text. ExplainsTranscript transcript.now (map (λ word. word.now) words.now) (F.holds files.old) (option_map (λ line. line.items) text)) }
+    ensures lacks { IfErr result (LacksTranscript transcript.now (map (λ word. word.now) words.now) (F.holds files.old)
+        (record {
+          open_before = F.open_faults files.old;
+          open_after = F.open_faults files.new;
+          page_before = F.page_faults files.old;
+          page_after = F.page_faults files.new;
+        })) }
     ensures holds { F.holds files.new ≡ F.holds files.old }
 {
     let entries = read_entries(alloc, files, transcript)?;
