@@ -4,3 +4,4 @@ pub mod Framing
 pub mod Places
 pub mod Telling
 pub mod Area
+pub mod Auditing

@@ -1,4 +1,4 @@
-ghost use Rattle.std.specs.Prelude.{◌≡◌, ℕ, Bool, List};
+ghost use Rattle.std.specs.Prelude.{◌≡◌, ℕ, Bool, List, Some};
 ghost use Rattle.std.specs.List.{flat_map};
 ghost use Rattle.vm_facts.specs.declared.entry.Entry.{Entry};
 ghost use Rattle.flat_state.specs.Flat.{Inputs};
@@ -8,6 +8,8 @@ ghost use Rattle.page_model.specs.Placement.{Placement};
 ghost use Rattle.page_model.specs.Ownership.{OwnsFrames, OneOwner};
 ghost use Rattle.kernel_model.specs.Coupled.{Outline};
 ghost use Rattle.run_model.specs.State.{State};
+ghost use Rattle.run_model.specs.declared.mark.Mark.TheVariants.{Audit};
+ghost use Rattle.run_model.specs.Next.{owners_of, next_unit};
 ghost use Rattle.run_model.specs.Lawful.{Reaches};
 ghost use Rattle.run_laws.specs.Running.{CanRun};
 ghost use Rattle.owner_lines.specs.Owners.{frame_lines, swap_lines, owners_text};
@@ -39,8 +41,10 @@ pub fn owners_are_told()
 {}
 
 /// The same is so wherever a run is: of what is printed at each state that its next units reach, after as many entries as its
-/// journal has.
+/// journal has. Where an audit is to come, the next unit is the entry with these numbers.
 pub fn runs_are_told()
-    ensures { (A : Inputs) (hs : Holdings) (journal : List Entry) (s : State) (entries : ℕ) (over : Bool) → CanRun A hs → Reaches A journal s
+    ensures told { (A : Inputs) (hs : Holdings) (journal : List Entry) (s : State) (entries : ℕ) (over : Bool) → CanRun A hs → Reaches A journal s
         → IsToldAt A entries over s (text_at A entries over s) }
+    ensures audit { (A : Inputs) (hs : Holdings) (journal : List Entry) (s : State) → CanRun A hs → Reaches A journal s → s.mark ≡ Audit
+        → next_unit A s ≡ Some (owners_of s.place s.holdings) }
 {}
