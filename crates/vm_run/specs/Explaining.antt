@@ -1,18 +1,34 @@
 -- What is told beside the line of a fault.
 use Rattle.std.specs.Prelude.{◌≡◌, ◌==◌, ℕ, Bool, true, false, List, Option, Some, None}
+use Rattle.std.specs.Borrow.{Bor}
 use Rattle.io_edge.specs.FileHolding.{NamedFile}
-use Rattle.command_words.specs.Asked.{Asked, Assemble, Replay, asked_of}
+use Rattle.run_files.specs.declared.answers.Unread.{Unread}
+use Rattle.command_ending.specs.declared.fault.Fault.{Fault}
+use Rattle.command_ending.specs.declared.fault.Fault.TheVariants.{NoMemory}
+use Rattle.command_ending.specs.Ending.{fault_of}
+use Rattle.command_ending.specs.Command.{Faults}
+use Rattle.command_words.specs.Asked.{Asked, Run, Assemble, Replay, Optimum, Curve, Owners, asked_of}
 use Rattle.command_words.specs.Explaining.{words_explained}
-use Rattle.source_commands.specs.Explaining.{ExplainsSource}
-use Rattle.replay_command.specs.Explaining.{ExplainsTranscript}
+use Rattle.source_commands.specs.Explaining.{ExplainsSource, LacksSource}
+use Rattle.replay_command.specs.Explaining.{ExplainsTranscript, LacksTranscript}
+use Rattle.schedule_reasons.specs.Explaining.{ExplainsSchedule, LacksSchedule}
 
 -- where the status is the one that goes with a reason, the reason is told, and else nothing
 abbrev pub ToldWhere : Bool → Type 0 → Option (List ℕ) → Type 0
 ToldWhere true told text = told
 ToldWhere false told text = text ≡ None
 
--- of words that ask for a command: why a source is bad, or what the flat machine gives where a transcript is no run of it
+-- why the schedule of this name is bad
+abbrev pub ExplainsRun : List ℕ → ℕ → Option (List NamedFile) → Option (List ℕ) → Type 0
+ExplainsRun schedule status holds text = ToldWhere (status == 4) (ExplainsSchedule schedule holds text) text
+
+-- of words that ask for a command: why a schedule or a source is bad, or what the flat machine gives where a transcript
+-- is no run of it
 abbrev pub ExplainsAsked : Asked → ℕ → Option (List NamedFile) → Option (List ℕ) → Type 0
+ExplainsAsked (Run traced numbers schedule images) status holds text = ExplainsRun schedule status holds text
+ExplainsAsked (Optimum size numbers schedule images) status holds text = ExplainsRun schedule status holds text
+ExplainsAsked (Curve numbers schedule images) status holds text = ExplainsRun schedule status holds text
+ExplainsAsked (Owners entries numbers schedule images) status holds text = ExplainsRun schedule status holds text
 ExplainsAsked (Assemble source) status holds text = ToldWhere (status == 17) (ExplainsSource source holds text) text
 ExplainsAsked (Replay transcript images) status holds text = ToldWhere (status == 14) (ExplainsTranscript transcript images holds text) text
 ExplainsAsked asked status holds text = text ≡ None
@@ -25,3 +41,35 @@ ExplainsAny (Some asked) words status holds text = ExplainsAsked asked status ho
 -- a reason is told where the status is the one that goes with it; and else nothing
 abbrev pub Explains : List (List ℕ) → ℕ → Option (List NamedFile) → Option (List ℕ) → Type 0
 Explains words status holds text = ExplainsAny (asked_of words) words status holds text
+
+-- the file of this name wasn't read, for a reason of which this holds
+abbrev pub LacksFile : (Unread → Type 0) → List ℕ → Fault → Type 0
+LacksFile Lacks name fault = (unread : Unread) × (file : Bor (List ℕ)) × (file.now ≡ name) × Lacks unread × (fault ≡ fault_of file unread)
+
+-- an error comes only where the status is one that has a reason
+abbrev pub LacksWhere : Bool → Type 0 → Type 0
+LacksWhere true lacks = lacks
+LacksWhere false lacks = ⊥
+
+-- the schedule of this name wasn't read
+abbrev pub LacksRun : List ℕ → ℕ → Option (List NamedFile) → Fault → Type 0
+LacksRun schedule status holds fault = LacksWhere (status == 4) (LacksFile (LacksSchedule schedule holds) schedule fault)
+
+-- of words that ask for a command: the file of which a reason was to be told wasn't read, or memory was refused
+abbrev pub LacksAsked : Asked → ℕ → Option (List NamedFile) → Faults → Fault → Type 0
+LacksAsked (Run traced numbers schedule images) status holds f fault = LacksRun schedule status holds fault
+LacksAsked (Optimum size numbers schedule images) status holds f fault = LacksRun schedule status holds fault
+LacksAsked (Curve numbers schedule images) status holds f fault = LacksRun schedule status holds fault
+LacksAsked (Owners entries numbers schedule images) status holds f fault = LacksRun schedule status holds fault
+LacksAsked (Assemble source) status holds f fault = LacksWhere (status == 17) (LacksFile (LacksSource source holds) source fault)
+LacksAsked (Replay transcript images) status holds f fault = LacksWhere (status == 14) (LacksTranscript transcript images holds f fault)
+LacksAsked asked status holds f fault = ⊥
+
+-- of words that ask for none: memory was refused
+abbrev pub LacksAny : Option Asked → ℕ → Option (List NamedFile) → Faults → Fault → Type 0
+LacksAny None status holds f fault = LacksWhere (status == 1) (fault ≡ NoMemory)
+LacksAny (Some asked) status holds f fault = LacksAsked asked status holds f fault
+
+-- why nothing is told where a reason was looked for
+abbrev pub LacksReason : List (List ℕ) → ℕ → Option (List NamedFile) → Faults → Fault → Type 0
+LacksReason words status holds f fault = LacksAny (asked_of words) status holds f fault

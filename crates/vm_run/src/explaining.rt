@@ -1,17 +1,23 @@
-ghost use Rattle.std.specs.Prelude.{◌≡◌, IfOk, map, option_map};
+ghost use Rattle.std.specs.Prelude.{◌≡◌, IfOk, IfErr, map, option_map};
+ghost use Rattle.command_ending.specs.declared.fault.Fault.TheVariants.{NoMemory};
 ghost use Rattle.command_words.specs.Explaining.{words_explained};
-ghost use Rattle.source_commands.specs.Explaining.{ExplainsSource};
-ghost use Rattle.vm_run.specs.Explaining.{Explains};
+ghost use Rattle.source_commands.specs.Explaining.{ExplainsSource, LacksSource};
+ghost use Rattle.schedule_reasons.specs.Explaining.{ExplainsSchedule, LacksSchedule};
+ghost use Rattle.vm_run.specs.Explaining.{Explains, LacksFile, LacksReason};
 
 use command_ending::Fault;
 use command_words::{Command, explain_words, read_words};
 use io_edge::Files;
 use replay_command::explain_transcript;
+use schedule_reasons::explain_schedule;
 use source_commands::explain_source;
 use std::alloc::Global;
 
 /// The status of bad words.
 const BAD_WORDS: u8 = 1;
+
+/// The status of a bad schedule.
+const BAD_SCHEDULE: u8 = 4;
 
 /// The status of a transcript that is no run of the flat machine.
 const NOT_FLAT_RUN: u8 = 14;
@@ -26,6 +32,7 @@ fn explain_bad_source<'a, F: Files>(
     source: &'a str,
 ) -> Result<Option<Vec<u8>>, Fault<'a>>
     ensures explains { IfOk result (λ text. ExplainsSource source.now (F.holds files.old) (option_map (λ line. line.items) text)) }
+    ensures lacks { IfErr result (LacksFile (LacksSource source.now (F.holds files.old)) source.now) }
     ensures holds { F.holds files.new ≡ F.holds files.old }
 {
     match explain_source(alloc, files, source) {
@@ -34,9 +41,26 @@ fn explain_bad_source<'a, F: Files>(
     }
 }
 
+// Why a schedule is bad.
+fn explain_bad_schedule<'a, F: Files>(
+    alloc: Global,
+    files: &mut F,
+    schedule: &'a str,
+) -> Result<Option<Vec<u8>>, Fault<'a>>
+    ensures explains { IfOk result (λ text. ExplainsSchedule schedule.now (F.holds files.old) (option_map (λ line. line.items) text)) }
+    ensures lacks { IfErr result (LacksFile (LacksSchedule schedule.now (F.holds files.old)) schedule.now) }
+    ensures holds { F.holds files.new ≡ F.holds files.old }
+{
+    match explain_schedule(alloc, files, schedule) {
+        Ok(text) => Ok(text),
+        Err(unread) => Err(Fault::of_unread(schedule, unread)),
+    }
+}
+
 // Why words ask for no command.
 fn explain_bad_words<'a>(alloc: Global, words: &'a [&'a str]) -> Result<Option<Vec<u8>>, Fault<'a>>
-    ensures { IfOk result (λ text. option_map (λ line. line.items) text ≡ words_explained (map (λ word. word.now) words.now)) }
+    ensures explains { IfOk result (λ text. option_map (λ line. line.items) text ≡ words_explained (map (λ word. word.now) words.now)) }
+    ensures lacks { IfErr result (λ fault. fault ≡ NoMemory) }
 {
     match explain_words(alloc, words) {
         Ok(text) => Ok(text),
@@ -45,9 +69,10 @@ fn explain_bad_words<'a>(alloc: Global, words: &'a [&'a str]) -> Result<Option<V
 }
 
 /// What else a user should know of words for which `vmrun` answered this status, for standard error: where they are bad,
-/// which of them isn't what it is for; where a source is bad, why the line that was named is; where a transcript is no run
-/// of the flat machine, what that gives there. None for every other command and status. The files are read again, so a
-/// reason may be lost where that fails, and is that of the files as they are then (this project's profile).
+/// which of them isn't what it is for; where a schedule or a source is bad, why the line that was named is; where a
+/// transcript is no run of the flat machine, what that gives there. None for every other command and status. The files
+/// are read again, so a reason may be lost where that fails, and is that of the files as they are then (this project's
+/// profile).
 pub fn explain<'a, F: Files>(
     alloc: Global,
     words: &'a [&'a str],
@@ -55,6 +80,13 @@ pub fn explain<'a, F: Files>(
     status: u8,
 ) -> Result<Option<Vec<u8>>, Fault<'a>>
     ensures explains { IfOk result (λ text. Explains (map (λ word. word.now) words.now) status (F.holds files.old) (option_map (λ line. line.items) text)) }
+    ensures lacks { IfErr result (LacksReason (map (λ word. word.now) words.now) status (F.holds files.old)
+        (record {
+          open_before = F.open_faults files.old;
+          open_after = F.open_faults files.new;
+          page_before = F.page_faults files.old;
+          page_after = F.page_faults files.new;
+        })) }
     ensures holds { F.holds files.new ≡ F.holds files.old }
 {
     match read_words(words) {
@@ -64,6 +96,12 @@ pub fn explain<'a, F: Files>(
         Some(Command::Replay { transcript, images }) if status == NOT_FLAT_RUN => {
             explain_transcript(alloc, files, transcript, images)
         }
+        Some(
+            Command::Run { schedule, .. }
+            | Command::Optimum { schedule, .. }
+            | Command::Curve { schedule, .. }
+            | Command::Owners { schedule, .. },
+        ) if status == BAD_SCHEDULE => explain_bad_schedule(alloc, files, schedule),
         None if status == BAD_WORDS => explain_bad_words(alloc, words),
         _ => Ok(None),
     }
