@@ -1,9 +1,9 @@
 -- A line has a reason exactly where it is the line of no event.
-use Rattle.std.proofs.Common.{◌≡◌, ◌∙◌, ℕ, ◌<◌, ◌≤◌, Bool, true, false, ◌&&◌, ◌||◌, is_none, List, [], ◌∷◌, ◌++◌, length, refl, sym, ap, subst, Option, Some, None, bytes_eq, codes, arith, lit<}
-use Rattle.std.specs.Prelude.{◌==◌, nat_le, if◌then◌else◌}
-use Rattle.std.specs.List.{list_all, list_any}
+use Rattle.std.proofs.Common.{◌≡◌, ◌∙◌, ℕ, ◌<◌, ◌≤◌, Bool, true, false, ◌&&◌, ◌||◌, is_none, List, [], ◌∷◌, ◌++◌, length, refl, ap, Option, Some, None, bytes_eq, codes, arith, lit<}
+use Rattle.std.specs.Prelude.{nat_le, if◌then◌else◌}
+use Rattle.std.specs.List.{list_all}
 use Rattle.std.specs.Char.{is_ascii_digit}
-use Rattle.std.specs.Str.Parse.{IsNumeral, digits_value}
+use Rattle.std.specs.Str.Parse.{digits_value}
 use Rattle.std.proofs.lemmas.Bool.{and_parts, and_from, leb-true, le-leb}
 use Rattle.std.proofs.lemmas.Slice.Eq.{bytes_eq-Decides}
 use Rattle.vm_facts.specs.declared.event.Event.{Event}
@@ -145,7 +145,8 @@ same_word word letter e = (bytes_eq-Decides word letter).0 e
 alone : (word text : List ℕ) (rest : Option (List ℕ)) (letter : List ℕ) → Cuts word rest text → bytes_eq word letter ≡ true → why_numbers [] rest ≡ None → text ≡ letter
 alone word text rest letter cuts is none = cuts.whole (nothing_follows rest none) ∙ same_word word letter is
 
-dispatched : (word text : List ℕ) (rest : Option (List ℕ)) → Cuts word rest text → bytes_eq word (codes "d") ≡ true → why_numbers (Process ∷ Turn ∷ []) rest ≡ None → (e : Event) × IsEvent e text
+dispatched : (word text : List ℕ) (rest : Option (List ℕ)) → Cuts word rest text → bytes_eq word (codes "d") ≡ true
+    → why_numbers (Process ∷ Turn ∷ []) rest ≡ None → (e : Event) × IsEvent e text
 dispatched word text rest cuts is none =
     let one = number_follows Process (Turn ∷ []) rest none in
     let two = number_follows Turn [] (rest_in one.text) one.more in

@@ -1,5 +1,5 @@
 -- Why a line of a schedule is none of an event: the first thing in it that is wrong, from left to right.
-use Rattle.std.specs.Prelude.{◌≡◌, ℕ, Bool, ◌&&◌, ◌||◌, nat_le, ◌==◌, List, [], ◌∷◌, Option, Some, None, if◌then◌else◌, bytes_eq, codes, is_none, IsTrue, ◌↔◌}
+use Rattle.std.specs.Prelude.{ℕ, Bool, ◌&&◌, ◌||◌, nat_le, ◌==◌, List, [], ◌∷◌, Option, Some, None, if◌then◌else◌, bytes_eq, codes, is_none, IsTrue, ◌↔◌}
 use Rattle.std.specs.List.{list_any}
 use Rattle.vm_facts.specs.declared.event.Event.{Event}
 use Rattle.run_text.specs.Schedule.{IsEventLine}
