@@ -1,5 +1,5 @@
-//! Tests of texts and answers: schedules, transcripts, command lines, files, references and loads. There is no code here but
-//! tests.
+//! Tests of texts and answers: schedules, transcripts, command lines, files, references, bad sources and loads. There is
+//! no code here but tests.
 #![tactic(auto)]
 
 #[cfg(test)]
@@ -13,7 +13,7 @@ mod loads;
 #[cfg(test)]
 mod references;
 #[cfg(test)]
-mod schedules;
+mod sources;
 #[cfg(test)]
 mod texts;
 #[cfg(test)]
