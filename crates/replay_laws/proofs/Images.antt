@@ -10,7 +10,6 @@ use Rattle.command_ending.specs.Named.{Why, before}
 use Rattle.replay_command.specs.Reading.{flat_in, images_told}
 use Rattle.run_opening.specs.Images.{named_image, image_found_at, image_found, images_found}
 
-
 judged : (name bytes : List ℕ) (image : NamedImage) (r : Result Loaded ℕ) → image_of bytes ≡ r → named_image name r ≡ Ok image
     → (file : FlatFile) × (flat_in name (image_in bytes r) ≡ Ok file) × (named_as file.name (image_of file.bytes) ≡ image ∷ [])
 judged name bytes image (Err reason) e h = absurd cc
@@ -33,10 +32,11 @@ both files name names images (Ok image) (Err why) e es h rest = absurd cc
 both files name names images (Ok image) (Ok more) e es h rest =
     let one = found_at files name image (place_of files name) e in
     let others = rest more es in
-    let all : image ∷ more ≡ images = cc in
-    (one.0 ∷ others.0,
-     ap (λ (r : Result FlatFile Why). before r (images_told files names)) one.1 ∙ ap (λ (rs : Result (List FlatFile) Why). before (Ok one.0) rs) others.1,
-     sym all ∙ ap (λ (ns : List NamedImage). image ∷ ns) others.2 ∙ ap (λ (ns : List NamedImage). ns ++ images_of others.0) (sym one.2))
+    let all : image ∷ more ≡ images = cc in (
+      one.0 ∷ others.0,
+      ap (λ (r : Result FlatFile Why). before r (images_told files names)) one.1 ∙ ap (λ (rs : Result (List FlatFile) Why). before (Ok one.0) rs) others.1,
+      sym all ∙ ap (λ (ns : List NamedImage). image ∷ ns) others.2 ∙ ap (λ (ns : List NamedImage). ns ++ images_of others.0) (sym one.2),
+    )
 
 pub same_images : (files : List NamedFile) (names : List (List ℕ)) (images : List NamedImage) → images_found files names ≡ Ok images
     → (read : List FlatFile) × (images_told files names ≡ Ok read) × (images ≡ images_of read)

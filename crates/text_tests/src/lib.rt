@@ -13,6 +13,8 @@ mod loads;
 #[cfg(test)]
 mod references;
 #[cfg(test)]
+mod schedules;
+#[cfg(test)]
 mod sources;
 #[cfg(test)]
 mod texts;

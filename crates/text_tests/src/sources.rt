@@ -61,16 +61,28 @@ fn what_stands_in_a_bad_line_is_told(rt: HostRuntime) -> Result<(), Fail> {
         (".space lab", ".space takes one number"),
         ("foo r1", "unknown mnemonic foo"),
         ("l: movq r1,r2", "unknown mnemonic movq"),
-        ("movl r1, r2", "a statement has one space, after its first word"),
-        ("movl  r1,r2", "a statement has one space, after its first word"),
-        (".long  1", "a statement has one space, after its first word"),
+        (
+            "movl r1, r2",
+            "a statement has one space, after its first word",
+        ),
+        (
+            "movl  r1,r2",
+            "a statement has one space, after its first word",
+        ),
+        (
+            ".long  1",
+            "a statement has one space, after its first word",
+        ),
         ("movl r1", "movl takes 2 operands, not 1"),
         ("movl", "movl takes 2 operands, not 0"),
         ("clrl r1,r2", "clrl takes 1 operand, not 2"),
         ("nop r1", "nop takes no operand, not 1"),
         ("addl3 r1,r2,r3,r4,r5", "addl3 takes 3 operands, not 5"),
         ("movl r1,", "an operand is missing beside a comma"),
-        ("brb r1+2", "r1+2 is no target of a branch: a label or a number"),
+        (
+            "brb r1+2",
+            "r1+2 is no target of a branch: a label or a number",
+        ),
         (
             "blbs r1,(r2)",
             "(r2) is no target of a branch: a label or a number",
@@ -82,8 +94,14 @@ fn what_stands_in_a_bad_line_is_told(rt: HostRuntime) -> Result<(), Fail> {
         ("movl (r1)[pc],r1", "pc is no name of a register: write r15"),
         ("movl 4(r1),r2", "4(r1) has no size: write b^4(r1)"),
         ("movl *-8(r13),r2", "-8(r13) has no size: write b^-8(r13)"),
-        ("movl 400(r1)[r2],r2", "400(r1)[r2] has no size: write w^400(r1)[r2]"),
-        ("movl 70000(r1),r2", "70000(r1) has no size: write l^70000(r1)"),
+        (
+            "movl 400(r1)[r2],r2",
+            "400(r1)[r2] has no size: write w^400(r1)[r2]",
+        ),
+        (
+            "movl 70000(r1),r2",
+            "70000(r1) has no size: write l^70000(r1)",
+        ),
         (
             "movl $lab,r1",
             "$lab is no short literal, 0 to 63: write i^$lab",
