@@ -73,11 +73,11 @@ text_pages_of image = pages_for (text_given image)
 abbrev pub data_pages_of : Image → ℕ
 data_pages_of image = pages_for (data_given image + image.bss_len)
 
--- the address of the data segment: the first page behind the text segment
+-- the address of the data segment: the first page after the text segment
 abbrev pub data_start_of : Image → ℕ
 data_start_of image = 1024 * text_pages_of image
 
--- the address behind the last byte that the file gives
+-- the address after the last byte that the file gives
 abbrev pub end_of : Image → ℕ
 end_of image = data_start_of image + data_given image
 
@@ -121,7 +121,7 @@ judgement head len = if nat_lt len 32 then NotImage 1 else judged_kind (kind_of 
 
 -- What a file holds.
 
--- bytes and zeros behind them, so many pages in all
+-- bytes and zeros after them, so many pages in all
 abbrev pub in_pages : ℕ → List ℕ → List ℕ
 in_pages pages bytes = bytes ++ replicate (1024 * pages - length bytes) 0
 

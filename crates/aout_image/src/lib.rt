@@ -14,7 +14,7 @@ pub use crate::header::{read_image, write_image};
 pub enum Kind {
     /// Magic 0407: text and data are one writable data segment from address 0.
     Impure,
-    /// Magic 0410: text is apart from data and shared; it stands in the file right behind the header.
+    /// Magic 0410: text is apart from data and shared; it stands in the file right after the header.
     Shared,
     /// Magic 0413: as `Shared`, with text and data in whole pages from offset 1,024 of the file.
     Paged,
@@ -26,9 +26,9 @@ pub struct Image {
     pub kind: Kind,
     /// The bytes of text that the file gives.
     pub text_len: u32,
-    /// The bytes of data that the file gives, right behind the text.
+    /// The bytes of data that the file gives, right after the text.
     pub data_len: u32,
-    /// The zeros behind the data.
+    /// The zeros after the data.
     pub bss_len: u32,
     /// The address of the entry mask, two bytes before the first instruction.
     pub entry: u32,

@@ -131,7 +131,7 @@ impl Image {
         self.data_page_count() as u32
     }
 
-    /// The address at which the data segment begins: the first page behind the text segment, which
+    /// The address at which the data segment begins: the first page after the text segment, which
     /// is 0 for an `Impure` image.
     pub fn data_start(&self) -> u32
         requires { IsSound self.now }

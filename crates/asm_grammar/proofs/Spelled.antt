@@ -229,7 +229,7 @@ value_fits labels size bits value e =
     let b = bind_some (number_of_value labels value) (value_bits size) bits e in
     bits_fit size bits b.0 b.2
 
--- a number behind a specifier on PC
+-- a number after a specifier on PC
 spells_on_pc : (labels : List Definition) (mode size : ℕ) (value : Value) (bytes : List ℕ) → (size ≡ 1) ⊎ (size ≡ 2) ⊎ (size ≡ 4)
     → (bits_of_value labels size value >>= λ bits. Some (with_number (specifier mode 15) size bits)) ≡ Some bytes
     → SpellsOnPc mode size (or_zero (bits_of_value labels size value)) bytes

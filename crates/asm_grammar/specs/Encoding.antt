@@ -70,7 +70,7 @@ bits_of_value labels size value = number_of_value labels value >>= value_bits si
 abbrev pub plain_specifier : ℕ → ℕ → Option (List ℕ)
 plain_specifier mode reg = if nat_lt reg 15 then Some (specifier mode reg ∷ []) else None
 
--- a number behind a specifier
+-- a number after a specifier
 abbrev pub with_number : ℕ → ℕ → ℕ → List ℕ
 with_number first size bits = first ∷ to_le_bytes (width_of size) bits
 

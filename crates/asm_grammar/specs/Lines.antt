@@ -39,7 +39,7 @@ unfoldable pub statement_of : List ℕ → Option Statement
 statement_of [] = None
 statement_of (first ∷ rest) = if first == 46 then directive_of rest else instruction_of (first ∷ rest)
 
--- a label and the `:` behind it
+-- a label and the `:` after it
 unfoldable pub label_before : List ℕ → Text Label
 label_before text = do
   label ← label_at text

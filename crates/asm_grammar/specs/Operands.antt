@@ -9,7 +9,7 @@ use Rattle.asm_grammar.specs.declared.syntax.Place.TheVariants as places
 use Rattle.asm_grammar.specs.declared.syntax.Written.{Written}
 use Rattle.asm_grammar.specs.declared.syntax.Written.TheVariants as writtens
 
--- a register's number behind a 1: 10 to 15, or 1
+-- a register's number after a 1: 10 to 15, or 1
 abbrev pub second_digit : List ℕ → Text ℕ
 second_digit [] = Some (1, [])
 second_digit (digit ∷ rest) = if is_in_range 48 53 digit then Some (10 + (digit - 48), rest) else Some (1, digit ∷ rest)
@@ -42,18 +42,18 @@ incremented reg (first ∷ rest) =
 unfoldable pub deferred_at : List ℕ → Text Place
 deferred_at text = in_parentheses_at text >>= λ reg. incremented reg.0 reg.1
 
--- `-(rK)`, behind the `-`
+-- `-(rK)`, after the `-`
 unfoldable pub decremented_at : List ℕ → Text Place
 decremented_at text = in_parentheses_at text >>= λ reg. Some (places.AutoDec reg.0, reg.1)
 
--- `*(rK)+`, behind the `*`
+-- `*(rK)+`, after the `*`
 unfoldable pub increment_deferred_at : List ℕ → Text Place
 increment_deferred_at text = do
   reg ← in_parentheses_at text
   rest ← after 43 reg.1
   if reg.0 == 15 then None else Some (places.AutoIncDef reg.0, rest)
 
--- `*$X`, behind the `$`
+-- `*$X`, after the `$`
 unfoldable pub absolute_at : List ℕ → Text Place
 absolute_at text = value_at text >>= λ address. Some (places.Absolute address.0, address.1)
 
@@ -61,7 +61,7 @@ absolute_at text = value_at text >>= λ address. Some (places.Absolute address.0
 abbrev pub marked_size : ℕ → Option ℕ
 marked_size mark = if mark == 98 then Some 1 else (if mark == 119 then Some 2 else (if mark == 108 then Some 4 else None))
 
--- `^N(rK)`, behind the mark
+-- `^N(rK)`, after the mark
 unfoldable pub displacement_at : ℕ → Bool → List ℕ → Text Place
 displacement_at size deferred text = do
   number ← after 94 text
@@ -90,7 +90,7 @@ place_at (first ∷ rest) =
     else (if first == 42 then pointer_at rest
     else displaced_at false (first ∷ rest)))
 
--- `rK]`, behind the `[`
+-- `rK]`, after the `[`
 unfoldable pub index_at : Place → List ℕ → Text Written
 index_at base text = do
   reg ← register_at text
@@ -104,23 +104,23 @@ indexed place (first ∷ rest) = if first == 91 then index_at place rest else So
 unfoldable pub addressed_at : List ℕ → Text Written
 addressed_at text = place_at text >>= λ place. indexed place.0 place.1
 
--- `rK]`, behind the `[` of an index on an operand without an address
+-- `rK]`, after the `[` of an index on an operand without an address
 unfoldable pub misindexed_at : Bool → List ℕ → Text Written
 misindexed_at immediate text = do
   reg ← register_at text
   rest ← after 93 reg.1
   Some (writtens.Misindexed immediate, rest)
 
--- an operand without an address: with an index behind it, it is still one of the grammar, but refused
+-- an operand without an address: with an index after it, it is still one of the grammar, but refused
 abbrev pub unaddressed : Bool → Written → List ℕ → Text Written
 unaddressed immediate written [] = Some (written, [])
 unaddressed immediate written (first ∷ rest) = if first == 91 then misindexed_at immediate rest else Some (written, first ∷ rest)
 
--- `$N`, behind the `$`
+-- `$N`, after the `$`
 unfoldable pub literal_at : List ℕ → Text Written
 literal_at text = number_at text >>= λ number. unaddressed false (writtens.Literal number.0) number.1
 
--- `i^$X`, behind the `i`
+-- `i^$X`, after the `i`
 unfoldable pub immediate_at : List ℕ → Text Written
 immediate_at text = do
   dollar ← after 94 text

@@ -14,7 +14,7 @@ is_label_start byte = is_in_range 97 122 byte || (byte == 95)
 abbrev pub is_word_byte : ℕ → Bool
 is_word_byte byte = is_label_start byte || is_in_range 48 57 byte
 
--- a label is kept in 16 bytes, with zeros behind it
+-- a label is kept in 16 bytes, with zeros after it
 abbrev pub padded : List ℕ → List ℕ
 padded word = word ++ drop (length word) (replicate 16 0)
 

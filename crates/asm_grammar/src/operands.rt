@@ -192,7 +192,7 @@ fn misindexed_of(immediate: bool, text: &[u8]) -> Option<(Written, &[u8])>
     Some((Written::Misindexed { immediate }, rest))
 }
 
-// An operand without an address; no instruction takes it with an index behind it.
+// An operand without an address; no instruction takes it with an index after it.
 fn unaddressed_of(immediate: bool, written: Written, text: &[u8]) -> Option<(Written, &[u8])>
     ensures { Gives (λ x. (x.0, x.1.now)) result (unaddressed immediate written text.now) }
 {

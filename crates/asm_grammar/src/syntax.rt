@@ -12,7 +12,7 @@ pub struct Number {
     pub magnitude: u64,
 }
 
-/// A label of 1 to 16 bytes, with zeros behind it.
+/// A label of 1 to 16 bytes, with zeros after it.
 #[derive(Clone, Copy, Debug, PartialEq, Eq)]
 pub struct Label {
     pub bytes: [u8; 16],
@@ -68,9 +68,9 @@ pub enum Written {
     /// `i^$X`
     Immediate(Value),
     Plain(Place),
-    /// A place, and `[rK]` behind it.
+    /// A place, and `[rK]` after it.
     Indexed { index: u8, base: Place },
-    /// `[rK]` behind a literal, a register or an immediate, which has no address to add to: no instruction takes it.
+    /// `[rK]` after a literal, a register or an immediate, which has no address to add to: no instruction takes it.
     Misindexed { immediate: bool },
     /// `X`, the target of a branch
     Target(Value),
@@ -92,7 +92,7 @@ pub struct Definition {
     pub address: u32,
 }
 
-/// What a line has behind its label.
+/// What a line has after its label.
 #[derive(Clone, Copy, Debug, PartialEq, Eq)]
 pub enum Statement {
     Byte(Value),

@@ -39,7 +39,7 @@ pub fn split_word(text: &[u8]) -> (&[u8], &[u8])
     text.split_at(word_len(text))
 }
 
-// The word with zeros behind it.
+// The word with zeros after it.
 fn padded(word: &[u8]) -> [u8; 16]
     requires { length word.now ≤ 16 }
     ensures { result ≡ padded word.now }

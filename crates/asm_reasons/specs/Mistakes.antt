@@ -137,7 +137,7 @@ without_star text = if begins 42 text then drop 1 text else text
 abbrev pub why_displacement : List ℕ → Option Why
 why_displacement text = option_map (NoSize text) (size_for text)
 
--- a value behind `$` that is no short literal, and would be taken as an immediate
+-- a value after `$` that is no short literal, and would be taken as an immediate
 unfoldable pub why_literal : List ℕ → Option Why
 why_literal text =
     if begins 36 text && is_immediate text && not (is_in_its_range text) then Some (NoLiteral text) else None
@@ -168,7 +168,7 @@ unfoldable pub why_row : Row → List ℕ → Why
 why_row row text =
     unwrap_or (option_or (why_place row 0 text) (option_or (why_place row 1 (past 44 text)) (why_place row 2 (past 44 (past 44 text))))) Other
 
--- how many operands a statement has, with commas between them, behind its first space
+-- how many operands a statement has, with commas between them, after its first space
 abbrev pub operand_count : List ℕ → ℕ
 operand_count text = if has 32 text then 1 + count_by (λ x. x == 44) (past 32 text) else 0
 
@@ -211,7 +211,7 @@ unfoldable pub text_of_line : ℕ → List (Option (List ℕ)) → List ℕ
 text_of_line n [] = []
 text_of_line n (line ∷ lines) = if nat_le n 1 then unwrap_or line [] else text_of_line (n - 1) lines
 
--- a label is what a line may be with a colon behind it
+-- a label is what a line may be with a colon after it
 unfoldable pub is_label : List ℕ → Bool
 is_label text = is_some (line_of (text ++ codes ":"))
 
@@ -236,7 +236,7 @@ why_outside text =
     else (if last_byte text == 32 then SpaceBehind
     else why_parts text)))))
 
--- the operands of a line, behind a label, if there is one, and a word
+-- the operands of a line, after a label, if there is one, and a word
 abbrev pub operands_in : List ℕ → List ℕ
 operands_in text = past 32 (if has 58 text then past 32 text else text)
 

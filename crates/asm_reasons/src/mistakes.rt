@@ -5,7 +5,7 @@
 pub enum Mistake<'a> {
     /// A carriage return at its end.
     CarriageReturn,
-    /// A `#` behind something.
+    /// A `#` after something.
     Comment,
     /// A tab.
     Tab,
@@ -39,7 +39,7 @@ pub enum Mistake<'a> {
     RegisterName(&'a [u8], u8),
     /// A displacement without its size, and the byte that names the shortest one.
     NoSize(&'a [u8], u8),
-    /// A value behind `$` that is no short literal, but would be an immediate.
+    /// A value after `$` that is no short literal, but would be an immediate.
     NoLiteral(&'a [u8]),
     /// A number or a label, which only a branch takes so.
     ValueAlone(&'a [u8]),

@@ -1,4 +1,4 @@
--- What holds of a machine behind a unit, for the next one.
+-- What holds of a machine after a unit, for the next one.
 use Rattle.std.proofs.Common.{◌≡◌, ℕ, ◌+◌, ◌<◌, ◌≤◌, List, [], ◌∷◌, length, Option, Result, Ok, Err, OnOk, IfOk, IfErr, OnErr, refl, sym, ap, ◌∙◌, subst, arith}
 use Rattle.vm_facts.specs.declared.page.Page.{Page}
 use Rattle.vm_facts.specs.declared.entry.Entry.{Entry}
@@ -36,7 +36,7 @@ pub keeps_on : (g : Ground) (e : Entry) (old next new : Standing) (i : Option (L
 keeps_on g e old next new i holds later h j m s a b =
     keeps_both old next new holds later i h j m.beside.images (unit_shaped g e old.kernel next.kernel i m.made) s a b
 
--- units behind a part that leaves its images, over the ground before it
+-- units after a part that leaves its images, over the ground before it
 pub made_on : (us : List Entry) (old next : Standing) (holds later : Option (List NamedFile)) (locked : List Page) (k l : Kernel) (i j : Option (List ℕ)) → later ≡ holds → IsSameBeside old next
     → Made (ground next later locked) us k i l j → Made (ground old holds locked) us k i l j
 made_on us old next holds later locked k l i j e b m = subst (λ (g : Ground). Made g us k i l j) (same_ground old next holds later locked e b) m

@@ -12,7 +12,7 @@ use Rattle.paging_units.specs.Made.{ground, Made, Makes}
 use Rattle.paging_units.specs.Stops.{StopsAt}
 
 -- The call makes the units that force a frame, each where none is free, and a frame is free at the end. The swap images,
--- where they are told, are those before and behind it, and the files those that it reads from.
+-- where they are told, are those before and after it, and the files those that it reads from.
 pub record Forced (locked : List Page) (old new : Standing) (holds : Option (List NamedFile)) (i j : Option (List ℕ)) : Type 0 where
   pub units : List Entry
   pub forces : Forces units old.kernel.place locked new.kernel.place

@@ -22,7 +22,7 @@ pub record NoFaults (f : Faults) : Type 0 where
 abbrev pub OpenFailed : Faults → Type 0
 OpenFailed f = Rose f.open_before f.open_after × (f.page_after ≡ f.page_before)
 
--- a file failed behind its first bytes
+-- a file failed after its first bytes
 abbrev pub PageFailed : Faults → Type 0
 PageFailed f = (f.open_after ≡ f.open_before) × Rose f.page_before f.page_after
 
@@ -30,7 +30,7 @@ PageFailed f = (f.open_after ≡ f.open_before) × Rose f.page_before f.page_aft
 abbrev pub OneFailed : Faults → Type 0
 OneFailed f = OpenFailed f ⊎ PageFailed f
 
--- one file failed, and where that was behind its first bytes, all that comes before was good
+-- one file failed, and where that was after its first bytes, all that comes before was good
 abbrev pub FailedBehind : Type 0 → Faults → Type 0
 FailedBehind Good f = OpenFailed f ⊎ (PageFailed f × Good)
 

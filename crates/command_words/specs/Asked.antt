@@ -63,12 +63,12 @@ unfoldable pub asked_owners : List (List ℕ) → Option Asked
 asked_owners (entries ∷ words) = option_and_then (λ n. asked_with_run 1000000 (Owners n) words) (number_in 0 16777216 entries)
 asked_owners [] = None
 
--- the words behind `run`: one of them may be `--trace`; of the others none is empty or begins with a hyphen
+-- the words after `run`: one of them may be `--trace`; of the others none is empty or begins with a hyphen
 unfoldable pub asked_run : List (List ℕ) → Option Asked
 asked_run words =
     if list_all is_plain (without_trace words) then asked_with_run 1000000 (Run (list_any is_trace words)) (without_trace words) else None
 
--- the words behind the name of another command: none of them is empty or begins with a hyphen
+-- the words after the name of another command: none of them is empty or begins with a hyphen
 unfoldable pub asked_other : List ℕ → List (List ℕ) → Option Asked
 asked_other name words =
     if not (list_all is_plain words) then None
@@ -81,7 +81,7 @@ asked_other name words =
     else (if bytes_eq name (codes "owners") then asked_owners words
     else None)))))))
 
--- what the words behind the program's name ask for, and `None` where they are no command's
+-- what the words after the program's name ask for, and `None` where they are no command's
 unfoldable pub asked_of : List (List ℕ) → Option Asked
 asked_of [] = None
 asked_of (name ∷ words) = if bytes_eq name (codes "run") then asked_run words else asked_other name words

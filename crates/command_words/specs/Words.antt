@@ -30,7 +30,7 @@ number_in least most word = in_range least most (decimal_of word)
 unfoldable pub is_name : List ℕ → Bool
 is_name word = has_up_to 63 word
 
--- the word of an image is a name, or one behind an equals sign
+-- the word of an image is a name, or one after an equals sign
 unfoldable pub is_image_word : List ℕ → Bool
 is_image_word word = is_name (name_in word)
 
@@ -46,6 +46,6 @@ is_trace word = bytes_eq word (codes "--trace")
 unfoldable pub without_trace : List (List ℕ) → List (List ℕ)
 without_trace words = before_first is_trace words ++ after_first is_trace words
 
--- the word at a place; an empty one behind the last
+-- the word at a place; an empty one after the last
 abbrev pub word_at : List (List ℕ) → ℕ → List ℕ
 word_at words place = slice_index_or words place []

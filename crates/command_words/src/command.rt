@@ -19,8 +19,8 @@ pub struct Numbers {
     pub limit: u32,
 }
 
-/// What the words behind the program's name ask for, with the numbers and the names in them (this project's
-/// profile). A word of an image is a name, which starts a process, or one behind a `=`, which only makes the image
+/// What the words after the program's name ask for, with the numbers and the names in them (this project's
+/// profile). A word of an image is a name, which starts a process, or one after a `=`, which only makes the image
 /// known. All names have 1 to 63 bytes.
 #[derive(Clone, Copy, Debug, Drop)]
 pub enum Command<'a> {
@@ -64,7 +64,7 @@ pub enum Command<'a> {
         schedule: &'a str,
         images: &'a [&'a str],
     },
-    /// `owners N FRAMES SWAP LIMIT SCHED IMAGE..`: what each frame, page, transfer and piece of swap belongs to behind
+    /// `owners N FRAMES SWAP LIMIT SCHED IMAGE..`: what each frame, page, transfer and piece of swap belongs to after
     /// the first 0 to 16,777,216 entries of a run's journal.
     Owners {
         entries: u32,
@@ -74,9 +74,9 @@ pub enum Command<'a> {
     },
 }
 
-/// Reads the words behind the program's name. They are one of
+/// Reads the words after the program's name. They are one of
 ///
-/// - `run [--trace] FRAMES SWAP LIMIT SCHED IMAGE..`, where `--trace` may stand at any place behind `run`
+/// - `run [--trace] FRAMES SWAP LIMIT SCHED IMAGE..`, where `--trace` may stand at any place after `run`
 /// - `load NUMBER`, `replay TRANSCRIPT IMAGE..`, `as SOURCE`, `dis IMAGE`
 /// - `opt N FRAMES SWAP LIMIT SCHED IMAGE..`, `curve FRAMES SWAP LIMIT SCHED IMAGE..`
 /// - `owners N FRAMES SWAP LIMIT SCHED IMAGE..`
@@ -84,7 +84,7 @@ pub enum Command<'a> {
 /// and it is `None` where they are any others. No other word begins with `-` or is empty. A number has 1 to 8 ASCII
 /// digits, leading zeros among them: FRAMES is 64 to 4,096, SWAP 256 to 131,072, LIMIT 1 to 1,000,000 but at most
 /// 100,000 for `opt` and `curve`, NUMBER 0 to 9,999, and N 1 to 4,096 for `opt` and 0 to 16,777,216 for `owners`. A name
-/// has 1 to 63 bytes. There are 1 to 16 words of images: a name starts a process, and one behind a `=` only makes the
+/// has 1 to 63 bytes. There are 1 to 16 words of images: a name starts a process, and one after a `=` only makes the
 /// image known; at least one starts. The image of `dis` has no `=`. It takes no memory. Source: this project's profile.
 #[tactic(auto, unfolding(crate::specs::Asked::asked_of))]
 pub fn read_words<'a>(words: &'a [&'a str]) -> Option<Command<'a>>
@@ -101,7 +101,7 @@ pub fn read_words<'a>(words: &'a [&'a str]) -> Option<Command<'a>>
     }
 }
 
-// The words behind `run`.
+// The words after `run`.
 #[tactic(auto, unfolding(crate::specs::Asked::asked_run))]
 fn read_run<'a>(words: &'a [&'a str]) -> Option<Command<'a>>
     ensures exact { option_map asked_by result ≡ asked_run (map (λ word. word.now) words.now) }
@@ -120,7 +120,7 @@ fn read_run<'a>(words: &'a [&'a str]) -> Option<Command<'a>>
     })
 }
 
-// The words behind the name of another command.
+// The words after the name of another command.
 #[tactic(auto, unfolding(crate::specs::Asked::asked_other))]
 fn read_other<'a>(name: &str, words: &'a [&'a str]) -> Option<Command<'a>>
     ensures exact { option_map asked_by result ≡ asked_other name.now (map (λ word. word.now) words.now) }

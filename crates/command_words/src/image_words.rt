@@ -65,7 +65,7 @@ fn word_at<'a>(words: &[&'a str], place: usize) -> &'a str
 /// The words of a run's images: the option `--trace` may stand among them.
 #[derive(Clone, Copy, Debug, Drop)]
 pub struct ImageWords<'a> {
-    // those before the option, and those behind it
+    // those before the option, and those after it
     before: &'a [&'a str],
     after: &'a [&'a str],
 }

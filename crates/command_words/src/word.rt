@@ -60,7 +60,7 @@ pub(crate) fn starts(word: &str) -> bool
     !word.starts_with('=')
 }
 
-// Whether a word is a name, or one behind a `=`.
+// Whether a word is a name, or one after a `=`.
 #[tactic(auto, unfolding(crate::specs::Words::is_image_word))]
 pub(crate) fn is_image_word(word: &str) -> bool
     ensures { result ≡ is_image_word word.now }

@@ -15,7 +15,7 @@ pub struct TextKey {
 }
 
 /// Hash chains of frames. `links[frame]` is the frame after it in its chain, and the first frames of the
-/// chains stand behind those links, chain by chain. `keys[frame]` is the text page that it holds, if any.
+/// chains stand after those links, chain by chain. `keys[frame]` is the text page that it holds, if any.
 #[derive(Drop)]
 pub struct TextIndex {
     links: Vec<u32>,

@@ -27,7 +27,7 @@ pub struct Reader {
     gives: bool,
 }
 
-// The words of a line behind its first word.
+// The words of a line after its first word.
 fn behind<'a>(line: &'a str, first: &str) -> Option<&'a str> {
     line.strip_prefix(first)?.strip_prefix(' ')
 }

@@ -78,7 +78,7 @@ fn take_lines<F: Files, D: SwapDev>(
     Ok(Went::Next)
 }
 
-// The run behind its start.
+// The run after its start.
 fn go_on<F: Files, D: SwapDev>(
     core: &mut Core,
     files: &mut F,

@@ -2,7 +2,7 @@
 use io_edge::{Moved, SwapDev};
 use std::alloc::{AllocError, Global};
 
-// The checksum register behind one more bit.
+// The checksum register after one more bit.
 fn next_bit(sum: u32) -> u32 {
     if sum & 1 == 1 {
         sum >> 1 ^ 0xedb8_8320
@@ -11,7 +11,7 @@ fn next_bit(sum: u32) -> u32 {
     }
 }
 
-// The checksum register behind one more byte.
+// The checksum register after one more byte.
 fn next_byte(sum: u32, byte: u8) -> u32 {
     let mut sum = sum ^ u32::from(byte);
     for _ in 0..8 {

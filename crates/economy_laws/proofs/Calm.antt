@@ -314,7 +314,7 @@ going_frame (Invalid f) e = absurd cc
 going_frame (Coming f) e = absurd cc
 going_frame OnSwap e = absurd cc
 
--- and calm behind it
+-- and calm after it
 pub stored_calm : (locked : List Page) (at : ℕ) (p : Placement) (u : Entry) (q : Page) → OwnsFrames p → is_among q (stored_pages p u) ≡ true
     → Calm (place_entry locked at p u) q
 stored_calm locked at p entries.Done q o h = let k = going_frame (state_of p q) (stored_going p entries.Done q o h) in first_calm p q p.transfers (page_in p q k.0 k.1) h

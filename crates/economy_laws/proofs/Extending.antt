@@ -140,7 +140,7 @@ abbrev AllKept : Space → ℕ → ℕ → ℕ → List Access → Type 0
 AllKept s d t a [] = Unit {0}
 AllKept s d t a (y ∷ ys) = Kept s d t a y × AllKept s d t a ys
 
--- its accesses: those that are answered, and the one at the address; behind growth these and others
+-- its accesses: those that are answered, and the one at the address; after growth these and others
 pub record Reached (X : Type 0) (s : Space) (d t a : ℕ) (p : Program X) : Type 0 where
   pub before : List Access
   pub last : Access
@@ -273,7 +273,7 @@ kept_unseen s d t a (y ∷ ys) k = go (page_of_access s y) refl (kept_unseen s d
     go None e n = n
     go (Some q) e n = (k.0.1 q e, n)
 
--- the pages of these accesses, before and behind growth
+-- the pages of these accesses, before and after growth
 pub pages_extend : (X : Type 0) (s : Space) (d t a : ℕ) (p : Program X) (more : List Access) → Reached X s d t a p
     → Extends (distinct (filter_map (page_of_access s) (accesses (answers_of s) p))) (distinct (filter_map (page_of_access (resized s d t)) (accesses (answers_of (resized s d t)) p ++ more)))
 pages_extend X s d t a p more r =

@@ -1,4 +1,4 @@
--- Behind `Grew` its process touches what it touched, and at least one page more.
+-- After `Grew` its process touches what it touched, and at least one page more.
 use Rattle.std.proofs.Common.{◌≡◌, ℕ, ◌+◌, ◌≤◌, Bool, true, false, List, [], ◌∷◌, ◌++◌, length, filter_map, Option, Some, None, Result, Err, if◌then◌else◌, refl, sym, ap, ◌∙◌, subst, arith}
 use Rattle.flat_state.specs.Space.{Space, stack_top, answers_of}
 use Rattle.flat_state.specs.Flat.{Holding, Holds, Process, FlatState, NamedImage, Inputs, holds_space, is_ready, ready_if, process_of}

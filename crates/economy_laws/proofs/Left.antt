@@ -235,7 +235,7 @@ pub record CopyLeft (b : Bool) (p : Placement) (parent : Page) (n m : ℕ) : Typ
   pub some : x + 195 ≤ n
   pub takers : 32 ≤ m
 
--- for a page that is wanted, and those behind it
+-- for a page that is wanted, and those after it
 pub record PageLeft (A : Inputs) (s : State) (pid : ℕ) (b : Bool) (q : Page) (n m : ℕ) : Type 0 where
   pub before : List Page
   pub splits : Splits s.place (touched A s.point.flat pid) before q

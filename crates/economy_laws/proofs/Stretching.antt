@@ -351,7 +351,7 @@ page_next A s u pid b n m q few r c r2 c2 l run w i = go (is_valid (state_of sp 
 
 -- What a process does.
 
--- behind `Refused` and `Out` its next entry is counted
+-- after `Refused` and `Out` its next entry is counted
 may_be : (b : Bool) (A : Inputs) (point x : Point) (pid : ℕ) (u : Entry) → flat_entry_if b A point pid u ≡ Some x → b ≡ true
 may_be true A point x pid u h = refl
 may_be false A point x pid u h = absurd cc
@@ -396,7 +396,7 @@ waiting_left A s u pid b n m d o c w k l = acting_left A (noted s u) pid b n m d
     (wanted_is A (noted s u) pid (record { since = c.since; mark = c.mark; lines = c.lines }) d ∙ sym (wanted_is A s pid c d) ∙ w)
     (record { flights = l; some = λ z. absurd (let y : true ≡ false = sym k ∙ z in cc); takers = λ z. absurd (let y : true ≡ false = sym k ∙ z in cc) })
 
--- behind `Sleeps` its process can't step, and is in
+-- after `Sleeps` its process can't step, and is in
 pub record Slept (A : Inputs) (s t : State) (pid : ℕ) : Type 0 where
   pub idle : can_step t.point.flat pid ≡ false
   pub clear : t.place.due ≡ []

@@ -44,7 +44,7 @@ pub record IsClosing (A : Inputs) (s : State) (pid : ℕ) : Type 0 where
 abbrev pub FewTouched : Inputs → Type 0
 FewTouched A = (s : State) (pid : ℕ) → IsRun A s → length (touched A s.point.flat pid) ≤ 32
 
--- Behind `Grew` the process's instruction touches what it touched before, and at least one page more; what was touched
+-- After `Grew` the process's instruction touches what it touched before, and at least one page more; what was touched
 -- and valid stays so.
 pub record Grown (A : Inputs) (s t : State) (pid : ℕ) : Type 0 where
   pub next : Page

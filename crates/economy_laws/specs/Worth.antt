@@ -59,7 +59,7 @@ abbrev pub is_empty : List ℕ → Bool
 is_empty [] = true
 is_empty (n ∷ ns) = false
 
--- behind the unit no swap pieces are held for the image's text: they are given back
+-- after the unit no swap pieces are held for the image's text: they are given back
 abbrev pub frees_text : Inputs → State → Entry → ℕ → Bool
 frees_text A s u image = is_empty (lengths (owners.Text image) (after A s u).holdings)
 

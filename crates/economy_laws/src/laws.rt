@@ -25,7 +25,7 @@ pub fn stretches_are_short()
 {}
 
 /// In the closing phase no more turns in a row count no instruction than there are processes that can step. There are
-/// at most 64 processes behind each unit, where there are no more at first.
+/// at most 64 processes after each unit, where there are no more at first.
 pub fn idle_turns_are_few()
     ensures turns { (A : Inputs) (s t : State) (us : List Entry) → ImagesFit A.images → IsRun A s → length A.lines ≤ s.lines
         → Follows A s us t → NoneCounts us → turns_of us ≤ ready_count s.point.flat.processes }

@@ -17,7 +17,7 @@ use Rattle.fault_fill.specs.Serving.{StopsServing}
 use Rattle.fault_fill.specs.Units.{NoneMade, NeedsFrame, Further}
 use Rattle.fault_fill.proofs.Serving.{unit_forces, forces_serve, forces_some}
 
--- a page that has no frame still has none behind units that force one
+-- a page that has no frame still has none after units that force one
 still_frameless : (us : List Entry) (p r : Placement) (locked : List Page) (q : Page) → OwnsFrames p → frame_of (state_of p q) ≡ None
     → Forces us p locked r → frame_of (state_of r q) ≡ None
 still_frameless [] p r locked q o n h = subst (λ (x : Placement). frame_of (state_of x q) ≡ None) h n

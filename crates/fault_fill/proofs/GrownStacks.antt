@@ -1,4 +1,4 @@
--- The stack of a process grows: what its entry asks, and how the machine stands behind it.
+-- The stack of a process grows: what its entry asks, and how the machine stands after it.
 use Rattle.std.proofs.Common.{◌≡◌, ◌≢◌, inl, inr, ℕ, ◌-◌, ◌*◌, ◌<◌, ◌≤◌, true, false, List, [], ◌∷◌, ◌++◌, length, Option, Some, None, Ok, refl, sym, ap, ◌∙◌, subst, arith}
 use Rattle.std.specs.Prelude.{is_ok}
 use Rattle.vm_facts.specs.declared.page.Page.TheVariants as page_names
@@ -101,7 +101,7 @@ module _ (m : Standing) (pid sid pages : ℕ) (whole : m.before ≡ m.kernel.hol
       subst (λ (s : Standing). CanApply s pid (Grew pid pages) (Resize d pages)) (sym is)
       (subst (λ (n : ℕ). CanApply (with_pieces m hs) pid (Grew pid pages) (Resize n pages)) (sym count) (can_apply hs finds (omega arith)))
 
--- The page that is asked for is there behind growth.
+-- The page that is asked for is there after growth.
 
 none_less : (a b : ℕ) → a ≤ b → a - b ≡ 0
 none_less a b l = omega arith

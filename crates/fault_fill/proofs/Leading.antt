@@ -229,7 +229,7 @@ stops_later now locked q old next new holds later a b c stop e s t = record {
   images = t.images ∙ s.makes.beside.images;
 }
 
--- Behind a unit.
+-- After a unit.
 
 pub unit_behind : (now : Bool) (locked : List Page) (q : Page) (old new : Standing) (holds : Option (List NamedFile)) (before after : Option (List ℕ))
     → OwnsFrames old.kernel.place → CanServe old.kernel.place q → UnitMade now locked q old new holds before after → Behind old.kernel.place new.kernel.place locked q

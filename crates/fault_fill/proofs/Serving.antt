@@ -140,7 +140,7 @@ filled_state p q f fs there e =
 some_free : (p : Placement) (f : ℕ) (fs : List ℕ) → p.free ≡ f ∷ fs → 0 < length p.free
 some_free p f fs e = let a = ap length e in omega arith
 
--- a page that needs no zeros needs none behind a unit
+-- a page that needs no zeros needs none after a unit
 still_filled : (p : Placement) (locked : List Page) (q : Page) → OwnsFrames p → IsThere p q → is_blank (state_of p q) (filling_of p q) ≡ false
     → is_blank (state_of (serve_step p locked q) q) (filling_of (serve_step p locked q) q) ≡ false
 still_filled p locked q o there b = go (state_of p q) refl b
@@ -190,7 +190,7 @@ still_filled p locked q o there b = go (state_of p q) refl b
     go Unfilled e z = feed Unfilled p.free refl (ap frame_of e) z
     go OnSwap e z = feed OnSwap p.free refl (ap frame_of e) z
 
--- What serving asks of its page is so again behind each unit.
+-- What serving asks of its page is so again after each unit.
 
 still_shared : (p r : Placement) (q : Page) → ((image : ℕ) → sharers r image ≡ sharers p image) → IsShared p q → IsShared r q
 still_shared p r (Data sid v) e h = h
@@ -213,7 +213,7 @@ still_served p locked q o c = record {
     go true e h = dues ∙ c.blank e
     go false e h = absurd (let k : true ≡ false = sym h ∙ still_filled p locked q o c.there e in cc)
 
--- What is so behind units of serving.
+-- What is so after units of serving.
 pub record Behind (p r : Placement) (locked : List Page) (q : Page) : Type 0 where
   pub can : CanServe r q
   pub owner : OwnsFrames r

@@ -24,7 +24,7 @@ pub record CanServe (p : Placement) (q : Page) : Type 0 where
   pub fresh : NotDue p.due q
   pub blank : is_blank (state_of p q) (filling_of p q) ≡ true → p.due ≡ []
 
--- the next unit of serving the page was made, with the swap image before and behind it
+-- the next unit of serving the page was made, with the swap image before and after it
 pub record UnitMade (now : Bool) (locked : List Page) (q : Page) (old new : Standing) (holds : Option (List NamedFile)) (before after : Option (List ℕ)) : Type 0 where
   pub entry : Entry
   pub next : serve_unit old.kernel.place q now ≡ Some entry

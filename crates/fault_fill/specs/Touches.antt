@@ -73,7 +73,7 @@ abbrev pub TouchedNow : List Page → Served → Page → Standing → Standing 
 TouchedNow locked served.Valid q old new holds before after = PageComesNow locked q old new holds before after
 TouchedNow locked _ q old new holds before after = ⊥
 
--- The stack grew, and then something is so of the machine behind that.
+-- The stack grew, and then something is so of the machine after that.
 pub record GrownFirst (old : Standing) (pid pages : ℕ) (Then : Standing → Type 0) : Type 0 where
   pub between : Standing
   pub grown : Grown old between pid pages

@@ -13,7 +13,7 @@ pub record FoundHolding (qs : List Process) (pid : ℕ) (s : Space) : Type 0 whe
   pub here : find (λ q. q.pid == pid) qs ≡ Some process
   pub holds : process.holding ≡ Holds s
 
--- the first process, or one behind it
+-- the first process, or one after it
 data First (q : Process) (qs : List Process) (pid : ℕ) (s : Space) : Type 0 where
   Here : (q.pid == pid) ≡ true → q.holding ≡ Holds s → First q qs pid s
   Behind : (q.pid == pid) ≡ false → FoundHolding qs pid s → First q qs pid s

@@ -18,7 +18,7 @@ InstructionNeedsTouchedAlone = (A : Inputs) (F : FlatState) (pid : ℕ) (p : Pro
     → process_of F pid ≡ Some p → is_ready p ≡ true → p.holding ≡ Holds s
     → run (shown s (touched A F pid)) (instruction p.regs) ≡ instruction_in s p.regs
 
--- so does the reply of its call, behind what the instruction wrote
+-- so does the reply of its call, after what the instruction wrote
 abbrev pub ReplyNeedsTouchedAlone : Type 0
 ReplyNeedsTouchedAlone = (A : Inputs) (F : FlatState) (pid : ℕ) (p : Process) (s : Space) (effect : Effect)
     (call : SystemCall)

@@ -5,7 +5,7 @@
 //!   were refused, and from whether it has bytes out; so two entries that may come next are one.
 //! - `touched_is_enough`: where the touched pages alone are there, a process's next instruction and its call come to
 //!   what they come to in the whole space, and all that the instruction writes is of touched pages.
-//! - `others_keep_their_spaces`: behind a step of a process every other one that holds a space holds it still, byte for
+//! - `others_keep_their_spaces`: after a step of a process every other one that holds a space holds it still, byte for
 //!   byte.
 //! - `numbers_are_kept`: in each run each process has a number of its own, and so has each space, below the next ones.
 //! - `asks_agree`: the pieces of swap space that a change wants by a machine's placement are those that the flat state
@@ -40,7 +40,7 @@ pub fn entries_are_determined()
 {}
 
 /// Where the touched pages alone are there, the next instruction of a process comes to what it comes to in the whole
-/// space, and so does the reply of its call, behind what the instruction wrote. Each byte that the step writes is of a
+/// space, and so does the reply of its call, after what the instruction wrote. Each byte that the step writes is of a
 /// touched page.
 pub fn touched_is_enough()
     ensures instruction { InstructionNeedsTouchedAlone }
@@ -48,13 +48,13 @@ pub fn touched_is_enough()
     ensures writes { WritesAreTouched }
 {}
 
-/// Behind a step of a process every other process that holds a space holds it still, byte for byte.
+/// After a step of a process every other process that holds a space holds it still, byte for byte.
 pub fn others_keep_their_spaces()
     ensures { (A : Inputs) (F : FlatState) (pid other : ℕ) (refused : Bool) (s : Space) → AllDistinct (pids_of F) → other ≢ pid
         → HoldsStill F other s → HoldsStill (flat_step A F pid refused).after other s }
 {}
 
-/// Each process has a number of its own, below the next one, and so has each space: at the start, behind each step, and
+/// Each process has a number of its own, below the next one, and so has each space: at the start, after each step, and
 /// in each run of the flat machine.
 pub fn numbers_are_kept()
     ensures start { (A : Inputs) → IsNumbered (start_state A) }

@@ -21,7 +21,7 @@ pub enum Did {
     Ended(u32),
 }
 
-/// A step behind the writes of its instruction: what it did, the registers that it leaves, and what it does
+/// A step after the writes of its instruction: what it did, the registers that it leaves, and what it does
 /// to the processes and their spaces.
 #[derive(Drop)]
 pub struct Deed {

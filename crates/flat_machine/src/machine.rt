@@ -380,7 +380,7 @@ impl Machine {
         &self.list[place]
     }
 
-    // What the process at this place does behind its instruction, which came to this with these registers.
+    // What the process at this place does after its instruction, which came to this with these registers.
     fn deed(
         &self,
         alloc: Global,

@@ -95,7 +95,7 @@ after_string bytes (Ok (Some more)) = Ok (Some (bytes ++ more))
 after_string bytes (Ok None) = Ok None
 after_string bytes (Err refused) = Err refused
 
--- what comes behind a byte
+-- what comes after a byte
 abbrev pub string_by : Result (Option (List ℕ)) Refused → ℕ → Result (Option (List ℕ)) Refused
 string_by rest byte = then rest (λ string. Ok (before byte string))
 

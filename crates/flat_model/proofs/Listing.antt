@@ -109,7 +109,7 @@ lists_more memory limit address index front pointer string h below e other k =
     ∙ ap (after_arguments front) (run_bind memory (rest_of memory limit address index) (λ (strings : Option (List (List ℕ))). Gives (before string strings)))
     ∙ moved front string (run memory (rest_of memory limit address index))
 
--- behind the last argument that may be, only a pointer 0 ends the list
+-- after the last argument that may be, only a pointer 0 ends the list
 pub lists_last : (memory : Answers) (limit address index : ℕ) (front : List (List ℕ)) → Lists memory limit address index front → index ≡ limit
     → run memory (arguments_from limit address) ≡ after_arguments front (then (run memory (number_at 4 (past address (4 * limit)))) (λ pointer. run memory (last_pointer pointer)))
 lists_last memory limit address index front h end =

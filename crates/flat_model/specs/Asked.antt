@@ -147,11 +147,11 @@ abbrev pub held_if : Inputs → FlatState → ℕ → Step → Holdings → Opti
 held_if A F pid step hs None = hs
 held_if A F pid step hs (Some p) = held_in A F pid step hs p.holding
 
--- the holdings behind a step of a process: it takes what was asked, and then gives back
+-- the holdings after a step of a process: it takes what was asked, and then gives back
 unfoldable pub held_step : Inputs → FlatState → ℕ → Step → Holdings → Holdings
 held_step A F pid step hs = held_if A F pid step hs (process_of F pid)
 
--- the holdings behind a flat entry, at whose point they were these
+-- the holdings after a flat entry, at whose point they were these
 abbrev pub held_entry : Inputs → Point → Entry → Holdings → Holdings
 held_entry A point (Grew p pages) hs = held_step A point.flat p (step_at A point p) hs
 held_entry A point (Call p n c r0 r1) hs = held_step A point.flat p (step_at A point p) hs
@@ -177,7 +177,7 @@ abbrev pub first_wanted : List NamedImage → Bool → ℕ → ℕ → List Want
 first_wanted images shared pid number =
     image_wanted shared pid number (image_numbered images number) ++ pieces_for (owners.U pid) 1
 
--- the holdings with the pieces of the first processes from a pid on, of these images, behind those of earlier ones
+-- the holdings with the pieces of the first processes from a pid on, of these images, after those of earlier ones
 unfoldable pub first_held : Inputs → List ℕ → ℕ → List ℕ → Holdings → Result Holdings ℕ
 first_held A earlier pid [] hs = Ok hs
 first_held A earlier pid (number ∷ more) hs =
@@ -192,6 +192,6 @@ abbrev pub held_from : Inputs → List Entry → Result Holdings ℕ → Result 
 held_from A journal (Ok hs) = Ok (held_units A (Some (start_point A)) (units_of journal) hs)
 held_from A journal (Err pid) = Err pid
 
--- the holdings behind a journal
+-- the holdings after a journal
 abbrev pub held : Inputs → List Entry → Result Holdings ℕ
 held A journal = held_from A journal (start_held A)

@@ -86,7 +86,7 @@ call_of (negsuc number) = None
 
 -- What a call reads.
 
--- the call's argument of this number, counted from 1: a longword behind the one that AP points to
+-- the call's argument of this number, counted from 1: a longword after the one that AP points to
 unfoldable pub argument : Regs → ℕ → Program ℕ
 argument regs k = number_at 4 (past (register regs 12) (4 * k))
 

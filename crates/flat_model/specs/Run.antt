@@ -25,7 +25,7 @@ abbrev pub behind_first : List Entry → List Entry
 behind_first [] = []
 behind_first (e ∷ es) = es
 
--- the entries of a process's step that aren't there yet: behind an `Out` of it the others
+-- the entries of a process's step that aren't there yet: after an `Out` of it the others
 abbrev pub due : Option Entry → ℕ → List Entry → List Entry
 due (Some (Out p bytes)) pid es = if p == pid then behind_first es else es
 due _ pid es = es
@@ -43,7 +43,7 @@ first_if false es = None
 abbrev pub act : Inputs → Point → ℕ → Option Entry
 act A point pid = first_if (can_step point.flat pid) (due_at A point pid)
 
--- the point behind the next of these entries: the step is complete with the last of them
+-- the point after the next of these entries: the step is complete with the last of them
 abbrev pub behind : Point → FlatState → List Entry → Point
 behind point after [] = point
 behind point after (e ∷ []) = record { flat = after; last = Some e }
@@ -92,7 +92,7 @@ abbrev pub is_call_of : ℕ → Entry → Bool
 is_call_of pid (Call p n c r0 r1) = p == pid
 is_call_of pid _ = false
 
--- behind `Refused` only the reply or the end of its process may follow, and behind `Out` only the reply
+-- after `Refused` only the reply or the end of its process may follow, and after `Out` only the reply
 abbrev pub may_follow : Option Entry → Entry → Bool
 may_follow (Some (Refused p)) e = is_outcome_of p e
 may_follow (Some (Out p bytes)) e = is_call_of p e
@@ -102,7 +102,7 @@ abbrev pub where_so : Bool → Point → Option Point
 where_so true point = Some point
 where_so false point = None
 
--- the point behind an entry of a process: the process can step, and the entry is the next one of its step, or says
+-- the point after an entry of a process: the process can step, and the entry is the next one of its step, or says
 -- that its pieces found no place
 abbrev pub flat_entry_of : Inputs → Point → ℕ → Entry → Option Point
 flat_entry_of A point pid (Refused p) = where_so (can_step point.flat pid) record point { last = Some (Refused p) }
@@ -112,7 +112,7 @@ abbrev pub flat_entry_if : Bool → Inputs → Point → ℕ → Entry → Optio
 flat_entry_if true A point pid e = flat_entry_of A point pid e
 flat_entry_if false A point pid e = None
 
--- the point behind a unit: the same where it isn't a flat entry
+-- the point after a unit: the same where it isn't a flat entry
 abbrev pub flat_entry_by : Inputs → Point → Option ℕ → Entry → Option Point
 flat_entry_by A point None e = Some point
 flat_entry_by A point (Some pid) e = flat_entry_if (may_follow point.last e) A point pid e

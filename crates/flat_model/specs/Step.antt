@@ -84,12 +84,12 @@ replied_step images F p call effect (Exits status) = ended_step images F p effec
 abbrev pub written_process : Process → Space → List ByteWrite → Process
 written_process p s writes = record p { holding = Holds (puts s writes) }
 
--- what a call asks of the memory for its reply, behind the writes of its instruction
+-- what a call asks of the memory for its reply, after the writes of its instruction
 abbrev pub reply_asked : List NamedImage → FlatState → Process → Space → SystemCall → Effect → Program Reply
 reply_asked images F p s call effect =
     reply_of images (apply_writes F p.pid effect.writes) (written_process p s effect.writes) (puts s effect.writes) call effect.regs
 
--- the reply of a call, made behind the instruction
+-- the reply of a call, made after the instruction
 abbrev pub reply_behind : List NamedImage → FlatState → Process → Space → Bool → SystemCall → Effect → Reply
 reply_behind images F p s refused call effect =
     refused_reply refused (or_fault (run (answers_of (puts s effect.writes)) (reply_asked images F p s call effect)))

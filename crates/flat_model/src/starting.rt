@@ -105,7 +105,7 @@ fn area_len(arguments: &[Bytes]) -> u32
     16 + 4 * arguments.len() as u32 + in_longwords(strings_len(arguments))
 }
 
-// The bytes from SP on up to the stack's top, behind those of a page.
+// The bytes from SP on up to the stack's top, after those of a page.
 #[tactic(auto, using(crate::proofs::Strings::area_parts))]
 fn put_area(page: &mut Vec<u8>, arguments: &[Bytes]) -> Result<(), NoMemory>
     requires few { AreArguments arguments.now }
@@ -135,7 +135,7 @@ pub fn start_page(alloc: Global, arguments: &Arguments) -> Result<Bytes, NoMemor
     Ok(Bytes::from_vec(page))
 }
 
-/// The registers of an image that starts with these arguments: PC is behind the entry mask, and SP at the
+/// The registers of an image that starts with these arguments: PC is after the entry mask, and SP at the
 /// number of arguments.
 #[tactic(auto, unfolding(flat_state::specs::Flat::start_regs))]
 pub fn start_regs(entry: u32, arguments: &Arguments) -> Regs

@@ -50,7 +50,7 @@ abbrev pub with_page : Bool → List Page → Page → List Page
 with_page true pages page = pages
 with_page false pages page = pages ++ page ∷ []
 
--- these pages, and behind them each page of a list that isn't there yet
+-- these pages, and after them each page of a list that isn't there yet
 abbrev pub gathered : List Page → List Page → List Page
 gathered pages [] = pages
 gathered pages (p ∷ ps) = gathered (with_page (is_among p pages) pages p) ps

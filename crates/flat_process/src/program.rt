@@ -75,7 +75,7 @@ fn data_len(image: &Image) -> usize
     }
 }
 
-// So many bytes of a file from an offset on, and zeros behind them to whole pages.
+// So many bytes of a file from an offset on, and zeros after them to whole pages.
 fn segment(
     alloc: Global,
     bytes: &[u8],

@@ -97,7 +97,7 @@ start_sp arguments = stack_top - length (argument_area arguments)
 abbrev pub cleared : Regs
 cleared = record { r = replicate 16 0; n = false; z = false; v = false; c = false }
 
--- all is 0 but PC, behind the entry mask, and SP
+-- all is 0 but PC, after the entry mask, and SP
 unfoldable pub start_regs : ℕ → List (List ℕ) → Regs
 start_regs entry arguments =
     record cleared { r = slice_set (slice_set (replicate 16 0) 14 (start_sp arguments)) 15 (entry + 2) }

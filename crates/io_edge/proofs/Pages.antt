@@ -72,7 +72,7 @@ part-put_part_before at count start size bytes xs before within =
     ∙ sym (part-append start size (take at xs) (drop at xs) (omega arith))
     ∙ ap (λ (ys : List ℕ). part start size ys) (take-append-drop at xs)
 
--- a part behind it
+-- a part after it
 pub part-put_part_behind : (at count start size : ℕ) (bytes xs : List ℕ) → at + count ≤ start → at ≤ length xs → length bytes ≡ count
     → part start size (put_part at count bytes xs) ≡ part start size xs
 part-put_part_behind at count start size bytes xs behind within whole =

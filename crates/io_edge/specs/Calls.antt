@@ -12,7 +12,7 @@ pub record KeepsFiles {F : Type 0} (g : FilesGhosts F) (old new : F) : Type 0 wh
   pub leads : g.leads old new
   pub holds : g.holds new ≡ g.holds old
 
--- files over reads that begin behind their first byte
+-- files over reads that begin after their first byte
 pub record ReadsPages {F : Type 0} (g : FilesGhosts F) (old new : F) : Type 0 where
   pub leads : g.leads old new
   pub holds : g.holds new ≡ g.holds old

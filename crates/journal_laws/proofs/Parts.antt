@@ -8,7 +8,7 @@ use Rattle.run_model.specs.Lawful.{Follows}
 use Rattle.paging_laws.proofs.Lawful.{follows_state}
 use Rattle.journal_laws.specs.Economy.{IsPart}
 
--- the first of them, and those behind
+-- the first of them, and those after
 pub both_follow : (A : Inputs) (us vs : List Entry) (s t : State) → Follows A s (us ++ vs) t
     → Follows A s us (state_after A s us) × Follows A (state_after A s us) vs t
 unfolding state_after

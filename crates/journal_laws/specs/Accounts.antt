@@ -77,7 +77,7 @@ IsCalledFor A s u = Unit {0}
 
 -- The account.
 
--- What is so of a unit, at the state before it: behind it each frame and block has one owner or is free; where it is an entry of a
+-- What is so of a unit, at the state before it: after it each frame and block has one owner or is free; where it is an entry of a
 -- process, that can step, is in, and has all pages that its instruction touches; space is refused where there is none; pages come
 -- as they are called for; a page that lost its frame did so for a reason; a dirty page is so still, or was written or given up;
 -- and what must be written, text among it, stays off the free list till its write has ended, but for units of processes.

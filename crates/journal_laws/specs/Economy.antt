@@ -18,7 +18,7 @@ pub record IsPart (A : Inputs) (s : State) (us : List Entry) (at : State) (part 
   pub whole : us ≡ before ++ part ++ behind
   pub state : at ≡ state_after A s before
 
--- A stretch of the closing phase: behind a turn or a counted instruction up to the next of either, or fewer units.
+-- A stretch of the closing phase: after a turn or a counted instruction up to the next of either, or fewer units.
 pub record IsStretch (A : Inputs) (at : State) (u : Entry) (stretch : List Entry) : Type 0 where
   pub begins : begins_stretch u ≡ true
   pub pid : ℕ

@@ -1,6 +1,6 @@
 ghost use Rattle.journal_laws.specs.Journals.{UnitsAreAccounted, UnitsAreEconomical, LeadsSayImage, JournalsAreLawful, JournalsAreAccounted, JournalsAreEconomical, JournalsLeaveImage};
 
-/// Next units from a state at which a run stands are accounted for, one by one. Behind each, also while transfers are in
+/// Next units from a state at which a run stands are accounted for, one by one. After each, also while transfers are in
 /// flight, each frame and each block of swap has one owner or is free.
 pub fn units_are_accounted()
     ensures { UnitsAreAccounted }

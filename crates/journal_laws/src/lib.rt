@@ -4,7 +4,7 @@
 //! - `units_are_accounted`: at each unit frames and blocks have one owner, its process is ready, space is refused rightly,
 //!   pages come as they are called for, and leave their frames for a reason, once written.
 //! - `units_are_economical`: stretches are short, few turns in a row count nothing, and writes are worth it.
-//! - `leads_say_image`: the swap image behind units is the one that they say.
+//! - `leads_say_image`: the swap image after units is the one that they say.
 //! - `lawful_journals`: all of it, from the start of a run, with a lawful journal.
 #![tactic(auto)]
 

@@ -55,7 +55,7 @@ words_joined : (ws vs : List ℕ) → flat_map word_bytes (ws ++ vs) ≡ flat_ma
 words_joined [] vs = refl
 words_joined (w ∷ ws) vs = ap (λ (l : List ℕ). w % 2 ^ 8 ∷ w / 2 ^ 8 % 2 ^ 8 ∷ w / 2 ^ 16 % 2 ^ 8 ∷ w / 2 ^ 24 % 2 ^ 8 ∷ l) (words_joined ws vs)
 
--- whatever stands behind them
+-- whatever stands after them
 pub regs_back_any : (regs : Regs) (data_pages stack_pages : ℕ) → AreRegs regs → regs_in (u_page regs data_pages stack_pages) ≡ regs
 unfolding u_page
 regs_back_any regs d s a =

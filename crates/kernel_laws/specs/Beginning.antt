@@ -25,7 +25,7 @@ NextIsStarting = (A : Inputs) (first : List Starting) (number : ℕ) (named : Na
     → AreStarting A.images A.first first → image_numbered A.images number ≡ Some named
     → AreStarting A.images (with_first A number).first (first ++ starting_in number named ∷ [])
 
--- one first process more finds its pieces behind those of the others
+-- one first process more finds its pieces after those of the others
 abbrev pub NextFindsPieces : Type 0
 NextFindsPieces = (size : ℕ) (images : List Image) (first : List Starting) (a : Starting) (frames : ℕ) (hs : Holdings)
     → first_found size images first frames ≡ Ok hs

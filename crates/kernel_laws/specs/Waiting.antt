@@ -17,7 +17,7 @@ FoundPiecesWait = (size : ℕ) (images : List NamedImage) (m : KernelState) (fou
     → place_all size m.kernel.holdings (asked (facts_of images) m.kernel pid change) ≡ Ok found
     → Waits size images (state_after images m (FindUnit found)) pid change
 
--- they wait still behind any number of transfers that end
+-- they wait still after any number of transfers that end
 abbrev pub PiecesWaitOn : Type 0
 PiecesWaitOn = (size : ℕ) (images : List NamedImage) (reads : List (List (List ℕ))) (m : KernelState) (pid : ℕ)
     (change : AnyChange)

@@ -6,7 +6,7 @@
 //! - `pieces_wait`: pieces that were found for a change take nothing from others while they wait.
 //! - `paging_may`: each unit that serves a page or forces a frame may be made, and a write by which a process goes out.
 //! - `changes_ask`: what a change asks, of the placement and in pieces of swap.
-//! - `starts_begin`, `begins_keep`: the first processes of a run begin one by one, and what stands behind each.
+//! - `starts_begin`, `begins_keep`: the first processes of a run begin one by one, and what stands after each.
 //! - `start_is_owned`: once the first processes' pieces are found, each frame and each block has one owner.
 //! - `registers_kept`, `registers_leave`: the registers of who goes out leave the record, and come back from the u page.
 //! - `borrowers_have_lenders`, `writes_follow`: of the flat state: a borrower has one lender, and bytes are written one after

@@ -10,7 +10,7 @@ ghost use Rattle.kernel_model.specs.Start.{start_kernel, new_kernel, begin_step}
 ghost use Rattle.kernel_laws.specs.Beginning.{NextProcessBegins, NextIsStarting, NextFindsPieces, BeginningKeepsOwners};
 
 /// First processes begin one by one. The machine at the start of a run with none is new; with one first process more it is
-/// the machine with those before it, once that one began. It finds its pieces behind theirs.
+/// the machine with those before it, once that one began. It finds its pieces after theirs.
 pub fn starts_begin()
     ensures none { (A : Inputs) (frames : List (List ℕ)) → A.first ≡ []
         → start_kernel A [] [] frames ≡ new_kernel (facts_of A.images) A.frames frames }

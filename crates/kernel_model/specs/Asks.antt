@@ -21,7 +21,7 @@ use Rattle.kernel_model.specs.Kernel.{Life, Kernel, Proc}
 use Rattle.kernel_model.specs.Sound.{lives}
 use Rattle.kernel_model.specs.ChangeStep.{space_of_life, life_of_proc, gave_back}
 
--- the pieces behind those that are held, with which an owner has so many pages
+-- the pieces after those that are held, with which an owner has so many pages
 abbrev pub further : Owner → ℕ → ℕ → List Wanted
 further owner old new = wanted owner (drop (length (pieces (2 * old))) (pieces (2 * new)))
 

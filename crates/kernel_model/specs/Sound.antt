@@ -49,7 +49,7 @@ is_start (Some (CopyOf q parent)) = false
 abbrev pub KeepsStarts : Kernel → Type 0
 KeepsStarts k = (q : Page) → is_start (due_at k.place.due q) ≡ false → has_start k.starts q ≡ false
 
--- the data of an image is as long as its pages, and zeros behind what its file gives
+-- the data of an image is as long as its pages, and zeros after what its file gives
 pub record DataFits (image : Loaded) : Type 0 where
   pub size : length image.data ≡ 1024 * data_pages_of image.facts
   pub rest : (v : ℕ) → data_given image.facts ≤ 1024 * v → v < data_pages_of image.facts → page_at v image.data ≡ zeros

@@ -49,7 +49,7 @@ new_kernel images count frames = record {
 }
 
 -- the process is in from the start, and has a space of its own number with the pages of its image; stack page 0 of that
--- is due, behind those of the processes before it
+-- is due, after those of the processes before it
 abbrev pub begin_place : Placement → ℕ → ℕ → Image → Placement
 begin_place p pid image facts = record p {
   spaces = p.spaces ++ new_pages pid image facts ∷ [];

@@ -275,7 +275,7 @@ has_died t u was now status h f a b c s e =
     (gone_residents t.processes u.processes t.next_pid now.pid (Some z) c refl)
     (changed_records t.processes u.processes t.next_pid now.pid was (Some z) s f c (alone_stands z was (record { lends = λ n. refl; borrows = b }) a) h)
 
--- one behind another
+-- one after another
 pub then_has : (t u w : Tables) (ps qs : List Proc) (rs ss : List Residence) → HasProcesses t u t.next_pid ps rs
     → HasProcesses u w u.next_pid qs ss → HasProcesses t w t.next_pid qs ss
 then_has t u w ps qs rs ss a b = record {

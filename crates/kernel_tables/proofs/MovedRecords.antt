@@ -23,7 +23,7 @@ use Rattle.kernel_tables.proofs.Records.{keeps_none, keeps_some, found_pid, show
 use Rattle.kernel_tables.proofs.Recorded.{changed_records, same_life}
 use Rattle.kernel_tables.proofs.Lives.{pid_of, hit, miss}
 
--- the same first, and the same behind it
+-- the same first, and the same after it
 pub same_first : {B : Type 0} (g h : ℕ → Option B) (x : ℕ) (xs : List ℕ) → g x ≡ h x → filter_map g xs ≡ filter_map h xs
     → filter_map g (x ∷ xs) ≡ filter_map h (x ∷ xs)
 same_first {B = B} g h x xs e rest = go (h x) refl

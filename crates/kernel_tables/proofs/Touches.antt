@@ -68,7 +68,7 @@ in_frame t q f k e = go (slot_at t.slots f) refl
         let same : page ≡ q = same_Some page q (sym (ap (λ (s : Token). page_by s (flown_at t.flown f)) h) ∙ held) in
         record { token = token; dirty = dirty; resident = h ∙ ap (λ (r : Page). tokens.Resident token r dirty) same; above = there.0; below = below }
 
--- The lists behind the write.
+-- The lists after the write.
 abbrev pub written : Lists → Page → ℕ → Token → Lists
 written t q f s = record t { slots = set t.slots f s; spaces = map (placed q (places.Frame f true true)) t.spaces }
 

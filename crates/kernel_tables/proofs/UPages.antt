@@ -13,7 +13,7 @@ words_length : (ws : List ℕ) → length (flat_map word_bytes ws) ≡ 4 * lengt
 words_length [] = refl
 words_length (w ∷ ws) = let h = words_length ws in let n = length-append (word_bytes w) (flat_map word_bytes ws) in omega arith
 
--- words behind those at the front of a page of zeros
+-- words after those at the front of a page of zeros
 front_is : (ws : List ℕ) → length ws ≡ 16 → (p0 p1 : List ℕ) → p0 ≡ replicate 1024 0
     → p1 ≡ take 0 p0 ++ flat_map word_bytes ws ++ drop (0 + 4 * length ws) p0 → p1 ≡ flat_map word_bytes ws ++ replicate 960 0
 front_is ws n p0 p1 z e =

@@ -92,7 +92,7 @@ pub record Zeroing (t u v w : Tables) (token filling : Frame) (q : Page) : Type 
   pub first : IsFirstStart (map due_shown t.fills.items) q
   pub once : DueOnce t.fills.items
 
--- the lists behind the step
+-- the lists after the step
 abbrev pub zeroed : Lists → ℕ → Option Page → List ℕ → Frame → Page → Lists
 zeroed t f page rest filling q = record (seated (taken t f page rest) filling q true) { fills = drop 1 t.fills }
 

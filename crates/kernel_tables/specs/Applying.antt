@@ -98,13 +98,13 @@ passed_before true k pid (Exec image top) = pass_step k pid (lender_among k.proc
 passed_before true k pid (End status) = pass_step k pid (lender_among k.processes pid)
 passed_before _ k pid change = k
 
--- and who lends its space passes it to the child behind the change
+-- and who lends its space passes it to the child after the change
 abbrev pub passed_behind : Kernel → ℕ → Change → Kernel
 passed_behind k pid (Lend child) = pass_step k pid child
 passed_behind k pid _ = k
 
 -- With the passes that belong to it the change is the unit of the kernel: whatever the kernel stood for before both, all
--- that is so between two units is so behind them, and the kernel stands for what the change makes of that.
+-- that is so between two units is so after them, and the kernel stands for what the change makes of that.
 abbrev pub ChangesWhole : Standing → Standing → ℕ → Regs → Change → Type 0
 ChangesWhole old new pid regs change = (images : List NamedImage) (m : KernelState) → ImagesFit images → facts_of images ≡ facts_named old.images
     → Invariant old.params.swap_blocks images m → MayComplete old.params.swap_blocks images m pid change

@@ -115,7 +115,7 @@ StopsFor (Err stops.FileFault) ts = OldestReadsFrom FromFile ts
 StopsFor (Err stops.SwapReadFault) ts = OldestReadsFrom FromSwap ts
 StopsFor (Err stops.SwapWriteFault) ts = OldestWrites ts
 
--- the swap image behind a call that stopped: only a write that failed changes it
+-- the swap image after a call that stopped: only a write that failed changes it
 abbrev pub SwapAfter : Result Bool Stop → Kernel → Option (List ℕ) → Option (List ℕ) → Type 0
 SwapAfter (Err stops.SwapWriteFault) k before after = SpoilsAfter k before after
 SwapAfter _ k before after = after ≡ before

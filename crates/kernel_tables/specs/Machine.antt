@@ -109,7 +109,7 @@ pub record Runs (k : Kernel) (t : Lists) (size : ℕ) : Type 0 where
   pub due : DueStand k.place
   pub tied : Tied t
 
--- pieces found their places behind those that were held before
+-- pieces found their places after those that were held before
 pub record WereFound (size : ℕ) (before now : Holdings) : Type 0 where
   pub pieces : List Wanted
   pub found : place_all size before pieces ≡ Ok now

@@ -12,7 +12,7 @@ abbrev pub IsBelowAll : ℕ → List ℕ → Type 0
 IsBelowAll n [] = Unit {0}
 IsBelowAll n (m ∷ ms) = (n < m) × IsBelowAll n ms
 
--- each number is below all that stand behind it
+-- each number is below all that stand after it
 abbrev pub AreRising : List ℕ → Type 0
 AreRising [] = Unit {0}
 AreRising (n ∷ ns) = IsBelowAll n ns × AreRising ns

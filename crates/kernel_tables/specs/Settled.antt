@@ -27,7 +27,7 @@ pub record IsSameBeside (old new : Standing) : Type 0 where
   pub images : new.images ≡ old.images
   pub before : new.before ≡ old.before
 
--- the machine stops at the end of a transfer, behind so many, and the space isn't settled there
+-- the machine stops at the end of a transfer, after so many, and the space isn't settled there
 pub record StopsSettling (sid : ℕ) (old new : Standing) (holds : Option (List NamedFile)) (before after : Option (List ℕ)) (stop : Stop) : Type 0 where
   pub count : ℕ
   pub between : Standing

@@ -45,7 +45,7 @@ abbrev pub SpoilsU : Kernel → ℕ → Option (List ℕ) → Option (List ℕ) 
 SpoilsU k pid None after = after ≡ None
 SpoilsU k pid (Some image) after = (bytes : List ℕ) × (length bytes ≡ 1024) × (after ≡ Some (store_at image (u_block k pid) bytes))
 
--- the swap image behind a call that stopped: only a write that failed changes it
+-- the swap image after a call that stopped: only a write that failed changes it
 abbrev pub SwapBehind : {A : Type 0} → Result A Stop → Kernel → ℕ → Option (List ℕ) → Option (List ℕ) → Type 0
 SwapBehind (Err stops.SwapWriteFault) k pid before after = SpoilsU k pid before after
 SwapBehind _ k pid before after = after ≡ before

@@ -18,7 +18,7 @@ use space_map::SpaceMap;
 use std::alloc::Global;
 use vm_facts::{Bytes, NoMemory, Page};
 
-/// The number behind this one; want of memory where there is none.
+/// The number after this one; want of memory where there is none.
 pub(crate) fn next(number: u32) -> Result<u32, NoMemory>
     ensures { IfOk result (λ next. next ≡ number + 1) }
 {
@@ -63,7 +63,7 @@ impl Tables {
         Ok(())
     }
 
-    /// Makes a space, of the next number, in which an image starts. Its stack page 0 is due with these bytes, behind what
+    /// Makes a space, of the next number, in which an image starts. Its stack page 0 is due with these bytes, after what
     /// is due before. Answers its number.
     pub fn enter_image(&mut self, alloc: Global, image: u32, top: Bytes) -> Result<u32, NoMemory>
         requires known { Known (lists_of self.old) }

@@ -90,7 +90,7 @@ fn words_in(page: &[u8; 1024]) -> [u32; 16]
     words
 }
 
-// The longword behind the registers of a u page.
+// The longword after the registers of a u page.
 fn codes_in(page: &[u8; 1024]) -> u32
     ensures { result ≡ get_or (longwords 17 page.now) 16 0 }
 {

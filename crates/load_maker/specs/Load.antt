@@ -17,7 +17,7 @@ use Rattle.load_maker.specs.Programs.{w_source, w_bytes, v_source, v_bytes}
 abbrev pub load_pages : ℕ → ℕ
 load_pages number = 40 + number % 25
 
--- how many zeros `w` wants behind its text, and `v`
+-- how many zeros `w` wants after its text, and `v`
 abbrev pub w_bss : ℕ
 w_bss = 8192
 

@@ -54,7 +54,7 @@ w_source pages = source_text (
     ∷ codes ".byte 0x0a"
     ∷ [])
 
--- the same from address 0 on; each line has its address behind it, and what it is
+-- the same from address 0 on; each line has its address after it, and what it is
 unfoldable pub w_bytes : ℕ → List ℕ
 w_bytes pages =
     (0x00 ∷ 0x00 ∷ [])  -- 0000 the entry mask

@@ -1,4 +1,4 @@
--- The sources of the transfers in flight, where a space comes and pieces of swap are found behind those that are held.
+-- The sources of the transfers in flight, where a space comes and pieces of swap are found after those that are held.
 use Rattle.std.proofs.Common.{◌≡◌, ◌≢◌, ℕ, ◌<◌, false, List, [], ◌∷◌, ◌++◌, length, map, Option, Some, Ok, sym, ap, ◌∙◌, subst, arith}
 use Rattle.std.proofs.lemmas.List.Elements.{filter-append}
 use Rattle.vm_facts.specs.declared.page.Page.{Page}
@@ -24,7 +24,7 @@ use Rattle.table_steps.proofs.PageLawsMovesSteps.{page_in, frame_of_moving}
 use Rattle.table_steps.specs.Sourced.{ImageNamed, named_at, IsRangeOf, IsSourced, AreSourcedIn, AreOwnBlocks, IsFlightSourced, AreSourced}
 use Rattle.table_steps.specs.View.{source_shown, in_part, out_part, transfer_shown}
 
--- a page keeps its block where pieces are found behind those that are held
+-- a page keeps its block where pieces are found after those that are held
 pub block_still : (size : ℕ) (hs now : Holdings) (ws : List Wanted) (q : Page) (block : ℕ) → place_all size hs ws ≡ Ok now
     → block_of hs q ≡ Some block → block_of now q ≡ Some block
 block_still size hs now ws q block e b =

@@ -315,7 +315,7 @@ module _ (t u : Tables) (j : List Entry) (b : Bool) (pid : ℕ) (regs : Regs) (e
     pub flat_params : w.params ≡ t.params
     flat_params = made.params
 
-    -- all that stands behind it
+    -- all that stands after it
     size_is : w.book.size ≡ t.book.size
     size_is = ap (λ (x : Book). x.size) book_is
 

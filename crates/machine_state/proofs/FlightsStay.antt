@@ -97,7 +97,7 @@ some_of : {A : Type 0} (o : Option A) → IsSome o → (x : A) × (o ≡ Some x)
 some_of None h = absurd cc
 some_of (Some x) h = (x, refl)
 
--- a block that a page has behind it is the one that it had
+-- a block that a page has after it is the one that it had
 same_block : (o n : Option ℕ) (block : ℕ) → o ≡ Some block → IsSome n → ((x : ℕ) → n ≡ Some x → o ≡ Some x) → n ≡ Some block
 same_block o n block e h back =
     let x = some_of n h in
@@ -123,7 +123,7 @@ moving_needs p q (Reads s d) f h = ap (λ (s : PageState). needs_blocks_by q s (
     coming (Text n v) true = refl
     coming (Text n v) false = refl
 
--- Images. A space that is there before and behind a change has its image still.
+-- Images. A space that is there before and after a change has its image still.
 
 abbrev IsSpace : Placement → ℕ → Type 0
 IsSpace p n = numbered space_number n p.spaces ≢ None
@@ -198,7 +198,7 @@ image_stays images p pid sid b next at (End status) n d there = unless_image b p
 
 -- The ring.
 
--- pages that are in flight before and behind
+-- pages that are in flight before and after
 record Stay (f g : ℕ → ℕ) (hs now : Holdings) (m : Moving) : Type 0 where
   pub block : (x : ℕ) → block_of hs m.page ≡ Some x → block_of now m.page ≡ Some x
   pub image : (sid v : ℕ) → m.page ≡ Data sid v → g sid ≡ f sid
@@ -242,7 +242,7 @@ ring_stays ns f g hs now size (flights.Write parts ∷ ts) k h =
     let r = writes_stay f g hs now size Writes parts.items (parts_of (map transfer_shown ts)) k h.0 in
     (r.0, ring_stays ns f g hs now size ts r.1 h.1)
 
--- what is in flight before and behind
+-- what is in flight before and after
 pub record Behind (images : List Image) (size : ℕ) (lives : ℕ → Bool) (p : Placement) (pid sid : ℕ) (b : Bool) (next at : ℕ) (change : Change) (before hs now : Holdings) : Type 0 where
   pub owns : OneOwner size lives (place_change images p pid sid b next at change) now
   pub same : (place_change images p pid sid b next at change).transfers ≡ p.transfers
@@ -283,7 +283,7 @@ each_stays images size lives p pid sid b next at change before hs now z (m ∷ m
           image_stays images p pid sid b next at change n (λ i. data_space p n v there (ap (λ (j : ℕ). numbered space_number j p.spaces) (sym i) ∙ z.new)) (data_space q n v here);
     }
 
--- the transfers have their sources behind a change
+-- the transfers have their sources after a change
 pub sourced_behind : (ns : List ImageNamed) (images : List Image) (size : ℕ) (lives : ℕ → Bool) (p : Placement) (pid sid : ℕ) (b : Bool) (next at : ℕ) (change : Change) (before hs now : Holdings) (ts : List Flight)
     → Behind images size lives p pid sid b next at change before hs now → p.transfers ≡ map transfer_shown ts → OwnsFrames p
     → AreSourced ns (image_of p) before size ts → AreSourced ns (image_of (place_change images p pid sid b next at change)) now size ts

@@ -150,7 +150,7 @@ each_still size hs now owner blocks [] g o may = tt
 each_still size hs now owner blocks (w ∷ ws) g o may =
     (grow_still hs now w.owner w.blocks (other_count size hs now owner w.owner blocks g o.0) may.0, each_still size hs now owner blocks ws g o.1 may.1)
 
--- The first want, and the others behind it.
+-- The first want, and the others after it.
 
 pub found_behind : (size : ℕ) (hs now : List Held) (w : Want) (ws : List Want) → Grew size hs now w.owner w.blocks → IsOther w.owner ws
     → found_for size hs (w ∷ ws) ≡ found_for size now ws
@@ -193,7 +193,7 @@ pub all_found : (r : Result Holdings ℕ) → answer_of r ≡ AllFound → (hs :
 all_found (Ok hs) e = (hs, refl)
 all_found (Err n) e = absurd cc
 
--- The first want was found, and the others were asked for behind it.
+-- The first want was found, and the others were asked for after it.
 pub record Behind (b now later : Book) (w : Want) (ws : List Want) (keeps : Bool) (r : Result Bool NoMemory) : Type 0 where
   pub hs : Holdings
   pub found : growth_of b w.owner w.blocks ≡ Ok hs
@@ -268,7 +268,7 @@ pub behind_err : (r : Result Bool NoMemory) (last b : Book) → last ≡ b → O
 behind_err (Ok fits) last b e = tt
 behind_err (Err x) last b e = e
 
--- the others may be asked for behind the first
+-- the others may be asked for after the first
 pub can_behind : (b now : Book) (hs : Holdings) (w : Want) (ws : List Want) → growth_of b w.owner w.blocks ≡ Ok hs
     → now ≡ grown_book b (growth_of b w.owner w.blocks) → CanAsk b.holdings (w ∷ ws) → CanAsk now.holdings ws
 can_behind b now hs w ws found is can =

@@ -1,4 +1,4 @@
--- A machine behind a reference that a memory holds.
+-- A machine after a reference that a memory holds.
 use Rattle.std.specs.Prelude.{◌≡◌, List}
 use Rattle.std.specs.Borrow.{MutBor}
 use Rattle.vm_facts.specs.Answers.{ByteWrite}

@@ -9,7 +9,7 @@ use Rattle.core_map.specs.Frames.{Frames}
 use Rattle.page_model.specs.Placement.{Placement, IsFrame, page_of, is_dirty, parts_of, flying}
 use Rattle.table_steps.specs.TableViewShown.{is_away}
 
--- There is a slot for each frame, behind one that is no frame's. The free list is the placement's, and no other frame is
+-- There is a slot for each frame, after one that is no frame's. The free list is the placement's, and no other frame is
 -- free; a free frame has the page that it still holds, if any; the frames in transfers are away, and no other is; and a
 -- frame that is neither has its page, with a mark that says whether that is dirty.
 pub record ShowsCore (p : Placement) (core : Frames) : Type 0 where

@@ -74,7 +74,7 @@ frame_there [] (suc f) e = absurd cc
 frame_there (x ∷ xs) (suc zero) e = (omega arith, omega arith)
 frame_there (x ∷ xs) (suc (suc f)) e = let h = frame_there xs (suc f) e in (omega arith, omega (arith, h.1))
 
--- the frame behind the write
+-- the frame after the write
 frame_after : (k : Kernel) (q : Page) (f at byte : ℕ) → IsTouched k q f at → frame_bytes (write_step k q f at byte) f ≡ set (frame_bytes k f) at byte
 frame_after k q f at byte t =
     let there = frame_there k.frames f t.whole in
@@ -241,7 +241,7 @@ pub writes_answer : (k : Kernel) (sid : ℕ) (ws : List ByteWrite) → AreWritte
 writes_answer k sid [] h = refl
 writes_answer k sid (w ∷ ws) h = writes_answer (write_in k sid w) sid ws h.1 ∙ ap (λ (x : Answers). written x ws) (put_answers k sid w h.0)
 
--- writes behind writes
+-- writes after writes
 pub writes_append : (k : Kernel) (sid : ℕ) (xs ys : List ByteWrite) → writes_in k sid (xs ++ ys) ≡ writes_in (writes_in k sid xs) sid ys
 writes_append k sid [] ys = refl
 writes_append k sid (x ∷ xs) ys = writes_append (write_in k sid x) sid xs ys

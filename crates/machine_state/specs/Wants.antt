@@ -38,7 +38,7 @@ pub record CanAsk (hs : Holdings) (ws : List Want) : Type 0 where
   pub differ : OwnersDiffer ws
   pub each : MayGrow hs ws
 
--- the book behind a request, whose pieces it keeps where they are found, or only looked for
+-- the book after a request, whose pieces it keeps where they are found, or only looked for
 abbrev pub book_asked : Bool → Book → List Want → Book
 book_asked true b ws = grown_book b (found_for b.size b.holdings ws)
 book_asked false b ws = b

@@ -28,7 +28,7 @@ use text_table::TextTable;
 use transfer_ring::{Finished, Transfer, TransferRing};
 use vm_facts::{Entry, NoMemory, Page, Params, Stop};
 
-/// The machine: all tables and the journal. Contracts see it as lists, the kernel of `page_model`, and its sizes.
+/// The machine: all tables and the journal. Contracts see it as lists, the kernel of `kernel_model`, and its sizes.
 ///
 /// Tokens can't be dropped, so a machine must be ended.
 pub struct Machine {

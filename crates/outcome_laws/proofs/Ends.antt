@@ -1,4 +1,4 @@
--- Behind the end of the only process nothing more is done.
+-- After the end of the only process nothing more is done.
 use Rattle.std.proofs.Common.{◌≡◌, ℕ, ◌==◌, Bool, true, false, cond, ◌||◌, List, [], ◌∷◌, filter, Option, Some, None, Result, Ok, Err, ℤ, refl, sym, ap, ◌∙◌, subst, if◌then◌else◌}
 use Rattle.std.proofs.lemmas.Option.{same_Some}
 use Rattle.vm_facts.specs.Answers.{ByteWrite}
@@ -116,7 +116,7 @@ stops_entry_of n A point q pid (entries.Ended p status) h end k =
     (due_ends point.last pid (step_at A point pid).entries (can_step (step_at A point pid).after n ≡ false) (stops_step n A point.flat pid (is_refused point.last pid) k)))
 stops_entry_of n A point q pid _ h end k = absurd cc
 
--- behind the entry of its end a process can't step
+-- after the entry of its end a process can't step
 stops_entry : (n : ℕ) (A : Inputs) (point q : Point) (pid : ℕ) (e : Entry) → process_of_entry e ≡ Some pid → flat_entry A point e ≡ Some q → is_end e ≡ true
     → Only n point.flat.processes → can_step q.flat n ≡ false
 unfolding flat_entry
@@ -129,7 +129,7 @@ stops_entry n A point q pid e of h end k =
 
 -- Acts.
 
--- behind acts with an end among them the process can't step
+-- after acts with an end among them the process can't step
 pub end_stops : (A : Inputs) (xs : List Entry) (point p : Point) → Only 1 point.flat.processes → ArePlainActs xs → flat_units A (Some point) xs ≡ Some p → has_end xs ≡ true
     → can_step p.flat 1 ≡ false
 unfolding flat_units

@@ -1,4 +1,4 @@
--- Where each process has one number and no parent, that stays so behind a change by which no process comes; and behind its end no
+-- Where each process has one number and no parent, that stays so after a change by which no process comes; and after its end no
 -- process is left.
 use Rattle.std.proofs.Common.{◌≡◌, ℕ, ◌==◌, Bool, true, false, not, cond, List, [], ◌∷◌, ◌++◌, map, filter, find, Option, Some, None, refl, ap, ◌∙◌, sym, subst, if◌then◌else◌, eq-eqb}
 use Rattle.std.proofs.lemmas.Option.{same_Some}
@@ -166,7 +166,7 @@ ended_none n F p s status h k =
 none_steps : (F : FlatState) (pid : ℕ) → F.processes ≡ [] → can_step F pid ≡ false
 none_steps F pid none = ap (λ (qs : List Process). ready_if (find (λ q. q.pid == pid) qs)) none
 
--- behind its end the process can't step
+-- after its end the process can't step
 pub end_applied : (n : ℕ) (images : List NamedImage) (F : FlatState) (pid : ℕ) (regs : Regs) (status : ℕ) → Only n F.processes
     → can_step (apply_change images F pid regs (End status)) pid ≡ false
 unfolding apply_change

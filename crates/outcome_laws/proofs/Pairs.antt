@@ -66,7 +66,7 @@ visible_agrees A B journal other p q pair = go (one_goes_on A B journal other p 
 no_more : (xs rest ys : List Entry) → xs ++ rest ≡ ys → rest ≡ [] → xs ≡ ys
 no_more xs rest ys h none = sym (append-nil xs) ∙ ap (λ (es : List Entry). xs ++ es) (sym none) ∙ h
 
--- behind a run whose end is seen the process can't step
+-- after a run whose end is seen the process can't step
 pub end_is_last : (A : Inputs) (journal : List Entry) (p : Point) → IsSingle A journal p → has_end (visible_of journal) ≡ true → can_step p.flat 1 ≡ false
 end_is_last A journal p one end =
     end_stops A (acts_of journal) (start_point A) p (only_started A.images A.first one.image one.first) (plain_acts journal one.served one.childless)

@@ -28,7 +28,7 @@ abbrev pub OverIsAll : Type 0
 OverIsAll = (A B : Inputs) (journal other : List Entry) (p q : Point) → IsPair A B journal other p q
     → can_step p.flat 1 ≡ false → Begins (visible_of other) (visible_of journal)
 
--- where the process can't step behind either, both are the same to their ends
+-- where the process can't step after either, both are the same to their ends
 pub record IsSame (journal other : List Entry) (p q : Point) : Type 0 where
   pub acts : acts_of journal ≡ acts_of other
   pub visible : visible_of journal ≡ visible_of other
@@ -38,6 +38,6 @@ abbrev pub BothOverAreSame : Type 0
 BothOverAreSame = (A B : Inputs) (journal other : List Entry) (p q : Point) → IsPair A B journal other p q
     → can_step p.flat 1 ≡ false → can_step q.flat 1 ≡ false → IsSame journal other p q
 
--- behind a run whose end is seen the process can't step
+-- after a run whose end is seen the process can't step
 abbrev pub EndIsLast : Type 0
 EndIsLast = (A : Inputs) (journal : List Entry) (p : Point) → IsSingle A journal p → has_end (visible_of journal) ≡ true → can_step p.flat 1 ≡ false

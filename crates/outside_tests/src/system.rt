@@ -44,7 +44,7 @@ fn unlike(alloc: Global, count: u32) -> Result<Vec<u8>, AllocError> {
     Ok(bytes)
 }
 
-// The text of an image that isn't paged begins behind its header of 32 bytes, so its pages begin at no multiple of 1,024.
+// The text of an image that isn't paged begins after its header of 32 bytes, so its pages begin at no multiple of 1,024.
 #[test]
 fn a_page_is_read_from_where_it_begins(rt: HostRuntime) -> Result<(), Fail> {
     let bytes = unlike(rt.alloc(), 2080)?;

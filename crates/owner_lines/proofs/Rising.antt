@@ -68,7 +68,7 @@ next_is_first b [] = refl
 next_is_first b (h ∷ hs) =
     ap (λ (o : Option Held). cond (ltb h.start b) o (Some (nearer h o))) (next_is_first b hs) ∙ sym (first_placed b h (rising hs))
 
--- each piece has blocks, and begins behind the end of the one before it
+-- each piece has blocks, and begins after the end of the one before it
 abbrev pub Follow : ℕ → Holdings → Type 0
 Follow b [] = Unit {0}
 Follow b (h ∷ hs) = (b ≤ h.start) × (0 < h.length) × Follow (h.start + h.length) hs
@@ -176,7 +176,7 @@ text_step size b hs h book e =
 pub text_end : (size b : ℕ) (hs : Holdings) → None ≡ next_from b hs → text_from size b hs ≡ gap_line b size
 text_end size b hs e = ap (blocks_from size b) (all_none b (rising hs) (sym (e ∙ next_is_first b hs)))
 
--- The piece that begins next begins at the block or behind it, and ends within the area.
+-- The piece that begins next begins at the block or after it, and ends within the area.
 
 nearer_of : (P : Held → Type 0) (h : Held) (o : Option Held) → P h → ((g : Held) → o ≡ Some g → P g) → P (nearer h o)
 nearer_of P h None x k = x

@@ -60,7 +60,7 @@ inbound_line x = moved_line x.page x.token.number (block_read x.source)
 abbrev pub outbound_line : Outbound → List ℕ
 outbound_line x = moved_line x.page x.token.number (Some x.block)
 
--- what stands behind a transfer's number, and the lines of its pages
+-- what stands after a transfer's number, and the lines of its pages
 abbrev pub flight_text : Flight → List ℕ
 flight_text (flights.Read demanded parts) = source_word (source_shown parts.items) ++ page_text demanded ++ codes "\n" ++ flat_map inbound_line parts.items
 flight_text (flights.Write parts) = codes " write\n" ++ flat_map outbound_line parts.items

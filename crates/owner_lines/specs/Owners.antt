@@ -23,7 +23,7 @@ abbrev pub word_if : Bool → List ℕ → List ℕ
 word_if true word = word
 word_if false word = []
 
--- a page behind a space, where there is one
+-- a page after a space, where there is one
 abbrev pub page_if : Option Page → List ℕ
 page_if None = []
 page_if (Some q) = page_text q
@@ -81,7 +81,7 @@ abbrev pub used_text : Placement → Option Page → List ℕ
 used_text p None = []
 used_text p (Some q) = used_by p q (state_of p q)
 
--- the page that a frame on the free list still holds, if any, behind the frame's place
+-- the page that a frame on the free list still holds, if any, after the frame's place
 abbrev pub free_text : ℕ → Option Page → List ℕ
 free_text n page = codes " free" ++ parts (n ∷ []) ++ page_if page
 
@@ -106,7 +106,7 @@ abbrev pub errand_text : Errand → List ℕ
 errand_text Writes = codes " write"
 errand_text (Reads source demanded) = source_word source ++ page_text demanded
 
--- a block behind a space, where there is one
+-- a block after a space, where there is one
 abbrev pub block_if : Option ℕ → List ℕ
 block_if None = []
 block_if (Some b) = parts (b ∷ [])

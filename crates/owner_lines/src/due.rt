@@ -13,7 +13,7 @@ use machine_state::Machine;
 use run_text::{OutputBuffer, put_page};
 use vm_facts::Page;
 
-// Puts a page behind a word.
+// Puts a page after a word.
 fn put_word_and_page<S: Sink>(
     out: &mut OutputBuffer,
     sink: &mut S,

@@ -17,7 +17,7 @@ use machine_state::Machine;
 use proc_table::{Life, Proc, ProcTable};
 use run_text::{OutputBuffer, put_named};
 
-// Puts the space that a process holds, behind the word that says whether the process is out.
+// Puts the space that a process holds, after the word that says whether the process is out.
 fn put_space<S: Sink>(
     out: &mut OutputBuffer,
     sink: &mut S,

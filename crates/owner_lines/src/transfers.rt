@@ -25,7 +25,7 @@ fn block_read(source: Source) -> Option<u32>
     }
 }
 
-// Puts a block behind a space, where there is one.
+// Puts a block after a space, where there is one.
 fn put_block_if<S: Sink>(
     out: &mut OutputBuffer,
     sink: &mut S,
@@ -133,7 +133,7 @@ fn source_word(parts: &[Inbound]) -> &'static [u8]
     }
 }
 
-// Puts what stands behind the number of a read, and the lines of its pages.
+// Puts what stands after the number of a read, and the lines of its pages.
 fn put_read<S: Sink>(
     out: &mut OutputBuffer,
     sink: &mut S,
@@ -150,7 +150,7 @@ fn put_read<S: Sink>(
     put_all_inbound(out, sink, parts)
 }
 
-// Puts what stands behind the number of a write, and the lines of its pages.
+// Puts what stands after the number of a write, and the lines of its pages.
 fn put_write<S: Sink>(
     out: &mut OutputBuffer,
     sink: &mut S,
@@ -164,7 +164,7 @@ fn put_write<S: Sink>(
     put_all_outbound(out, sink, parts)
 }
 
-// Puts what stands behind the number of a transfer, and the lines of its pages.
+// Puts what stands after the number of a transfer, and the lines of its pages.
 fn put_flight<S: Sink>(
     out: &mut OutputBuffer,
     sink: &mut S,

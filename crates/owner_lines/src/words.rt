@@ -22,7 +22,7 @@ pub(crate) fn put_if<S: Sink>(
     if is_so { out.put(sink, word) } else { Ok(()) }
 }
 
-/// Puts a page behind a space, where there is one.
+/// Puts a page after a space, where there is one.
 pub(crate) fn put_page_if<S: Sink>(
     out: &mut OutputBuffer,
     sink: &mut S,

@@ -64,7 +64,7 @@ fn main(rt: HostRuntime) -> ExitCode {
     }
 }
 
-/// Reads the words behind the program's name: at most 4,000,000 references, at least one page and one frame.
+/// Reads the words after the program's name: at most 4,000,000 references, at least one page and one frame.
 fn read_size(mut words: Args<Global>) -> Option<Size>
     ensures { IfSome result (λ size. (size.references ≤ 4000000) × (0 < size.pages) × (0 < size.frames)) }
 {

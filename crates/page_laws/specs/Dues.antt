@@ -7,7 +7,7 @@ use Rattle.page_model.specs.Place.{place_change}
 use Rattle.page_model.specs.Conditions.{CanChange, ApartFrom}
 use Rattle.page_model.specs.Dues.{DueStand}
 
--- behind a change that comes while nothing is due, what is due stands
+-- after a change that comes while nothing is due, what is due stands
 abbrev pub ChangeKeepsDue : Type 0
 ChangeKeepsDue = (images : List Image) (p : Placement) (pid sid : ℕ) (borrowed : Bool) (next_sid at : ℕ)
     (change : AnyChange)

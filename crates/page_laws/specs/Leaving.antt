@@ -21,7 +21,7 @@ takes_frames (entries.Get q lo n) = true
 takes_frames e = false
 
 -- A page whose frame is taken: the frame was free and still held the page, which was invalid and, of data or stack, clean.
--- Behind it the page is on swap alone, or, text that isn't saved, in its file alone.
+-- After it the page is on swap alone, or, text that isn't saved, in its file alone.
 pub record IsTaken (p r : Placement) (q : Page) (f : ℕ) : Type 0 where
   pub state : state_of p q ≡ Invalid f
   pub free : 0 < times f p.free
@@ -42,11 +42,11 @@ IsGivenUp sid borrowed (changes.Exec image top) q = (borrowed ≡ false) × (is_
 IsGivenUp sid borrowed (changes.End status) q = (borrowed ≡ false) × (is_of_space sid q ≡ true)
 IsGivenUp sid borrowed _ q = ⊥
 
--- behind an entry the page has its frame still, or the entry took that
+-- after an entry the page has its frame still, or the entry took that
 abbrev pub StaysOrTaken : Placement → Entry → Placement → Page → ℕ → Type 0
 StaysOrTaken p e r q f = (frame_of (state_of r q) ≡ Some f) ⊎ ((takes_frames e ≡ true) × IsTaken p r q f)
 
--- behind a change the page has the frame that it had, if any, or it has none and was given up
+-- after a change the page has the frame that it had, if any, or it has none and was given up
 abbrev pub StaysOrGivenUp : Placement → ℕ → Bool → Change → Placement → Page → Type 0
 StaysOrGivenUp p sid borrowed change r q =
     (frame_of (state_of r q) ≡ frame_of (state_of p q)) ⊎ ((frame_of (state_of r q) ≡ None) × IsGivenUp sid borrowed change q)
@@ -56,7 +56,7 @@ pub record IsDirtyIn (p : Placement) (q : Page) (f : ℕ) : Type 0 where
   pub frame : frame_of (state_of p q) ≡ Some f
   pub dirty : is_marked_dirty q (mark_of p q) ≡ true
 
--- behind a change it is so still, or was given up
+-- after a change it is so still, or was given up
 abbrev pub DirtyOrGivenUp : ℕ → Bool → Change → Placement → Page → ℕ → Type 0
 DirtyOrGivenUp sid borrowed change r q f = IsDirtyIn r q f ⊎ IsGivenUp sid borrowed change q
 
@@ -72,6 +72,6 @@ pub record IsWritten (p r : Placement) (q : Page) (f : ℕ) : Type 0 where
   pub now : state_of r q ≡ Invalid f
   pub clean : is_dirty r q ≡ false
 
--- behind an entry it must be written still, or its write completed
+-- after an entry it must be written still, or its write completed
 abbrev pub StaysOrWritten : Placement → Entry → Placement → Page → ℕ → Type 0
 StaysOrWritten p e r q f = IsUnwritten r q f ⊎ ((e ≡ entries.Done) × IsWritten p r q f)

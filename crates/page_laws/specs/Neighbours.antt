@@ -26,7 +26,7 @@ pub record IsLongestRun (Joins MayBe : ℕ → Type 0) (v : ℕ) (r : Run) : Typ
 
 -- Reading.
 
--- so many pages may be read at once: at most `most`; and where they are several, as many frames are free behind
+-- so many pages may be read at once: at most `most`; and where they are several, as many frames are free after
 -- them as are desired
 abbrev pub MayRead : Placement → ℕ → ℕ → Type 0
 MayRead p most n = (n ≤ most) × ((n ≡ 1) ⊎ (n + desired_free p ≤ length p.free))

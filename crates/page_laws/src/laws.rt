@@ -118,7 +118,7 @@ pub fn others_same()
 
 /// Forcing a frame ends: `far` falls with each unit, whatever is locked. With nothing in flight it is at most one
 /// more than there are frames, so a frame is free, or its write in flight, after as many moves as there are frames.
-/// What was locked and valid stays valid. What forcing asks of the hands and of the frames is so again behind each unit,
+/// What was locked and valid stays valid. What forcing asks of the hands and of the frames is so again after each unit,
 /// so it comes to a free frame, after no more units than `far` says.
 pub fn forcing_ends()
     ensures falls { (p : Placement) (locked : List Page) → OwnsFrames p → HandsStand p → HasRoom p locked → p.free ≡ []
@@ -133,7 +133,7 @@ pub fn forcing_ends()
 {}
 
 /// Serving a page ends: `rank` falls with each unit until the page is valid, and what was locked and valid stays
-/// valid. What serving asks is so again behind each unit, so the page is valid after no more units than `rank` says,
+/// valid. What serving asks is so again after each unit, so the page is valid after no more units than `rank` says,
 /// where waiting is allowed.
 pub fn serving_ends()
     ensures falls { (p : Placement) (locked : List Page) (q : Page) → OwnsFrames p → HandsStand p → HasRoom p locked → IsThere p q
@@ -190,8 +190,8 @@ pub fn residence_moves()
 {}
 
 /// What is due stays unfilled, with zeros, and the parent's page that it is copied from stays filled: through each
-/// paging entry that fills or reads no page that is due behind it, through forcing a frame, through serving a page that
-/// isn't due, and through a user write. It is so at the start, behind a fork, in a new space, and behind each change that
+/// paging entry that fills or reads no page that is due after it, through forcing a frame, through serving a page that
+/// isn't due, and through a user write. It is so at the start, after a fork, in a new space, and after each change that
 /// comes while nothing is due, also where an old space goes as the new one comes.
 pub fn due_kept()
     ensures entry { (locked : List Page) (at : ℕ) (p : Placement) (e : Entry) → OwnsFrames p → CanPlace p e → LeavesDue p e → DueStand p

@@ -30,7 +30,7 @@ DueStand p = (q : Page) (d : Due) → due_at p.due q ≡ Some d → IsDue p q d
 abbrev pub NotDue : List Due → Page → Type 0
 NotDue ds q = due_at ds q ≡ None
 
--- a page that an entry fills isn't due behind it, and one that it reads wasn't
+-- a page that an entry fills isn't due after it, and one that it reads wasn't
 abbrev pub LeavesDue : Placement → Entry → Type 0
 LeavesDue p (entries.Zero q) = NotDue (due_after p.due q) q
 LeavesDue p (entries.Copy q) = NotDue (due_after p.due q) q

@@ -35,7 +35,7 @@ abbrev pub put_rank : Placement → ℕ → ℕ → ℕ
 put_rank p pid sid = put_rank_by p sid (is_out p pid)
 
 -- each of these units is the one that puts the process out, and they lead from the first placement to the last; the
--- first is behind so many entries of the journal
+-- first is after so many entries of the journal
 abbrev pub PutsOut : List Entry → ℕ → Placement → ℕ → ℕ → Placement → Type 0
 PutsOut [] at p pid sid r = p ≡ r
 PutsOut (e ∷ es) at p pid sid r = (is_out p pid ≡ false) × (e ≡ put_out_unit p pid sid) × PutsOut es (at + 1) (place_entry [] (at + 1) p e) pid sid r

@@ -46,7 +46,7 @@ use Rattle.proc_calls.specs.FaultFillPagesServed.{Served}
 use Rattle.pager_tests.specs.Ready.{IsReady, HasStarted}
 use Rattle.pager_tests.proofs.SmallMachine.{shown_files}
 
--- Behind units of paging.
+-- After units of paging.
 
 pub makes_ready : (g : Ground) (us : List Entry) (old new : Standing) (i j : Option (List ℕ)) (holds later : Option (List NamedFile)) (blocks more : ℕ)
     → Makes g us old new i j
@@ -196,7 +196,7 @@ can_zero p t b d f = record {
   frame = f;
 }
 
--- Behind each call.
+-- After each call.
 
 pub served_ready : (r : Result (Unit {0}) Stop) (S : Stop → Type 0) (q : Page) (old new : Standing) (i j : Option (List ℕ)) (holds later : Option (List NamedFile)) (blocks more : ℕ)
     → MatchResult r (λ u. ServedNow [] q old new holds i j) S → later ≡ holds → more ≡ blocks → IsReady old holds blocks → OnOk r (IsReady new later more)

@@ -1,4 +1,4 @@
-// System calls over the pager: whole journals, each behind one call, by devices in memory.
+// System calls over the pager: whole journals, each after one call, by devices in memory.
 ghost use Rattle.std.specs.Prelude.{◌≡◌, ◌∷◌, [], false};
 ghost use Rattle.vm_facts.specs.declared.page.Page.{Page};
 ghost use Rattle.page_model.specs.Rank.{HasRoom};

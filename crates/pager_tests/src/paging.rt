@@ -46,7 +46,7 @@ pub(crate) fn of_zeros() -> Image
     }
 }
 
-// A page of text, 16 pages of data that the file has, and 48 of zeros behind them.
+// A page of text, 16 pages of data that the file has, and 48 of zeros after them.
 fn of_file() -> Image
     ensures sound { IsSound result }
     ensures short { file_length_of result ≤ 32768 }
@@ -365,7 +365,7 @@ fn lines_of_reads(alloc: Global) -> Result<String, AllocError> {
     Ok(lines)
 }
 
-// That the journal has these lines, and behind them those.
+// That the journal has these lines, and after them those.
 pub(crate) fn see_lines(
     rt: &impl Abort,
     alloc: Global,

@@ -50,7 +50,7 @@ unit_written A s u q f r h n w = subst (λ (p : Placement). StaysOrWritten s.pla
 
 -- Units of a process.
 
--- the page's frame is another one behind the change, so the change gave the page up
+-- the page's frame is another one after the change, so the change gave the page up
 given : (A : Inputs) (s : State) (u : Entry) (q : Page) (f pid : ℕ) (change : Change) → process_of_entry u ≡ Some pid → (step_at A s.point pid).change ≡ change
     → IsGivenUp (space_held s pid) (is_borrower s.point.flat.processes pid) change q → IsLost A s u q f
 given A s u q f pid (Resize d t) e i k = WasCutOff pid d t e i k

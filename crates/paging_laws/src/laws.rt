@@ -45,9 +45,9 @@ pub fn reads_are_small()
     ensures { (A : Inputs) (s : State) (q : Page) (lo n : ℕ) → IsRun A s → next_unit A s ≡ Some (entries.Get q lo n) → IsSmallRead s.place q lo n }
 {}
 
-/// A page that has a frame has the same one behind the next unit, unless it lost it: the frame was free and was taken, or
+/// A page that has a frame has the same one after the next unit, unless it lost it: the frame was free and was taken, or
 /// the page was given up. What must be written, a dirty page or text that isn't saved, stays in its frame, off the free
-/// list, behind each unit that isn't a process's, till the end of its write.
+/// list, after each unit that isn't a process's, till the end of its write.
 pub fn pages_leave_frames()
     ensures lost { (A : Inputs) (s : State) (u : Entry) (q : Page) (f : ℕ) → IsRun A s → next_unit A s ≡ Some u
         → frame_of (state_of s.place q) ≡ Some f → frame_of (state_of (after A s u).place q) ≢ Some f → IsLost A s u q f }
@@ -55,8 +55,8 @@ pub fn pages_leave_frames()
         → process_of_entry u ≡ None → IsUnwritten s.place q f → StaysOrWritten s.place u (after A s u).place q f }
 {}
 
-/// A dirty page of data or stack stays dirty, in its frame, behind each unit, but for one that completes a write of it or
-/// the step of a process that gives it up. So where it isn't there, or isn't dirty, behind a list of units, one of them did
+/// A dirty page of data or stack stays dirty, in its frame, after each unit, but for one that completes a write of it or
+/// the step of a process that gives it up. So where it isn't there, or isn't dirty, after a list of units, one of them did
 /// so: no frame of a dirty page is given to another one before the page is written.
 pub fn dirty_pages_are_written()
     ensures unit { (A : Inputs) (s : State) (u : Entry) (q : Page) (f : ℕ) → IsRun A s → next_unit A s ≡ Some u → IsDirtyIn s.place q f

@@ -14,7 +14,7 @@ last_of (f ∷ g ∷ before) e = last_of (g ∷ before) e
 pub counts_last : (journal before : List Entry) (count : ℕ) → journal ≡ before ++ entries.Hands count ∷ [] → count ≡ last_moves journal
 counts_last journal before count e = sym (ap last_moves e ∙ last_of before (entries.Hands count))
 
--- behind the end of a transfer no moves are counted
+-- after the end of a transfer no moves are counted
 pub last_done : (journal : List Entry) → last_moves (append journal entries.Done) ≡ 0
 last_done journal = last_of journal entries.Done
 

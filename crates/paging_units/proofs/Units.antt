@@ -142,7 +142,7 @@ makes_first g e us old next new i h j a b = record {
   beside = beside_both old next new a.beside b.beside;
 }
 
--- behind a part that leaves its images, with the same files, the ground is the same
+-- after a part that leaves its images, with the same files, the ground is the same
 pub same_ground : (old next : Standing) (holds later : Option (List NamedFile)) (locked : List Page) → later ≡ holds → IsSameBeside old next
     → ground next later locked ≡ ground old holds locked
 same_ground old next holds later locked e b =
@@ -161,7 +161,7 @@ makes_both g us vs old next new i h j a b = record {
   beside = beside_both old next new a.beside b.beside;
 }
 
--- no piece of swap waits behind a unit, where none did before it
+-- no piece of swap waits after a unit, where none did before it
 pub unit_whole : (g : Ground) (e : Entry) (old new : Standing) (i j : Option (List ℕ)) → MakesUnit g e old new i j → old.before ≡ old.kernel.holdings
     → new.before ≡ new.kernel.holdings
 unit_whole g e old new i j m w = m.beside.before ∙ w ∙ sym (unit_same g e old.kernel new.kernel i m.made).holdings

@@ -29,12 +29,12 @@ MadeBy g (entries.Put q n) k i l = l ≡ push_step k q n
 MadeBy g entries.Done k i l = IsDone g.from i k l
 MadeBy g _ k i l = ⊥
 
--- the swap image, where it is told, before a unit and behind it: the end of a transfer alone may change it
+-- the swap image, where it is told, before a unit and after it: the end of a transfer alone may change it
 abbrev pub ImageBy : Entry → Kernel → Option (List ℕ) → Option (List ℕ) → Type 0
 ImageBy entries.Done k i j = ImageAfter k i j
 ImageBy _ k i j = j ≡ i
 
--- a unit, and then something is so of the kernel and the image behind it
+-- a unit, and then something is so of the kernel and the image after it
 pub record MadeFirst (g : Ground) (e : Entry) (k : Kernel) (i : Option (List ℕ)) (Rest : Kernel → Option (List ℕ) → Type 0) : Type 0 where
   pub next : Kernel
   pub image : Option (List ℕ)
@@ -65,7 +65,7 @@ pub record SameBeside (k l : Kernel) : Type 0 where
   pub next_sid : l.next_sid ≡ k.next_sid
   pub stopped : l.stopped ≡ k.stopped
 
--- the bytes that are kept for stack pages that are due, behind a unit: a fill with zeros takes its page's
+-- the bytes that are kept for stack pages that are due, after a unit: a fill with zeros takes its page's
 abbrev pub starts_by : Entry → List StartBytes → List StartBytes
 starts_by (entries.Zero q) ss = starts_after ss q
 starts_by _ ss = ss

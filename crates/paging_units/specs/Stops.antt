@@ -20,7 +20,7 @@ CauseBy (entries.SwapOut pid) stop ts = (stop ≡ stops.JournalFull) ⊎ ((stop 
 CauseBy (entries.SwapIn pid) stop ts = (stop ≡ stops.JournalFull) ⊎ ((stop ≡ stops.NoMemory) ⊎ (stop ≡ stops.SwapReadFault))
 CauseBy _ stop ts = (stop ≡ stops.JournalFull) ⊎ (stop ≡ stops.NoMemory)
 
--- the swap image behind a unit that stops the run: only a write that failed changes it
+-- the swap image after a unit that stops the run: only a write that failed changes it
 abbrev pub SpoilsBy : Entry → Stop → Kernel → Option (List ℕ) → Option (List ℕ) → Type 0
 SpoilsBy entries.Done stop k i j = SwapAfter (Err stop) k i j
 SpoilsBy (entries.SwapOut pid) stop k i j = let r : Result Bool Stop = Err stop in SwapBehind r k pid i j

@@ -8,7 +8,7 @@ ghost use Rattle.kernel_model.specs.Kernel.{Kernel};
 ghost use Rattle.kernel_model.specs.Sound.{TextFits};
 ghost use Rattle.paging_units.specs.Made.{Ground, Made, SameBeside, starts_behind};
 
-/// Units follow one another: those of two parts are made where both are, the journal behind them is the one with these units
+/// Units follow one another: those of two parts are made where both are, the journal after them is the one with these units
 /// appended, and units that force a frame lead to the placement that forcing leads to.
 pub fn units_follow()
     ensures parts { (g : Ground) (us vs : List Entry) (k l m : Kernel) (i j h : Option (List ℕ))

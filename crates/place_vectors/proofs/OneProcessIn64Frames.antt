@@ -155,7 +155,7 @@ write_that_ends_settles : is_settled (finished 1 (hand_moves walked [] 17)) 1 �
 unfolding finished walked data_slots held slot spot chunk_reached lowest chunk_start chunk counted_from
 write_that_ends_settles = refl
 
--- the stack's frame stands first, the data's frames behind it from the last on, and the text's frame last
+-- the stack's frame stands first, the data's frames after it from the last on, and the text's frame last
 space_gives_all_back : (give_up (finished 1 (hand_moves walked [] 17)) 1).free ≡ 1 ∷ (reverse (count_up 3 48) ++ (count_up 51 14 ++ 2 ∷ []))
 unfolding finished walked data_slots held slot spot chunk_reached lowest chunk_start chunk counted_from
 space_gives_all_back = refl

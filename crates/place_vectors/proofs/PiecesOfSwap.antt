@@ -50,7 +50,7 @@ smaller_break_gives_back : holdings_after (first_pieces ++ piece (owners.Data 1)
 unfolding begun breaking first_pieces piece kept pieces chunks_holding lowest chunk_start chunk
 smaller_break_gives_back = refl
 
--- a piece lies in one unit of 1,024 blocks: 32 blocks behind the 1,000 first begin the next unit, which is the other
+-- a piece lies in one unit of 1,024 blocks: 32 blocks after the 1,000 first begin the next unit, which is the other
 -- device's
 unit_is_not_crossed : place_all 1056 (piece (owners.Data 1) 0 1000 ∷ []) (record { owner = owners.Data 2; length = 32 } ∷ []) ≡ Ok (piece (owners.Data 1) 0 1000 ∷ piece (owners.Data 2) 1024 32 ∷ [])
 unfolding piece place_all fit lowest_room Rattle.resource_map.specs.Room.lowest has_room all_pass is_held is_in

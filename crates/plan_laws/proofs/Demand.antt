@@ -65,7 +65,7 @@ serve_full n at p v held victims faults away there room =
     ap (λ (b : Bool). then (entered n p) (cond b (Some (run_of (without_first v held) victims faults)) None)) there ∙
     enter_room n p (without_first v held) victims faults room
 
--- A plan for the references behind one is a plan for all.
+-- A plan for the references after one is a plan for all.
 
 first_served : (n at p : ℕ) (refs held after : List ℕ) (before victims : List Victim) (last : List ℕ) (faults more total : ℕ)
     → serve n at p (run_of held before faults) ≡ Some (run_of after victims more)

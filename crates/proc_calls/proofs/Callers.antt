@@ -99,7 +99,7 @@ can_reap m pid child e whole clear lends entry ended = record {
   found = none_placed m whole;
 }
 
--- Behind an entry that changes nothing the process may go on.
+-- After an entry that changes nothing the process may go on.
 
 other_regs : (k : Kernel) (pid : ℕ) (p : Proc) (regs : Regs) → proc_in k pid ≡ Some p → numbered pid_of pid (with_proc k.processes (record p { regs = regs })) ≡ Some (record p { regs = regs })
 other_regs k pid p regs e =

@@ -138,7 +138,7 @@ list_first p sid child parent e f = f.first ∙ ap (λ (q : Page). CopyOf child 
 pub copy_first : (p : Placement) (sid : ℕ) (child parent : Page) → parent ≡ in_space sid child → FirstOf sid p.due child → IsCopyFirst p child parent
 copy_first p sid child parent e f = record { others = f.others; first = f.first ∙ ap (λ (q : Page). CopyOf child q ∷ f.others) (sym e) }
 
--- behind the copy the others are due
+-- after the copy the others are due
 pub others_due : (p r : Placement) (sid : ℕ) (child : Page) (f : FirstOf sid p.due child) → r.due ≡ due_after p.due child → r.due ≡ f.others
 others_due p r sid child f e = e ∙ ap (λ (ds : List Due). due_after ds child) f.first ∙ first_gone child (in_space sid child) f.others
 
@@ -164,7 +164,7 @@ copies_more (Err stop) ds others dues child parent old next new holds later i h 
           (subst (λ (x : Option (List NamedFile)). StopsCopying dues next new x h j stop) same more),
     ))
 
--- the machine goes on behind them
+-- the machine goes on after them
 pub copied_on : {A : Type 0} (r : Result A Stop) (child : Page) (old next new : Standing) → GoesOn child old next → OnOk r (HasCopied next new) → OnOk r (HasCopied old new)
 copied_on (Ok x) child old next new g h = record {
   params = h.params ∙ g.params;

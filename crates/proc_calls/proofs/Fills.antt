@@ -1,4 +1,4 @@
--- A new stack page is filled: what the fill asks, and what is so behind it.
+-- A new stack page is filled: what the fill asks, and what is so after it.
 use Rattle.std.proofs.Common.{◌≡◌, ℕ, inr, Bool, false, cond, List, [], ◌∷◌, Option, Some, refl, sym, ap, ◌∙◌, subst}
 use Rattle.std.specs.Prelude.{Result, Ok, Err, OnOk, IfErr, MatchResult, None}
 use Rattle.vm_facts.specs.declared.page.Page.{Page}

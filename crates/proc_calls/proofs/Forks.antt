@@ -1,4 +1,4 @@
--- What a fork asks of the machine, and what is so behind its entry.
+-- What a fork asks of the machine, and what is so after its entry.
 use Rattle.std.proofs.Common.{◌≡◌, ℕ, ◌+◌, ◌*◌, Bool, true, false, List, [], ◌∷◌, ◌++◌, length, map, Option, Some, None, IsSome, refl, sym, ap, ◌∙◌, subst, arith}
 use Rattle.std.specs.Prelude.{Result, Ok, Err, IfOk, OnOk, is_ok}
 use Rattle.std.proofs.lemmas.Bool.{ltb-true}
@@ -131,7 +131,7 @@ may_fork m asks pid child call regs hs is named few c found =
     (can_fork m pid call regs hs few c
     (ap (λ (n : ℕ). place_all m.params.swap_blocks m.kernel.holdings (asked (facts_named m.images) m.kernel pid (Fork n))) (sym named) ∙ found)))
 
--- What is due behind the entry is copied from the parent's pages.
+-- What is due after the entry is copied from the parent's pages.
 
 copies_both : (sid : ℕ) (xs ys : List Due) → AreCopiesFrom sid xs → AreCopiesFrom sid ys → AreCopiesFrom sid (xs ++ ys)
 copies_both sid [] ys a b = b
@@ -152,13 +152,13 @@ are_copies sid child parent v (x ∷ xs) e =
     copies_both sid (copy_due (child v) (parent v) x.state) (copies_from child parent (v + 1) xs) (one_copy sid (child v) (parent v) x.state (e v))
     (are_copies sid child parent (v + 1) xs e)
 
--- The kernel behind an entry of the call.
+-- The kernel after an entry of the call.
 
 pub record IsBehind (k l : Kernel) (e : Entry) : Type 0 where
   pub frames : length l.place.holds ≡ length k.place.holds
   pub journal : l.journal ≡ append k.journal e
 
--- and behind that by which there is a child
+-- and after that by which there is a child
 record HasDue (k l : Kernel) (sid : ℕ) (e : Entry) : Type 0 where
   behind : IsBehind k l e
   due : let forked = fork_space k.place sid k.next_sid in l.place.due ≡ forked.due
@@ -205,7 +205,7 @@ behind_kept m new pid call regs c answer =
     subst (λ (l : Kernel). IsBehind m.kernel l (call_entry pid call regs)) (sym answer.step)
     (kept_by (facts_named m.images) m.kernel regs (call_entry pid call regs) (proc_in m.kernel pid) (caller_there m.kernel pid c))
 
--- Behind the entry there are as many frames, and the last entry counts no moves.
+-- After the entry there are as many frames, and the last entry counts no moves.
 
 pub record IsLow (old new : Standing) : Type 0 where
   pub params : new.params ≡ old.params

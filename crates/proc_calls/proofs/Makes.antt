@@ -1,4 +1,4 @@
--- What a call that makes a process asks of the machine, and what is so behind its entry.
+-- What a call that makes a process asks of the machine, and what is so after its entry.
 use Rattle.std.proofs.Common.{◌≡◌, ◌≢◌, ◌⊎◌, ◌↔◌, inl, inr, ℕ, ◌<◌, ◌≤◌, nat_lt, Bool, true, false, List, [], ◌∷◌, ◌++◌, length, drop, map, Option, Some, None, refl, sym, ap, ◌∙◌, subst}
 use Rattle.std.specs.Prelude.{Result, Ok, Err, IfOk, OnOk, OnErr, is_ok}
 use Rattle.std.proofs.lemmas.Bool.{ltb-true}
@@ -90,7 +90,7 @@ can_vfork m pid call regs hs c few e = record {
   found = ap (λ (h : Holdings). place_all m.params.swap_blocks h (wanted (owners.U m.kernel.next_pid) (u_pieces 2))) c.whole ∙ e;
 }
 
--- Behind the entry the process holds its space, and the child is there and has none.
+-- After the entry the process holds its space, and the child is there and has none.
 
 module _ (images : List Image) (k : Kernel) (pid : ℕ) (regs : Regs) (e : Entry) where
   abbrev next : ℕ
@@ -232,7 +232,7 @@ refused_ok (Err stop) old between new pid child regs is keeps named few none h =
 same_stop : (s t : Stop) → (let r : Result Called Stop = Err s in r) ≡ Err t → s ≡ t
 same_stop s t e = cc
 
--- the run stops behind the entry that says so
+-- the run stops after the entry that says so
 pub stops_refused : (r : Result Called Stop) (old between new : Standing) (pid child : ℕ) (change : ℕ → Change) → between ≡ without_pieces old pid → child ≡ old.kernel.next_pid
     → is_below_limit old.kernel ≡ true → finds_pieces old pid (change child) ≡ false → old.before ≡ old.kernel.holdings → OnErr r (HasStopped between new)
     → OnErr r ((r ≡ Err stops.JournalFull) ⊎ (r ≡ Err stops.NoMemory)) → ((r ≡ Err stops.JournalFull) ↔ (between.params.journal ≤ length between.kernel.journal))

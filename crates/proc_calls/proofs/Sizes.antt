@@ -255,7 +255,7 @@ module _ (m n : Standing) (pid : ℕ) (regs : Regs) (c : IsCaller m pid) (holds 
         ∙ ap (λ (x : ℕ). change_asks (facts_named n.images) n.kernel.place x n.kernel.next_sid (Resize wanted (stack_pages_of m.kernel pid))) same_space
         ∙ still_none (facts_named n.images) (space_held m.kernel pid) n.kernel.next_sid wanted (omega (arith, fewer))))
 
--- Behind a refusal the process may go on.
+-- After a refusal the process may go on.
 
 pub refused_calls : (m n : Standing) (pid : ℕ) → n ≡ with_refusal m pid → IsCaller m pid → IsCaller n pid
 refused_calls m n pid e c =

@@ -1,4 +1,4 @@
--- The new stack page of an image: what its fill asks of the machine, behind the entry by which the image starts.
+-- The new stack page of an image: what its fill asks of the machine, after the entry by which the image starts.
 use Rattle.std.proofs.Common.{◌≡◌, ℕ, zero, suc, ◌<◌, ◌≤◌, true, List, [], ◌∷◌, length, Option, Some, None, refl, sym, ap, ◌∙◌, subst, arith}
 use Rattle.std.specs.Prelude.{slice_get}
 use Rattle.io_edge.specs.FileHolding.{NamedFile}
@@ -41,7 +41,7 @@ has_header : (images : List ImageNamed) (image : ℕ) → 0 < image → image �
 has_header images zero l m = absurd (omega arith)
 has_header images (suc place) l m = header_at images place (omega arith)
 
--- The kernel behind the entry: the new page alone is due, there are as many frames, and it runs on.
+-- The kernel after the entry: the new page alone is due, there are as many frames, and it runs on.
 
 pub record HasNewStack (k l : Kernel) (e : Entry) : Type 0 where
   pub due : l.place.due ≡ Start (Stack k.next_sid 0) ∷ []

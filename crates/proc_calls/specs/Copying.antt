@@ -74,7 +74,7 @@ CopiesAll (Start q ∷ ds) old new holds before after = ⊥
 CopiesAll (CopyOf child parent ∷ ds) old new holds before after =
     (next : Standing) × (between : Option (List ℕ)) × CopiesPage child parent old next holds before between × CopiesAll ds next new holds between after
 
--- Behind the copies the machine goes on: it runs, no page is due, there are as many frames as before, and the last entry counts
+-- After the copies the machine goes on: it runs, no page is due, there are as many frames as before, and the last entry counts
 -- no more moves of the hands.
 pub record HasCopied (old new : Standing) : Type 0 where
   pub params : new.params ≡ old.params

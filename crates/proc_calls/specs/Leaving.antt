@@ -74,14 +74,14 @@ pub record StopsLent (old new : Standing) (pid : ℕ) (before after : Option (Li
 abbrev pub StopsLeaving : Standing → Standing → ℕ → Option (List NamedFile) → Option (List ℕ) → Option (List ℕ) → Stop → Type 0
 StopsLeaving old new pid holds before after stop = StopsOwn old new pid holds before after stop ⊎ StopsLent old new pid before after stop
 
--- once the process left its space, before the entry that follows, with the swap image as it was there; behind a space that went
+-- once the process left its space, before the entry that follows, with the swap image as it was there; after a space that went
 -- back the journal isn't full
 pub record StopsOnceLeft (old new : Standing) (pid : ℕ) (holds : Option (List NamedFile)) (before after : Option (List ℕ)) (stop : Stop) : Type 0 where
   pub between : Standing
   pub left : HasLeft old between pid holds before after
   pub stops : StopsBefore between new stop
 
--- a run stops before a process has ended or has its image: as the process leaves its space, or behind that
+-- a run stops before a process has ended or has its image: as the process leaves its space, or after that
 abbrev pub StopsAlive : Standing → Standing → ℕ → Option (List NamedFile) → Option (List ℕ) → Option (List ℕ) → Stop → Type 0
 StopsAlive old new pid holds before after stop = StopsLeaving old new pid holds before after stop ⊎ StopsOnceLeft old new pid holds before after stop
 

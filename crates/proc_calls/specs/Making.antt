@@ -33,11 +33,11 @@ finds_pieces m pid change = is_ok (place_all m.params.swap_blocks m.kernel.holdi
 abbrev pub with_pieces : Standing → Holdings → Standing
 with_pieces m found = record m { kernel = record m.kernel { holdings = found } }
 
--- behind the entry that says that they find none
+-- after the entry that says that they find none
 abbrev pub without_pieces : Standing → ℕ → Standing
 without_pieces m pid = record m { kernel = note_step m.kernel (Refused pid); room = None }
 
--- the call fails behind that entry, which leaves the flat states as they are
+-- the call fails after that entry, which leaves the flat states as they are
 pub record IsRefused (old new : Standing) (pid : ℕ) (call : SystemCall) (regs : Regs) : Type 0 where
   pub keeps : KeepsFlat old.kernel (note_step old.kernel (Refused pid))
   pub answer : Answered (without_pieces old pid) new pid call (replied regs true no_memory) Keep
@@ -57,7 +57,7 @@ MakesChildBy true true old new pid call regs Then = Then
 abbrev pub MakesChild : Standing → Standing → ℕ → SystemCall → Regs → Change → Type 0 → Type 0
 MakesChild old new pid call regs change Then = MakesChildBy (is_below_limit old.kernel) (finds_pieces old pid change) old new pid call regs Then
 
--- the child is there, and the space passes to it at once: `Answered` says what the machine stands for behind both
+-- the child is there, and the space passes to it at once: `Answered` says what the machine stands for after both
 pub record HasLentSpace (old new : Standing) (pid : ℕ) (regs : Regs) (child : ℕ) : Type 0 where
   pub between : Standing
   pub made : HasChild old between pid Vfork regs child (Lend child)
@@ -67,13 +67,13 @@ pub record HasLentSpace (old new : Standing) (pid : ℕ) (regs : Regs) (child : 
 abbrev pub Vforked : Standing → Standing → ℕ → Regs → Type 0
 Vforked old new pid regs = MakesChild old new pid Vfork regs (Lend old.kernel.next_pid) (HasLentSpace old new pid regs old.kernel.next_pid)
 
--- behind the entry that says that the pieces of the change find no place, as is so
+-- after the entry that says that the pieces of the change find no place, as is so
 pub record FindsNone (old between : Standing) (pid : ℕ) (change : Change) : Type 0 where
   pub below : is_below_limit old.kernel ≡ true
   pub none : finds_pieces old pid change ≡ false
   pub refused : between ≡ without_pieces old pid
 
--- The run stops as it was, or behind that entry. The journal was full only where it was at its bound there.
+-- The run stops as it was, or after that entry. The journal was full only where it was at its bound there.
 pub record StopsMaking (old new : Standing) (pid : ℕ) (change : Change) (stop : Stop) : Type 0 where
   pub between : Standing
   pub reached : (between ≡ old) ⊎ FindsNone old between pid change

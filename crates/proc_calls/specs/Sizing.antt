@@ -114,7 +114,7 @@ BreakComes old new pid regs (Err refused) holds before after called = Comes old 
 
 -- Where the run stops.
 
--- behind the entry that says that the pieces of more pages find no place
+-- after the entry that says that the pieces of more pages find no place
 pub record StopsRefused (old new : Standing) (pid pages : ℕ) (stop : Stop) : Type 0 where
   pub more : data_pages_of old.kernel pid < pages
   pub few : pages ≤ data_limit

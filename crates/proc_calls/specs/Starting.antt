@@ -130,12 +130,12 @@ ExecComes old new pid regs (Err refused) holds before behind called = Comes old 
 
 -- Where the run stops.
 
--- as it was, or where the pieces find their places: as the process leaves its space, or behind that
+-- as it was, or where the pieces find their places: as the process leaves its space, or after that
 abbrev pub StopsFinding : (Standing → Result Holdings ℕ) → Standing → Standing → ℕ → Option (List NamedFile) → Option (List ℕ) → Option (List ℕ) → Stop → Type 0
 StopsFinding pieces old new pid holds before after stop =
     (StopsBefore old new stop × (after ≡ before)) ⊎ ((is_ok (pieces old) ≡ true) × StopsAlive old new pid holds before after stop)
 
--- behind the entry that says that the pieces of the image find no place
+-- after the entry that says that the pieces of the image find no place
 pub record StopsWithout (old new : Standing) (pid image : ℕ) (before after : Option (List ℕ)) (stop : Stop) : Type 0 where
   pub none : is_ok (image_found image old) ≡ false
   pub stops : StopsBefore (without_pieces old pid) new stop

@@ -23,7 +23,7 @@ abbrev pub MayWrite : Result Reply Refused → Type 0
 MayWrite (Ok reply) = IsWrite reply
 MayWrite (Err refused) = Unit {0}
 
--- The write stops before the bytes that go out, or behind them, before the call's own entry. The journal was full only where
+-- The write stops before the bytes that go out, or after them, before the call's own entry. The journal was full only where
 -- it was at its bound there.
 pub record StopsWriting (old new : Standing) (pid : ℕ) (bytes : List ℕ) (stop : Stop) : Type 0 where
   pub between : Standing

@@ -115,7 +115,7 @@ fn read_call(
     }
 }
 
-/// The process starts another image, by the path and the arguments that its memory has. Its new stack page 0 is filled behind
+/// The process starts another image, by the path and the arguments that its memory has. Its new stack page 0 is filled after
 /// the call's entry. ENOENT comes where no image has the path, and where that is too long; E2BIG where an argument is too long, or
 /// there are too many; EFAULT where a byte that is read is refused, whichever comes first; and ENOMEM where the image's pieces of
 /// swap find no place.

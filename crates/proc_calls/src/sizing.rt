@@ -192,7 +192,7 @@ fn move_end<F: Files, D: SwapDev>(
     }
 }
 
-/// The data of the process ends at its argument. Where the pieces of more pages find no place, it is told so behind an
+/// The data of the process ends at its argument. Where the pieces of more pages find no place, it is told so after an
 /// entry of that; fewer pages wait for the transfers of the space.
 pub fn brk<F: Files, D: SwapDev>(
     m: &mut Machine,

@@ -105,7 +105,7 @@ fn find_space<F: Files, D: SwapDev>(
     }
 }
 
-/// A process starts an image, with these registers and this stack page 0, which is filled behind the call's entry. Where the
+/// A process starts an image, with these registers and this stack page 0, which is filled after the call's entry. Where the
 /// pieces of swap find no place the call fails instead, with the registers that the process has.
 pub fn start_image<F: Files, D: SwapDev>(
     m: &mut Machine,

@@ -1,4 +1,4 @@
--- A machine goes on behind a call, whichever it is, and who holds a space holds it alone.
+-- A machine goes on after a call, whichever it is, and who holds a space holds it alone.
 use Rattle.std.proofs.Common.{◌≡◌, ℕ, List, Option, Some, None, Result, Ok, Err, refl, sym, subst}
 use Rattle.std.specs.Prelude.{is_ok}
 use Rattle.io_edge.specs.FileHolding.{NamedFile}

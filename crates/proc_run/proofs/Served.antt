@@ -1,4 +1,4 @@
--- An access that was served is next units of the run, and an end of the process behind it.
+-- An access that was served is next units of the run, and an end of the process after it.
 use Rattle.std.proofs.Common.{◌≡◌, inl, inr, ℕ, ◌-◌, Bool, true, false, List, [], ◌∷◌, Option, Some, Result, Ok, Err, refl, sym, ap, ◌∙◌, subst}
 use Rattle.std.specs.Prelude.{IfOk, IfErr, MatchResult}
 use Rattle.io_edge.specs.FileHolding.{NamedFile}
@@ -90,7 +90,7 @@ served_stops false A s old new holds i j image pid p x address write before stop
     access_stops A s old new holds image j pid false p x address write before [] stop (λ e. absurd cc) r.on w
     (subst (λ (o : Option (List ℕ)). AccessStops false [] (access_by old.kernel pid address write) pid old new holds o j stop) r.told h)
 
--- The process ends behind the entry that says that its stack finds no place.
+-- The process ends after the entry that says that its stack finds no place.
 
 module _ (A : Inputs) (s : State) (old mid : Standing) (holds : Option (List NamedFile)) (told : Option (List ℕ)) (image : List ℕ) (pid : ℕ) (now : Bool) (p : Process) (x : Space)
     (on : RunsOn A s old holds image pid now p x) (params : mid.params ≡ old.params) (images : mid.images ≡ old.images) (e : EndsRefused A s old mid holds image pid now p x)
@@ -115,7 +115,7 @@ module _ (A : Inputs) (s : State) (old mid : Standing) (holds : Option (List Nam
 
 -- As the clauses of the calls say it.
 
--- who ends behind an access is there yet, and in
+-- who ends after an access is there yet, and in
 abbrev IsEnd : Served → Type 0
 IsEnd served.NoSpace = Unit {0}
 IsEnd (served.Signal number) = Unit {0}

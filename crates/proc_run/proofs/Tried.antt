@@ -83,7 +83,7 @@ module _ (old mid new : Standing) (pid : ℕ) (before : Regs) (o : RoomOnly old 
   pub refused_room : (refused : Refused) → run (own_answers mid pid) (instruction before) ≡ Err refused → RoomOnly old new
   refused_room refused e = wrote_none old mid new (space_held mid.kernel pid) (writes_of (run (own_answers mid pid) (instruction before))) o (refused_quiet (run (own_answers mid pid) (instruction before)) refused e) w
 
-  -- it is refused in the machine behind it too
+  -- it is refused in the machine after it too
   pub refused_again : (refused : Refused) → run (own_answers mid pid) (instruction before) ≡ Err refused
       → run (own_answers new pid) (instruction before) ≡ Err refused
   refused_again refused e = room_answers old new pid before (refused_room refused e) ∙ was (Err refused) e

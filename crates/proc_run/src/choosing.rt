@@ -38,7 +38,7 @@ fn next_ready(m: &Machine, above: u32) -> Option<u32>
     ready_above(m.processes(), above)
 }
 
-/// The process of the next turn, behind a turn of this one; 0 stands for none. None comes where no process can step.
+/// The process of the next turn, after a turn of this one; 0 stands for none. None comes where no process can step.
 pub fn next_turned(m: &Machine, last: u32) -> Option<u32>
     requires { m.now.kernel.stopped ≡ false }
     ensures { result ≡ next_turned m.now.kernel last }

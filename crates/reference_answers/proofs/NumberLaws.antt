@@ -1,4 +1,4 @@
--- The numbers of pages: a page keeps its number where pages join behind, and two pages have two numbers.
+-- The numbers of pages: a page keeps its number where pages join after, and two pages have two numbers.
 use Rattle.std.proofs.Common.{◌≡◌, ℕ, ◌+◌, ◌<◌, length, take, get_or, Bool, true, false, not, cond, ◌||◌, ◌==◌, map, List, [], ◌∷◌, ◌++◌, refl, sym, ap, ◌∙◌, true≢false, arith}
 use Rattle.std.specs.List.{position_or_len}
 use Rattle.std.proofs.lemmas.List.{map-append, take_more}

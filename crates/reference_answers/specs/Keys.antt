@@ -10,6 +10,6 @@ key_of (Data sid v) = (0, sid, v)
 key_of (Stack sid v) = (1, sid, v)
 key_of (Text image v) = (2, image, v)
 
--- pages and one more behind them, unless it is among them
+-- pages and one more after them, unless it is among them
 unfoldable pub with_page : List Page → Page → List Page
 with_page pages page = if is_among page pages then pages else pages ++ page ∷ []

@@ -13,7 +13,7 @@ use Rattle.reference_answers.specs.Numbers.{numbers_of, page_numbered}
 abbrev pub counted_text : List Page → List ℕ
 counted_text refs = numbered_line (codes "references ") (length refs) ++ numbered_line (codes "pages ") (length (distinct refs))
 
--- a page behind a space, where there is one
+-- a page after a space, where there is one
 abbrev pub some_page_text : Option Page → List ℕ
 some_page_text None = []
 some_page_text (Some page) = page_text page

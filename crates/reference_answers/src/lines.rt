@@ -84,7 +84,7 @@ fn page_numbered(pages: &[Page], number: u32) -> Option<&Page>
     pages.get(place as usize)
 }
 
-/// Puts a page behind a space.
+/// Puts a page after a space.
 fn put_page(text: &mut Vec<u8>, page: Page) -> Result<(), AllocError>
     ensures { OnOk result (text.new.items ≡ text.old.items ++ page_text page) }
 {
@@ -104,7 +104,7 @@ fn put_named(text: &mut Vec<u8>, name: &[u8], owner: u32, v: u32) -> Result<(), 
     put_part(text, v)
 }
 
-/// Puts a number behind a space.
+/// Puts a number after a space.
 fn put_part(text: &mut Vec<u8>, number: u32) -> Result<(), AllocError>
     ensures { OnOk result (text.new.items ≡ text.old.items ++ part number) }
 {

@@ -33,7 +33,7 @@ abbrev pub IsEnd : Bool → ℕ → Inputs → List Entry → State → Type 0
 IsEnd true entries A journal s = (next_unit A s ≡ None) × (length journal ≤ entries)
 IsEnd false entries A journal s = (length journal ≡ entries) × ((unit : Entry) × (next_unit A s ≡ Some unit) × (length journal < length (append journal unit)))
 
--- The text says who owns what behind the first entries of the run: so many, or all of them where it is over before.
+-- The text says who owns what after the first entries of the run: so many, or all of them where it is over before.
 pub record SaysOwners (entries : ℕ) (A : Inputs) (text : List ℕ) : Type 0 where
   pub journal : List Entry
   pub state : State
@@ -43,7 +43,7 @@ pub record SaysOwners (entries : ℕ) (A : Inputs) (text : List ℕ) : Type 0 wh
   pub told : text ≡ owners_text (length journal) over state.place state.holdings A.swap_blocks (map outline_of state.point.flat.processes)
 
 -- The answer to a question: the fewest faults that any replacement in so many frames has, with the victims by which it has them; the faults
--- of least-recently-used replacement in each number of frames; or who owns what behind so many entries.
+-- of least-recently-used replacement in each number of frames; or who owns what after so many entries.
 abbrev pub IsAnswer : Question → Inputs → List ℕ → Type 0
 IsAnswer (Optimum frames) A text = SaysOfReferences (λ refs. IsOptimumText refs frames text) A
 IsAnswer Curve A text = SaysOfReferences (λ refs. text ≡ curve_text refs) A

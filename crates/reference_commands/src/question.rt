@@ -5,6 +5,6 @@ pub enum Question {
     Optimum(u32),
     /// The faults on its references of least-recently-used replacement in each number of frames.
     Curve,
-    /// Who owns what behind so many entries of the journal, or where the run is over before.
+    /// Who owns what after so many entries of the journal, or where the run is over before.
     Owners(u32),
 }

@@ -1,4 +1,4 @@
--- The registers of processes are longwords: at the start, behind changes, and behind steps.
+-- The registers of processes are longwords: at the start, after changes, and after steps.
 use Rattle.std.proofs.Common.{◌≡◌, ℕ, zero, suc, ◌+◌, ◌<◌, ◌^◌, ◌==◌, Bool, true, false, cond, not, List, [], ◌∷◌, ◌++◌, map, filter, find, slice_set, Option, Some, None, refl, sym, ◌∙◌, subst, arith}
 use Rattle.std.proofs.lemmas.List.{length-set}
 use Rattle.vm_facts.specs.Answers.{ByteWrite}

@@ -1,4 +1,4 @@
--- Runs of the flat machine: what is so behind each step is so behind each entry; and there are no more processes than
+-- Runs of the flat machine: what is so after each step is so after each entry; and there are no more processes than
 -- instructions make.
 use Rattle.std.proofs.Common.{◌≡◌, ℕ, ◌+◌, ◌<◌, ◌≤◌, ◌^◌, ◌==◌, ◌&&◌, Bool, true, false, List, [], ◌∷◌, ◌++◌, length, Option, Some, None, Result, Ok, Err, ℤ, if◌then◌else◌, refl, ap, subst, arith}
 use Rattle.std.proofs.lemmas.Bool.Decides.{nat_tests}

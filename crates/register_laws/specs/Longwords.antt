@@ -31,7 +31,7 @@ abbrev pub AllFit : List Process → Type 0
 AllFit [] = Unit {0}
 AllFit (q ∷ qs) = ProcessFits q × AllFit qs
 
--- an image starts at a longword, behind its entry mask, and its name, text and data are bytes
+-- an image starts at a longword, after its entry mask, and its name, text and data are bytes
 pub record ImageFits (named : NamedImage) : Type 0 where
   pub entry : named.image.facts.entry + 2 < 2 ^ 32
   pub name : AreOctets named.name

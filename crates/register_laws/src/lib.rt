@@ -20,7 +20,7 @@ ghost use Rattle.flat_model.specs.Run.{Point, flat_run};
 ghost use Rattle.register_laws.specs.Longwords.{AllFit, ImageFits, AllImages, LeavesLongwords};
 
 /// The registers of each process are sixteen longwords, the bytes of each space that a process holds are below 256, and
-/// the status with which a process ended is a longword: at the start, behind each step, and in each run of the flat
+/// the status with which a process ended is a longword: at the start, after each step, and in each run of the flat
 /// machine, where the images fit, and so few instructions are counted that the numbers of processes are longwords. An
 /// image fits that a file of bytes is. An instruction, over a memory that answers bytes, leaves registers that are
 /// longwords, writes bytes, and is refused by a signal that is a longword.

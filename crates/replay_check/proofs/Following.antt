@@ -110,7 +110,7 @@ unrefused pid (entries.Sleeps p) ends q = refl
 unrefused pid (entries.Ended p n) ends q = refl
 unrefused pid _ ends q = absurd ends
 
--- the point behind an entry that completes a step
+-- the point after an entry that completes a step
 record IsBeyond (A : Inputs) (point : Point) (pid : ℕ) (next : Point) : Type 0 where
   can : can_step point.flat pid ≡ true
   flat : next.flat ≡ (step_at A point pid).after
@@ -128,7 +128,7 @@ beyond A point pid u next ends h =
       last = λ q. ap (λ (x : Point). is_refused x.last q) is ∙ unrefused pid one.e one.ends q;
     }
 
--- The point behind an `Out`.
+-- The point after an `Out`.
 
 stays_by : (can : Bool) (p : ℕ) (bytes : List ℕ) (point : Point) (after : FlatState) (es left : List Entry) → Shape p es
     → (left ≡ es) ⊎ (left ≡ behind_first es)

@@ -1,4 +1,4 @@
--- Bytes and the reply behind them, as the judge judges them.
+-- Bytes and the reply after them, as the judge judges them.
 use Rattle.std.proofs.Common.{◌≡◌, ℕ, ◌==◌, Bool, true, false, ◌&&◌, List, [], ◌∷◌, Option, Some, refl, sym, ap, ◌∙◌, subst, arith}
 use Rattle.std.specs.Prelude.{if◌then◌else◌}
 use Rattle.std.proofs.lemmas.Bool.Decides.{nat_tests}
@@ -71,7 +71,7 @@ pub wrote_busy : (A : Inputs) (point : Point) (F G : FlatState) (last new : Last
 wrote_busy A point F G last new pid bytes other at =
     blocked A point G new pid (entries.Out pid bytes) refl (busy_at A F last (entries.Out pid bytes) point other at (λ q. refl) (λ q. refl))
 
--- the reply behind bytes is the rest of their step
+-- the reply after bytes is the rest of their step
 replied : (A : Inputs) (point : Point) (F : FlatState) (pid : ℕ) (reply e : Entry) → IsWriting A F pid reply point
     → where_so (same_as (act A point pid) e) (point_after A point pid) ≡ where_so (same_entry reply e) (record { flat = F; last = Some reply })
 replied A point F pid reply e at =

@@ -237,7 +237,7 @@ wrote_due A F last pid call regs point e is at =
     let here : IsAt A F (lasts.Wrote pid call regs) point = subst (λ (l : Last). IsAt A F l point) is at in
     ap (λ (o : Option Entry). due_process o e) here.out
 
--- the reply behind bytes
+-- the reply after bytes
 reply_next : (A : Inputs) (point : Point) (F : FlatState) (pid : ℕ) (call : SystemCall) (regs : Regs)
     → IsWriting A F pid (call_entry pid call regs) point → Comes (call_entry pid call regs) ≡ expected_of A point pid
 reply_next A point F pid call regs at =
@@ -266,7 +266,7 @@ refused_expected A point F last pid count expected is at told =
 pub refused_self : (pid : ℕ) (last : Last) → last ≡ lasts.Refused pid → refused_in pid last ≡ Some true
 refused_self pid last is = ap (refused_in pid) is ∙ ap (λ (b : Bool). if b then Some true else None) (eq_self pid)
 
--- What is expected behind good entries.
+-- What is expected after good entries.
 
 pub behind_few : (A : Inputs) (F : FlatState) (last : Last) (count : ℕ) (good : List Entry) (bad : Entry) (expected : Option Expected)
     → HasTaken A F last count good

@@ -91,13 +91,13 @@ abbrev pub IsExpectedIf : Bool → Inputs → Point → Entry → Option Expecte
 IsExpectedIf true A point e expected = IsExpectedAt A point e expected
 IsExpectedIf false A point e expected = expected ≡ Some TooMany
 
--- what is expected in place of an entry behind these, which are a run
+-- what is expected in place of an entry after these, which are a run
 pub record IsExpectedBehind (A : Inputs) (good : List Entry) (bad : Entry) (expected : Option Expected) : Type 0 where
   pub point : Point
   pub run : flat_run A good ≡ Some point
   pub told : IsExpectedIf (nat_le (instructions_of good + counted bad) instruction_limit) A point bad expected
 
--- the first bad entry, and what is expected in its place behind the good ones
+-- the first bad entry, and what is expected in its place after the good ones
 pub record IsMisfit (A : Inputs) (entries : List Entry) (misfit : Misfit) : Type 0 where
   pub good : List Entry
   pub bad : Entry

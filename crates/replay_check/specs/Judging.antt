@@ -25,13 +25,13 @@ is_other lasts.Other = true
 is_other (lasts.Refused pid) = false
 is_other (lasts.Wrote pid call regs) = false
 
--- whether the pieces of this process found no place; none behind bytes, or where another's found none
+-- whether the pieces of this process found no place; none after bytes, or where another's found none
 abbrev pub refused_in : ℕ → Last → Option Bool
 refused_in pid lasts.Other = Some false
 refused_in pid (lasts.Refused p) = if p == pid then Some true else None
 refused_in pid (lasts.Wrote p call regs) = None
 
--- what is to come behind the first entry of a step: the reply, where bytes were written
+-- what is to come after the first entry of a step: the reply, where bytes were written
 abbrev pub last_behind : ℕ → Did → Last
 last_behind pid (deeds.Wrote call bytes regs) = lasts.Wrote pid call regs
 last_behind pid _ = lasts.Other
@@ -61,7 +61,7 @@ IsVerdict A false F last None = Unit {0}
 abbrev pub begins : ℕ → Did → Entry → Bool
 begins pid did e = same_as (first_if true (entries_of pid did)) e
 
--- the judge has taken these entries as a run: it stands at the point behind them, and has counted their instructions
+-- the judge has taken these entries as a run: it stands at the point after them, and has counted their instructions
 pub record HasTaken (A : Inputs) (F : FlatState) (last : Last) (count : ℕ) (journal : List Entry) : Type 0 where
   pub point : Point
   pub run : flat_run A journal ≡ Some point

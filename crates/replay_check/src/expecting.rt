@@ -239,7 +239,7 @@ impl<'a> Judge<'a> {
         Ok(())
     }
 
-    // What is expected in place of an entry behind these, which are the first and a run.
+    // What is expected in place of an entry after these, which are the first and a run.
     fn expected_behind(&mut self, good: &[Entry], bad: &Entry) -> Result<Option<Expected>, NoMemory>
         ensures { (A : Inputs) → A.images ≡ self.old.programs.now → HasTaken A self.old.machine self.old.last self.old.count []
             → first_bad A good.now ≡ None → IfOk result (IsExpectedBehind A good.now bad.now) }

@@ -141,7 +141,7 @@ fn is_written(did: &Did, bytes: &[u8]) -> bool
     }
 }
 
-// What is to come behind the first entry of a step: the reply, where bytes were written.
+// What is to come after the first entry of a step: the reply, where bytes were written.
 fn last_behind(pid: u32, did: Did) -> Last
     ensures { result ≡ last_behind pid did }
 {
@@ -256,7 +256,7 @@ impl<'a> Judge<'a> {
         self.machine.ready_place(pid).is_some()
     }
 
-    // Whether the pieces of this process found no place; None behind bytes, or where another's found none.
+    // Whether the pieces of this process found no place; None after bytes, or where another's found none.
     fn take_refused(&mut self, pid: u32) -> Option<bool>
         ensures refused { result ≡ refused_in pid self.old.last }
         ensures other { IfSome result (λ refused. self.new.last ≡ Last.Other) }

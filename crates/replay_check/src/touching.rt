@@ -16,7 +16,7 @@ use flat_process::{Flat, Program, load_all};
 use std::alloc::Global;
 use vm_facts::{Entry, NoMemory, Page};
 
-/// Follows a run of the flat machine, and lists the pages that its instructions touch. The machine stands behind
+/// Follows a run of the flat machine, and lists the pages that its instructions touch. The machine stands after
 /// the last step that is complete.
 #[derive(Drop)]
 pub struct Follower<'a> {

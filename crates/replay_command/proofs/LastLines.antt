@@ -37,7 +37,7 @@ begin_before true x ls more some = refl
 begin_before false x [] more some = absurd (omega (arith, some))
 begin_before false x (l ∷ ls) more some = refl
 
--- lines behind a line feed
+-- lines after a line feed
 lines_behind : (front rest : List ℕ) → lines_in (front ++ 10 ∷ rest) ≡ lines_in (front ++ 10 ∷ []) ++ lines_in rest
 unfolding lines_in
 lines_behind [] rest = refl

@@ -15,7 +15,7 @@ without_fault_line [] = []
 without_fault_line (line ∷ []) = unless_fault (is_fault_line line) line
 without_fault_line (line ∷ next ∷ lines) = line ∷ without_fault_line (next ∷ lines)
 
--- the last line begins here: at the front or behind a line feed, and no other line feed but the last byte follows
+-- the last line begins here: at the front or after a line feed, and no other line feed but the last byte follows
 pub record IsLastStart (bytes : List ℕ) (start : ℕ) : Type 0 where
   pub within : start ≤ length bytes
   pub some : 0 < length bytes → start < length bytes

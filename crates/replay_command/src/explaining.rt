@@ -18,7 +18,7 @@ use vm_facts::{Entry, NoMemory};
 /// The line of an entry that a step of the flat machine gives has no more bytes than this.
 const LINE_BYTES: usize = 4_096;
 
-// Puts a text and the line of an entry behind another.
+// Puts a text and the line of an entry after another.
 fn put_line(
     alloc: Global,
     text: &mut Vec<u8>,
@@ -37,7 +37,7 @@ fn put_line(
     }
 }
 
-// Puts a number between two texts behind another.
+// Puts a number between two texts after another.
 fn put_process(
     text: &mut Vec<u8>,
     before: &[u8],
@@ -51,7 +51,7 @@ fn put_process(
     text.extend_from_slice(behind)
 }
 
-// Puts what the flat machine gives behind a text.
+// Puts what the flat machine gives after a text.
 fn put_expected(alloc: Global, text: &mut Vec<u8>, expected: &Expected) -> Result<(), AllocError>
     ensures { OnOk result (text.new.items ≡ text.old.items ++ expected_text expected.now) }
 {

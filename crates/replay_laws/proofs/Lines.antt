@@ -39,7 +39,7 @@ no_fault (entries.SwapOut pid) = refl
 no_fault (entries.SwapIn pid) = refl
 no_fault (entries.Owners free used moving held) = refl
 
--- So such lines stay, and the line of a fault behind them goes.
+-- So such lines stay, and the line of a fault after them goes.
 
 kept_line : (e : Entry) (line : List ℕ) → IsEntryLine e line → is_fault_line line ≡ false
 kept_line e line is = ap is_fault_line is.1 ∙ no_fault e

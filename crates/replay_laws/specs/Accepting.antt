@@ -17,7 +17,7 @@ use Rattle.replay_command.specs.Reading.{Read, transcript_bytes, images_told}
 use Rattle.replay_command.specs.Command.{run_line, EndsReplay}
 use Rattle.run_opening.specs.Images.{images_found}
 
--- what stands behind the entries: nothing, or one line that is of a fault
+-- what stands after the entries: nothing, or one line that is of a fault
 abbrev pub IsLastLine : List ℕ → Type 0
 IsLastLine line = (line ≡ []) ⊎ ((lines_in line ≡ line ∷ []) × (is_fault_line line ≡ true))
 

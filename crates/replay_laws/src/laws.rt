@@ -2,7 +2,7 @@ ghost use Rattle.command_ending.specs.declared.fault.Fault.{Fault};
 ghost use Rattle.command_ending.specs.Ending.{fault_line};
 ghost use Rattle.replay_laws.specs.Accepting.{IsLastLine, HasPlainLine, AreAccepted, AreSameImages};
 
-/// The text of a run of the flat machine, with nothing or the line of a fault behind it, is judged to be a run of just the entries
+/// The text of a run of the flat machine, with nothing or the line of a fault after it, is judged to be a run of just the entries
 /// that it shows, wherever it is read whole with the images of that run; unless a file fails or memory lacks.
 pub fn texts_are_accepted()
     ensures { AreAccepted }

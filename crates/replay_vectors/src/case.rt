@@ -26,7 +26,7 @@ struct Images {
 }
 
 impl Images {
-    // One more word of a command line: a name, or one behind a `=`, which starts no process.
+    // One more word of a command line: a name, or one after a `=`, which starts no process.
     fn add<R: Files + AllocGlobal>(&mut self, rt: &R, word: &str) -> io::Result<()> {
         let (starts, file) = match word.strip_prefix('=') {
             Some(known) => (false, known),
@@ -117,7 +117,7 @@ fn read<R: AllocGlobal>(
     }
 }
 
-/// The verdict on a transcript, or, where its head begins with `touches`, what its instructions touch. The words behind
+/// The verdict on a transcript, or, where its head begins with `touches`, what its instructions touch. The words after
 /// that of the head are its name and the images of its run.
 pub fn verdict<R: Files + AllocGlobal>(rt: &R, head: &str, body: &str) -> io::Result<String> {
     let alloc = rt.alloc();

@@ -28,7 +28,7 @@ abbrev pub InOrder : ℕ → List Extent → ℕ → Type 0
 InOrder from [] size = from ≤ size
 InOrder from (e ∷ es) size = Follows from e × InOrder (e.start + e.length) es size
 
--- the numbers of the extent's blocks, and of the one behind it, fit 32 bits
+-- the numbers of the extent's blocks, and of the one after it, fit 32 bits
 abbrev pub IsSmall : Extent → Type 0
 IsSmall e = e.start + e.length < 2 ^ 32
 

@@ -30,7 +30,7 @@ abbrev pub status_of : Ending → ℕ
 status_of (Ok done) = 0
 status_of (Err fault) = fault_status fault
 
--- the line behind the transcript; none where the run is finished
+-- the line after the transcript; none where the run is finished
 abbrev pub line_of : Ending → List ℕ
 line_of (Ok done) = []
 line_of (Err fault) = fault_line fault
@@ -55,7 +55,7 @@ pub record NoneFaulted (seen : Seen) : Type 0 where
   pub reads : NoneFailed seen.reads
   pub writes : NoneFailed seen.writes
 
--- a file failed behind its first bytes, and no other call
+-- a file failed after its first bytes, and no other call
 pub record PageFailedAlone (seen : Seen) : Type 0 where
   pub page : PageFailed seen.faults
   pub reads : NoneFailed seen.reads

@@ -43,7 +43,7 @@ front_answers view (Err (NotImage reason)) holds list name id len most told plac
 front_answers view (Err FileFault) holds list name id len most told place size held count failure = tt
 front_answers view (Err NoMemory) holds list name id len most told place size held count failure = tt
 
--- a header and the rest behind it make the front of the file
+-- a header and the rest after it make the front of the file
 pub joined : (holds : Option (List NamedFile)) (list : List NamedFile) (id len : ℕ) (head bytes : List ℕ) → holds ≡ Some list
     → take 32 (bytes_at list id) ≡ head → take 32 bytes ≡ head
     → length bytes ≡ len → 32 ≤ len → HoldsRange holds id 32 (drop 32 bytes) → bytes ≡ take len (bytes_at list id)
@@ -107,7 +107,7 @@ pub told_image : (bytes : List ℕ) (r : Result Loaded ℕ) (facts : Image) → 
 told_image bytes (Ok image) facts e = refl
 told_image bytes (Err reason) facts e = absurd cc
 
--- what is read behind the header of an image fails in order
+-- what is read after the header of an image fails in order
 pub rest_fails : (A C : Type 0) {B : Type 0} (told : Result B Unread) (unread : Unread) (open_old open_new page_old page_between page_new : ℕ)
     → IsTrue (is_ok told) → open_new ≡ open_old → page_between ≡ page_old
     → CountsFault {A = A} (Err unread) page_between page_new → FailsInOrder {A = C} told (Err unread) open_old open_new page_old page_new
@@ -126,7 +126,7 @@ of_judged (Ok image) facts e = let same : facts ≡ image.facts = cc in sym same
 of_judged (Err reason) facts e = absurd cc
 
 -- The bytes up to the end of text and data are an image with the facts that their header was judged to have, whatever
--- stands behind them in the file.
+-- stands after them in the file.
 pub image_of_front : (facts : Image) (len n : ℕ) (head bytes : List ℕ)
     → ((whole : List ℕ) → take 32 whole ≡ head → length whole ≡ len → Is facts ≡ judged_of (image_of whole))
     → NeedsNoMore facts n → n ≤ len → 32 ≤ n → length bytes ≡ n → take 32 bytes ≡ head → IsImageOf (image_of bytes) facts
@@ -144,7 +144,7 @@ behind_mid a n xs ys size within long =
     let whole : length (put_mid a (n - a) xs ys) ≤ n = omega (arith, same_len_mid a (n - a) xs ys (omega (arith, long, length-drop a xs, length-take-le (n - a) (drop a xs) (omega (arith, length-drop a xs, size)))), size) in
     sym (between_to_end (put_mid a (n - a) xs ys) a n whole) ∙ between-put_mid a (n - a) xs ys n (omega (arith, size, within)) long
 
--- what was read behind the header stands behind it
+-- what was read after the header stands after it
 pub holds_behind : {T E : Type 0} (r : Result T E) (holds : Option (List NamedFile)) (id : ℕ) (xs ys : List ℕ) → 32 ≤ length xs → length ys ≡ length xs - 32
     → OnOk r (HoldsRange holds id 32 ys) → OnOk r (HoldsRange holds id 32 (drop 32 (put_mid 32 (length xs - 32) xs ys)))
 holds_behind (Err e) holds id xs ys above long held = tt
@@ -158,7 +158,7 @@ resized_head (Ok x) v n head zeros items good same size above =
     ∙ take-append-le 32 head zeros (omega (arith, size)) ∙ take_all 32 head (omega (arith, size))
 resized_head (Err e) v n head zeros items good same size above = absurd cc
 
--- and in front of what was read behind it
+-- and in front of what was read after it
 pub head_kept : {A E : Type 0} (r : Result A E) (v : A) (n m : ℕ) (head zeros items old new more : List ℕ) → r ≡ Ok v
     → items ≡ (if is_ok r then take n head ++ zeros else head) → length head ≡ 32 → 32 ≤ n
     → old ≡ items → take 32 new ≡ take 32 old → 32 ≤ m → 32 ≤ length new → take 32 (take m (new ++ more)) ≡ head
@@ -182,7 +182,7 @@ text_above : (paged : Bool) → 32 ≤ (if paged then 1024 else 32)
 text_above true = omega arith
 text_above false = omega arith
 
--- text and data stand behind the header
+-- text and data stand after the header
 pub above_header : (image : Image) → 32 ≤ file_length_of image
 above_header image = let above = text_above (is_paged image.kind) in omega (arith, above)
 

@@ -48,7 +48,7 @@ BothStay open_old open_new page_old page_new = (open_new ≡ open_old) × (page_
 abbrev pub OpenRose : ℕ → ℕ → ℕ → ℕ → Type 0
 OpenRose open_old open_new page_old page_new = Rose open_old open_new × (page_new ≡ page_old)
 
--- a file failed behind its first bytes
+-- a file failed after its first bytes
 abbrev pub PageRose : ℕ → ℕ → ℕ → ℕ → Type 0
 PageRose open_old open_new page_old page_new = (open_new ≡ open_old) × Rose page_old page_new
 
@@ -64,7 +64,7 @@ CountsFaults (Err (NotImage reason)) open_old open_new page_old page_new = BothS
 CountsFaults (Err FileFault) open_old open_new page_old page_new = OneRose open_old open_new page_old page_new
 CountsFaults (Err NoMemory) open_old open_new page_old page_new = BothStay open_old open_new page_old page_new
 
--- Where a file failed behind its first bytes, these are as they have to be.
+-- Where a file failed after its first bytes, these are as they have to be.
 abbrev pub FailsInOrder : {A B : Type 0} → Result B Unread → Result A Unread → ℕ → ℕ → ℕ → ℕ → Type 0
 FailsInOrder told (Ok x) open_old open_new page_old page_new = Unit {0}
 FailsInOrder told (Err Absent) open_old open_new page_old page_new = Unit {0}

@@ -36,7 +36,7 @@ fn is_among(names: &[&str], name: &str) -> bool
 }
 
 /// The names of the images of these words, the one of number 1 first: each name once, in the order in
-/// which they first appear. A word is a name, or one behind a `=`.
+/// which they first appear. A word is a name, or one after a `=`.
 pub fn image_names<'a>(alloc: Global, words: &[&'a str]) -> Result<Vec<&'a str>, AllocError>
     ensures few { IfOk result (λ names. length names.items ≤ length words.now) }
     ensures short { (most : ℕ) → All (λ word. length (name_in word.now) < most) words.now
@@ -87,7 +87,7 @@ fn number_started(names: &[&str], word: &str) -> Option<u32>
 }
 
 /// The numbers of the images that the first processes start with, in the order of these words: those
-/// that aren't behind a `=`.
+/// that aren't after a `=`.
 pub fn first_images(alloc: Global, names: &[&str], words: &[&str]) -> Result<Vec<u32>, AllocError>
     requires { length names.now < 2 ^ 32 }
     ensures range { IfOk result (λ first. All (λ number. (1 ≤ number) × (number ≤ length names.now)) first.items) }

@@ -11,7 +11,7 @@ use aout_image::{Judged, read_image};
 use io_edge::{Failed, Files, Found, read_range};
 use std::alloc::Global;
 
-// Fills bytes behind a header with those of the file there; none need no call.
+// Fills bytes after a header with those of the file there; none need no call.
 fn read_behind<F: Files>(files: &mut F, id: u32, bytes: &mut [u8]) -> Result<(), Failed>
     requires above { 32 ≤ length bytes.old }
     requires range { HasRange (F.holds files.old) id 0 (length bytes.old) }
@@ -110,7 +110,7 @@ pub fn open_image<F: Files>(alloc: Global, files: &mut F, name: &str) -> Result<
 }
 
 /// Finds an image, judges it by its header, which is read by one call where the file isn't empty, and
-/// reads the rest of its text and data by one call from behind the header on, where there is any. The
+/// reads the rest of its text and data by one call from after the header on, where there is any. The
 /// header that was judged stays the front of the bytes, so what was read is an image with these facts
 /// over all files. The header counts to a file's open faults, and what follows it to its page faults.
 pub fn load_image<F: Files>(alloc: Global, files: &mut F, name: &str) -> Result<Loaded, Unread>

@@ -144,7 +144,7 @@ pub none_found : (A : Inputs) (hs found : Holdings) (ws : List Wanted) → ws �
 unfolding place_all
 none_found A hs found ws e h = ok_same hs found (ap (place_all A.swap_blocks hs) (sym e) ∙ h)
 
--- what is held behind the entry
+-- what is held after the entry
 pub held_is : (A : Inputs) (s : State) (pid : ℕ) (u : Entry) (q : Process) (t : Space) (found : Holdings) → Ends u → process_of_entry u ≡ Some pid
     → process_of s.point.flat pid ≡ Some q
     → q.holding ≡ Holds t → Suits (u ∷ []) (step_at A s.point pid).change
@@ -248,7 +248,7 @@ pub record Stepped (A : Inputs) (s : State) (u : Entry) : Type 0 where
 abbrev pub ExecsFit : Inputs → Type 0
 ExecsFit A = (F : FlatState) (pid : ℕ) (refused : Bool) → EntersImage A.images (flat_step A F pid refused).change
 
--- where the flat machine stands behind it
+-- where the flat machine stands after it
 pub stepped_flat : (A : Inputs) (s : State) (u : Entry) → (h : Stepped A s u) → (after A s u).point.flat ≡ (step_at A s.point h.pid).after
 stepped_flat A s u h =
     let r : Arrives A s h.pid u = arrives A s h.pid u h.ends (steps_own A s.point h.pid u h.next) in

@@ -74,7 +74,7 @@ space_self s = record { sid = refl; image = refl; text = refl; data_size = refl;
 ready_here : (flat : FlatState) (pid : ℕ) (q : Process) → can_step flat pid ≡ true → process_of flat pid ≡ Some q → is_ready q ≡ true
 ready_here flat pid q c f = ap ready_if (sym f) ∙ c
 
--- A machine behind a step.
+-- A machine after a step.
 pub record Reaches (A : Inputs) (s : State) (u : Entry) (l : Kernel) (image : List ℕ) : Type 0 where
   pub mid : Mid A (after A s u).point.flat l image
   pub place : l.place ≡ (after A s u).place

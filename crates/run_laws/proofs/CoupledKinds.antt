@@ -41,7 +41,7 @@ pub record StandsAt (A : Inputs) (s : State) (k : Kernel) (image : List ℕ) (re
   pub same : k.place ≡ s.place
   pub machine : Machine A.swap_blocks k A.images image s.point.flat read
 
--- the machine behind the unit
+-- the machine after the unit
 abbrev pub Couples : Inputs → State → Kernel → List ℕ → List (List ℕ) → Entry → Type 0
 Couples A s k image read u = Goes k A.images image s.point.flat (locked A s) read u
 

@@ -24,7 +24,7 @@ use Rattle.kernel_laws.proofs.Machine.Done.{done_coupled_step}
 use Rattle.kernel_laws.proofs.Kept.Pages.{zeros_writable}
 use Rattle.kernel_laws.proofs.Machine.Moves.{push_coupled_step, start_coupled, copy_coupled, read_coupled_step, reclaim_coupled_step, hand_coupled_step, zero_coupled}
 
--- the machine behind a paging entry, and the swap image
+-- the machine after a paging entry, and the swap image
 abbrev pub page_step : Kernel → List Page → List (List ℕ) → Entry → Kernel
 page_step k locked read (entries.Zero q) = zero_step k q
 page_step k locked read (entries.Copy q) = copy_step k q
@@ -47,7 +47,7 @@ pub record Machine (size : ℕ) (k : Kernel) (images : List NamedImage) (image :
   pub are : AreRead (beside_kernel k images image flat) k.place.transfers read
   pub coupled : Coupled k images image flat
 
--- so it is behind the entry
+-- so it is after the entry
 pub record Goes (k : Kernel) (images : List NamedImage) (image : List ℕ) (flat : FlatState) (locked : List Page) (read : List (List ℕ)) (e : Entry) : Type 0 where
   pub coupled : Coupled (page_step k locked read e) images (page_image k image e) flat
   pub stands : Stands images (page_step k locked read e) flat

@@ -95,7 +95,7 @@ acts_some A s pid c n = can (can_step s.point.flat pid) c
     can true e = by (must_refuse A s pid) (must_settle A s pid)
     can false e = absurd cc
 
--- behind `Refused` and `Out` their process acts
+-- after `Refused` and `Out` their process acts
 pub awaits_next : (A : Inputs) (s : State) (u : Entry) (pid : ℕ) → Awaits A s pid → next_unit A s ≡ Some u → act A s pid ≡ Some u
 awaits_next A s u pid a h =
     let r : Runs A s pid a.now = a.runs in
@@ -153,7 +153,7 @@ next_or A s u w (Begins e n i) = inl (Rattle.run_laws.proofs.Plain.mark_flat A s
 
 -- What waits still does.
 
--- the process of an `Out` that comes next of a step; all of the step is due, and its reply is behind it
+-- the process of an `Out` that comes next of a step; all of the step is due, and its reply is after it
 pub record IsOut (A : Inputs) (point : Point) (pid p : ℕ) (bytes : List ℕ) : Type 0 where
   pub own : p ≡ pid
   pub reply : Entry
@@ -417,7 +417,7 @@ steps_own A point pid u h = step point.last h
     step (Some (entries.Out p bytes)) e = out (p == pid) e
     step _ e = of entries_at shape e
 
--- behind an entry of a step that is no `Out`, and no `Refused`, nobody is waited for
+-- after an entry of a step that is no `Out`, and no `Refused`, nobody is waited for
 abbrev pub Ends : Entry → Type 0
 Ends (entries.Refused p) = ⊥
 Ends (entries.Out p bytes) = ⊥
@@ -548,7 +548,7 @@ plain_waits A s u o h n w = subst (λ (x : Point). WaitsBy A (after A s u) x.las
     go (Some (entries.SwapIn p)) w = tt
     go (Some (entries.Owners a b c d)) w = tt
 
--- what is so behind each next unit
+-- what is so after each next unit
 pub flows_on : (A : Inputs) (s : State) (u : Entry) → OwnsFrames s.place → Flows A s → next_unit A s ≡ Some u → Flows A (after A s u)
 flows_on A s u o f h = go (kind_of A s u h)
   where

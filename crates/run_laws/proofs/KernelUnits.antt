@@ -1,4 +1,4 @@
--- The machine behind a unit of a run is the kernel's, behind the units of which that unit is made.
+-- The machine after a unit of a run is the kernel's, after the units of which that unit is made.
 use Rattle.std.proofs.Common.{◌≡◌, ℕ, Bool, List, [], ◌∷◌, ◌++◌, Option, Some, None, refl, sym, ap, ◌∙◌}
 use Rattle.vm_facts.specs.Answers.{ByteWrite}
 use Rattle.vm_facts.specs.declared.page.Page.{Page}

@@ -54,7 +54,7 @@ use Rattle.run_laws.proofs.BackChanges as back
 use Rattle.run_laws.proofs.Acts.{none_found}
 use Rattle.run_laws.proofs.Written.{Mid}
 
--- the machine behind a change
+-- the machine after a change
 pub record Landed (A : Inputs) (after : FlatState) (k l : Kernel) (image : List ℕ) (pid sid : ℕ) (b : Bool) (e : Entry) (change : Change) (held : Holdings) : Type 0 where
   pub mid : Mid A after l image
   pub place : l.place ≡ place_change (facts_of A.images) k.place pid sid b k.next_sid (length (append k.journal e)) change

@@ -1,4 +1,4 @@
--- A machine with its bytes that stands at a state of a run stands at the next one, behind the unit's own step.
+-- A machine with its bytes that stands at a state of a run stands at the next one, after the unit's own step.
 use Rattle.std.proofs.Common.{◌≡◌, ◌⊎◌, inl, inr, ℕ, ◌*◌, ◌≤◌, Bool, true, false, List, [], ◌∷◌, length, map, Option, Some, None, refl, sym, ap, ◌∙◌, subst, arith}
 use Rattle.std.proofs.lemmas.Option.{same_Some}
 use Rattle.run_model.proofs.After.{after_journal}

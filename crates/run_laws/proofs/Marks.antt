@@ -1,4 +1,4 @@
--- The mark can be carried out behind each unit.
+-- The mark can be carried out after each unit.
 use Rattle.std.proofs.Common.{◌≡◌, ℕ, ◌<◌, Bool, true, false, List, [], ◌∷◌, length, Option, Some, None, refl, sym, ◌∙◌, subst, arith}
 use Rattle.std.specs.Prelude.{slice_get}
 use Rattle.vm_facts.specs.declared.event.Event.{Event}

@@ -106,7 +106,7 @@ own_told A k flat pid regs e q s b (End status) fit nums f h w o out due m x t s
 
 -- What a process asks of its machine.
 
--- sound and numbered behind the change
+-- sound and numbered after the change
 pub record Kept (A : Inputs) (l : Kernel) : Type 0 where
   pub sound : Sound A.swap_blocks l
   pub numbered : Numbered l
@@ -126,7 +126,7 @@ own_kept A k flat pid regs e q s (Reap child) nums f h t m so n = record { sound
 own_kept A k flat pid regs e q s Sleep nums f h t m so n = record { sound = so; numbered = n }
 own_kept A k flat pid regs e q s (End status) nums f h t m so n = record { sound = so; numbered = n }
 
--- the placement and the holdings behind it
+-- the placement and the holdings after it
 pub record Lands (A : Inputs) (k : Kernel) (pid sid : ℕ) (e : Entry) (change : Change) (l : Kernel) : Type 0 where
   pub place : l.place ≡ place_change (facts_of A.images) k.place pid sid false k.next_sid (length (append k.journal e)) change
   pub holdings : l.holdings ≡ holdings_after k.holdings k.place l.place pid sid false change

@@ -67,7 +67,7 @@ entry_sizes locked at p (entries.Sleeps pid) = of_shape p p (shaped_self p)
 entry_sizes locked at p (entries.Ended pid status) = of_shape p p (shaped_self p)
 entry_sizes locked at p (entries.Owners a b m h) = of_shape p p (shaped_self p)
 
--- who is out behind a move of a residence was out before, or goes out by it
+-- who is out after a move of a residence was out before, or goes out by it
 moved_or : (b : Bool) (rs : List Residence) (pid at n : ℕ)
     → (residence_of (changed (λ (r : Residence). r.pid) pid (λ (r : Residence). record r { out = b; since = at }) rs) n).out ≡ true
     → ((residence_of rs n).out ≡ true) ⊎ ((pid ≡ n) × (b ≡ true))

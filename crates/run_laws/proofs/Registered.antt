@@ -19,7 +19,7 @@ pub record FoundRegs (qs : List Process) (pid : ℕ) (s : Space) (g : Regs) : Ty
   pub holds : process.holding ≡ Holds s
   pub regs : process.regs ≡ g
 
--- the first process, or one behind it
+-- the first process, or one after it
 data First (q : Process) (qs : List Process) (pid : ℕ) (s : Space) (g : Regs) : Type 0 where
   Here : (q.pid == pid) ≡ true → q.holding ≡ Holds s → q.regs ≡ g → First q qs pid s g
   Behind : (q.pid == pid) ≡ false → FoundRegs qs pid s g → First q qs pid s g

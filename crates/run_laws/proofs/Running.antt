@@ -1,4 +1,4 @@
--- What stands of a run stands behind each unit of it.
+-- What stands of a run stands after each unit of it.
 use Rattle.std.proofs.Common.{◌≡◌, inl, inr, ℕ, ◌&&◌, Bool, true, false, List, [], ◌∷◌, length, Some, None, refl, sym, ap, ◌∙◌, subst}
 use Rattle.flat_state.specs.Space.{Space}
 use Rattle.flat_state.specs.Flat.{Holds, Process, FlatState, Inputs, process_of}
@@ -43,7 +43,7 @@ use Rattle.run_laws.proofs.Acts.{Stepper, stepper, Stepped, ExecsFit, stepped_fl
 use Rattle.run_laws.proofs.Texts.{change_texts, write_texts}
 use Rattle.run_laws.proofs.Marks.{IsFree, free_stands, NoMark, free_kept, due_free, on_free, come_free, done_free, noted_free, hands_stand, put_stands, line_stands, turn_stands}
 
--- The flat state behind a step.
+-- The flat state after a step.
 
 record FlatKept (A : Inputs) (flat : FlatState) : Type 0 where
   pub numbers : IsNumbered flat

@@ -1,4 +1,4 @@
--- The swap image behind a run's units is the one behind a machine's.
+-- The swap image after a run's units is the one after a machine's.
 use Rattle.std.proofs.Common.{◌≡◌, ◌⊎◌, inl, inr, ℕ, ◌*◌, ◌≤◌, Bool, true, false, List, [], ◌∷◌, ◌++◌, length, map, replicate, Option, Some, None, refl, sym, ap, ◌∙◌, subst}
 use Rattle.std.proofs.lemmas.List.{length-replicate}
 use Rattle.flat_state.specs.Flat.{Process, Inputs, process_of}
@@ -86,7 +86,7 @@ writes_flat A s k image at =
     let kp : Keeps A s.point.flat k image = at.keeps in
     subst (λ (p : Placement). AllFlat A s k p.transfers) at.place (transfers_flat A s k image k.place.transfers kp.coupled (moves_at A s k image at))
 
--- The image behind `Done`.
+-- The image after `Done`.
 
 store_same : (A : Inputs) (s : State) (k : Kernel) (image : List ℕ) (xs : List Part) → k.holdings ≡ s.holdings → AreFlat A s k xs
     → store_all k image xs ≡ pages_stored A s xs image

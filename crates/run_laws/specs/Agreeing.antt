@@ -47,7 +47,7 @@ JournalSaysImage = (A : Inputs) (hs : Holdings) (us journal : List Entry) (t : S
     → CanRun A hs → Follows A (start A hs) us t → appended [] us ≡ journal
     → swapped_from A (start A hs) us image ≡ swapped A journal image
 
--- behind a journal the image that it says has the flat bytes of each page that is on swap alone
+-- after a journal the image that it says has the flat bytes of each page that is on swap alone
 abbrev pub RunHasSwapped : Type 0
 RunHasSwapped = (A : Inputs) (hs : Holdings) (us journal : List Entry) (t : State) (image : List ℕ)
     → CanRun A hs → AllImages A.images → length A.first + 1 + A.limit < 2 ^ 32 → Follows A (start A hs) us t

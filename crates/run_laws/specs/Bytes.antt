@@ -1,4 +1,4 @@
--- A machine with its bytes stands at the start, behind a unit, and in the middle of a step.
+-- A machine with its bytes stands at the start, after a unit, and in the middle of a step.
 use Rattle.std.specs.Prelude.{◌≡◌, ℕ, ◌*◌, ◌≤◌, List, length, Some}
 use Rattle.vm_facts.specs.declared.entry.Entry.{Entry}
 use Rattle.vm_facts.specs.declared.entry.Entry.TheVariants as entries
@@ -24,7 +24,7 @@ StartStands = (A : Inputs) (hs : Holdings) (frames : List (List ℕ)) (image : L
     → CanRun A hs → length frames ≡ A.frames → 512 * A.swap_blocks ≤ length image
     → StandsAt A (start A hs) (start_kernel A (starting A.images A.first) hs frames) image
 
--- a machine behind a next unit
+-- a machine after a next unit
 abbrev pub UnitStands : Type 0
 UnitStands = (A : Inputs) (s : State) (k : Kernel) (image : List ℕ) (read : List (List ℕ)) (u : Entry)
     → Next A s k image u → IsGiven A s k image read u

@@ -1,4 +1,4 @@
--- What is so behind `Refused` and `Out`: their process is next.
+-- What is so after `Refused` and `Out`: their process is next.
 use Rattle.std.specs.Prelude.{◌≡◌, ℕ, Bool, [], Option, Some, None}
 use Rattle.vm_facts.specs.declared.entry.Entry.{Entry}
 use Rattle.vm_facts.specs.declared.entry.Entry.TheVariants as entries

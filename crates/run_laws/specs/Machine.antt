@@ -95,7 +95,7 @@ ran_step A s k pid n = ran_by (written_step A s k pid) pid (step_at A s.point pi
 
 -- Units.
 
--- the machine behind a unit, with what was read for the oldest transfer
+-- the machine after a unit, with what was read for the oldest transfer
 abbrev pub unit_step : Inputs → State → Kernel → List ℕ → List (List ℕ) → Entry → Kernel
 unit_step A s k image read (entries.Zero q) = zero_step k q
 unit_step A s k image read (entries.Copy q) = copy_step k q
@@ -113,7 +113,7 @@ unit_step A s k image read (entries.Sleeps pid) = process_step A s k pid (entrie
 unit_step A s k image read (entries.Ended pid status) = process_step A s k pid (entries.Ended pid status)
 unit_step A s k image read e = note_step k e
 
--- the swap image behind it
+-- the swap image after it
 abbrev pub unit_image : Kernel → List ℕ → Entry → List ℕ
 unit_image k image entries.Done = image_after k image
 unit_image k image (entries.SwapOut pid) = store_at image (block_in k.holdings (owners.U pid) 0) (u_bytes k (proc_of k pid))

@@ -1,4 +1,4 @@
--- What stands behind each unit of a run.
+-- What stands after each unit of a run.
 use Rattle.std.specs.Prelude.{◌≡◌, ℕ, ◌<◌, ◌≤◌, true, false, List, [], ◌∷◌, length, Some, Ok}
 use Rattle.swap_book.specs.Holdings.{Holdings}
 use Rattle.flat_state.specs.Flat.{NamedImage, Inputs, image_numbered, can_step}

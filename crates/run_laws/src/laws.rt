@@ -16,7 +16,7 @@ ghost use Rattle.run_model.specs.Wanted.{wanted, locked};
 ghost use Rattle.run_laws.specs.Standing.{IsAllowed};
 ghost use Rattle.run_laws.specs.Running.{IsRun, CanRun, IsReady, IsIdle};
 
-/// What stands of a run: at its start, behind each next unit, behind each list of next units, and so at each state that
+/// What stands of a run: at its start, after each next unit, after each list of next units, and so at each state that
 /// a run reaches. Each frame and each block has one owner; at most 16 transfers are in flight, each with a page; the
 /// hands are a quarter apart; what is due waits to be filled; the spaces and the holdings are those of the flat state.
 pub fn runs_stand()

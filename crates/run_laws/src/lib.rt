@@ -1,4 +1,4 @@
-//! Laws of a whole run by the written policy: what stands behind each next unit, of a state and of a machine with its
+//! Laws of a whole run by the written policy: what stands after each next unit, of a state and of a machine with its
 //! bytes. There is no code here: each law is the clause of a function with no body.
 #![tactic(auto)]
 

@@ -27,8 +27,8 @@ ghost use Rattle.run_laws.specs.Bytes.{StartStands, UnitStands, DoneStands, Leav
 ghost use Rattle.run_laws.specs.Agreeing.{JournalSaysImage, RunHasSwapped, PuttingOutFalls, ReadsAreFlat};
 
 /// A machine with its bytes along a whole run. At the start it stands at the run's start, whatever its frames hold and
-/// whatever is in the swap image; behind each next unit it stands at the next state, with that state's placement,
-/// holdings and journal, with one owner of each frame and block, and coupled to the flat state; and so behind each
+/// whatever is in the swap image; after each next unit it stands at the next state, with that state's placement,
+/// holdings and journal, with one owner of each frame and block, and coupled to the flat state; and so after each
 /// list of next units. No unit stops it.
 pub fn machines_stand()
     ensures start { StartStands }
@@ -74,7 +74,7 @@ pub fn machine_units()
 
 /// The swap image of a machine along a run is the one that the run's units say: what is in flight to swap has its flat
 /// bytes, so each unit makes of the image what `image_behind` says, and a list of units what `swapped_from` says. Each
-/// run has such a machine, where images fit and numbers of processes are longwords; so behind a journal the image that it
+/// run has such a machine, where images fit and numbers of processes are longwords; so after a journal the image that it
 /// says has the flat bytes of each page that is on swap alone.
 pub fn images_agree()
     ensures writes { (A : Inputs) (s : State) (k : Kernel) (image : List ℕ) → StandsAt A s k image → AllFlat A s k s.place.transfers }
@@ -87,7 +87,7 @@ pub fn images_agree()
     ensures run { RunHasSwapped }
 {}
 
-/// At most 4,096 pages of data and 512 of stack in each space, and at most 64 processes: at the start, behind each step of
+/// At most 4,096 pages of data and 512 of stack in each space, and at most 64 processes: at the start, after each step of
 /// the flat machine, in each run of it, and so at each state that a run reaches, in its placement too.
 pub fn sizes_stand()
     ensures start { (A : Inputs) → InputsSized A → ImagesFit A.images → FlatSized (start_state A) }

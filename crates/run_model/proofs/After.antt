@@ -145,6 +145,6 @@ units_other A s hs [] = refl
 units_other A s hs (u ∷ us) =
     ap (λ (t : State). (state_after A t us).place) (other_holdings A s hs u) ∙ units_other A (after A s u) (held_entry A s.point u hs) us
 
--- the placement behind a journal is the state's, whatever was held at the start
+-- the placement after a journal is the state's, whatever was held at the start
 pub placed_is : (A : Inputs) (hs : Holdings) (j : List Entry) → (state_at A hs j).place ≡ placed A j
 placed_is A hs j = sym (units_other A (start A hs) (or_before [] (start_held A)) (units_of j))

@@ -133,11 +133,11 @@ behind_unit A s (entries.SwapOut pid) = paged_under A s (entries.SwapOut pid) (p
 behind_unit A s (entries.SwapIn pid) = paged_under A s (entries.SwapIn pid) (brought_in s.mark)
 behind_unit A s (entries.Owners free used moving held) = record s { mark = audited s.mark }
 
--- the state behind a unit
+-- the state after a unit
 unfoldable pub after : Inputs → State → Entry → State
 after A s e = record (behind_unit A s e) { journal = append s.journal e }
 
--- the state behind these units, in order
+-- the state after these units, in order
 unfoldable pub state_after : Inputs → State → List Entry → State
 state_after A s [] = s
 state_after A s (u ∷ us) = state_after A (after A s u) us
@@ -148,7 +148,7 @@ state_after A s (u ∷ us) = state_after A (after A s u) us
 abbrev pub state_at : Inputs → Holdings → List Entry → State
 state_at A hs journal = state_after A (start A hs) (units_of journal)
 
--- the placement behind a journal
+-- the placement after a journal
 abbrev pub placed : Inputs → List Entry → Placement
 placed A journal = (state_at A (or_before [] (start_held A)) journal).place
 

@@ -136,12 +136,12 @@ abbrev pub turn_of : Option ℕ → Option Entry
 turn_of None = None
 turn_of (Some pid) = Some (entries.Turn pid)
 
--- the next line of the schedule, or a turn behind the last one
+-- the next line of the schedule, or a turn after the last one
 abbrev pub line_or_turn : State → Bool → Option Entry
 line_or_turn s true = Some (entries.Event (s.lines + 1))
 line_or_turn s false = turn_of (next_turned s.point.flat (last_turned s.mark))
 
--- the next mark; none where as many instructions ran as may, or no process can step behind the last line
+-- the next mark; none where as many instructions ran as may, or no process can step after the last line
 abbrev pub next_mark : Inputs → State → Option Entry
 next_mark A s = when (nat_lt s.count A.limit) (line_or_turn s (nat_lt s.lines (length A.lines)))
 

@@ -1,4 +1,4 @@
--- The swap image behind a journal.
+-- The swap image after a journal.
 use Rattle.std.specs.Prelude.{ℕ, List, [], ◌∷◌, length, Option, Some, None}
 use Rattle.flat_state.specs.Flat.{Process, Inputs, process_of}
 use Rattle.vm_facts.specs.declared.page.Page.TheVariants.{Data, Stack}
@@ -36,7 +36,7 @@ u_stored s pid (Some q) image =
     store_at image (block_in s.holdings (owners.U pid) 0)
     (u_page q.regs (length (slots_of s.place (Data (space_of_holding q.holding) 0))) (length (slots_of s.place (Stack (space_of_holding q.holding) 0))))
 
--- the swap image behind a unit: the end of a write puts its pages there, and a process that goes out its u page
+-- the swap image after a unit: the end of a write puts its pages there, and a process that goes out its u page
 abbrev pub image_behind : Inputs → State → Entry → List ℕ → List ℕ
 image_behind A s entries.Done image = oldest_stored A s s.place.transfers image
 image_behind A s (entries.SwapOut pid) image = u_stored s pid (process_of s.point.flat pid) image
@@ -46,6 +46,6 @@ unfoldable pub swapped_from : Inputs → State → List Entry → List ℕ → L
 swapped_from A s [] image = image
 swapped_from A s (u ∷ us) image = swapped_from A (after A s u) us (image_behind A s u image)
 
--- the swap image behind the writes of a journal
+-- the swap image after the writes of a journal
 abbrev pub swapped : Inputs → List Entry → List ℕ → List ℕ
 swapped A journal image = swapped_from A (start A (or_before [] (start_held A))) (units_of journal) image

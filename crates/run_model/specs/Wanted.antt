@@ -65,7 +65,7 @@ locked_by A s (CopyOf child parent ∷ due) = parent ∷ []
 abbrev pub locked : Inputs → State → List Page
 locked A s = locked_by A s s.place.due
 
--- Among these pages those before the first that isn't valid, that one, and those behind it.
+-- Among these pages those before the first that isn't valid, that one, and those after it.
 pub record Splits (p : Placement) (pages before : List Page) (q : Page) : Type 0 where
   pub behind : List Page
   pub whole : pages ≡ before ++ q ∷ behind

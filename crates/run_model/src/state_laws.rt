@@ -21,14 +21,14 @@ pub fn state_counts()
     ensures joined { (A : Inputs) (s : State) (us : List Entry) → (state_after A s us).journal ≡ appended s.journal us }
 {}
 
-/// The state behind a journal goes on by one unit with it, and its placement doesn't rest on what is held.
+/// The state after a journal goes on by one unit with it, and its placement doesn't rest on what is held.
 pub fn state_goes_on()
     ensures unit { (A : Inputs) (hs : Holdings) (j : List Entry) (u : Entry) → IsUnit u → state_at A hs (append j u) ≡ after A (state_at A hs j) u }
     ensures units { (A : Inputs) (hs : Holdings) (us : List Entry) → AllUnits us → state_at A hs (appended [] us) ≡ state_after A (start A hs) us }
     ensures placed { (A : Inputs) (hs : Holdings) (j : List Entry) → (state_at A hs j).place ≡ placed A j }
 {}
 
-/// The point of a state is that of the flat machine, and its holdings are what is held: unit by unit, and behind a
+/// The point of a state is that of the flat machine, and its holdings are what is held: unit by unit, and after a
 /// journal that is a run of the flat machine.
 pub fn state_is_flat()
     ensures point { (A : Inputs) (s : State) (u : Entry) (q : Point) → flat_entry A s.point u ≡ Some q → (after A s u).point ≡ q }

@@ -31,7 +31,7 @@ abbrev pub HasEvents : Result (List ℕ) Unread → List Event → Type 0
 HasEvents (Ok bytes) events = AreLines IsEventLine events (lines_in bytes) × (length events ≤ schedule_lines)
 HasEvents (Err unread) events = ⊥
 
--- this line is the first that is none of an event, or stands behind as many lines as there may be
+-- this line is the first that is none of an event, or stands after as many lines as there may be
 abbrev pub HasBadEvent : Result (List ℕ) Unread → ℕ → Type 0
 HasBadEvent (Ok bytes) line = IsFirstBad IsEventLine schedule_lines line (lines_in bytes)
 HasBadEvent (Err unread) line = ⊥

@@ -33,7 +33,7 @@ fewer ds es page f e =
     let same : length es ≡ length f.others = ap (λ (xs : List Due). length xs) e in
     omega (arith, more, same)
 
--- behind a fill come the others
+-- after a fill come the others
 pub fills_more : {A : Type 0} (r : Result A Stop) (ds others dues : List Due) (page : Page) (old next new : Standing) (holds later : Option (List NamedFile))
     (i h j : Option (List ℕ)) → ds ≡ Start page ∷ others → dues ≡ others → later ≡ holds → FillsStart page old next holds i h
     → MatchResult r (λ x. FillsAll dues next new later h j) (StopsFilling dues next new later h j)
@@ -50,7 +50,7 @@ fills_more (Err stop) ds others dues page old next new holds later i h j e d sam
       subst (λ (xs : List Due). StopsFilling xs next new holds h j stop) d (subst (λ (y : Option (List NamedFile)). StopsFilling dues next new y h j stop) same more),
     ))
 
--- The machine goes on behind them, with its holders.
+-- The machine goes on after them, with its holders.
 pub record HasFilled (old new : Standing) : Type 0 where
   pub due : RunsDue old new 0 []
   pub holders : HoldersStand new.kernel

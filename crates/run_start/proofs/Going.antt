@@ -1,4 +1,4 @@
--- A machine goes on behind the start of a run.
+-- A machine goes on after the start of a run.
 use Rattle.std.proofs.Common.{◌≡◌, ℕ, ◌+◌, ◌≤◌, List, [], ◌∷◌, ◌∙◌, ap, arith}
 use Rattle.std.specs.Prelude.{Option}
 use Rattle.vm_facts.specs.declared.entry.Entry.{Entry}

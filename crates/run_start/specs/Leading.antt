@@ -49,7 +49,7 @@ pub record StopsBeginning (new : Standing) (image : List ℕ) (stop : Stop) (j :
   pub journal : new.kernel.journal ≡ []
   pub told : j ≡ Some image
 
--- or behind next units of the run
+-- or after next units of the run
 abbrev pub StartStops : Inputs → Standing → List ℕ → Stop → Option (List ℕ) → Type 0
 StartStops A new image stop j =
     StopsBeginning new image stop j

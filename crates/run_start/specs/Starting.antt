@@ -36,7 +36,7 @@ abbrev pub started_by : Result Holdings ℕ → Started
 started_by (Ok hs) = starteds.Ok
 started_by (Err pid) = starteds.NoSpace pid
 
--- Behind the start the machine goes on, whatever the devices gave: it runs, no pieces wait for an entry, nothing is due, who holds
+-- After the start the machine goes on, whatever the devices gave: it runs, no pieces wait for an entry, nothing is due, who holds
 -- a space holds one that is there, and alone, it has its frames, and the last entry counts no move of the hands. No instruction is
 -- counted.
 pub record HasStarted (old new : Standing) : Type 0 where

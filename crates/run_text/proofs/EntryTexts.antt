@@ -49,7 +49,7 @@ paged_none l segment rest after behind numbers front cut read below none s ns fe
     same_tails : (a : ℕ) (xs : List ℕ) (b : ℕ) (ns rest after : List ℕ) → rest ≡ 32 ∷ after → after ≡ a ∷ xs → rest ≡ 32 ∷ b ∷ parts ns → a ∷ xs ≡ b ∷ parts ns
     same_tails a xs b ns rest after front cut is = same_rest 32 (a ∷ xs) 32 (b ∷ parts ns) (ap (λ (zs : List ℕ). 32 ∷ zs) (sym cut) ∙ sym front ∙ is)
 
--- behind the process stands no space, or no row of digits
+-- after the process stands no space, or no row of digits
 pub behind_process : (rest behind : List ℕ) (p : ℕ) → rest ≡ part p ++ behind → AtSpace behind → p < 4294967296 → (pid : ℕ) (bytes : List ℕ)
     → pid < 4294967296 → rest ≡ body_text (Written pid bytes) → behind ≡ 32 ∷ hex_text bytes
 behind_process rest behind p cut at small pid bytes k is = (cut_part p pid behind (32 ∷ hex_text bytes) small k at refl (sym cut ∙ is)).1

@@ -65,7 +65,7 @@ no_push c (x ∷ xs) b h n = (h.0, no_push c xs b h.1 n)
 pub no_more : (c : ℕ) (xs : List ℕ) (i : ℕ) → i < length xs → HasNo c (take i xs) → get_or xs i 0 ≢ c → HasNo c (take (i + 1) xs)
 no_more c xs i h so_far n = subst (λ (ys : List ℕ). HasNo c ys) (sym (take_more xs i 0 h)) (no_push c (take i xs) (get_or xs i 0) so_far n)
 
--- a list is what stands before an index, what stands at it, and what stands behind it
+-- a list is what stands before an index, what stands at it, and what stands after it
 pub cut_at : (xs : List ℕ) (i c : ℕ) → i < length xs → get_or xs i 0 ≡ c → xs ≡ take i xs ++ c ∷ drop (i + 1) xs
 cut_at xs i c h e =
     sym (take-append-drop i xs) ∙ ap (λ (ys : List ℕ). take i xs ++ ys) (at_index xs i h) ∙ ap (λ (b : ℕ). take i xs ++ b ∷ drop (i + 1) xs) e

@@ -45,7 +45,7 @@ passes_then w p x w' p' y w'' p'' a b = record {
   kept = append_assoc a.moved b.moved p'' ∙ ap (λ (z : List ℕ). a.moved ++ z) b.kept ∙ passed_more a.moved p' p x y a.kept;
 }
 
--- a piece that passes, and one that fails behind it
+-- a piece that passes, and one that fails after it
 pub fails_then : (w : Option (List ℕ)) (p x : List ℕ) (w' : Option (List ℕ)) (p' y : List ℕ) (w'' : Option (List ℕ)) (p'' : List ℕ)
     → Passes w p x w' p' → Fails w' p' y w'' p'' → Fails w p (x ++ y) w'' p''
 fails_then w p x w' p' y w'' p'' a b = record {
@@ -53,7 +53,7 @@ fails_then w p x w' p' y w'' p'' a b = record {
   none_waits = b.none_waits;
 }
 
--- a piece that passes, and one that is put behind it
+-- a piece that passes, and one that is put after it
 pub puts_then : {T E : Type 0} (r : Result T E) (w : Option (List ℕ)) (p x : List ℕ) (w' : Option (List ℕ)) (p' y : List ℕ) (w'' : Option (List ℕ)) (p'' : List ℕ)
     → Passes w p x w' p' → Puts r w' p' y w'' p'' → Puts r w p (x ++ y) w'' p''
 puts_then (Ok x) = passes_then

@@ -63,7 +63,7 @@ unfolding lines_in
 read_end IsLine items whole [] line none so_far = subst (λ (ls : List (List ℕ)). AreLines IsLine items ls) (sym (so_far.split ∙ append-nil so_far.before)) so_far.good
 read_end IsLine items whole (b ∷ bs) line none so_far = absurd (omega arith)
 
--- the same of a line and what stands behind it, and of items that were pushed
+-- the same of a line and what stands after it, and of items that were pushed
 pub read_push : {E : Type 0} (IsLine : E → List ℕ → Type 0) (items items' : List E) (whole rest first more : List ℕ) (line : ℕ) (e : E)
     → 0 < length rest → first ≡ take (line_len rest) rest → more ≡ drop (line_len rest) rest → items' ≡ items ++ e ∷ [] → IsLine e first
     → ReadSoFar IsLine items whole rest line → ReadSoFar IsLine items' whole more (line + 1)

@@ -41,7 +41,7 @@ no_zero_front ds (suc n) h e front =
 decimal_no_space : (n : ℕ) → n < 2 ^ 32 → HasNo 32 (decimal n)
 decimal_no_space n h = digits_no 32 (decimal n) (lit< tt) (decimal_value n h).0.1
 
--- a word and what stands behind it
+-- a word and what stands after it
 pub cut_word : (a b x y : List ℕ) → HasNo 32 a → HasNo 32 b → AtSpace x → AtSpace y → a ++ x ≡ b ++ y → (a ≡ b) × (x ≡ y)
 cut_word [] [] x y h k s t e = (refl, e)
 cut_word [] (b ∷ bs) [] y h k s t e = cc
@@ -61,7 +61,7 @@ pub parts_at_space : (ns : List ℕ) → AtSpace (parts ns)
 parts_at_space [] = tt
 parts_at_space (n ∷ ns) = refl
 
--- a number behind a space, and what stands behind it
+-- a number after a space, and what stands after it
 pub cut_part : (m n : ℕ) (x y : List ℕ) → m < 2 ^ 32 → n < 2 ^ 32 → AtSpace x → AtSpace y → part m ++ x ≡ part n ++ y → (m ≡ n) × (x ≡ y)
 cut_part m n x y h k s t e =
     let tails : decimal m ++ x ≡ decimal n ++ y = cc in

@@ -1,4 +1,4 @@
--- The parts of an entry's line: a letter, and behind it numbers, a page's letter and numbers, or a
+-- The parts of an entry's line: a letter, and after it numbers, a page's letter and numbers, or a
 -- process and bytes.
 use Rattle.std.specs.Prelude.{◌≡◌, ℕ, ◌==◌, Bool, ◌&&◌, ◌||◌, if◌then◌else◌, nat_lt, List, [], ◌∷◌, ◌++◌, Option, Some, None}
 use Rattle.vm_facts.specs.declared.page.Page.{Page}

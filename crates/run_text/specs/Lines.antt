@@ -20,7 +20,7 @@ AreLines IsLine (e ∷ es) [] = ⊥
 AreLines IsLine (e ∷ es) (l ∷ ls) = IsLine e l × AreLines IsLine es ls
 
 -- Line n, counted from 1, is the first bad one: those before it are lines of items, and it is a line
--- of none, or stands behind as many lines as there may be.
+-- of none, or stands after as many lines as there may be.
 pub record IsFirstBad {E : Type 0} (IsLine : E → List ℕ → Type 0) (most n : ℕ) (ls : List (List ℕ)) : Type 0 where
   pub items : List E
   pub before : List (List ℕ)

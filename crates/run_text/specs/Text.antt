@@ -6,19 +6,19 @@ use Rattle.vm_facts.specs.declared.page.Page.TheVariants.{Data, Stack, Text}
 use Rattle.vm_facts.specs.declared.entry.Entry.{Entry}
 use Rattle.vm_facts.specs.declared.entry.Entry.TheVariants.{Event, Turn, Ran, Out, Grew, Call, Refused, Sleeps, Ended, Zero, Get, Copy, Reclaim, Hands, Put, Done, SwapOut, SwapIn, Owners}
 
--- a number behind a space
+-- a number after a space
 abbrev pub part : ℕ → List ℕ
 part n = codes " " ++ decimal n
 
--- numbers, each behind a space
+-- numbers, each after a space
 abbrev pub parts : List ℕ → List ℕ
 parts ns = flat_map part ns
 
--- the rest of a line: numbers, each behind a space, and the line's end
+-- the rest of a line: numbers, each after a space, and the line's end
 abbrev pub rest_of_line : List ℕ → List ℕ
 rest_of_line ns = parts ns ++ codes "\n"
 
--- a page behind a space: the letter of its segment, the space or the image, and the page's number
+-- a page after a space: the letter of its segment, the space or the image, and the page's number
 abbrev pub page_text : Page → List ℕ
 page_text (Data sid v) = codes " d" ++ parts (sid ∷ v ∷ [])
 page_text (Stack sid v) = codes " s" ++ parts (sid ∷ v ∷ [])

@@ -67,7 +67,7 @@ impl OutputBuffer {
         put_all(sink, &self.bytes[..len])
     }
 
-    /// Puts the piece behind the waiting bytes, and writes where not all can wait.
+    /// Puts the piece after the waiting bytes, and writes where not all can wait.
     pub fn put<S: Sink>(&mut self, sink: &mut S, piece: &[u8]) -> Result<(), Failed>
         ensures leads { S.leads sink.old sink.new }
         ensures puts { Puts result (S.written sink.old) self.old piece.now (S.written sink.new) self.new }

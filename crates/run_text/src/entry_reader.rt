@@ -171,7 +171,7 @@ fn from_paged(letter: u8, segment: u8, numbers: &[u32]) -> Option<Entry>
     }
 }
 
-// The entry of a letter and the numbers behind it.
+// The entry of a letter and the numbers after it.
 fn read_counted(letter: u8, rest: &[u8]) -> Option<Entry>
     ensures { MatchOption result ((ns : List ℕ) → length ns ≤ 5 → AllBelow 4294967296 ns → rest.now ≡ body_text (Counted ns)
         → from_numbers letter ns ≡ None) (λ e. (ns : List ℕ) × (rest.now ≡ body_text (Counted ns)) × HasParts letter (Counted ns) e) }
@@ -185,7 +185,7 @@ fn read_counted(letter: u8, rest: &[u8]) -> Option<Entry>
     Some(entry)
 }
 
-// The entry of a letter, and a page and numbers behind it.
+// The entry of a letter, and a page and numbers after it.
 fn read_paged(letter: u8, rest: &[u8]) -> Option<Entry>
     ensures { MatchOption result ((segment : ℕ) (ns : List ℕ) → length ns ≤ 5 → AllBelow 4294967296 ns → rest.now ≡ body_text (Paged segment ns)
         → from_paged letter segment ns ≡ None) (λ e. (segment : ℕ) × (ns : List ℕ) × (rest.now ≡ body_text (Paged segment ns)) × HasParts letter (Paged segment ns) e) }

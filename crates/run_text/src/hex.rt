@@ -19,7 +19,7 @@ fn read_hex_digit(byte: u8) -> Option<u8>
     None
 }
 
-// The byte of the first pair of digits, and what stands behind it.
+// The byte of the first pair of digits, and what stands after it.
 fn read_hex_pair(text: &[u8]) -> Option<(u8, &[u8])>
     ensures { MatchOption result ((b : ℕ) (rest : List ℕ) → b < 256 → text.now ≡ hex_pair b ++ rest → ⊥) (λ x. (text.now ≡ hex_pair x.0 ++ x.1.now) × (x.0 < 256)) }
 {

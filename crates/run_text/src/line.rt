@@ -26,7 +26,7 @@ pub fn put_both<S: Sink>(
     out.put(sink, second)
 }
 
-// Puts a number behind a space.
+// Puts a number after a space.
 fn put_number<S: Sink>(out: &mut OutputBuffer, sink: &mut S, number: u32) -> Result<(), Failed>
     ensures leads { S.leads sink.old sink.new }
     ensures puts { Puts result (S.written sink.old) out.old (part number) (S.written sink.new) out.new }
@@ -36,7 +36,7 @@ fn put_number<S: Sink>(out: &mut OutputBuffer, sink: &mut S, number: u32) -> Res
     put_both(out, sink, b" ", digits.format(number).as_bytes())
 }
 
-// Puts numbers, each behind a space.
+// Puts numbers, each after a space.
 fn put_numbers<S: Sink>(out: &mut OutputBuffer, sink: &mut S, numbers: &[u32]) -> Result<(), Failed>
     ensures leads { S.leads sink.old sink.new }
     ensures puts { Puts result (S.written sink.old) out.old (parts numbers.now) (S.written sink.new) out.new }
@@ -48,7 +48,7 @@ fn put_numbers<S: Sink>(out: &mut OutputBuffer, sink: &mut S, numbers: &[u32]) -
     Ok(())
 }
 
-// Puts the rest of a line: numbers, each behind a space, and the line's end.
+// Puts the rest of a line: numbers, each after a space, and the line's end.
 fn put_rest<S: Sink>(out: &mut OutputBuffer, sink: &mut S, numbers: &[u32]) -> Result<(), Failed>
     ensures leads { S.leads sink.old sink.new }
     ensures puts { Puts result (S.written sink.old) out.old (rest_of_line numbers.now) (S.written sink.new) out.new }
@@ -73,7 +73,7 @@ fn put_line<S: Sink>(
     put_rest(out, sink, numbers)
 }
 
-/// Puts a name, and behind it numbers, each behind a space.
+/// Puts a name, and after it numbers, each after a space.
 pub fn put_named<S: Sink>(
     out: &mut OutputBuffer,
     sink: &mut S,
@@ -88,7 +88,7 @@ pub fn put_named<S: Sink>(
     put_numbers(out, sink, numbers)
 }
 
-/// Puts a page behind a space: the letter of its segment, its space or image, and its number.
+/// Puts a page after a space: the letter of its segment, its space or image, and its number.
 pub fn put_page<S: Sink>(out: &mut OutputBuffer, sink: &mut S, page: &Page) -> Result<(), Failed>
     ensures leads { S.leads sink.old sink.new }
     ensures puts { Puts result (S.written sink.old) out.old (page_text page.now) (S.written sink.new) out.new }

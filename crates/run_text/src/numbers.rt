@@ -54,7 +54,7 @@ impl Numbers {
     }
 }
 
-// The number behind a space, and what stands behind it.
+// The number after a space, and what stands after it.
 pub fn read_part(text: &[u8]) -> Option<(u32, &[u8])>
     ensures { MatchOption result ((n : ℕ) (rest : List ℕ) → n < 2 ^ 32 → AtSpace rest → text.now ≡ part n ++ rest → ⊥) (λ x. (text.now ≡ part x.0 ++ x.1.now) × AtSpace x.1.now × (x.0 < 2 ^ 32)) }
 {
@@ -68,7 +68,7 @@ pub fn read_part(text: &[u8]) -> Option<(u32, &[u8])>
     Some((number, rest))
 }
 
-// The numbers that the text consists of, each behind a space.
+// The numbers that the text consists of, each after a space.
 pub fn read_numbers(text: &[u8]) -> Option<Numbers>
     ensures { MatchOption result ((ns : List ℕ) → length ns ≤ 5 → AllBelow 4294967296 ns → text.now ≡ parts ns → ⊥) (λ ns. (text.now ≡ parts ns) × AllBelow 4294967296 ns) }
 {

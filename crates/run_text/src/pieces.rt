@@ -18,7 +18,7 @@ pub fn line_end(text: &[u8]) -> usize
     text.len()
 }
 
-// The first line, and what stands behind it.
+// The first line, and what stands after it.
 pub fn first_line(text: &[u8]) -> (&[u8], &[u8])
     requires { 0 < length text.now }
     ensures line { result.0.now ≡ take (line_len text.now) text.now }
@@ -28,7 +28,7 @@ pub fn first_line(text: &[u8]) -> (&[u8], &[u8])
     text.split_at(line_end(text))
 }
 
-// What stands behind this beginning.
+// What stands after this beginning.
 pub fn strip_front<'a>(text: &'a [u8], front: &[u8]) -> Option<&'a [u8]>
     ensures { MatchOption result ((rest : List ℕ) → text.now ≢ front.now ++ rest) (λ x. text.now ≡ front.now ++ x.now) }
 {
@@ -42,7 +42,7 @@ pub fn strip_end<'a>(text: &'a [u8], end: &[u8]) -> Option<&'a [u8]>
     text.strip_suffix(end)
 }
 
-// What stands before and behind the first space.
+// What stands before and after the first space.
 pub fn split_word(text: &[u8]) -> Option<(&[u8], &[u8])>
     ensures { MatchOption result (HasNo 32 text.now) (λ x. (text.now ≡ x.0.now ++ 32 ∷ x.1.now) × HasNo 32 x.0.now) }
 {

@@ -14,7 +14,7 @@ fn are_numbers(numbers: &[u32])
     ensures { AllBelow 4294967296 numbers.now }
 {}
 
-// Of a page, and of the numbers behind it.
+// Of a page, and of the numbers after it.
 fn page_has_numbers(page: &Page, behind: &[u32])
     ensures { AllBelow 4294967296 (page_numbers page.now ++ behind.now) }
 {

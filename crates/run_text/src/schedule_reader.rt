@@ -83,7 +83,7 @@ fn read_event_line(line: &[u8]) -> Option<Event>
 }
 
 /// Reads a schedule (this project's profile), and is exact: the events of its lines, or the number of
-/// the first line that is none of an event, or that stands behind 65,536 lines. A last line without a
+/// the first line that is none of an event, or that stands after 65,536 lines. A last line without a
 /// line feed is bad. The lines are `d PID COUNT`, `i`, `h COUNT`, `w` and `m`.
 pub fn read_schedule(alloc: Global, bytes: &[u8]) -> Result<Schedule, NoMemory>
     ensures exact { IfOk result (IsReadSchedule bytes.now) }

@@ -56,7 +56,7 @@ fn is_paging(e: &Entry) -> bool
     }
 }
 
-// Puts a number of any size behind a space.
+// Puts a number of any size after a space.
 fn put_large_number<S: Sink>(
     out: &mut OutputBuffer,
     sink: &mut S,
@@ -139,7 +139,7 @@ fn put_counted<S: Sink>(
     put_run(out, sink, &ended)
 }
 
-// An entry comes that isn't a `Ran`: where it's no paging entry, it's put behind what waits.
+// An entry comes that isn't a `Ran`: where it's no paging entry, it's put after what waits.
 fn put_other<S: Sink>(
     out: &mut OutputBuffer,
     sink: &mut S,
@@ -275,7 +275,7 @@ fn write_whole<S: Sink>(
     out.flush(sink)
 }
 
-/// Writes the text of a journal, with the paging entries or without them, and behind it the last
+/// Writes the text of a journal, with the paging entries or without them, and after it the last
 /// bytes, which are a fault line or none. It takes no memory: the text goes through a buffer of
 /// 4,096 bytes, so it costs few calls of the sink, and none where there is nothing to write. Where
 /// the sink failed, which its count of faults tells, a prefix of all this is written.

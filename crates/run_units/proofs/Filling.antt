@@ -83,7 +83,7 @@ force_places : (locked : List Page) (at : ℕ) (p : Placement) (ts : List Transf
 force_places locked at p [] = refl
 force_places locked at p (t ∷ ts) = refl
 
--- the page that is due first is filled by the same behind a unit that forces a frame
+-- the page that is due first is filled by the same after a unit that forces a frame
 fills_on : (p q : Placement) (ds : List Due) (e : Entry) (locked : List Page) → Spares p q locked → FillsFirst p ds e locked → FillsFirst q ds e locked
 fills_on p q [] e locked s h = absurd h
 fills_on p q (Start x ∷ ds) e locked s h = h

@@ -211,7 +211,7 @@ found_first : (x : Space) (a : Access) (q : Page) (list : List Access) → page_
     → filter_map (page_of_access x) (a ∷ list) ≡ q ∷ filter_map (page_of_access x) list
 found_first x a q list e = ap (λ (o : Option Page). cons_option o (filter_map (page_of_access x) list)) e
 
--- the byte of an access that misses, behind others that don't, is of the page that the process waits for
+-- the byte of an access that misses, after others that don't, is of the page that the process waits for
 wanted_at : (A : Inputs) (s : State) (k : Kernel) (image : List ℕ) (pid : ℕ) (now : Bool) (p : Process) (x : Space) (front rest : List Access) (last : Access) (address : ℕ) (write : Bool)
     → At A s k image → IsRunning A s pid now p x → step_accesses A.images s.point.flat p x ≡ front ++ last ∷ rest → AllHit (kernel_answers k x.sid) front
     → refusal (kernel_answers k x.sid) last ≡ Some (Miss address write) → WantsPage A s k x address write
@@ -269,7 +269,7 @@ same memory flat q c n = elim (same_or_misses memory flat q c) [
   | inr h ↦ absurd (subst NotMissed h.2 n)
 ]
 
--- its accesses end with one that misses, behind others that don't
+-- its accesses end with one that misses, after others that don't
 record EndsMissed (memory : Answers) (list : List Access) (address : ℕ) (write : Bool) : Type 0 where
   front : List Access
   last : Access

@@ -50,7 +50,7 @@ moves_end A s n h f = ap (under A s) h.mark ∙ go n f
 none_fewer : (n : ℕ) → n ≡ n - 0
 none_fewer n = omega arith
 
--- A state behind a unit of moving.
+-- A state after a unit of moving.
 record Moved (A : Inputs) (s : State) (n : ℕ) (e : Entry) : Type 0 where
   place : (after A s e).place ≡ place_entry [] 0 s.place e
   asks : AsksMoves (after A s e) (n - moves e)

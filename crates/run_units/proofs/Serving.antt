@@ -194,7 +194,7 @@ is_there : (p : Placement) (before rest : List Page) (q : Page) → EachPage (Pr
 is_there p [] rest q h = h.0.there
 is_there p (b ∷ before) rest q h = is_there p before rest q h.1
 
--- the process still waits for it behind a unit that serves it
+-- the process still waits for it after a unit that serves it
 pub waits_on : (A : Inputs) (g : Ground) (s : State) (k : Kernel) (image : List ℕ) (pid : ℕ) (now : Bool) (before : List Page) (q : Page) (u : Entry)
     → At A s k image
     → IsWaiting A g s pid now before q → serve_unit s.place q now ≡ Some u → Paged A s u → IsWaiting A g (after A s u) pid now before q

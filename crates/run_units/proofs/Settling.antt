@@ -47,7 +47,7 @@ settled_next A s pid now sid h u =
     let m : must_settle A s pid ≡ true = ap (λ (b : Bool). b && not (settled s.point.flat s.place pid)) h.loses ∙ ap not (h.own s.place ∙ u) in
     runs_next A s pid now entries.Done h.runs h.unwanted (acts A s pid (on_steps A s s.mark pid now h.runs.on) h.fits m)
 
--- the process leaves the space yet behind the end of a transfer
+-- the process leaves the space yet after the end of a transfer
 leaves_on : (A : Inputs) (s : State) (pid : ℕ) (now : Bool) (sid : ℕ) → OwnsFrames s.place → IsLeaving A s pid now sid → Paged A s entries.Done
     → IsLeaving A (after A s entries.Done) pid now sid
 leaves_on A s pid now sid o h p =

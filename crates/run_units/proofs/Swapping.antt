@@ -124,7 +124,7 @@ put_locked g A s entries.Done h = tt
 put_locked g A s (entries.Put q n) h = tt
 put_locked g A s _ h = absurd h
 
--- a state behind such a unit
+-- a state after such a unit
 record Put (A : Inputs) (s : State) (u : Entry) (pid sid : ℕ) : Type 0 where
   same : SameBut s (after A s u)
   place : (at : ℕ) → (after A s u).place ≡ place_entry [] at s.place u

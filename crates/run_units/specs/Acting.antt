@@ -28,13 +28,13 @@ StepIsRefused =
     (A : Inputs) (s : State) (pid : ℕ) → can_step s.point.flat pid ≡ true → IsBetween s.point.last
     → fits A.swap_blocks s.holdings (asks A s.point.flat pid) ≡ false → act A s pid ≡ Some (entries.Refused pid)
 
--- behind that entry comes the step of who was refused
+-- after that entry comes the step of who was refused
 abbrev pub RefusedStepComes : Type 0
 RefusedStepComes =
     (A : Inputs) (s : State) (pid : ℕ) (e : Entry) (es : List Entry) → can_step s.point.flat pid ≡ true → s.point.last ≡ Some (entries.Refused pid)
     → (step_at A s.point pid).entries ≡ e ∷ es → must_settle A s pid ≡ false → act A s pid ≡ Some e
 
--- behind bytes that went out comes the reply
+-- after bytes that went out comes the reply
 abbrev pub ReplyComes : Type 0
 ReplyComes =
     (A : Inputs) (s : State) (pid : ℕ) (bytes : List ℕ) (o e : Entry) (es : List Entry) → can_step s.point.flat pid ≡ true

@@ -18,7 +18,7 @@ pub record AsksMoves (s : State) (n : ℕ) : Type 0 where
   pub mark : s.mark ≡ marks.Hands n
   pub clear : s.place.due ≡ []
 
--- Units are next units of the run; behind them so many moves fewer are asked for, and the flat machine is where it was.
+-- Units are next units of the run; after them so many moves fewer are asked for, and the flat machine is where it was.
 pub record LeadsMoving (A : Inputs) (s : State) (k : Kernel) (image : List ℕ) (n : ℕ) (us : List Entry) (l : Kernel) (j : Option (List ℕ)) : Type 0 where
   pub state : State
   pub leads : Leads A s k image us state l j

@@ -121,7 +121,7 @@ ReturningStepIsMade =
     → l ≡ change_step (facts_of A.images) (with_holdings (returned (has_lender k.processes pid) k pid) found) pid step.regs u step.change
     → MadeAs A s k image u l (Some image)
 
--- Behind a vfork the space passes to the child, with no entry of its own.
+-- After a vfork the space passes to the child, with no entry of its own.
 abbrev pub LendingStepIsMade : Type 0
 LendingStepIsMade =
     (A : Inputs) (s : State) (k l : Kernel) (image : List ℕ) (pid : ℕ) (now : Bool) (p : Process) (x : Space) (u : Entry) (step : Step) (found : Holdings) (child : ℕ)

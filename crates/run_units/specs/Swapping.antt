@@ -72,7 +72,7 @@ LineComes =
     (A : Inputs) (s : State) → s.place.due ≡ [] → under A s s.mark ≡ None → s.count < A.limit → s.lines < length A.lines
     → next_unit A s ≡ Some (entries.Event (s.lines + 1))
 
--- Behind the last line comes a turn of the next process that can step.
+-- After the last line comes a turn of the next process that can step.
 abbrev pub TurnComes : Type 0
 TurnComes =
     (A : Inputs) (s : State) (pid : ℕ) → s.place.due ≡ [] → under A s s.mark ≡ None → s.count < A.limit → length A.lines ≡ s.lines

@@ -86,7 +86,7 @@ pub fn steps_are_made()
 {}
 
 /// What a process does next follows from its step: its first entry, once its pieces find their places and no space has to settle;
-/// the entry that says so, where they find none, and behind that the step of who was refused; and behind bytes that went out the
+/// the entry that says so, where they find none, and after that the step of who was refused; and after bytes that went out the
 /// reply.
 pub fn steps_come()
     ensures begins { StepBegins }
@@ -112,7 +112,7 @@ pub fn swapping_is_next()
     ensures comes { InIsMade }
 {}
 
-/// What a line asks for first comes next, and once the last mark is over the next line, or behind the last line a turn. Entries
+/// What a line asks for first comes next, and once the last mark is over the next line, or after the last line a turn. Entries
 /// that go into the journal alone are units of the run.
 pub fn marks_come()
     ensures asks { LineAsks }

@@ -64,7 +64,7 @@ abbrev pub why_more : List ℕ → Why
 why_more [] = Blank
 why_more (byte ∷ bytes) = TooMany (byte ∷ bytes)
 
--- what stands after the blank behind an event's letter, for these numbers in order
+-- what stands after the blank after an event's letter, for these numbers in order
 unfoldable pub why_numbers : List Argument → Option (List ℕ) → Option Why
 why_numbers [] None = None
 why_numbers [] (Some text) = Some (why_more (word_in text))

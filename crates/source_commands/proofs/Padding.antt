@@ -1,4 +1,4 @@
--- Bytes with zeros behind them.
+-- Bytes with zeros after them.
 use Rattle.std.proofs.Common.{◌≡◌, ◌≤◌, ◌+◌, ◌-◌, ◌*◌, ◌/◌, ◌%◌, ℕ, min, max, List, ◌++◌, length, take, replicate, refl, ap, ◌∙◌, append_assoc, arith}
 use Rattle.std.proofs.lemmas.List.{take_all, length-append, length-replicate}
 use Rattle.aout_image.specs.declared.Kind.TheVariants.{Paged}

@@ -6,7 +6,7 @@ use Rattle.aout_image.specs.declared.Image.{Image}
 use Rattle.aout_image.specs.Image.{has_text_segment, file_length_of, data_start_of, offset_of, given_of, text_offset}
 use Rattle.source_commands.specs.Listing.{segment_from, code_at}
 
--- what is behind the first bytes of a part
+-- what is after the first bytes of a part
 part_behind : (o g a : ℕ) (xs : List ℕ) → take (o + g - (o + min a g)) (drop (o + min a g) xs) ≡ drop a (take g (drop o xs))
 part_behind o g a xs = go (cases_lt g a)
   where

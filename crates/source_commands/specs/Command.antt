@@ -41,7 +41,7 @@ EndsAssembly name read f (Err _) = ⊥
 
 -- ---- listing
 
--- the listing of an image from its first instruction on, two bytes behind its entry
+-- the listing of an image from its first instruction on, two bytes after its entry
 abbrev pub MakesListing : Result (Image × List ℕ) Unread → List ℕ → Type 0
 MakesListing (Ok image) output = IsListing (image.0.entry + 2) (code_at image.0 image.1 (image.0.entry + 2)) output
 MakesListing (Err unread) output = ⊥
@@ -58,7 +58,7 @@ EndsListing name read f (Err _) = ⊥
 -- ---- the commands
 
 -- How many bytes of a source are read. A good one has at most 4,096 lines of 121 bytes, which is one byte less. A longer
--- one is bad, and the line that is named is the lowest bad one of these first bytes: a label behind them isn't seen.
+-- one is bad, and the line that is named is the lowest bad one of these first bytes: a label after them isn't seen.
 abbrev pub source_bytes : ℕ
 source_bytes = 495617
 

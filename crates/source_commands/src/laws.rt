@@ -4,7 +4,7 @@ ghost use Rattle.vax_asm.specs.Program.{IsProgramOf};
 ghost use Rattle.source_commands.specs.ProgramFile.{program_facts, program_file, program_image};
 
 /// The file of each program that a source makes is an image of kind 0413 that begins at 0: none of the reasons to
-/// refuse a file holds. Its text is the program's bytes, with zeros behind them up to a whole page, and at least one
+/// refuse a file holds. Its text is the program's bytes, with zeros after them up to a whole page, and at least one
 /// page; its data are the zeros that the source asks for, up to a whole page. The file ends where its text does. A
 /// source makes at most 65,536 bytes, and asks for at most 4,194,304 zeros.
 pub fn programs_are_images()

@@ -41,7 +41,7 @@ fn file_from<'a, F: Files>(
 /// where it was written; 2 an absent file; 5 a file fault; 8 a fault of the output; 9 want of memory;
 /// 17 a bad source. At any other status than 0 and 8 the line of the fault is written instead (this
 /// project's profile). Of a source of more than 495,617 bytes, which is bad, no more are read, and the line that is named
-/// is the lowest bad one of these: a label that is defined behind them isn't seen.
+/// is the lowest bad one of these: a label that is defined after them isn't seen.
 pub fn assemble_file<F: Files, S: Sink>(
     alloc: Global,
     files: &mut F,

@@ -147,7 +147,7 @@ units_added j (u ∷ us) =
     let c = ap (λ (x : Bool). added x us) k.ends in
     omega arith
 
--- behind a move of the hands, units add no more entries, and one fewer at most
+-- after a move of the hands, units add no more entries, and one fewer at most
 
 adds_more : (b : Bool) (u : Entry) → (adds true u ≤ adds b u) × (adds b u ≤ 1)
 adds_more b u = go (is_hands u) refl

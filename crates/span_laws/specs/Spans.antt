@@ -18,7 +18,7 @@ abbrev pub adds : Bool → Entry → ℕ
 adds true (entries.Hands n) = 0
 adds moved e = 1
 
--- how many entries these units add, behind moves of the hands or not
+-- how many entries these units add, after moves of the hands or not
 abbrev pub added : Bool → List Entry → ℕ
 added moved [] = 0
 added moved (u ∷ us) = adds moved u + added (is_hands u) us

@@ -231,7 +231,7 @@ total-gaps history =
     let all = ap total (take_all (length history) (gaps history) (omega arith)) in
     omega arith
 
--- ---- behind zeros
+-- ---- after zeros
 
 pub total-padded : (n : ℕ) (xs : List ℕ) → total (padded n xs) ≡ total xs
 unfolding total padded

@@ -45,7 +45,7 @@ abbrev pub filled_before : ℕ → Option ℕ → List ℕ → Option ℕ
 filled_before latest None gaps = None
 filled_before latest (Some at) gaps = Some (at - latest - total (take at gaps))
 
--- the list behind as many zeros
+-- the list after as many zeros
 unfoldable pub padded : ℕ → List ℕ → List ℕ
 padded zero xs = xs
 padded (suc n) xs = 0 ∷ padded n xs
@@ -65,7 +65,7 @@ abbrev pub marks_before : Option ℕ → List ℕ → Option ℕ
 marks_before None marks = None
 marks_before (Some at) marks = Some (total (take at marks))
 
--- a place in a list, behind so many others
+-- a place in a list, after so many others
 abbrev pub moved_by : ℕ → Option ℕ → Option ℕ
 moved_by n o = option_map (λ k. n + k) o
 

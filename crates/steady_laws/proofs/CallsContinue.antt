@@ -1,4 +1,4 @@
--- Machines that go on behind the calls of a process.
+-- Machines that go on after the calls of a process.
 use Rattle.std.proofs.Common.{◌≡◌, inl, inr, ℕ, Bool, true, false, List, [], ◌∷◌, length, map, Option, Some, None, refl, sym, ap, subst}
 use Rattle.std.specs.Prelude.{find, IsSome, Result, Ok, Err, nat_le}
 use Rattle.vm_facts.specs.Answers.{Answers}
@@ -130,7 +130,7 @@ refusal_continues old new pid call regs c h =
 
 -- A child.
 
--- behind a call that makes a process something is so, where it is so behind a call that fails, and where there is the child
+-- after a call that makes a process something is so, where it is so after a call that fails, and where there is the child
 pub child_by : (fewer finds : Bool) (old new : Standing) (pid : ℕ) (call : SystemCall) (regs : Regs) (Then So : Type 0) → IsCaller old pid
     → MakesChildBy fewer finds old new pid call regs Then → (Continues old new 1 → So) → (Then → So) → So
 child_by false finds old new pid call regs Then So c h fails more =

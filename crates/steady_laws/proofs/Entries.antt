@@ -1,4 +1,4 @@
--- Machines that go on behind entries.
+-- Machines that go on after entries.
 use Rattle.std.proofs.Common.{◌≡◌, ℕ, ◌/◌, ◌%◌, false, List, [], ◌∷◌, length, Option, Some, None, refl, sym, ap, ◌∙◌, subst, arith}
 use Rattle.std.specs.Prelude.{IsSome}
 use Rattle.vm_facts.specs.Answers.{ByteWrite}
@@ -32,7 +32,7 @@ use Rattle.steady_laws.proofs.Placements.{Keeps, keeps_self, touch_keeps, change
 use Rattle.steady_laws.proofs.Journals.{last_plain, last_ran, counts_one}
 use Rattle.steady_laws.proofs.Running.{continues}
 
--- The kernel behind an entry of a process.
+-- The kernel after an entry of a process.
 
 pub record IsBehind (k l : Kernel) (e : Entry) : Type 0 where
   pub frames : length l.place.holds ≡ length k.place.holds

@@ -11,7 +11,7 @@ use Rattle.flat_model.specs.declared.calls.Reply.{Reply}
 use Rattle.flat_model.specs.Calls.{three_arguments, string_limit, string_from, path_image, arguments_at, starts, execve_of, execve_reply}
 use Rattle.steady_laws.specs.Calls.{StartsOrFails}
 
--- behind a part of it, by what that comes to
+-- after a part of it, by what that comes to
 then_starts : {A : Type 0} (r : Result A Refused) (f : A → Result Reply Refused) → ((x : A) → StartsOrFails (f x)) → StartsOrFails (then r f)
 then_starts (Ok x) f h = h x
 then_starts (Err refused) f h = tt

@@ -51,7 +51,7 @@ pub started_stands : (old new : Standing) (image : ℕ) → StartedFirst old new
 started_stands old new image s same n h =
     subst (λ (m : Standing). HoldersStand m.kernel) (sym s.step) (begin_stands old.kernel s.found image s.named.name s.named.facts same n h)
 
--- and behind it the next space has the number of the next process again
+-- and after it the next space has the number of the next process again
 pub started_same : (old new : Standing) (image : ℕ) → StartedFirst old new image → old.kernel.next_sid ≡ old.kernel.next_pid
     → new.kernel.next_sid ≡ new.kernel.next_pid
 started_same old new image s same = subst (λ (m : Standing). m.kernel.next_sid ≡ m.kernel.next_pid) (sym s.step) (ap (λ (n : ℕ). n + 1) same)

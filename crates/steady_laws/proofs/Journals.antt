@@ -1,4 +1,4 @@
--- The moves of the hands and the instructions that a journal counts behind an entry.
+-- The moves of the hands and the instructions that a journal counts after an entry.
 use Rattle.std.proofs.Common.{◌≡◌, ℕ, ◌+◌, ◌≤◌, ◌==◌, Bool, true, false, List, [], ◌∷◌, ◌++◌, refl, ap, ◌∙◌, arith}
 use Rattle.vm_facts.specs.declared.entry.Entry.{Entry}
 use Rattle.vm_facts.specs.declared.entry.Entry.TheVariants as entries
@@ -44,7 +44,7 @@ joined_still : (journal : List Entry) (q n : ℕ) → EndsStill (append_joined j
 joined_still [] q n = record { before = []; last = entries.Ran q n; same = refl; still = refl }
 joined_still (e ∷ journal) q n = after_still e journal q n
 
--- behind an instruction
+-- after an instruction
 pub last_ran : (journal : List Entry) (q n : ℕ) → last_moves (append journal (entries.Ran q n)) ≡ 0
 last_ran journal q n = ends_none (append_joined journal (entries.Ran q n)) (joined_still journal q n)
 

@@ -1,4 +1,4 @@
--- Machines that go on behind what a line of the schedule asks for, and behind what begins a run.
+-- Machines that go on after what a line of the schedule asks for, and after what begins a run.
 use Rattle.std.proofs.Common.{◌≡◌, ℕ, ◌+◌, ◌≤◌, List, [], ◌∷◌, ◌++◌, length, Option, None, refl, sym, ap, ◌∙◌, subst, arith}
 use Rattle.vm_facts.specs.declared.page.Page.{Page}
 use Rattle.vm_facts.specs.declared.page.Page.TheVariants.{Stack}
@@ -142,7 +142,7 @@ pub zero_continues : (old new : Standing) (page : Page) (ds : List Due) → IsRu
     → new ≡ record old { kernel = zero_step old.kernel page; room = None } → RunsDue old new 0 ds
 zero_continues old new page ds r d h = subst (λ (m : Standing). RunsDue old m 0 ds) (sym h) (zero_on old page ds r d)
 
--- behind a fill the pages are due that were behind this one, and the last entry counts no moves
+-- after a fill the pages are due that were after this one, and the last entry counts no moves
 pub record Filled (page : Page) (old new : Standing) : Type 0 where
   pub on : RunsOn old new 0
   pub due : new.kernel.place.due ≡ due_after old.kernel.place.due page

@@ -1,4 +1,4 @@
--- Machines that go on behind accesses that were served.
+-- Machines that go on after accesses that were served.
 use Rattle.std.proofs.Common.{ℕ, ◌-◌, List, [], Option, sym, subst}
 use Rattle.vm_facts.specs.declared.page.Page.{Page}
 use Rattle.vm_facts.specs.declared.page.Page.TheVariants.{Stack}

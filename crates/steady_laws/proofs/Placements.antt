@@ -63,7 +63,7 @@ touch_keeps p q = touch_kept keeps_by_puts p q
 
 -- Entries.
 
--- where nothing is due, nothing is behind an entry
+-- where nothing is due, nothing is after an entry
 pub entry_clear : (locked : List Page) (at : ℕ) (p : Placement) (e : Entry) → p.due ≡ [] → (place_entry locked at p e).due ≡ []
 entry_clear locked at p (entries.Zero q) h = ap (λ (ds : List Due). due_after ds q) h
 entry_clear locked at p (entries.Copy q) h = ap (λ (ds : List Due). due_after ds q) h
@@ -151,7 +151,7 @@ change_due images p pid sid borrowed next at (changes.Reap child) n = refl
 change_due images p pid sid borrowed next at changes.Sleep n = refl
 change_due images p pid sid borrowed next at (changes.End status) n = let s = give_up_unless_keeps borrowed p sid in s.due
 
--- behind an image nothing is due once the new stack page was filled
+-- after an image nothing is due once the new stack page was filled
 entered_filled : (p : Placement) (sid image : ℕ) (o : Option Image) → p.due ≡ [] → due_after (enter_image p sid image o).due (Stack sid 0) ≡ []
 entered_filled p sid image None h = ap (λ (ds : List Due). due_after ds (Stack sid 0)) h
 entered_filled p sid image (Some facts) h = first_gone (Stack sid 0) []

@@ -85,7 +85,7 @@ pub moved_ready : (old new : Standing) (moves : ℕ) (locked : List Page) → Ru
 moved_ready old new moves locked d r =
     (record { running = d.on.running; whole = d.on.whole; clear = d.clear }, room_still old.kernel.place new.kernel.place locked d.on.frames r)
 
--- behind a call that counts none
+-- after a call that counts none
 pub continues_from : (a b c : Standing) (n : ℕ) → Continues a b 0 → Continues b c n → Continues a c n
 continues_from a b c n s t =
     let e : 0 + n ≡ n = omega arith in subst (λ (x : ℕ). Continues a c x) e (continues_both a b c 0 n s t)

@@ -1,4 +1,4 @@
--- Machines that go on behind calls that make a space.
+-- Machines that go on after calls that make a space.
 use Rattle.std.specs.Prelude.{Result, Ok, Err, is_ok}
 use Rattle.std.proofs.Common.{Bool, true}
 use Rattle.vm_facts.specs.Answers.{Answers}

@@ -119,7 +119,7 @@ orphaned_less ps pid d n sid h =
 woken_lives : (ps : List Proc) (pid n : ℕ) → life_at (woken_procs ps pid) n ≡ life_at ps n
 woken_lives ps pid n = map_lives (λ (q : Proc). record q { asleep = cond (q.pid == pid) false q.asleep }) (λ q. refl) (λ q. refl) ps n
 
--- who holds a space behind an end isn't who ended
+-- who holds a space after an end isn't who ended
 left_cases : (gone : Bool) (ps : List Proc) (p : Proc) (status n sid : ℕ) → life_at (left_procs gone ps p status) n ≡ HoldsSpace sid
     → (n ≢ p.pid) × (life_at ps n ≡ HoldsSpace sid)
 left_cases true ps p status n sid h = without_cases ps p.pid n sid h

@@ -1,4 +1,4 @@
--- A machine goes on behind each call of a process.
+-- A machine goes on after each call of a process.
 use Rattle.std.specs.Prelude.{ℕ, List, Option, Result, Ok, Err}
 use Rattle.vm_facts.specs.Answers.{Answers}
 use Rattle.vm_facts.specs.declared.page.Page.TheVariants.{Stack}

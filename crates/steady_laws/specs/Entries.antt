@@ -1,4 +1,4 @@
--- A machine goes on behind an entry.
+-- A machine goes on after an entry.
 use Rattle.std.specs.Prelude.{◌≡◌, ℕ, List, Option, None}
 use Rattle.vm_facts.specs.Answers.{ByteWrite}
 use Rattle.vm_facts.specs.declared.regs.Regs.{Regs}
@@ -41,7 +41,7 @@ abbrev pub NoteContinues : Type 0
 NoteContinues =
     (old new : Standing) (e : Entry) → IsReady old → IsPlain e → new ≡ record old { kernel = note_step old.kernel e; room = None } → Continues old new (counted e)
 
--- Behind it the last entry counts no moves of the hands, so behind moves of them the machine goes on from before these.
+-- After it the last entry counts no moves of the hands, so after moves of them the machine goes on from before these.
 abbrev pub NoteCountsNone : Type 0
 NoteCountsNone =
     (old new : Standing) (e : Entry) → IsPlain e → new ≡ record old { kernel = note_step old.kernel e; room = None }

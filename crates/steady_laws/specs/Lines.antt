@@ -1,4 +1,4 @@
--- A machine goes on behind what a line of the schedule asks for, and behind what begins a run.
+-- A machine goes on after what a line of the schedule asks for, and after what begins a run.
 use Rattle.std.specs.Prelude.{◌≡◌, ℕ, List, [], ◌∷◌, ◌++◌, length, Option, None}
 use Rattle.vm_facts.specs.declared.page.Page.{Page}
 use Rattle.vm_facts.specs.declared.page.Page.TheVariants.{Stack}
@@ -36,7 +36,7 @@ abbrev pub TurnContinues : Type 0
 TurnContinues =
     (turned : Turned) (old new : Standing) (holds : Option (List NamedFile)) (i j : Option (List ℕ)) → IsReady old → Turns turned old new holds i j → Continues old new 0
 
--- A first process that begins: its stack page 0 is due behind those that were. The pages that are due first are filled in turn.
+-- A first process that begins: its stack page 0 is due after those that were. The pages that are due first are filled in turn.
 abbrev pub BeginContinues : Type 0
 BeginContinues =
     (old new : Standing) (image : ℕ) → IsRunning old → StartedFirst old new image

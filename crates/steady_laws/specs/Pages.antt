@@ -1,4 +1,4 @@
--- A machine goes on behind an access that was served.
+-- A machine goes on after an access that was served.
 use Rattle.std.specs.Prelude.{ℕ, List, Option}
 use Rattle.vm_facts.specs.declared.page.Page.{Page}
 use Rattle.io_edge.specs.FileHolding.{NamedFile}

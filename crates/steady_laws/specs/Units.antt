@@ -1,4 +1,4 @@
--- A machine goes on behind units of paging.
+-- A machine goes on after units of paging.
 use Rattle.std.specs.Prelude.{ℕ, ◌≤◌, List, Option}
 use Rattle.vm_facts.specs.declared.entry.Entry.{Entry}
 use Rattle.machine_state.specs.Machine.{Standing}

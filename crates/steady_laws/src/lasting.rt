@@ -19,8 +19,8 @@ pub fn readiness_lasts()
     ensures moved { MovedStaysReady }
 {}
 
-/// A machine goes on behind an entry of a process that makes no page due, with pieces that were found before or not, behind an
-/// entry of the journal alone, and behind an instruction, its room and its writes. So many instructions more are counted as the
+/// A machine goes on after an entry of a process that makes no page due, with pieces that were found before or not, after an
+/// entry of the journal alone, and after an instruction, its room and its writes. So many instructions more are counted as the
 /// entry counts.
 pub fn entries_continue()
     ensures entries { EntryContinues }
@@ -34,14 +34,14 @@ pub fn entries_continue()
     ensures passes { PassContinues }
 {}
 
-/// A machine goes on behind units of paging, which count no instruction, where its last entry counts no more moves of the
+/// A machine goes on after units of paging, which count no instruction, where its last entry counts no more moves of the
 /// hands than before; whatever is due, and however many moves it counts, it runs on.
 pub fn units_continue()
     ensures runs_on { UnitsRunOn }
     ensures goes_on { UnitsContinue }
 {}
 
-/// A machine goes on behind each call of a process: one instruction more is counted where it has its reply or is gone, and none
+/// A machine goes on after each call of a process: one instruction more is counted where it has its reply or is gone, and none
 /// where a byte missed or it sleeps.
 pub fn calls_continue()
     ensures replies { ReplyContinues }
@@ -59,14 +59,14 @@ pub fn calls_continue()
     ensures executes { ExecContinues }
 {}
 
-/// A machine goes on behind an access that was served, whatever the answer, and counts no instruction more.
+/// A machine goes on after an access that was served, whatever the answer, and counts no instruction more.
 pub fn pages_continue()
     ensures touched { AccessContinues }
     ensures touched_now { AccessNowContinues }
 {}
 
-/// A machine goes on behind the end of a transfer and a turn of the swapper; behind moves of the hands, but that its last entry
-/// counts so many more; and behind the beginning of a first process and each fill of a page that is due first, but for the
+/// A machine goes on after the end of a transfer and a turn of the swapper; after moves of the hands, but that its last entry
+/// counts so many more; and after the beginning of a first process and each fill of a page that is due first, but for the
 /// pages that are due then.
 pub fn lines_continue()
     ensures moves { MovesContinue }

@@ -67,7 +67,7 @@ served_leads A s old new holds image j pid now p x before served.NoFrame e h = h
 served_leads A s old new holds image j pid now p x before served.NoSpace e h = absurd h
 served_leads A s old new holds image j pid now p x before (served.Signal number) e h = h
 
--- behind growth
+-- after growth
 grown_page_leads : (A : Inputs) (s : State) (old between : Standing) (holds : Option (List NamedFile)) (image : List ℕ) (pid : ℕ) (now : Bool) (before : List Page) (q : Page) (l : Kernel)
     (j : Option (List ℕ)) (answer : Served) → (b : GrownBefore A s old between holds image pid now before q) → PageLeads A (after A s b.entry) between.kernel image before l j answer
     → PageLeads A s old.kernel image before l j answer

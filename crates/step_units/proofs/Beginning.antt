@@ -22,7 +22,7 @@ use Rattle.step_units.specs.Stepped.{StopLeads}
 use Rattle.step_units.specs.Lines.{IsOver, LineBegun, StopsNoting, TurnDue}
 use Rattle.step_units.proofs.Stopping.{note_stops}
 
--- one unit leads to the state behind it
+-- one unit leads to the state after it
 pub one_leads : (A : Inputs) (s : State) (k l : Kernel) (image : List ℕ) (j : Option (List ℕ)) (u : Entry) → next_unit A s ≡ Some u → MadeAs A s k image u l j
     → Leads A s k image (u ∷ []) (after A s u) l (Some (unit_image k image u))
 one_leads A s k l image j u n m = first_leads A s (after A s u) k l l image j (Some (unit_image k image u)) u [] n m (none_leads A (after A s u) l (unit_image k image u))

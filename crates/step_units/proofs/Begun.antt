@@ -80,7 +80,7 @@ pub refuses : (A : Inputs) (s : State) (k : Kernel) (image : List ℕ) (pid : �
 refuses A s k image pid now p x step at r b i f =
     step_refused A s pid (on_steps A s s.mark pid now r.runs.on) b (fits_is A s k image pid now p x step at r (unrefused s.point.last pid b) i ∙ f)
 
--- Behind the refusal, and behind bytes that went out.
+-- After the refusal, and after bytes that went out.
 
 pub is_refused_by : (o : Option Entry) (pid : ℕ) → o ≡ Some (entries.Refused pid) → is_refused o pid ≡ true
 is_refused_by o pid l = ap (λ (z : Option Entry). is_refused z pid) l ∙ eq_self pid

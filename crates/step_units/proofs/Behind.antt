@@ -1,4 +1,4 @@
--- The state behind an entry of a process.
+-- The state after an entry of a process.
 use Rattle.std.proofs.Common.{◌≡◌, ℕ, ◌+◌, ◌-◌, ◌&&◌, nat_lt, Bool, true, false, List, [], ◌∷◌, ◌++◌, length, Option, Some, None, refl, sym, ap, ◌∙◌, subst}
 use Rattle.vm_facts.specs.declared.regs.Regs.{Regs}
 use Rattle.vm_facts.specs.declared.entry.Entry.{Entry}
@@ -31,7 +31,7 @@ use Rattle.run_units.specs.Touching.{IsRunning}
 
 -- The end of a step.
 
--- behind the last entry of a process's step
+-- after the last entry of a process's step
 pub record StepEnds (A : Inputs) (s : State) (pid : ℕ) (e : Entry) (t : State) : Type 0 where
   pub count : t.count ≡ s.count + counted e
   pub lines : t.lines ≡ s.lines
@@ -62,7 +62,7 @@ step_ends A s pid _ c d = absurd c
 
 -- Within a step.
 
--- behind an entry that begins a step, or says that its pieces found no place, the process runs on
+-- after an entry that begins a step, or says that its pieces found no place, the process runs on
 pub record StepWaits (A : Inputs) (s : State) (e : Entry) (t : State) : Type 0 where
   pub count : t.count ≡ s.count
   pub lines : t.lines ≡ s.lines

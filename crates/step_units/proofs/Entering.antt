@@ -1,4 +1,4 @@
--- What a machine makes of a whole step leads to the state behind it, and where it stops the step's entry is next.
+-- What a machine makes of a whole step leads to the state after it, and where it stops the step's entry is next.
 use Rattle.std.proofs.Common.{◌≡◌, ◌⊎◌, inl, inr, ℕ, ◌+◌, ◌<◌, ◌≤◌, Bool, false, List, [], ◌∷◌, ◌++◌, length, Option, Some, None, Ok, refl, sym, ap, ◌∙◌, subst, arith}
 use Rattle.std.proofs.lemmas.List.{length-append}
 use Rattle.std.proofs.lemmas.Option.{same_Some}
@@ -68,7 +68,7 @@ between_ends pid (entries.Refused q) c = absurd c
 between_ends pid (entries.Out q bytes) c = absurd c
 between_ends pid _ c = tt
 
--- the last entry of a step was made, and no page is due behind it
+-- the last entry of a step was made, and no page is due after it
 pub record IsComplete (A : Inputs) (s : State) (k l : Kernel) (image : List ℕ) (pid : ℕ) (e : Entry) : Type 0 where
   pub leads : Leads A s k image (e ∷ []) (after A s e) l (Some image)
   pub there : At A (after A s e) l image
@@ -106,7 +106,7 @@ complete_leads A s k l image pid e h = record {
   mark = h.ends.mark;
 }
 
--- Units behind others.
+-- Units after others.
 
 pub leads_both : (A : Inputs) (s t r : State) (k l m : Kernel) (image mid : List ℕ) (j : Option (List ℕ)) (us vs : List Entry)
     → Leads A s k image us t l (Some mid) → Leads A t l mid vs r m j
@@ -134,7 +134,7 @@ pub ends_step : (pid : ℕ) (e : Entry) → Completes pid e → EndsStep pid e
 ends_step pid (entries.Ran q n) c = absurd c
 ends_step pid _ c = c
 
--- an entry with the change of its step, once the pieces were found, where no space passes and no page is due behind it
+-- an entry with the change of its step, once the pieces were found, where no space passes and no page is due after it
 pub entered : (A : Inputs) (s : State) (old : Standing) (l : Kernel) (holds : Option (List NamedFile)) (image : List ℕ) (pid : ℕ) (now : Bool) (p : Process) (x : Space) (step : Step) (e : Entry)
     (found : Holdings)
     → MachineAt A s old holds image → IsRunning A s pid now p x → wanted A s ≡ None → act A s pid ≡ Some e → Completes pid e → due_at A s.point pid ≡ e ∷ []
@@ -249,7 +249,7 @@ stopped_short A s old new image stop h c = record {
   by = subst (λ (z : Stop). StopsBy A s old.kernel image z new (Some image)) (sym c) refl;
 }
 
--- behind units
+-- after units
 pub stops_then : (A : Inputs) (s t : State) (k l : Kernel) (image mid : List ℕ) (j : Option (List ℕ)) (us : List Entry) (stop : Stop) (new : Standing)
     → Leads A s k image us t l (Some mid)
     → StopLeads A t l mid stop new j → StopLeads A s k image stop new j

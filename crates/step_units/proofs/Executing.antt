@@ -1,4 +1,4 @@
--- An execve is the process's step, and its stack page is filled behind it.
+-- An execve is the process's step, and its stack page is filled after it.
 use Rattle.std.proofs.Common.{◌≡◌, inl, inr, ℕ, List, [], ◌∷◌, Option, Some, refl, sym, ap, subst, Bool, true, false, ◌++◌, None, Result, Ok, Err, ◌∙◌}
 use Rattle.io_edge.specs.FileHolding.{NamedFile}
 use Rattle.vm_facts.specs.declared.entry.Entry.TheVariants as entries
@@ -119,7 +119,7 @@ module _ (A : Inputs) (s : State) (old : Standing) (holds : Option (List NamedFi
     abbrev Imaged : Standing → Option (List ℕ) → Type 0
     Imaged new j = IsImaged A s old holds image pid now p x effect on makes after_regs number top reads new j
 
-    -- the stack page is filled behind it
+    -- the stack page is filled after it
     filled : (between new : Standing) (told j : Option (List ℕ)) → Imaged between told → FillsStart page between new holds told j → StepLeads A s old.kernel image 1 new.kernel j
     filled between new told j i h =
         let bytes : List ℕ = i.leads.behind in

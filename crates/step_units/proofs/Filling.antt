@@ -49,7 +49,7 @@ stays A s k image ds d = record {
   due = d;
 }
 
--- behind units that lead to a state
+-- after units that lead to a state
 pub goes_on : (A : Inputs) (s t : State) (k l m : Kernel) (image behind : List ℕ) (j : Option (List ℕ)) (us : List Entry) (ds : List Due)
     → Leads A s k image us t l (Some behind)
     → SameBut s t → LeadsTo A t l behind ds m j → LeadsTo A s k image ds m j

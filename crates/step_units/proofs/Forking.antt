@@ -1,4 +1,4 @@
--- A fork is the step of its process, and behind it pages are copied.
+-- A fork is the step of its process, and after it pages are copied.
 use Rattle.std.proofs.Common.{◌≡◌, inl, inr, ℕ, ◌+◌, Bool, true, false, List, [], ◌∷◌, ◌++◌, Option, Some, refl, sym, ap, ◌∙◌, subst}
 use Rattle.io_edge.specs.FileHolding.{NamedFile}
 use Rattle.vm_facts.specs.declared.regs.Regs.{Regs}
@@ -109,7 +109,7 @@ asking A s old holds image pid now p x effect runs makes = record {
   called = child_called A s old holds image pid now p x effect system_calls.Fork (λ child. changes.Fork child) fork_asks runs makes;
 }
 
--- the machine stands at a state behind the step, where the pages that are due, if any, are copied
+-- the machine stands at a state after the step, where the pages that are due, if any, are copied
 forked_to : (A : Inputs) (s : State) (old between : Standing) (holds : Option (List NamedFile)) (image : List ℕ) (pid : ℕ) (now : Bool) (p : Process) (x : Space) (effect : Effect)
     → RunsOn A s old holds image pid now p x → MakesCall old p x effect system_calls.Fork → ForkAnswered old between pid effect.regs → HasForked A s old between holds image
 forked_to A s old between holds image pid now p x effect runs makes h = go (is_below_limit old.kernel) (finds_pieces old pid (changes.Fork old.kernel.next_pid)) refl refl h

@@ -1,4 +1,4 @@
--- Growth of a stack and its refusal are units of a run; behind growth its process waits for the new page.
+-- Growth of a stack and its refusal are units of a run; after growth its process waits for the new page.
 use Rattle.std.proofs.Common.{◌≡◌, ◌⊎◌, inl, inr, ℕ, ◌+◌, ◌-◌, ◌<◌, ◌≤◌, ◌&&◌, nat_lt, Bool, true, false, List, [], ◌∷◌, ◌++◌, length, Option, Some, None, Ok, Err, refl, sym, ap, ◌∙◌, subst, arith}
 use Rattle.std.specs.Prelude.{is_ok}
 use Rattle.std.proofs.lemmas.List.{length-append}
@@ -61,7 +61,7 @@ use Rattle.step_units.proofs.Falling.{refused_none, due_all, Falls, low, grown_f
 use Rattle.step_units.proofs.Grown.{grown_process, grown_ready, grown_sizes, touched_grown}
 use Rattle.step_units.proofs.Serving.{WaitsFor, LeadsMore}
 
--- A process that goes on as before, behind an entry that counts no instruction.
+-- A process that goes on as before, after an entry that counts no instruction.
 
 goes_same : (A : Inputs) (s t : State) (pid : ℕ) (now : Bool) (m : Mark) → can_step t.point.flat pid ≡ can_step s.point.flat pid → t.count ≡ s.count
     → GoesOn A s m pid now → GoesOn A t m pid now
@@ -151,7 +151,7 @@ behind_growth : (A : Inputs) (s : State) (pid n : ℕ) → due_at A s.point pid 
 unfolding after
 behind_growth A s pid n e = record { point = ap (behind s.point (step_at A s.point pid).after) e; count = refl; lines = refl; mark = refl }
 
--- the unit that was made, and the state behind it, at which the new page is waited for
+-- the unit that was made, and the state after it, at which the new page is waited for
 pub record GrownBefore (A : Inputs) (s : State) (old between : Standing) (holds : Option (List NamedFile)) (image : List ℕ) (pid : ℕ) (now : Bool) (before : List Page) (q : Page) : Type 0 where
   pub entry : Entry
   pub next : next_unit A s ≡ Some entry
@@ -264,7 +264,7 @@ growth_before A s old between holds image pid now p x address before r f same va
         touched_grown A F t.point.flat pid p x (data_pages_of x) address i.here i.holds ready there
         (grown_sizes x (numbered space_number x.sid old.kernel.place.spaces) address fitted (low A s old pid p x address f)) f.ready.same
 
--- What comes behind growth comes behind the state before it.
+-- What comes after growth comes after the state before it.
 
 pub grown_leads : (A : Inputs) (s : State) (old between : Standing) (holds : Option (List NamedFile)) (image : List ℕ) (pid : ℕ) (now : Bool) (before : List Page) (q : Page) (us : List Entry)
     (t : State) (l : Kernel) (j : Option (List ℕ)) → (b : GrownBefore A s old between holds image pid now before q) → Leads A (after A s b.entry) between.kernel image us t l j
@@ -286,7 +286,7 @@ grown_steps A s old between holds image pid now before q l j b d = record {
   mark = d.mark ∙ b.mark;
 }
 
--- and one page more is valid behind both
+-- and one page more is valid after both
 pub grown_more : (A : Inputs) (s : State) (old between : Standing) (holds : Option (List NamedFile)) (image : List ℕ) (pid : ℕ) (now : Bool) (before : List Page) (q : Page) (l : Kernel)
     (j : Option (List ℕ)) → (b : GrownBefore A s old between holds image pid now before q) → LeadsMore A (after A s b.entry) between.kernel image before l j → LeadsMore A s old.kernel image before l j
 unfolding grown_steps

@@ -1,4 +1,4 @@
--- Behind growth of its stack a process touches what it touched before, and next the page of the byte for which it grew.
+-- After growth of its stack a process touches what it touched before, and next the page of the byte for which it grew.
 use Rattle.std.proofs.Common.{◌≡◌, ℕ, ◌+◌, ◌-◌, ◌*◌, ◌/◌, ◌≤◌, ◌&&◌, nat_lt, nat_le, not, cond, Bool, true, false, List, [], ◌∷◌, ◌++◌, length, filter, filter_map, append_assoc, Option, Some, None, Result, Err, if◌then◌else◌, refl, sym, ap, ◌∙◌, arith}
 use Rattle.std.specs.List.{cons_option}
 use Rattle.std.proofs.lemmas.Bool.Decides.{nat_tests}
@@ -155,7 +155,7 @@ kept_unseen s d t a (y ∷ ys) k = go (page_of_access s y) refl (kept_unseen s d
     go None e n = n
     go (Some q) e n = (k.0.1 q e, n)
 
--- the pages of the accesses before growth, and of those behind it
+-- the pages of the accesses before growth, and of those after it
 pages_grown : (s : Space) (d t a : ℕ) (p : Program Effect) (after : List Access) → Reached Effect s d t a p
     → (more : List Page) × (distinct (filter_map (page_of_access (resized s d t)) (accesses (answers_of (resized s d t)) p ++ after))
     ≡ distinct (filter_map (page_of_access s) (accesses (answers_of s) p)) ++ grown_page s a ∷ more)

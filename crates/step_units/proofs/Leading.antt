@@ -15,7 +15,7 @@ use Rattle.run_units.specs.Serving.{At}
 use Rattle.run_units.proofs.Units.{none_leads, leads_at}
 use Rattle.step_units.specs.Stepped.{StopsBy, StopLeads}
 
--- the swap image behind units is told
+-- the swap image after units is told
 pub led_told : (A : Inputs) (s t : State) (k l : Kernel) (image : List ℕ) (j : Option (List ℕ)) (us : List Entry) (led : Leads A s k image us t l j)
     → Leads A s k image us t l (Some led.behind)
 led_told A s t k l image j us led = subst (λ (o : Option (List ℕ)). Leads A s k image us t l o) led.told led

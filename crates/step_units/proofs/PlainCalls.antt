@@ -138,7 +138,7 @@ plain_stops A s old new holds image pid now p x effect _ stop h m a g = absurd a
 pub refused_stops : RefusedCallStops
 refused_stops = stops_reading
 
--- a write stops before the bytes that go out, or behind them
+-- a write stops before the bytes that go out, or after them
 stops_writing : (A : Inputs) (s : State) (old new : Standing) (holds : Option (List NamedFile)) (image : List ℕ) (pid : ℕ) (now : Bool) (p : Process) (x : Space) (effect : Effect)
     (reply : Reply) (stop : Stop)
     → RunsOn A s old holds image pid now p x → IsCallOf effect system_calls.Write → IsCalledFor A s p x system_calls.Write effect (Ok reply) → IsQuiet reply

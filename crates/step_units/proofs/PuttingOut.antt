@@ -183,7 +183,7 @@ in_comes A s old new image j pid c m i e =
 puts_process : (s : State) (k : Kernel) (pid sid : ℕ) → IsClear s → s.mark ≡ marks.PutOut pid → Holder s.point.flat pid sid → PutsProcess s pid sid
 puts_process s k pid sid c m h = record { mark = m; clear = c.clear; own = own_space s.point.flat pid sid h }
 
--- behind the units that put a process out it goes out
+-- after the units that put a process out it goes out
 last_out : (A : Inputs) (s : State) (k l : Kernel) (image : List ℕ) (j : Option (List ℕ)) (pid sid : ℕ) → At A s k image → IsBetween s.point.last
     → PutsProcess s pid sid → Holder s.point.flat pid sid
     → is_out s.place pid ≡ false → AllFit s.point.flat.processes → entries.SwapOut pid ≡ put_out_unit s.place pid sid → l ≡ out_step k pid → WritesU k pid (Some image) j → LineLeads A s k image l j

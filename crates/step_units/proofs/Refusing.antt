@@ -44,11 +44,11 @@ use Rattle.step_units.proofs.Behind.{StepWaits, refusal_waits, running_same, wan
 use Rattle.step_units.proofs.Entering.{entry_leads, complete_leads, entered, leads_then, stopped_before, stops_then}
 use Rattle.step_units.proofs.Replying.{called_on, called_step, refused_step}
 
--- the machine behind the entry
+-- the machine after the entry
 abbrev pub with_refusal : Standing → ℕ → Standing
 with_refusal m pid = record m { kernel = note_step m.kernel (entries.Refused pid); room = None }
 
--- Behind the entry the process runs on, and waits for the same page; a step of it is refused.
+-- After the entry the process runs on, and waits for the same page; a step of it is refused.
 pub record IsRefusal (A : Inputs) (s : State) (old : Standing) (holds : Option (List NamedFile)) (image : List ℕ) (pid : ℕ) (now : Bool) (p : Process) (x : Space) : Type 0 where
   pub leads : Leads A s old.kernel image (entries.Refused pid ∷ []) (after A s (entries.Refused pid)) (note_step old.kernel (entries.Refused pid)) (Some image)
   pub waits : StepWaits A s (entries.Refused pid) (after A s (entries.Refused pid))
@@ -85,7 +85,7 @@ call_refusal A s old holds image pid now p x effect call r regs change h m c e f
     let step : Step = replied_step A.images s.point.flat p call effect (Does regs change) in
     refusal A s old holds image pid now p x step h c.unwanted (called_step A s pid now p x effect call r h.running h.between m c ∙ ap (replied_step A.images s.point.flat p call effect) e) f
 
--- behind it the step is the failure of the call
+-- after it the step is the failure of the call
 pub failing_step : (A : Inputs) (s : State) (old : Standing) (holds : Option (List NamedFile)) (image : List ℕ) (pid : ℕ) (now : Bool) (p : Process) (x : Space) (effect : Effect) (call : SystemCall)
     (r : Result Reply Refused) (regs : Regs) (change : Change)
     → IsCallOf effect call → IsCalledFor A s p x call effect r → or_fault r ≡ Does regs change → wants_space change ≡ true → IsRefusal A s old holds image pid now p x

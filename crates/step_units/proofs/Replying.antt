@@ -89,7 +89,7 @@ called_step A s pid now p x effect call r i b m h =
     call_known A s pid now p x effect call r i m h
     ∙ ap (λ (z : Bool). replied_step A.images s.point.flat p call effect (refused_reply z (or_fault r))) (unrefused s.point.last pid b)
 
--- behind the entry that says that its pieces found no place
+-- after the entry that says that its pieces found no place
 pub refused_step : (A : Inputs) (s : State) (pid : ℕ) (now : Bool) (p : Process) (x : Space) (effect : Effect) (call : SystemCall) (r : Result Reply Refused)
     → IsRunning A s pid now p x → s.point.last ≡ Some (entries.Refused pid) → IsCallOf effect call → IsCalledFor A s p x call effect r
     → step_at A s.point pid ≡ replied_step A.images s.point.flat p call effect (refused_reply true (or_fault r))

@@ -83,7 +83,7 @@ still_closing A s u pid c h = go (begins_stretch u) refl
     go true e = begun_closing A s u pid c e
     go false e = (pid, stays_closing A s u pid c e (no_event A s u pid (closes A s u pid c h e)))
 
--- Who is out behind a unit was out before, unless it leaves by it.
+-- Who is out after a unit was out before, unless it leaves by it.
 
 step_out : (images : List Image) (flat : FlatState) (pid at : ℕ) (written : List Page) (change : Change) (p : Placement) (n : ℕ)
     → is_out (place_step images flat pid at written change p) n ≡ true → is_out p n ≡ true

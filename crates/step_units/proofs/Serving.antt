@@ -48,7 +48,7 @@ same_space A s k image pid now p x at r =
     let i : Stepping k s.point.flat pid p x = stepping k s.point.flat pid p x at.stands.keeps.coupled.tables r.here r.holds in
     ap space_of_life (ap life_of_proc i.kept ∙ i.life)
 
--- A process of a machine runs between two steps, and this page of its next instruction, behind valid ones, is served; in a turn the
+-- A process of a machine runs between two steps, and this page of its next instruction, after valid ones, is served; in a turn the
 -- hands pass over those.
 pub record WaitsFor (A : Inputs) (s : State) (m : Standing) (holds : Option (List NamedFile)) (image : List ℕ) (pid : ℕ) (now : Bool) (before : List Page) (q : Page) : Type 0 where
   pub machine : MachineAt A s m holds image

@@ -80,7 +80,7 @@ found_back m n image r =
     ∙ ap (λ (hs : Holdings). place_all m.params.swap_blocks hs (image_wanted n image)) r.kernel.holdings
     ∙ ap (place_all m.params.swap_blocks m.kernel.holdings) (wanted_back m n image r)
 
--- behind a new image its stack page is due
+-- after a new image its stack page is due
 exec_due : (facts : List Image) (flat : FlatState) (pid at : ℕ) (written : List Page) (number : ℕ) (top : List ℕ) (q : Placement) (image : Image)
     → facts_numbered facts number ≡ Some image
     → (place_step facts flat pid at written (Exec number top) q).due ≡ Start (Stack flat.next_sid 0) ∷ []

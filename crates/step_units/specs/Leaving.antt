@@ -27,7 +27,7 @@ use Rattle.step_units.specs.Stepped.{StepLeads, CallLeads, StopLeads}
 
 -- Ends.
 
--- The process waits for no page, and its step ends it with this status: between two steps, or behind the entry that says that
+-- The process waits for no page, and its step ends it with this status: between two steps, or after the entry that says that
 -- its pieces found no place.
 pub record EndsWith (A : Inputs) (s : State) (pid : ℕ) (p : Process) (status : ℕ) : Type 0 where
   pub unwanted : wanted A s ≡ None
@@ -79,7 +79,7 @@ ExitStops =
 
 -- New images.
 
--- an execve is the process's step, and behind it the new stack page is filled
+-- an execve is the process's step, and after it the new stack page is filled
 abbrev pub ExecIsMade : Type 0
 ExecIsMade =
     (A : Inputs) (s : State) (old new : Standing) (holds : Option (List NamedFile)) (image : List ℕ) (behind : Option (List ℕ)) (pid : ℕ) (now : Bool) (p : Process) (x : Space) (effect : Effect)

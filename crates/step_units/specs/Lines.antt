@@ -52,7 +52,7 @@ pub record LineLeads (A : Inputs) (s : State) (k : Kernel) (image : List ℕ) (l
 
 -- A line begins.
 
--- the entry of a line is the next unit, and behind it the line's mark is the last
+-- the entry of a line is the next unit, and after it the line's mark is the last
 pub record LineBegun (A : Inputs) (s : State) (k : Kernel) (image : List ℕ) (e : Event) (l : Kernel) : Type 0 where
   pub state : State
   pub leads : Leads A s k image (entries.Event (s.lines + 1) ∷ []) state l (Some image)
@@ -137,14 +137,14 @@ AuditStops =
 
 -- Turns of the closing phase.
 
--- behind the last line it is a process's turn
+-- after the last line it is a process's turn
 pub record TurnDue (A : Inputs) (s : State) (pid : ℕ) : Type 0 where
   pub over : IsOver A s
   pub below : s.count < A.limit
   pub lines : length A.lines ≡ s.lines
   pub turned : next_turned s.point.flat (last_turned s.mark) ≡ Some pid
 
--- its entry is the next unit, and behind it the turn is the last mark
+-- its entry is the next unit, and after it the turn is the last mark
 pub record TurnBegun (A : Inputs) (s : State) (k : Kernel) (image : List ℕ) (pid : ℕ) (l : Kernel) : Type 0 where
   pub state : State
   pub leads : Leads A s k image (entries.Turn pid ∷ []) state l (Some image)

@@ -26,7 +26,7 @@ VforkStops =
     → RunsOn A s old holds image pid now p x → MakesCall old p x effect system_calls.Vfork → StopsMaking old new pid (changes.Lend old.kernel.next_pid) stop
     → StopLeads A s old.kernel image stop new (Some image)
 
--- A fork is the process's step, and behind it each page that is due is copied, from the parent's page, which comes in first.
+-- A fork is the process's step, and after it each page that is due is copied, from the parent's page, which comes in first.
 abbrev pub ForkIsMade : Type 0
 ForkIsMade =
     (A : Inputs) (s : State) (old new : Standing) (holds : Option (List NamedFile)) (image : List ℕ) (behind : Option (List ℕ)) (pid : ℕ) (now : Bool) (p : Process) (x : Space) (effect : Effect)

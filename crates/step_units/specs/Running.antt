@@ -39,7 +39,7 @@ Waits A s m p x address write before =
     ((wants : WantsPage A s m.kernel x address write) × (wants.before ≡ before))
     ⊎ ((run (kernel_answers m.kernel x.sid) (instruction p.regs) ≡ Err (Below address)) × (write ≡ false) × (touched_next A s ≡ before) × AllValid s.place before)
 
--- units lead to a state under the same mark, between two steps and with nothing due, or behind the entry that says that the pieces
+-- units lead to a state under the same mark, between two steps and with nothing due, or after the entry that says that the pieces
 -- of growth find no place; that ends the process by signal 11
 pub record EndsRefused (A : Inputs) (s : State) (m new : Standing) (holds : Option (List NamedFile)) (image : List ℕ) (pid : ℕ) (now : Bool) (p : Process) (x : Space) : Type 0 where
   pub state : State

@@ -24,7 +24,7 @@ pub fn lines_are_made()
     ensures audit_stops { AuditStops }
 {}
 
-/// Behind the last line the entry of a turn is the next unit, and a process that is out comes in first. In the closing phase a
+/// After the last line the entry of a turn is the next unit, and a process that is out comes in first. In the closing phase a
 /// process that is in stays in.
 pub fn turns_begin()
     ensures is { TurnBegins }

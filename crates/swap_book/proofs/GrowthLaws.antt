@@ -14,7 +14,7 @@ use Rattle.swap_book.proofs.OwnerLaws.{same_owner_itself}
 abbrev pub wanted_as : Held → Wanted
 wanted_as h = record { owner = h.owner; length = h.length }
 
--- the pieces that were added behind the holdings, in the order in which they were wanted
+-- the pieces that were added after the holdings, in the order in which they were wanted
 pub record Added (hs new : List Held) (ws : List Wanted) : Type 0 where
   pub pieces : List Held
   pub is : new ≡ hs ++ pieces

@@ -105,7 +105,7 @@ block_in_more hs new more owner v block grown e =
     go (g ∷ gs) zero e = e
     go (g ∷ gs) (suc i) e = go gs i e
 
--- and where its owner gives back pieces behind its own
+-- and where its owner gives back pieces after its own
 pub block_in_kept : (hs : List Held) (owner : Owner) (keep v : ℕ) → (spot_of owner v).0 < keep → block_in (kept owner keep hs) owner v ≡ block_in hs owner v
 block_in_kept hs owner keep v lt =
     ap (λ (gs : List Held). block_at (slice_get gs (spot_of owner v).0) (spot_of owner v).1) (of_owner-kept owner keep hs) ∙

@@ -193,7 +193,7 @@ impl SwapBook {
         Ok(true)
     }
 
-    /// Gives back the pieces behind the first `before`, the last one first.
+    /// Gives back the pieces after the first `before`, the last one first.
     fn cut(&mut self, before: usize)
         requires { before ≤ length self.old.holdings }
         ensures { self.new ≡ with_holdings self.old (take before self.old.holdings) }
@@ -204,7 +204,7 @@ impl SwapBook {
         }
     }
 
-    /// Gives back an owner's pieces behind its first `keep`, the last one first.
+    /// Gives back an owner's pieces after its first `keep`, the last one first.
     fn keep_first(&mut self, owner: Owner, keep: usize)
         ensures { self.new ≡ with_holdings self.old (kept owner keep self.old.holdings) }
     {

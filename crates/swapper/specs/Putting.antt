@@ -60,7 +60,7 @@ pub record HoldsThere (k : Kernel) (pid sid : ℕ) : Type 0 where
   pub there : HasSpace k.place sid
 
 -- The call makes these units, and then the process goes out: its u page is written, and its record keeps no registers. Each
--- is the unit that puts it out. The files and the swap images, where they are told, are those before and behind the call.
+-- is the unit that puts it out. The files and the swap images, where they are told, are those before and after the call.
 pub record PutOut (pid sid : ℕ) (old new : Standing) (holds : Option (List NamedFile)) (i j : Option (List ℕ)) : Type 0 where
   pub units : List Entry
   pub at : Kernel

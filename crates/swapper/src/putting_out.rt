@@ -35,7 +35,7 @@ const MOST_IN_FLIGHT: u32 = 16;
 enum Step {
     /// The oldest transfer ends.
     Wait,
-    /// This page leaves its frame, with those behind it that go along in one write.
+    /// This page leaves its frame, with those after it that go along in one write.
     Put(Page),
 }
 

@@ -252,7 +252,7 @@ module _ (t v w u : Tables) (p : Proc) (since image : ℕ) (facts : Image) (top 
       image_same : image_at v sid ≡ image_at t sid
       image_same = ap (λ (q : Placement). image_of q sid) e.shows.place ∙ ap image_in (added_other sid (place_in t).spaces (new_pages t.next_sid image facts) d)
 
--- The end. The u page goes behind the space.
+-- The end. The u page goes after the space.
 
 abbrev pub without_u : Tables → ℕ → Tables
 without_u v pid = record v { book = with_holdings v.book (kept (owners.U pid) 0 v.book.holdings) }

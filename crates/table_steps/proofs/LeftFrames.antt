@@ -248,7 +248,7 @@ pages_gone map i (suc v) g token w mark u h =
       | inr n ↦ omega arith
     ]
 
--- a page behind them stays as it was
+-- a page after them stays as it was
 pub pages_behind : (map : Frames) (i v g w : ℕ) → token_page (slot_at map.slots g) ≡ Some (Text i w) → v ≤ w
     → slot_at (left_pages map i v).slots g ≡ slot_at map.slots g
 pages_behind map i zero g w h l = refl

@@ -76,7 +76,7 @@ pub record MayApply (t : Tables) (pid : ℕ) (change : Change) : Type 0 where
   pub whole : IsWholeChange (images_of t) change
   pub few : makes_process change ≡ true → length (processes_in t) < 64
 
--- the tables are as the kernel is behind the change, with what is known of them; the sizes, the images and the transfers
+-- the tables are as the kernel is after the change, with what is known of them; the sizes, the images and the transfers
 -- in flight are as before
 pub record Applied (t u : Tables) (p : Proc) (since : ℕ) (change : Change) : Type 0 where
   pub place : place_in u ≡ place_change (lists_of t).facts (place_in t) p.pid (space_of_life p.life) (gave_back p.life) t.next_sid since change

@@ -43,7 +43,7 @@ fn is_among(pages: &[Page], page: Page) -> bool
     }
 }
 
-// The frame behind this one, of so many.
+// The frame after this one, of so many.
 fn next_frame(frames: u32, frame: u32) -> u32
     requires { frame ≤ frames }
     ensures { result ≡ next_frame frames frame }

@@ -6,7 +6,7 @@ use std::alloc::{AllocError, Global};
 use std::test::Fail;
 use vm_facts::Event;
 
-// An image of 4 bytes of text behind its header, and 3 bytes that are no part of it.
+// An image of 4 bytes of text after its header, and 3 bytes that are no part of it.
 const SHARED: [u8; 39] = [
     0x08, 0x01, 0, 0, 4, 0, 0, 0, 0, 0, 0, 0, 0, 0, 0, 0, 0, 0, 0, 0, 0, 0, 0, 0, 0, 0, 0, 0, 0, 0,
     0, 0, 5, 6, 7, 8, 9, 9, 9,

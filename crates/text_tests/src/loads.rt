@@ -6,7 +6,7 @@ use std::process::Abort;
 use std::test::Fail;
 use vm_facts::{Bytes, Entry, Event};
 
-// A file of one page of text, with these parts at their addresses, and so many zeros behind it.
+// A file of one page of text, with these parts at their addresses, and so many zeros after it.
 fn file_of_parts(alloc: Global, parts: &[Part], bss: u32) -> Result<Vec<u8>, AllocError> {
     let mut file = Vec::new(alloc);
     for word in [0x10B, 1024, 0, bss, 0, 0, 0, 0_u32] {

@@ -39,7 +39,7 @@ fn a_run_has_its_option_its_numbers_and_its_names(rt: HostRuntime) -> Result<(),
 
 // Command lines that are good; one space parts two words.
 const GOOD: [&'static str; 15] = [
-    // The option stands at any place behind the first word, but once.
+    // The option stands at any place after the first word, but once.
     "run --trace 64 256 100 s hi",
     "run 64 256 100 s a --trace b",
     "run 64 256 100 s hi --trace",

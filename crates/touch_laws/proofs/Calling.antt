@@ -12,7 +12,7 @@ use Rattle.touch_laws.proofs.Near.{IsAt, at_self, at_past, at_more}
 use Rattle.touch_laws.proofs.Cover.{Within, within_bind, Covered, within_one, covered_rebased, covered_more, covered_gives, covered_bind, covered_behind}
 use Rattle.touch_laws.proofs.Fetched.{within_number}
 
--- the arguments stand behind the longword that AP points to
+-- the arguments stand after the longword that AP points to
 within_argument : (regs : Regs) (k : ℕ) → 4 * k ≤ 1000 → Within (register regs 12) (λ _. Unit {0}) (argument regs k)
 unfolding argument
 within_argument regs k l =

@@ -1,8 +1,8 @@
--- Addresses a little behind another one.
+-- Addresses a little after another one.
 use Rattle.std.proofs.Common.{◌≡◌, ℕ, ◌+◌, ◌-◌, ◌*◌, ◌/◌, ◌%◌, ◌^◌, ◌≤◌, List, [], ◌∷◌, ◌++◌, ◌⊎◌, inl, inr, arith}
 use Rattle.user_vax.specs.Operands.{past, back}
 
--- an address is so many bytes at most behind a start; addresses wrap
+-- an address is so many bytes at most after a start; addresses wrap
 abbrev pub IsAt : ℕ → ℕ → ℕ → Type 0
 IsAt start most x = (k : ℕ) × (k ≤ most) × (x % 2 ^ 32 ≡ (start + k) % 2 ^ 32)
 
@@ -15,7 +15,7 @@ at_past start most by x h = (h.0 + by, (let l = h.1 in omega arith), (let e = h.
 pub at_more : (start most more x : ℕ) → most ≤ more → IsAt start most x → IsAt start more x
 at_more start most more x l h = (h.0, (let k = h.1 in omega arith), h.2)
 
--- an address is so many bytes at least behind a start, and no more than 1,023
+-- an address is so many bytes at least after a start, and no more than 1,023
 abbrev pub IsFrom : ℕ → ℕ → ℕ → Type 0
 IsFrom start least x = (k : ℕ) × (least ≤ k) × (k ≤ 1023) × (x % 2 ^ 32 ≡ (start + k) % 2 ^ 32)
 

@@ -27,7 +27,7 @@ pub fn touched_are_few()
     ensures spare { (place : Placement) (pages : List Page) → length pages ≤ 32 → 64 ≤ length place.holds → HasRoom place pages }
 {}
 
-/// Text and data of each space that a process holds are whole pages, 2,048 and 4,096 at most: at the start, behind each
+/// Text and data of each space that a process holds are whole pages, 2,048 and 4,096 at most: at the start, after each
 /// step, and in each run, where the images' are so; and those of an image that a file is are so. Such spaces are of whole
 /// pages below 2 ^ 32.
 pub fn spaces_are_whole()

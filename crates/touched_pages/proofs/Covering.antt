@@ -61,7 +61,7 @@ quiet_step old n pid sid pages regs same holds quiet =
     (ap (λ (s : Standing). writes_of (run (kernel_answers s.kernel sid) (instruction regs))) same
     ∙ ap (λ (i : ℕ). writes_of (run (kernel_answers old.kernel i) (instruction regs))) (sym (ap space_of_life holds)) ∙ quiet)
 
--- where nothing is written the machine behind the reference is as before
+-- where nothing is written the machine after the reference is as before
 pub kept_through : (old : Standing) (m n : MutBor Standing) (l k : Layout) (ps qs : List Page) (ws : List ByteWrite) → WroteShown m l ps ws n k qs
     → ws ≡ [] → m.now ≡ old → n.now ≡ old
 kept_through old m n l k ps qs ws h none same =

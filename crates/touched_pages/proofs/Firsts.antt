@@ -85,7 +85,7 @@ left_other pages p q h = go (is_among q pages) (same_page p q) refl refl
         let same : is_among p pages ≡ is_among q pages = ap (λ (r : Page). is_among r pages) (same_page_is p q k) in
         absurd cc
 
--- of those behind pages that are there, as much is left as of all
+-- of those after pages that are there, as much is left as of all
 left_behind : (pages front back : List Page) → AllAmong pages front → filter (left pages) (distinct (front ++ back)) ≡ filter (left pages) (distinct back)
 unfolding distinct
 left_behind pages [] back h = refl
@@ -107,14 +107,14 @@ left_first pages back p h =
     neither true b = refl
     neither false b = refl
 
--- These are the first pages of a list that has each once: the others come behind them.
+-- These are the first pages of a list that has each once: the others come after them.
 abbrev pub AreFirst : List Page → List Page → Type 0
 AreFirst pages qs = distinct qs ≡ pages ++ filter (left pages) (distinct qs)
 
 pub none_first : (qs : List Page) → AreFirst [] qs
 none_first qs = sym (filter_all (distinct qs))
 
--- behind them comes the first page that is none of them
+-- after them comes the first page that is none of them
 pub next_first : (pages front back : List Page) (q : Page) → AreFirst pages (front ++ q ∷ back) → AllAmong pages front → is_among q pages ≡ false
     → distinct (front ++ q ∷ back) ≡ pages ++ q ∷ filter (left (pages ++ q ∷ [])) (distinct (front ++ q ∷ back))
 next_first pages front back q first all new =

@@ -225,7 +225,7 @@ pub hit_both : (memory : Answers) (xs ys : List Access) → AllHit memory xs →
 hit_both memory [] ys h k = k
 hit_both memory (x ∷ xs) ys h k = (h.0, hit_both memory xs ys h.1 k)
 
--- a computation that misses, behind accesses that don't, and before others
+-- a computation that misses, after accesses that don't, and before others
 pub program_misses : {B : Type 0} (k : Kernel) (x : Space) (e : SameSpots k x) (ps : List Page) (q : Program B) (before after : List Access) (address : ℕ) (write : Bool)
     → AllValid k.place ps
     → Covers (shown_in k x.sid ps) (answers_of x) → AllHit (shown_in k x.sid ps) before → run (shown_in k x.sid ps) q ≡ Err (Miss address write)

@@ -50,13 +50,13 @@ module _ (images : List NamedImage) (F : FlatState) (p : Process) (x : Space) (k
   abbrev pub Next : List Access → Option ℕ → Type 0
   Next list o = NextOf k x ps list o
 
-  -- no access behind the instruction
+  -- no access after the instruction
   ends_here : (r : Result Effect Refused) → Whole memory flat (instruction p.regs) → run memory (instruction p.regs) ≡ r → accesses_after images F p x r ≡ [] → Next (step_accesses images F p x) None
   ends_here r w i none =
       let after : accesses_after images F p x (instruction_in x p.regs) ≡ [] = ap (accesses_after images F p x) (sym w.same ∙ i) ∙ none in
       subst (λ (list : List Access). Next list None) (sym (stepped ∙ ap (λ (list : List Access). first ++ list) after ∙ append_none first)) (hit_among k x e ps first w.hits)
 
-  -- the reads of a call behind it
+  -- the reads of a call after it
   reads_behind : (q : Program Reply) → Whole memory flat (instruction p.regs) → accesses_after images F p x (instruction_in x p.regs) ≡ accesses flat q
       → Next (step_accesses images F p x) (missed_byte (run memory q))
   reads_behind q w after =

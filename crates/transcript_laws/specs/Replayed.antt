@@ -31,7 +31,7 @@ abbrev pub IsAccepted : Inputs → List Entry → Transcript → Type 0
 IsAccepted A entries (Is read) = (read.items ≡ entries) × (first_bad A read.items ≡ None)
 IsAccepted A entries (BadLine n) = ⊥
 
--- a text, with whatever stands behind it, begins with the lines of these entries
+-- a text, with whatever stands after it, begins with the lines of these entries
 pub record BeginsWith (entries : List Entry) (text rest : List ℕ) : Type 0 where
   pub lines : List (List ℕ)
   pub are : AreLines IsEntryLine entries lines

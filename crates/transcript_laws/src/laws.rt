@@ -20,7 +20,7 @@ pub fn runs_are_replayed()
 {}
 
 /// The text of every lawful journal whose entries are at hand is that of a run of the flat machine, with the trace of the paging or
-/// without, whatever stands behind it. That counts are at least one is so of each unit of a run.
+/// without, whatever stands after it. That counts are at least one is so of each unit of a run.
 pub fn texts_are_flat()
     ensures { (A : Inputs) (hs : Holdings) (journal : List Entry) (s : State) (traced : Bool)
         → CanRun A hs → IsLawful A journal s → A.limit ≤ instruction_limit → HaveNumbers journal → IsFlatText A traced journal }

@@ -121,7 +121,7 @@ impl TransferRing {
         in_slot(&self.slots, *slot)
     }
 
-    // Puts a transfer behind those in flight.
+    // Puts a transfer after those in flight.
     fn begin(&mut self, t: Transfer) -> Begun
         requires { IsFlight t }
         ensures begun { Begins self.old t self.new result }

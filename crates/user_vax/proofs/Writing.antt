@@ -34,7 +34,7 @@ tests_more memory writes i within =
     at_drop_more (λ rest. run memory (write_tests (all_bytes rest))) writes i no_write within
     ∙ run-write_tests-append memory (bytes_of (get_or writes i no_write)) (all_bytes (drop (i + 1) writes))
 
--- the bytes of one more number come behind those so far
+-- the bytes of one more number come after those so far
 pub bytes_more : (writes : List Write) (i : ℕ) → i < length writes
     → all_bytes (take (i + 1) writes) ≡ all_bytes (take i writes) ++ bytes_of (get_or writes i no_write)
 bytes_more writes i within =

@@ -6,7 +6,7 @@ use Rattle.vm_facts.specs.declared.memory.ByteRead.TheVariants as bytes
 use Rattle.user_vax.specs.Operands.{past}
 use Rattle.user_vax.specs.Program.{Program, Gives, Reads}
 
--- a byte that is there, and those behind it
+-- a byte that is there, and those after it
 abbrev pub with_byte : ByteRead → List ℕ → List ℕ
 with_byte (bytes.Is byte) more = byte ∷ more
 with_byte _ more = []

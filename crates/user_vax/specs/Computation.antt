@@ -1,5 +1,5 @@
 -- The instruction table: what each instruction computes from its operands and its registers, once PC stands
--- behind it.
+-- after it.
 use Rattle.std.specs.Prelude.{true, false, ◌%◌, ◌^◌, not, ◌||◌, ◌==◌, [], Some, bit_or, bit_and, bit_xor, int_lt, int_le}
 use Rattle.std.specs.Int.{w16, cast_signed}
 use Rattle.vm_facts.specs.declared.regs.Regs.{Regs}

@@ -39,7 +39,7 @@ unfoldable pub with_frame : Effect → Bool → ℕ → Effect
 with_frame before counted mask =
     push_all (record before { regs = with_aligned_stack before.regs }) (frame before.regs counted mask)
 
--- the procedure entered: its code begins behind the mask, FP is SP, and all codes are clear
+-- the procedure entered: its code begins after the mask, FP is SP, and all codes are clear
 abbrev pub procedure_entry : Effect → ℕ → ℕ → Effect
 procedure_entry pushed ap target =
     record pushed {

@@ -53,7 +53,7 @@ MayAll memory (write ∷ writes) = (memory.may_write write.address ≡ tests.May
 unfoldable pub tested_effect : Effect → Program Effect
 tested_effect effect = write_tests effect.writes >>= λ _. Gives effect
 
--- the effect of an instruction of a row, from registers whose PC stands behind it
+-- the effect of an instruction of a row, from registers whose PC stands after it
 unfoldable pub execution : Row → Regs → Instr → Program Effect
 execution row regs instr = do
   all ← evaluations row regs instr

@@ -66,7 +66,7 @@ evaluation_through slot regs base = do
   found ← address_of regs slot.size base
   evaluation_at slot found.0 found.1
 
--- the registers after an operand, and what it is; PC stands behind the instruction
+-- the registers after an operand, and what it is; PC stands after the instruction
 unfoldable pub evaluation : Slot → Regs → Operand → Program (Regs × Evaluated)
 evaluation slot regs (operands.Literal value) = Gives (regs, record { value = value; place = places.Nowhere })
 evaluation slot regs (operands.Immediate value) = Gives (regs, record { value = value; place = places.Nowhere })

@@ -238,7 +238,7 @@ within_agrees : (at size : ℕ) (own : List ℕ) → length own ≡ size → is_
 within_agrees at size own e =
     ap (λ (n : ℕ). is_none (unless (nat_le (at + n) 65536) reasons.ProgramTooLong)) (sym e) ∙ unless_if (nat_le (at + length own) 65536) reasons.ProgramTooLong own
 
--- what is looked at behind a line's label
+-- what is looked at after a line's label
 abbrev behind_label : List Definition → Bool → ℕ → Option Statement → Option Reason
 behind_label labels with_bss at statement =
     option_or (optional_reason labels with_bss at statement) (unless (nat_le (at + optional_size statement) 65536) reasons.ProgramTooLong)

@@ -90,7 +90,7 @@ reason_here labels source rest more number at earlier bss text h is few next =
     ap (λ (l : List (Option SourceLine)). reason_behind (labels_of source) l text) before ∙
     ap (λ (l : List Definition). reason_behind l h.progress.before text) (sym is)
 
--- a line behind 4,096 others
+-- a line after 4,096 others
 pub walked_too_many : (labels : List Definition) (source rest : List ℕ) (number at : ℕ) (earlier : List Definition) (bss : Option ℕ) → labels ≡ labels_of source
     → Walked labels source rest number at earlier bss → number ≤ 4097 → 4096 < number → 0 < length rest → IsFirstBad source number × (reason_of source number ≡ Some reasons.TooManyLines)
 unfolding reason_of

@@ -70,7 +70,7 @@ abbrev pub item_size : Option SourceLine → ℕ
 item_size None = 0
 item_size (Some line) = optional_size line.statement
 
--- the address behind lines
+-- the address after lines
 abbrev pub address_after : List (Option SourceLine) → ℕ
 address_after [] = 0
 address_after (item ∷ items) = item_size item + address_after items
@@ -90,7 +90,7 @@ abbrev pub definitions : ℕ → List (Option SourceLine) → List Definition
 definitions at [] = []
 definitions at (item ∷ items) = item_definition at item ++ definitions (at + item_size item) items
 
--- lines behind the 4,096th define nothing
+-- lines after the 4,096th define nothing
 unfoldable pub labels_of : List ℕ → List Definition
 labels_of source = definitions 0 (take 4096 (items_in source))
 
@@ -148,18 +148,18 @@ abbrev pub bytes_behind : List Definition → List Definition → Bool → ℕ �
 bytes_behind labels earlier with_bss at line =
     if is_new earlier line.label then bounded at (optional_bytes labels with_bss at line.statement) else None
 
--- the same of a line behind others; a line outside the grammar has a fault
+-- the same of a line after others; a line outside the grammar has a fault
 unfoldable pub line_bytes : List Definition → List (Option SourceLine) → Option SourceLine → Option (List ℕ)
 line_bytes labels before None = None
 line_bytes labels before (Some line) =
     bytes_behind labels (definitions 0 before) (is_some (bss_found before)) (address_after before) line
 
--- the bytes of lines behind others, one after another, where no line has a fault
+-- the bytes of lines after others, one after another, where no line has a fault
 abbrev pub laid : List Definition → List (Option SourceLine) → List (Option SourceLine) → Option (List ℕ)
 laid labels before [] = Some []
 laid labels before (item ∷ items) = line_bytes labels before item >>= λ own. laid labels (before ++ item ∷ []) items >>= λ others. Some (own ++ others)
 
--- whether bytes were put behind others, where there are any to put
+-- whether bytes were put after others, where there are any to put
 abbrev pub Puts : Bool → List ℕ → Option (List ℕ) → List ℕ → Type 0
 Puts true old (Some own) new = new ≡ old ++ own
 Puts true old None new = ⊥
@@ -173,7 +173,7 @@ HasSmallBss _ _ = Unit {0}
 
 -- ---- what is assembled
 
--- The bytes of the line behind others stand at its address, and those of an instruction are decoded as the one that it
+-- The bytes of the line after others stand at its address, and those of an instruction are decoded as the one that it
 -- names there.
 pub record StandsAt (labels : List Definition) (before : List (Option SourceLine)) (item : Option SourceLine) (bytes : List ℕ) : Type 0 where
   pub own : List ℕ
@@ -184,7 +184,7 @@ pub record StandsAt (labels : List Definition) (before : List (Option SourceLine
       → item ≡ Some (record { label = label; statement = Some (statements.Instruction sentence) })
       → (instr : Instr) × (sentence_instruction labels (address_after before) sentence ≡ Some instr) × (decoded (drop (address_after before) bytes) ≡ decodings.Is instr)
 
--- Each line has no fault; its bytes stand at its address, one after another from 0, and nothing stands behind the last.
+-- Each line has no fault; its bytes stand at its address, one after another from 0, and nothing stands after the last.
 pub record IsProgramOf (source : List ℕ) (bytes : List ℕ) (bss : ℕ) : Type 0 where
   pub few : length (items_in source) ≤ 4096
   pub whole : laid (labels_of source) [] (items_in source) ≡ Some bytes
@@ -193,7 +193,7 @@ pub record IsProgramOf (source : List ℕ) (bytes : List ℕ) (bss : ℕ) : Type
       → items_in source ≡ before ++ item ∷ others → StandsAt (labels_of source) before item bytes
   pub bss_is : bss ≡ or_zero (bss_found (items_in source))
 
--- Line n, counted from 1, is the lowest bad one: those before it have no fault, and it has one, or stands behind 4,096
+-- Line n, counted from 1, is the lowest bad one: those before it have no fault, and it has one, or stands after 4,096
 -- lines.
 pub record IsFirstBad (source : List ℕ) (n : ℕ) : Type 0 where
   pub before : List (Option SourceLine)

@@ -139,7 +139,7 @@ reason_by labels before text None = Some (outside_reason text)
 reason_by labels before text (Some line) =
     line_reason labels (definitions 0 before) (is_some (bss_found before)) (address_after before) line
 
--- Why a line behind others is bad, by the labels that are defined; none where it is good.
+-- Why a line after others is bad, by the labels that are defined; none where it is good.
 unfoldable pub reason_behind : List Definition → List (Option SourceLine) → Option (List ℕ) → Option Reason
 reason_behind labels before text = reason_by labels before text (item_of text)
 

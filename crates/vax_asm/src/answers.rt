@@ -16,7 +16,7 @@ pub enum Encoded {
 pub struct Program {
     /// Its bytes, from address 0 on: at most 65,536.
     pub bytes: Vec<u8>,
-    /// How many zeros it wants behind its data.
+    /// How many zeros it wants after its data.
     pub bss: u32,
 }
 
@@ -34,7 +34,7 @@ pub enum Assembled {
 pub enum Reason {
     /// It is the last one, and no line feed ends it.
     NoLineFeed,
-    /// It stands behind 4,096 lines.
+    /// It stands after 4,096 lines.
     TooManyLines,
     /// It has more than 120 bytes.
     LineTooLong,

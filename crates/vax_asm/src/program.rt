@@ -250,7 +250,7 @@ fn put_statement(
     }
 }
 
-// Puts the bytes of a line behind others.
+// Puts the bytes of a line after others.
 fn put_line(
     labels: &Labels,
     earlier: &LabelTable,

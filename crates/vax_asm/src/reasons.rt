@@ -213,7 +213,7 @@ fn label_reason(earlier: &LabelTable, label: Option<Label>) -> Option<Reason>
     unless(earlier.find(label).is_none(), Reason::LabelTwice(label))
 }
 
-// Why a line of the grammar is bad behind others.
+// Why a line of the grammar is bad after others.
 #[tactic(auto, unfolding(crate::specs::Reasons::line_reason))]
 fn line_reason(
     labels: &Labels,

@@ -21,7 +21,7 @@ use Rattle.vax_code.proofs.Spelling.{mapping, number_read, signed_read, high_hal
 
 -- ---- bases
 
--- the first byte of a base that some bytes spell, and what is read behind it
+-- the first byte of a base that some bytes spell, and what is read after it
 record BaseBegun (base : Base) (bytes : List ℕ) : Type 0 where
   pub mode : ℕ
   pub reg : ℕ
@@ -162,7 +162,7 @@ indexed_read index base bytes small leaves h =
     let b = base_begun base bytes h in
     rw (b.split, high_half b.mode b.reg b.register, low_half b.mode b.reg b.register, b.free index small leaves, b.reads) refl
 
--- the first byte of an operand that some bytes spell, and what is read behind it
+-- the first byte of an operand that some bytes spell, and what is read after it
 record SpecifierBegun (slot : Slot) (operand : Operand) (bytes : List ℕ) : Type 0 where
   pub mode : ℕ
   pub reg : ℕ

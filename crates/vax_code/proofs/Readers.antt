@@ -70,7 +70,7 @@ bind_with {A = A} {B = B} {p = p} {f = f} first then from_short = record {
       ]) refl h;
 }
 
--- a first reading completed, and a second one begun behind it
+-- a first reading completed, and a second one begun after it
 pub joined : {A B : Type 0} {p : List ℕ → Read A} {f : A → List ℕ → Read B} (bytes : List ℕ) → IsReader p → Completion p bytes
     → ((x : A) → Completion (f x) []) → Completion (λ bytes. p bytes >>= λ r. f r.0 r.1) bytes
 joined {p = p} {f = f} bytes first one begins =

@@ -42,7 +42,7 @@ operand_of (bases.AutoIncDef reg) = operands.AutoIncDef reg
 operand_of (bases.Absolute address) = operands.Absolute address
 operand_of (bases.Disp reg by deferred) = operands.Disp reg by deferred
 
--- a displacement on PC counts from the end of the instruction, which is so many bytes behind the operand
+-- a displacement on PC counts from the end of the instruction, which is so many bytes after the operand
 abbrev pub base_from_end : ℕ → Base → Base
 base_from_end behind (bases.Disp reg by deferred) =
     if reg == 15 then bases.Disp reg (int_wrapping_sub w32 by (pos behind)) deferred

@@ -113,7 +113,7 @@ numeral_read n rest small stops =
     ap (λ (l : List ℕ). numeral_of 16 l (behind (is_digit 16) (hexadecimal 8 n ++ rest))) cut.0 ∙ ap (λ (l : List ℕ). numeral_of 16 (hexadecimal 8 n) l) cut.1 ∙
     numeral_by (hexadecimal 8 n) rest n (hexadecimal_some n) (hexadecimal_value 8 n (eight_places n small)) small
 
--- what stands behind the sign
+-- what stands after the sign
 signed_read : (minus : Bool) (magnitude : ℕ) (rest : List ℕ) → magnitude < 4294967296 → Stops rest
     → signed_at minus (48 ∷ 120 ∷ (hexadecimal 8 magnitude ++ rest)) ≡ Some (signed minus magnitude, rest)
 unfolding signed_at magnitude_at

@@ -94,7 +94,7 @@ place_read : (row : Row) (place : ℕ) (written : Written) (rest : List ℕ)
 unfolding place_of_row_at row_place_text
 place_read row place written rest good ends = place_by row place (nat_lt place row.count) written rest good ends
 
--- a comma, or what comes behind
+-- a comma, or what comes after
 ends_by : (place : ℕ) (here : Bool) (text rest : List ℕ) → separator place ≡ 44 → Ends rest → Ends ((if here then separator place ∷ text else []) ++ rest)
 ends_by place true text rest comma ends = comma
 ends_by place false text rest comma ends = ends

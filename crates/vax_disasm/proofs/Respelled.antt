@@ -196,7 +196,7 @@ good_signed size bits sized small = good_by size bits (nat_lt bits (half_of size
 abbrev got : {A : Type 0} → A → List ℕ → Option (A × List ℕ)
 got x rest = Some (x, rest)
 
--- The bytes behind a specifier of this mode and register begin with what the place has behind its own.
+-- The bytes after a specifier of this mode and register begin with what the place has after its own.
 record PlaceBack (mode reg : ℕ) (bytes rest : List ℕ) (place : Place) : Type 0 where
   front : List ℕ
   split : bytes ≡ front ++ rest
@@ -214,7 +214,7 @@ mode_as mode mode' reg reg' bytes rest place e f h = subst (λ (m : ℕ). PlaceB
 plain_is : (mode reg : ℕ) → reg < 15 → plain_specifier mode reg ≡ Some (specifier mode reg ∷ [])
 plain_is mode reg h = rw (lt_is reg 15 h) refl
 
--- nothing stands behind a specifier of modes 6 to 9 on another register than PC
+-- nothing stands after a specifier of modes 6 to 9 on another register than PC
 plain_back : (mode reg : ℕ) (bytes rest : List ℕ) (place : Place) → reg < 15 → place_bytes [] place ≡ plain_specifier mode reg → GoodPlace place
     → (place' : Place) → got place bytes ≡ got place' rest → PlaceBack mode reg bytes rest place'
 plain_back mode reg bytes rest place small spells good place' e =

@@ -100,7 +100,7 @@ unfoldable pub row_place_shown : Row → ℕ → ℕ → List ℕ → Text Writt
 row_place_shown row place from bytes =
     if nat_lt place row.count then operand_shown (slot_in row place) from bytes else Some (writtens.Absent, bytes)
 
--- the operands behind the opcode, whose first byte has this address
+-- the operands after the opcode, whose first byte has this address
 unfoldable pub operands_shown : Row → ℕ → List ℕ → Text Sentence
 operands_shown row from bytes = do
   a ← row_place_shown row 0 from bytes

@@ -257,7 +257,7 @@ fn operands_of(row: Row, from: u64, bytes: &[u8]) -> Option<(Sentence, &[u8])>
     Some((Sentence { row, a, b, c }, rest))
 }
 
-// The instruction that the bytes at an address begin with, and the bytes behind it.
+// The instruction that the bytes at an address begin with, and the bytes after it.
 #[tactic(auto, unfolding(crate::specs::Showing::sentence_shown))]
 pub fn sentence_at(at: u32, bytes: &[u8]) -> Option<(Sentence, &[u8])>
     ensures value { Gives (λ x. (x.0, x.1.now)) result (sentence_shown at bytes.now) }

@@ -107,7 +107,7 @@ module _ (A : Inputs) (old : Underway) (numbers : List ℕ) (lines : List Event)
       go (inl b) = absurd (let z : stops.JournalFull ≡ stops.NoMemory = sym e ∙ b.cause in cc)
       go (inr (hs, can, x)) = full_at new.machine stop j hs can e x.led
 
-  -- Behind the start.
+  -- After the start.
 
   module _ (mid : Underway) (i h : Option (List ℕ)) (told : i ≡ Some image) (starts : StartsRun old mid numbers holds i h) where
     started : CoreStarted A mid holds image h

@@ -1,4 +1,4 @@
--- Lines one after another, and what stands behind them.
+-- Lines one after another, and what stands after them.
 use Rattle.std.proofs.Common.{◌≡◌, inl, inr, ℕ, zero, suc, ◌+◌, ◌<◌, ◌≤◌, nat_lt, Bool, false, List, [], ◌∷◌, ◌++◌, length, slice_get, Option, Some, None, sym, ap, ◌∙◌, subst, arith}
 use Rattle.std.proofs.lemmas.Bool.{cases_lt}
 use Rattle.std.proofs.lemmas.Bool.Decides.{nat_tests}
@@ -91,14 +91,14 @@ line_stops old mid new taken e lines holds i h j stop f at below x A s image b =
     leads_to_stop A s c.state old.machine.kernel mid.machine.kernel image c.behind c.units stop new.machine j (told_leads A s old mid holds h image taken c)
     (x A c.state c.behind c.at (due A s old mid lines holds i h image taken e b c at below)).led
 
--- behind a line as many instructions are counted as may
+-- after a line as many instructions are counted as may
 pub limit_taken : (old new : Underway) (taken : ℕ) (lines : List Event) (holds : Option (List NamedFile)) (i j : Option (List ℕ)) → HasTaken old new taken lines holds i j → new.machine.params.limit ≤ new.counted
     → TakesLines old new wents.LimitReached lines holds i j
 limit_taken old new taken lines holds i j f over A s image b =
     let c = f A s image b in
     (taken, c, (let limit = c.at.stands.inputs.limit in omega arith))
 
--- The run ends behind the lines.
+-- The run ends after the lines.
 
 -- as many instructions are counted as may
 limit_ends : (A : Inputs) (t : State) → IsOver A t → A.limit ≤ t.count → next_unit A t ≡ None

@@ -1,4 +1,4 @@
--- Where a machine stands behind next units.
+-- Where a machine stands after next units.
 use Rattle.std.proofs.Common.{◌≡◌, ℕ, ◌≤◌, List, ◌++◌, Option, Some, sym, ap, ◌∙◌, subst, arith}
 use Rattle.std.proofs.lemmas.Option.{same_Some}
 use Rattle.vm_facts.specs.declared.entry.Entry.{Entry}
@@ -44,7 +44,7 @@ stands_on A s t old new holds i j image us counted count st l params images same
   count = same;
 }
 
--- a stop behind next units
+-- a stop after next units
 pub leads_to_stop : (A : Inputs) (s t : State) (k l : Kernel) (image behind : List ℕ) (us : List Entry) (stop : Stop) (new : Standing) (j : Option (List ℕ)) → Leads A s k image us t l (Some behind)
     → StopLeads A t l behind stop new j → StopLeads A s k image stop new j
 leads_to_stop A s t k l image behind us stop new j a x = record {

@@ -49,7 +49,7 @@ continues_steady old new n s c h = record {
   counted = c.counted;
 }
 
--- behind moves of the hands, where the last entry counted none
+-- after moves of the hands, where the last entry counted none
 pub moved_steady : (old new : Standing) (moves : ℕ) → IsSteady old → RunsMoved old new moves → last_moves old.kernel.journal ≡ 0 → moves ≤ 1000000 → HoldersStand new.kernel → StaysSteady old new 0
 moved_steady old new moves s r first few h = record {
   steady = record {
@@ -65,7 +65,7 @@ moved_steady old new moves s r first few h = record {
   counted = r.on.counted;
 }
 
--- Behind an entry that goes into the journal alone.
+-- After an entry that goes into the journal alone.
 
 noted_as : (old new : Standing) (e : Entry) → new.kernel ≡ note_step old.kernel e → new ≡ record old { kernel = new.kernel; room = None }
     → new ≡ record old { kernel = note_step old.kernel e; room = None }

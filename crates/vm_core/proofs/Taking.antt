@@ -63,7 +63,7 @@ counts_same old new counted is s = record {
   more = omega arith;
 }
 
--- Behind the entry of a line.
+-- After the entry of a line.
 
 record Begun (A : Inputs) (s : State) (old : Underway) (mid : Standing) (holds : Option (List NamedFile)) (i : Option (List ℕ)) (image : List ℕ) (e : Event) : Type 0 where
   units : List Entry

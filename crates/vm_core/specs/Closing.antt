@@ -1,4 +1,4 @@
--- The closing phase: turns of processes, behind the last line.
+-- The closing phase: turns of processes, after the last line.
 use Rattle.std.specs.Prelude.{◌≡◌, ◌⊎◌, ℕ, ◌+◌, ◌<◌, ◌≤◌, true, false, List, ◌∷◌, length, Option, None}
 use Rattle.vm_facts.specs.declared.entry.Entry.{Entry}
 use Rattle.vm_facts.specs.declared.entry.Entry.TheVariants as entries
@@ -25,7 +25,7 @@ use Rattle.vm_core.specs.Cores.{Underway, StandsIn, CoreAt}
 
 -- A turn.
 
--- The machine stands at a state at which a process has its turn, behind the last line, so many instructions being counted when it
+-- The machine stands at a state at which a process has its turn, after the last line, so many instructions being counted when it
 -- began.
 pub record TurnAt (A : Inputs) (s : State) (m : Standing) (holds : Option (List NamedFile)) (i : Option (List ℕ)) (image : List ℕ) (counted pid : ℕ) : Type 0 where
   pub stands : StandsIn A s m holds i image counted
@@ -114,7 +114,7 @@ pub record Closing (A : Inputs) (s : State) (old new : Standing) (holds : Option
   pub turned : last_turned state.mark ≡ last
   pub since : IdleSince A state idle
 
--- The machine stands behind the last line.
+-- The machine stands after the last line.
 pub record LinesAre (A : Inputs) (s : State) (m : Standing) (holds : Option (List NamedFile)) (i : Option (List ℕ)) (image : List ℕ) (counted : ℕ) : Type 0 where
   pub stands : StandsIn A s m holds i image counted
   pub over : IsOver A s
@@ -157,7 +157,7 @@ StopsClosingRun old new holds i j stop =
 
 -- Turns in a row.
 
--- behind a turn that counted something, or nothing
+-- after a turn that counted something, or nothing
 abbrev pub CountsTurn : ℕ → ℕ → ℕ → ℕ → Type 0
 CountsTurn count more idle now = (now ≡ 0) ⊎ ((more ≡ count) × (now ≡ idle + 1))
 

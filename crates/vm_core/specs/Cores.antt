@@ -65,7 +65,7 @@ pub record LineDue (A : Inputs) (s : State) (line : ℕ) (e : Event) : Type 0 wh
   pub event : slice_get A.lines s.lines ≡ Some e
   pub below : s.count < A.limit
 
--- Next units lead to where the core stands behind the line. They are accounted for, and few, and the swap image is the one that they
+-- Next units lead to where the core stands after the line. They are accounted for, and few, and the swap image is the one that they
 -- say.
 pub record LineTaken (A : Inputs) (s : State) (old new : Underway) (holds : Option (List NamedFile)) (image : List ℕ) (j : Option (List ℕ)) : Type 0 where
   pub units : List Entry
@@ -89,7 +89,7 @@ StopsTaking old new line e holds i j stop =
 
 -- Under the mark of a line.
 
--- The machine stands behind the entry of a line, so many instructions being counted.
+-- The machine stands after the entry of a line, so many instructions being counted.
 pub record AskedAt (A : Inputs) (s : State) (m : Standing) (holds : Option (List NamedFile)) (i : Option (List ℕ)) (image : List ℕ) (counted : ℕ) (e : Event) : Type 0 where
   pub stands : StandsIn A s m holds i image counted
   pub clear : IsClear s

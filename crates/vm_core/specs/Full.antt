@@ -1,4 +1,4 @@
--- Where a machine stands behind a run: the run is over, or its journal is full.
+-- Where a machine stands after a run: the run is over, or its journal is full.
 use Rattle.std.specs.Prelude.{◌≡◌, ℕ, ◌<◌, ◌≤◌, false, List, length, map, Some, None}
 use Rattle.vm_facts.specs.declared.entry.Entry.{Entry}
 use Rattle.flat_state.specs.Flat.{Inputs}

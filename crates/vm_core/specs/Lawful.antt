@@ -27,7 +27,7 @@ pub record IsJournalOf (A : Inputs) (journal : List Entry) (s : State) : Type 0 
   pub account : Account A (start A holdings) units
   pub economy : Economy A (start A holdings) units
 
--- The run is finished: there is no next unit, so as many instructions ran as may, or no process can step behind the last line.
+-- The run is finished: there is no next unit, so as many instructions ran as may, or no process can step after the last line.
 pub record RunFinished (A : Inputs) (journal : List Entry) (image : List ℕ) (after : Option (List ℕ)) : Type 0 where
   pub state : State
   pub made : IsJournalOf A journal state

@@ -1,4 +1,4 @@
--- The lines of a schedule, one after another, from the first one on, and the closing phase behind them.
+-- The lines of a schedule, one after another, from the first one on, and the closing phase after them.
 use Rattle.std.specs.Prelude.{◌≡◌, ℕ, ◌≤◌, List, [], ◌∷◌, length, Option, None}
 use Rattle.vm_facts.specs.declared.entry.Entry.{Entry}
 use Rattle.vm_facts.specs.declared.event.Event.{Event}
@@ -25,7 +25,7 @@ pub record IsBeforeLines (A : Inputs) (s : State) (c : Underway) (lines : List E
   pub none : s.lines ≡ 0
   pub are : A.lines ≡ lines
 
--- Next units lead to where the core stands behind so many lines.
+-- Next units lead to where the core stands after so many lines.
 pub record LinesTaken (A : Inputs) (s : State) (old new : Underway) (holds : Option (List NamedFile)) (image : List ℕ) (j : Option (List ℕ)) (taken : ℕ) : Type 0 where
   pub units : List Entry
   pub state : State
@@ -34,7 +34,7 @@ pub record LinesTaken (A : Inputs) (s : State) (old new : Underway) (holds : Opt
   pub at : CoreAt A state new holds j behind
   pub lines : state.lines ≡ taken
 
--- behind some of the lines, as many instructions being counted as may; or behind all of them
+-- after some of the lines, as many instructions being counted as may; or after all of them
 abbrev pub LinesWent : Inputs → State → Underway → Underway → Went → ℕ → Option (List NamedFile) → List ℕ → Option (List ℕ) → Type 0
 LinesWent A s old new wents.Next all holds image j = LinesTaken A s old new holds image j all
 LinesWent A s old new wents.LimitReached all holds image j = (taken : ℕ) × LinesTaken A s old new holds image j taken × (A.limit ≤ new.counted)

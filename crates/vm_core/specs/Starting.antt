@@ -44,7 +44,7 @@ abbrev pub StartsRun : Underway → Underway → List ℕ → Option (List Named
 StartsRun old new numbers holds i j =
     (A : Inputs) (image : List ℕ) → IsTold A old.machine numbers holds image → InputsOf A old.machine → i ≡ Some image → CoreStarted A new holds image j
 
--- The run stops as the processes begin, for want of memory; or behind next units of the run.
+-- The run stops as the processes begin, for want of memory; or after next units of the run.
 abbrev pub StopsStartingRun : Inputs → Standing → List ℕ → Stop → Option (List ℕ) → Type 0
 StopsStartingRun A new image stop j =
     StopsBeginning new image stop j

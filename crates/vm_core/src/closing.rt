@@ -1,4 +1,4 @@
-//! The closing phase, behind the last line of the schedule.
+//! The closing phase, after the last line of the schedule.
 ghost use Rattle.std.specs.Prelude.{◌≡◌, ◌+◌, ◌<◌, ◌≤◌, ℕ, true, false, Some, None, OnOk, IfOk, IfErr, IfSome};
 ghost use Rattle.flat_state.specs.Journal.{instructions_of};
 ghost use Rattle.page_model.specs.Swapper.{is_out};
@@ -114,7 +114,7 @@ fn next_turn(m: &Machine, count: u32, last: u32, idle: u32) -> Option<u32>
     next_turned(m, last)
 }
 
-// How many turns in a row counted no instruction, behind one more.
+// How many turns in a row counted no instruction, after one more.
 fn idle_behind(idle: u32, before: u32, count: u32) -> u32
     requires few { idle ≤ 64 }
     requires more { before ≤ count }

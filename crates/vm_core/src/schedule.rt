@@ -108,7 +108,7 @@ fn finish<F: Files, D: SwapDev>(
 }
 
 /// Runs a schedule over a core that was made and had no call yet: the first processes start in images of these numbers,
-/// the lines are taken in order, and then processes have turns, until as many instructions are counted as may or, behind
+/// the lines are taken in order, and then processes have turns, until as many instructions are counted as may or, after
 /// the last line, none can step. The limit is at least 1.
 pub fn run_schedule<F: Files, D: SwapDev>(
     core: &mut Core,

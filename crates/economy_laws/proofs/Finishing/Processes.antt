@@ -195,7 +195,7 @@ serve_ends (suc n) A P pid q pages front s g on p i ts fs w lt = finish_on A P s
 
 -- What a process does.
 
--- behind a transfer that ends for its step, it acts as before
+-- after a transfer that ends for its step, it acts as before
 record Settled (A : Inputs) (s t : State) (pid : ℕ) : Type 0 where
   here : Inside A t pid
   none : wanted A t ≡ None
@@ -237,7 +237,7 @@ settled A s pid u r i w a is b = record { here = here; none = none; less = omega
         wanted_on A (after A s u) pid (still_on A s pid u i.on b) due ∙ ap (first_absent (after A s u).place) (ap (λ (x : Point). touched A x.flat pid) point)
         ∙ ap (λ (x : Placement). first_absent x (touched A s.point.flat pid)) pl ∙ all_present (done s.place) (touched A s.point.flat pid) kept
 
--- behind `Refused` and `Out` transfers end, or a boundary comes
+-- after `Refused` and `Out` transfers end, or a boundary comes
 closed_ends : (n : ℕ) (A : Inputs) (P : State → Type 0) (pid : ℕ) (s : State) → Stage A P → P s → Inside A s pid → wanted A s ≡ None
     → is_closed s.point.last ≡ true → length s.place.transfers < n → Finishes A s
 closed_ends zero A P pid s g p i w c lt = absurd (omega arith)

@@ -30,7 +30,7 @@ abbrev pub is_boundary : Entry → Bool
 is_boundary (entries.Event line) = true
 is_boundary e = begins_stretch e
 
--- States of a run, closed under the units between two such; and behind each such unit the run finishes.
+-- States of a run, closed under the units between two such; and after each such unit the run finishes.
 pub record Stage (A : Inputs) (P : State → Type 0) : Type 0 where
   pub images : ImagesFit A.images
   pub frames : 64 ≤ A.frames
@@ -38,7 +38,7 @@ pub record Stage (A : Inputs) (P : State → Type 0) : Type 0 where
   pub keeps : (s : State) (u : Entry) → P s → next_unit A s ≡ Some u → is_boundary u ≡ false → P (after A s u)
   pub ends : (s : State) (u : Entry) → P s → next_unit A s ≡ Some u → is_boundary u ≡ true → Finishes A (after A s u)
 
--- so the run finishes from such a state, where it does behind each unit between two boundaries
+-- so the run finishes from such a state, where it does after each unit between two boundaries
 pub finish_on : (A : Inputs) (P : State → Type 0) (s : State) → Stage A P → P s
     → ((u : Entry) → next_unit A s ≡ Some u → is_boundary u ≡ false → P (after A s u) → Finishes A (after A s u)) → Finishes A s
 finish_on A P s g p on = finish_by A s (λ u h. go u h (is_boundary u) refl)

@@ -80,7 +80,7 @@ mark_next A s u h m = go (kind_of A s u h)
     go (Notes e k i) = other _ i (λ z. z)
     go (Begins e k i) = i
 
--- a line comes while there are some, and a turn behind them
+-- a line comes while there are some, and a turn after them
 mark_lines : (A : Inputs) (s : State) (u : Entry) → next_mark A s ≡ Some u
     → ((s.lines < length A.lines) × (turns u ≡ 0)) ⊎ ((length A.lines ≤ s.lines) × (turns u ≡ 1))
 mark_lines A s u h = go (nat_lt s.count A.limit) (nat_lt s.lines (length A.lines)) refl h
@@ -158,7 +158,7 @@ within_on A n l k s u images w h b = record {
   turns = λ z us t f m. let a = w.turns (omega (arith, quiet_lines A s u b)) (u ∷ us) t (h, f) ((quiet_counts u b).0, m) in omega arith;
 }
 
--- behind a counted instruction, and behind a line
+-- after a counted instruction, and after a line
 abbrev Fewer : Inputs → ℕ → Type 0
 Fewer A n = (t : State) → IsRun A t → t.count ≤ A.limit → A.limit < t.count + n → Finishes A t
 

@@ -42,7 +42,7 @@ of_lent flat l = record {
   one = λ x y a b child e f h k. l.one x y a b child (sym (found_is flat.processes x.pid) ∙ e) (sym (found_is flat.processes y.pid) ∙ f) h k;
 }
 
--- a lender behind a step, and what it was
+-- a lender after a step, and what it was
 record WasLender (ps qs : List Process) (n sid child : ℕ) : Type 0 where
   pub before : Process
   pub number : before.pid ≡ n

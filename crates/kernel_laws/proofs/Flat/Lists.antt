@@ -88,7 +88,7 @@ same_held ps q p e h =
 
 -- The space of one process.
 
--- the spaces before and behind that of a process, which have other numbers
+-- the spaces before and after that of a process, which have other numbers
 pub record HeldAt (ps : List Process) (p : Process) (s : Space) : Type 0 where
   pub front : List Space
   pub back : List Space

@@ -1,4 +1,4 @@
--- Lists whose items have numbers: look-ups through a map, a filter, another list behind, and an item that gives way.
+-- Lists whose items have numbers: look-ups through a map, a filter, another list after, and an item that gives way.
 use Rattle.std.proofs.Common.{◌≡◌, ◌≢◌, inl, inr, ℕ, ◌==◌, Bool, true, false, cond, not, List, [], ◌∷◌, ◌++◌, map, filter, Option, Some, None, refl, sym, ap, ◌∙◌, subst, arith}
 use Rattle.std.proofs.lemmas.Bool.{cases_eq, eqb-true}
 use Rattle.page_model.specs.Pages.{numbered}

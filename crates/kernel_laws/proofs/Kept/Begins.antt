@@ -170,7 +170,7 @@ asks_same p q e earlier pid (a ∷ more) =
     ap (λ (ts : List TextPages). text_asked (times a.image earlier) a.image (2 * length (text_in (numbered image_number a.image ts))) ++ (d ++ (s ++ (u ++ start_asks q (a.image ∷ earlier) (pid + 1) more)))) e
     ∙ ap (λ (l : List Wanted). text_asked (times a.image earlier) a.image (2 * length (slots_of p (Text a.image 0))) ++ (d ++ (s ++ (u ++ l)))) (asks_same p q e (a.image ∷ earlier) (pid + 1) more)
 
--- they are found behind those of the first processes before it
+-- they are found after those of the first processes before it
 pub start_finds : (size : ℕ) (images : List Image) (first : List Starting) (a : Starting) (frames : ℕ) (hs : Holdings)
     → place_all size [] (start_asks (start_placement images first frames) [] 1 first) ≡ Ok hs
     → place_all size [] (start_asks (start_placement images (first ++ a ∷ []) frames) [] 1 (first ++ a ∷ [])) ≡ place_all size hs (begin_asks (start_placement images first frames) (1 + length first) a.image a.facts)

@@ -236,7 +236,7 @@ lend_lives images k flat pid regs e q s nums f h t =
     child_kept : numbered kept_pid flat.next_pid (with_proc k.processes kp ++ kn ∷ []) ≡ Some kn
     child_kept = pushed_new kept_pid flat.next_pid (with_proc k.processes kp) kn (with_not k.processes kp flat.next_pid child_other ∙ kept_none k flat flat.next_pid t.processes (next_pid_none flat nums)) refl
 
--- sound and numbered behind the change, with the space that passes
+-- sound and numbered after the change, with the space that passes
 record Passed (size : ℕ) (images : List NamedImage) (k : Kernel) (pid sid : ℕ) (b : Bool) (e : Entry) (change : Change) (l : Kernel) : Type 0 where
   pub sound : Sound size l
   pub numbered : Numbered l
@@ -269,7 +269,7 @@ own_lands images k flat pid regs e q s change g =
     subst (LandsAt images k pid s.sid false e change) (sym (step_is (facts_of images) k pid regs e change g.proc (HoldsSpace s.sid) g.kept g.life))
     (subst (λ (n : ℕ). LandsAt images k n s.sid false e change (by_life (facts_of images) k (record g.proc { regs = regs }) (HoldsSpace s.sid) e change)) g.pid_is (record { place = refl }))
 
--- all that is so behind a change
+-- all that is so after a change
 record Stood (size : ℕ) (images : List NamedImage) (image : List ℕ) (after : FlatState) (l : Kernel) : Type 0 where
   pub sound : Sound size l
   pub numbered : Numbered l

@@ -119,7 +119,7 @@ not_own (x ∷ ks) p n pid d e h = elim (cases_eq x.pid n) [
     absent_own [] a = tt
     absent_own (y ∷ ys) a = ((λ i. absurd (a.0 i)), absent_own ys a.1)
 
--- it gives way before its children are orphaned, or behind that
+-- it gives way before its children are orphaned, or after that
 orphan_with : (ks : List Proc) (p : Proc) (pid : ℕ) → NotOwn p.pid pid ks → p.parent ≢ pid
     → map (orphan pid) (filter (stays pid) (with_proc ks p)) ≡ with_proc (map (orphan pid) (filter (stays pid) ks)) p
 orphan_with [] p pid n d = refl
@@ -151,7 +151,7 @@ removed_with (x ∷ ks) p = go (x.pid == p.pid) refl (removed_with ks p)
     go true e ih = ap (λ (b : Bool). cond (not b) (p ∷ without_proc (with_proc ks p) p.pid) (without_proc (with_proc ks p) p.pid)) (eq_self p.pid) ∙ ih
     go false e ih = ap (λ (b : Bool). cond (not b) (x ∷ without_proc (with_proc ks p) p.pid) (without_proc (with_proc ks p) p.pid)) e ∙ ap (λ (l : List Proc). x ∷ l) ih
 
--- Both tables behind the end.
+-- Both tables after the end.
 
 -- the flat processes once those of a process's children that are zombies went, and the process with them or not
 abbrev pub orphans : ℕ → List Process → List Process
@@ -176,7 +176,7 @@ ended_outlines ks fs p old status d f a b o =
     (ap (map outline_kept) (sym (orphan_with ks (record p { life = Ended status }) p.pid (not_own ks old p.pid p.pid d f a) b))
     ∙ orphaned_outlines (with_proc ks (record p { life = Ended status })) fs p.pid o)
 
--- Look-ups behind the end.
+-- Look-ups after the end.
 
 only_some : {A : Type 0} (test : A → Bool) (o : Option A) (x : A) → only_if test o ≡ Some x → o ≡ Some x
 only_some test None x e = e
@@ -186,7 +186,7 @@ only_some test (Some y) x e = go (test y) e
     go true h = h
     go false h = none_some x h
 
--- a process of the flat state behind the end, and what it was
+-- a process of the flat state after the end, and what it was
 pub record WasFlat (ps : List Process) (n : ℕ) (a : Process) : Type 0 where
   pub before : Process
   pub found : numbered pid_of n ps ≡ Some before
@@ -221,7 +221,7 @@ end_was b ps pid parent n a d e =
     let y : WasFlat ps n x.before = orphan_was ps pid n x.before d x.found in
     record { before = y.before; found = y.found; regs = x.regs ∙ y.regs; holding = x.holding ∙ y.holding }
 
--- a process of the machine behind the end, and what it was: the one that ended, or one of before
+-- a process of the machine after the end, and what it was: the one that ended, or one of before
 pub record WasKept (ks : List Proc) (p : Proc) (n : ℕ) (b : Proc) : Type 0 where
   pub own : n ≡ p.pid → b.regs ≡ p.regs
   pub other : n ≢ p.pid → (y : Proc) × (numbered kept_pid n ks ≡ Some y) × (b.regs ≡ y.regs)
@@ -266,7 +266,7 @@ end_kept false ks p status n b d e = record {
     v = mapped_some (λ (q : Proc). cond (q.pid == z.pid) z q) (numbered kept_pid n (orphaned_procs ks p.pid)) w.0
         (sym (numbered_map kept_pid (λ (q : Proc). cond (q.pid == z.pid) z q) (with_number z) n (orphaned_procs ks p.pid)) ∙ w.1)
 
--- Spaces behind the end.
+-- Spaces after the end.
 
 held_map : (g : Process → Process) → ((x : Process) → (g x).holding ≡ x.holding) → (ps : List Process) → held (map g ps) ≡ held ps
 held_map g h [] = refl
@@ -344,7 +344,7 @@ end_kernel k pid sid borrowed ps journal =
       journal = journal;
     }
 
--- what is asked of the space and of the flat state behind the end
+-- what is asked of the space and of the flat state after the end
 pub record Leaving (k : Kernel) (flat after : FlatState) (pid sid : ℕ) (borrowed : Bool) : Type 0 where
   pub frames : OwnsFrames k.place
   pub due : k.place.due ≡ []

@@ -76,7 +76,7 @@ exec_kernel k next sid borrowed number o top ps journal =
       journal = journal;
     }
 
--- what is asked of the new image and of the flat state behind it
+-- what is asked of the new image and of the flat state after it
 pub record Entering (k : Kernel) (images : List NamedImage) (flat after : FlatState) (next sid number : ℕ) (borrowed : Bool) (named : NamedImage) (top : List ℕ) : Type 0 where
   pub frames : OwnsFrames k.place
   pub due : k.place.due ≡ []

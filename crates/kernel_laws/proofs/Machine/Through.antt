@@ -304,7 +304,7 @@ lend_tables k images flat pid regs e q s nums f h c =
     fits : AllFit after l.place
     fits n = subst (λ (o : Option Space). Fits o (numbered space_number n k.place.spaces)) (sym (spaces n)) (all n)
 
--- what is asked of the new image and of the flat state behind it, of the tables alone
+-- what is asked of the new image and of the flat state after it, of the tables alone
 pub record EntersTables (k : Kernel) (flat after : FlatState) (next sid number : ℕ) (borrowed : Bool) (named : NamedImage) (top : List ℕ) : Type 0 where
   pub new : IsNew k.place next
   pub apart : borrowed ≡ false → next ≢ sid
@@ -434,7 +434,7 @@ exec_tables k images flat pid regs e number top named q s nums f h own_space im 
       gone = λ i. held_now flat.processes fp s held_here ∙ numbered_miss sid_of s.sid z [] apart;
     }
 
--- what is asked of the flat state behind an end, of the tables alone
+-- what is asked of the flat state after an end, of the tables alone
 pub record LeavesTables (flat after : FlatState) (sid : ℕ) (borrowed : Bool) : Type 0 where
   pub other : (m : ℕ) → (borrowed ≡ false → m ≢ sid) → numbered sid_of m (spaces_of after) ≡ numbered sid_of m (spaces_of flat)
   pub gone : borrowed ≡ false → numbered sid_of sid (spaces_of after) ≡ None

@@ -173,7 +173,7 @@ step_texts images k pid regs e change i = go (numbered (λ (p : Proc). p.pid) pi
     go None = refl
     go (Some p) = change_texts images k.place p.pid (space_of_life p.life) (gave_back p.life) k.next_sid (length (append k.journal e)) change i
 
--- A machine whose holdings have got the pieces that a change wants is sound behind it.
+-- A machine whose holdings have got the pieces that a change wants is sound after it.
 pub found_sound : (size : ℕ) (images : List Image) (k : Kernel) (before : Holdings) (ws : List Wanted) (pid : ℕ) (regs : Regs) (e : Entry) (change : Change)
     → Sound size (record k { holdings = before }) → place_all size before ws ≡ Ok k.holdings → AsksFor k (change_step images k pid regs e change) ws → MayChange images k pid change → Sound size (change_step images k pid regs e change)
 found_sound size images k before ws pid regs e change s f a m =

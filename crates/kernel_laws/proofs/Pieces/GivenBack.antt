@@ -296,7 +296,7 @@ pub u_some : (a b : Bool) → (a ≡ true → b ≡ true) → u_pieces (u_blocks
 u_some true b h = ap (λ (x : Bool). u_pieces (u_blocks x)) (sym (h refl))
 u_some false b h = refl
 
--- Pieces that were taken stand behind those that were held.
+-- Pieces that were taken stand after those that were held.
 
 split : (n : ℕ) (xs : List ℕ) → take n xs ++ drop n xs ≡ xs
 split zero [] = refl

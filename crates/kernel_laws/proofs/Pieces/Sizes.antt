@@ -188,7 +188,7 @@ exec_loses p next image sid (Some facts) new c = gone_loses p q sid (image_of p 
     grows : Grows p q
     grows = add_grows p x q.due
 
--- The holdings behind a change are those that the placement behind it asks for.
+-- The holdings after a change are those that the placement after it asks for.
 
 unless_fits : (borrowed : Bool) (p r : Placement) (sid : ℕ) (hs : Holdings) → (borrowed ≡ true → Grows p (give_up_unless borrowed r sid))
     → (borrowed ≡ false → Loses sid (image_of p sid) p (give_up_unless borrowed r sid))

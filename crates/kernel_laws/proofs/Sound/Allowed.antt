@@ -183,7 +183,7 @@ wants_these k pid change n r =
     let life = life_of_proc (numbered (λ (p : Proc). p.pid) pid k.processes) in
     record { alive = r.alive; may = ask_by k (space_of_life life) (gave_back life) change n r.next r.space }
 
--- A sound machine, a process that is ready, and pieces that were found: the machine is sound behind the change.
+-- A sound machine, a process that is ready, and pieces that were found: the machine is sound after the change.
 pub ready_sound : (size : ℕ) (images : List Image) (k : Kernel) (before : Holdings) (pid : ℕ) (regs : Regs) (e : Entry) (change : Change)
     → Sound size (record k { holdings = before }) → Numbered k → ReadyFor k pid change → place_all size before (asked images k pid change) ≡ Ok k.holdings → Sound size (change_step images k pid regs e change)
 ready_sound size images k before pid regs e change s n r f =

@@ -142,7 +142,7 @@ left_dead false ps p status = woken_lives (with_proc ps record p { life = Ended 
     go q true e = refl
     go q false e = absurd cc
 
--- who lives before a change lives behind it, but for one who ends
+-- who lives before a change lives after it, but for one who ends
 abbrev Lasts : Proc → Change → ℕ → Type 0
 Lasts p (End status) n = n ≢ p.pid
 Lasts p change n = Unit {0}
@@ -274,7 +274,7 @@ change_unhanded images p pid sid borrowed next at (End status) =
 
 -- The whole.
 
--- each owner holds what it needs in this machine, and behind that the further pieces that it needs in the next one
+-- each owner holds what it needs in this machine, and after that the further pieces that it needs in the next one
 pub record HasTaken (size : ℕ) (k next : Kernel) : Type 0 where
   pub book : IsBook size k.holdings
   pub taken : (owner : Owner) → lengths owner k.holdings ≡ needed k owner ++ drop (length (needed k owner)) (needed next owner)

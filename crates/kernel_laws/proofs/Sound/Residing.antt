@@ -37,7 +37,7 @@ here r = r.pid
 pub resides : (rs us : List Residence) (n : ℕ) → us ≡ rs → (numbered here n rs ≢ None) → numbered here n us ≢ None
 resides rs us n e h = λ z. h (ap (numbered here n) (sym e) ∙ z)
 
--- who lives behind a step lived before it, and each resident is one still
+-- who lives after a step lived before it, and each resident is one still
 pub each_resides : (k l : Kernel) → ((n : ℕ) → lives l.processes n ≡ true → lives k.processes n ≡ true)
     → ((n : ℕ) → IsResident k.place n → IsResident l.place n) → EachResides k → EachResides l
 each_resides k l back still r = λ n a. still n (r n (back n a))
@@ -179,7 +179,7 @@ lasting ps x next n (Reap child) e = tt
 lasting ps x next n Sleep e = tt
 lasting ps x next n (End status) e = λ h. absurd (let z : true ≡ false = sym e ∙ ap (lives (left_procs (x.parent == 0) (orphaned_procs ps x.pid) x status)) h ∙ left_dead (x.parent == 0) (orphaned_procs ps x.pid) x status in cc)
 
--- who lives behind a change is a child, or lived before and lasts
+-- who lives after a change is a child, or lived before and lasts
 lived : (ps : List Proc) (x : Proc) (next n : ℕ) (change : Change) → lives ps x.pid ≡ true → OneEach ps
     → lives (procs_after ps x next change) n ≡ true → IsChild change n ⊎ ((lives ps n ≡ true) × Lasting change x.pid n)
 lived ps x next n change a o e = elim (child_or change n) [
@@ -187,7 +187,7 @@ lived ps x next n change a o e = elim (child_or change n) [
   | inr c ↦ inr (after_back ps x next n change a (λ status i. o) c e, lasting ps x next n change e)
 ]
 
--- each process that lives resides behind a change of one that lived before it
+-- each process that lives resides after a change of one that lived before it
 pub change_reside : (images : List Image) (k : Kernel) (x : Proc) (e : Entry) (change : Change) → lives k.processes x.pid ≡ true
     → AllDistinct (map (λ (p : Proc). p.pid) k.processes) → EachResides k
     → EachResides (change_by images k x e change)

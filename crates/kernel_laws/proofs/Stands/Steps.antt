@@ -1,4 +1,4 @@
--- What the coupling asks beside it stands behind each step of the whole machine.
+-- What the coupling asks beside it stands after each step of the whole machine.
 use Rattle.std.proofs.Common.{◌≡◌, inl, inr, ℕ, zero, suc, ◌*◌, ◌||◌, Bool, true, false, cond, not, List, [], ◌∷◌, length, Some, refl, sym, ap, ◌∙◌}
 use Rattle.std.proofs.lemmas.Bool.{cases_eq}
 use Rattle.page_laws.proofs.Moves.Puts.{rest_by_puts, reclaim_kept}

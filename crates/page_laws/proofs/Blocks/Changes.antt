@@ -280,7 +280,7 @@ leave_text_aside p image others rest = go (sharers p image) refl
       | inr d ↦ others j n d s
     ]
 
--- other pages of the spaces leave the same sharers behind
+-- other pages of the spaces leave the same sharers after
 filtered_by : (sid j : ℕ) (x y : SpacePages) (xs ys : List SpacePages) → y.sid ≡ x.sid → y.image ≡ x.image → sharers_in j ys ≡ sharers_in j xs
     → sharers_in j (cond (not (y.sid == sid)) (y ∷ ys) ys) ≡ sharers_in j (cond (not (x.sid == sid)) (x ∷ xs) xs)
 filtered_by sid j x y xs ys e i h = ap (λ (k : ℕ). sharers_in j (cond (not (k == sid)) (y ∷ ys) ys)) e ∙ go (x.sid == sid)

@@ -100,7 +100,7 @@ get_frameless p source demanded v w o n e = go p.free
     go [] = refl
     go (g ∷ rest) = put_other (evict p g) v (Coming g) (mark_of p v) w n ∙ evict_other p g w o e
 
--- what is free behind it was free before
+-- what is free after it was free before
 without_some : (f g : ℕ) (xs : List ℕ) → 0 < times f (without g xs) → 0 < times f xs
 without_some f g xs l = elim (cases_eq f g) [
   | inl e ↦ absurd (let z = times-without_same g xs in let k : times f (without g xs) ≡ times g (without g xs) = ap (λ (x : ℕ). times x (without g xs)) e in omega arith)

@@ -274,7 +274,7 @@ put_held p v qs w f o u = go (is_dirty p v) refl
 
 -- Transfers that end.
 
--- behind the write the page is clean, in its frame
+-- after the write the page is clean, in its frame
 record IsClean (p : Placement) (w : Page) (f : ℕ) : Type 0 where
   state : state_of p w ≡ Invalid f
   clean : is_dirty p w ≡ false

@@ -1,4 +1,4 @@
--- The word, and the page behind it.
+-- The word, and the page after it.
 use Rattle.std.proofs.Common.{rules}
 use Rattle.run_text.specs.Text.{page_text}
 use Rattle.run_text.proofs.Passing.{puts_then, puts_failed}

@@ -1,4 +1,4 @@
--- The place, and the page behind it.
+-- The place, and the page after it.
 use Rattle.std.proofs.Common.{rules, [], ◌∷◌, ◌++◌, codes}
 use Rattle.run_text.specs.Text.{parts}
 use Rattle.owner_lines.specs.Owners.{page_if}

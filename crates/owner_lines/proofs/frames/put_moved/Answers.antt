@@ -1,4 +1,4 @@
--- The word with its number, and the page behind it.
+-- The word with its number, and the page after it.
 use Rattle.std.proofs.Common.{rules, [], ◌∷◌, ◌++◌}
 use Rattle.run_text.specs.Text.{parts, page_text}
 use Rattle.run_text.proofs.Passing.{puts_then, puts_failed}

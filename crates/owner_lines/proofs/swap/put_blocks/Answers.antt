@@ -1,4 +1,4 @@
--- One more piece's line passes, or fails, and then that of what is free behind the last one.
+-- One more piece's line passes, or fails, and then that of what is free after the last one.
 use Rattle.std.proofs.Common.{rules, arith, ◌≡◌, ◌+◌, ◌++◌, Some, None, refl, sym, ◌∙◌}
 use Rattle.owner_lines.specs.Owners.{gap_line, piece_line, swap_lines}
 use Rattle.owner_lines.specs.Pieces.{next_from}

@@ -1,4 +1,4 @@
--- The blocks, the word behind them, and the line's end.
+-- The blocks, the word after them, and the line's end.
 use Rattle.std.proofs.Common.{rules, [], ◌∷◌, ◌++◌, codes}
 use Rattle.run_text.specs.Text.{parts}
 use Rattle.run_text.proofs.Passing.{passes_then, puts_then, fails_then, fails_more, puts_failed}

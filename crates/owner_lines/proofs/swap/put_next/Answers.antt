@@ -1,4 +1,4 @@
--- The free blocks, and the piece behind them.
+-- The free blocks, and the piece after them.
 use Rattle.std.proofs.Common.{rules}
 use Rattle.owner_lines.specs.Owners.{piece_line, gap_line}
 use Rattle.run_text.proofs.Passing.{puts_then, puts_failed}

@@ -1,4 +1,4 @@
--- The number, and what stands behind it.
+-- The number, and what stands after it.
 use Rattle.std.proofs.Common.{rules, [], ◌∷◌, ◌++◌, codes}
 use Rattle.run_text.specs.Text.{parts}
 use Rattle.owner_lines.specs.Carried.{flight_text}

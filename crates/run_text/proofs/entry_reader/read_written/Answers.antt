@@ -1,4 +1,4 @@
--- No space behind the process, no digits, or no pairs of digits.
+-- No space after the process, no digits, or no pairs of digits.
 use Rattle.std.proofs.Common.{rules, ◌≡◌, ◌∷◌, List, ℕ, sym, ◌∙◌, length}
 use Rattle.run_text.specs.Text.{hex_text}
 use Rattle.run_text.proofs.EntryTexts.{behind_process, no_bytes}

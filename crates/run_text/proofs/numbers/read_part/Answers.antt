@@ -1,4 +1,4 @@
--- The word behind the space is no number.
+-- The word after the space is no number.
 use Rattle.run_text.proofs.Words.{no_word}
 use Rattle.run_text.proofs.numbers.read_part.Goals as goal
 

@@ -1,4 +1,4 @@
--- No space, or a bad number before it or behind it.
+-- No space, or a bad number before it or after it.
 use Rattle.run_text.proofs.Events.{no_space, bad_pid, bad_count}
 use Rattle.run_text.proofs.schedule_reader.read_dispatch.Goals as goal
 
