@@ -6,6 +6,7 @@ abbrev pub at_frame : {A : Type 0} → List A → ℕ → A → A
 at_frame xs zero d = d
 at_frame xs (suc n) d = get_or xs n d
 
+-- the list with another item for a frame; the same list where there is no such frame
 abbrev pub set_frame : {A : Type 0} → List A → ℕ → A → List A
 set_frame xs zero x = xs
 set_frame xs (suc n) x = set xs n x

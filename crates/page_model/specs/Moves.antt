@@ -17,6 +17,7 @@ abbrev pub evict_at : Placement → ℕ → Option Page → Placement
 evict_at p f None = p
 evict_at p f (Some q) = record (put p q (left_state q (mark_of p q)) (mark_of p q)) { holds = set_frame p.holds f None }
 
+-- the frame loses its page, if it holds one
 abbrev pub evict : Placement → ℕ → Placement
 evict p f = evict_at p f (page_of p f)
 
@@ -29,6 +30,7 @@ enter p q f s m transfers =
 abbrev pub turn : Placement → Page → PageState → Bool → List ℕ → List Transfer → Placement
 turn p q s m free transfers = record (put p q s m) { free = free; transfers = transfers }
 
+-- a page takes the first of these free frames, valid and marked; with none free nothing changes
 abbrev pub fill_at : Placement → Page → List ℕ → Placement
 fill_at p q [] = p
 fill_at p q (f ∷ rest) = enter (evict p f) q f (Valid f) true p.transfers
@@ -49,6 +51,7 @@ join_last [] e x = record { errand = e; parts = x ∷ [] } ∷ []
 join_last (t ∷ []) e x = record t { parts = t.parts ++ x ∷ [] } ∷ []
 join_last (t ∷ u ∷ us) e x = t ∷ join_last (u ∷ us) e x
 
+-- a page is read into the first of these free frames, by the youngest transfer; with none free nothing changes
 abbrev pub get_at : Placement → Errand → Page → List ℕ → Placement
 get_at p e q [] = p
 get_at p e q (f ∷ rest) =
@@ -58,6 +61,7 @@ get_at p e q (f ∷ rest) =
 abbrev pub get_one : Placement → Errand → Page → Placement
 get_one p e q = get_at p e q p.free
 
+-- these pages in turn join the youngest transfer, each read into a free frame
 abbrev pub get_all : Placement → Errand → List Page → Placement
 get_all p e [] = p
 get_all p e (q ∷ qs) = get_all (get_one p e q) e qs
@@ -66,6 +70,7 @@ get_all p e (q ∷ qs) = get_all (get_one p e q) e qs
 abbrev pub get_run : Placement → Errand → List Page → Placement
 get_run p e qs = get_all (begin p e) e qs
 
+-- by the page's state: valid or invalid it joins the youngest transfer, written from its frame; else nothing changes
 abbrev pub launch_to : Placement → Page → PageState → Placement
 launch_to p q (Valid f) = turn p q (Going f) (mark_of p q) p.free (join_last p.transfers Writes (record { page = q; frame = f }))
 launch_to p q (Invalid f) = turn p q (Going f) (mark_of p q) p.free (join_last p.transfers Writes (record { page = q; frame = f }))
@@ -75,6 +80,7 @@ launch_to p q _ = p
 abbrev pub launch : Placement → Page → Placement
 launch p q = launch_to p q (state_of p q)
 
+-- these pages in turn join the youngest transfer, each written from its frame
 abbrev pub launch_all : Placement → List Page → Placement
 launch_all p [] = p
 launch_all p (q ∷ qs) = launch_all (launch p q) qs
@@ -95,14 +101,17 @@ abbrev pub land_read : Placement → Source → Part → List Transfer → Bool 
 land_read p source x rest true = turn p x.page (Valid x.frame) (arrived_mark source x.page (mark_of p x.page)) p.free rest
 land_read p source x rest false = turn p x.page (Invalid x.frame) (mark_of p x.page) (p.free ++ x.frame ∷ []) rest
 
+-- a page lands, by what its transfer is for, and these transfers are in flight after it
 abbrev pub land : Placement → Errand → Part → List Transfer → Placement
 land p Writes x rest = turn p x.page (Invalid x.frame) (written_mark x.page) (p.free ++ x.frame ∷ []) rest
 land p (Reads source demanded) x rest = land_read p source x rest (same_page x.page demanded)
 
+-- these pages of a transfer land in turn, and after them only these younger transfers are in flight
 abbrev pub land_all : Placement → Errand → List Part → List Transfer → Placement
 land_all p e [] ts = record p { transfers = ts }
 land_all p e (x ∷ xs) ts = land_all (land p e x (record { errand = e; parts = xs } ∷ ts)) e xs ts
 
+-- the first of these transfers is complete; without one nothing changes
 abbrev pub done_of : Placement → List Transfer → Placement
 done_of p [] = p
 done_of p (t ∷ ts) = land_all p t.errand t.parts ts
@@ -113,6 +122,7 @@ done p = done_of p p.transfers
 
 -- Without a transfer.
 
+-- a page in this state is reclaimed: only an invalid one changes
 abbrev pub reclaim_to : Placement → Page → PageState → Placement
 reclaim_to p q (Invalid f) = turn p q (Valid f) (mark_of p q) (without f p.free) p.transfers
 reclaim_to p q _ = p
@@ -121,6 +131,7 @@ reclaim_to p q _ = p
 abbrev pub reclaim : Placement → Page → Placement
 reclaim p q = reclaim_to p q (state_of p q)
 
+-- a page in this state is retired: only a valid or invalid one changes
 abbrev pub retire_to : Placement → Page → PageState → Placement
 retire_to p q (Valid f) = turn p q (Invalid f) (mark_of p q) (p.free ++ f ∷ []) p.transfers
 retire_to p q (Invalid f) = turn p q (Invalid f) (mark_of p q) (p.free ++ f ∷ []) p.transfers
@@ -130,6 +141,7 @@ retire_to p q _ = p
 abbrev pub retire : Placement → Page → Placement
 retire p q = retire_to p q (state_of p q)
 
+-- a user write of a page in this state: only a valid data or stack page changes
 abbrev pub touch_to : Placement → Page → PageState → Placement
 touch_to p (Data sid v) (Valid f) = turn p (Data sid v) (Valid f) true p.free p.transfers
 touch_to p (Stack sid v) (Valid f) = turn p (Stack sid v) (Valid f) true p.free p.transfers
@@ -139,6 +151,7 @@ touch_to p _ _ = p
 abbrev pub touch : Placement → Page → Placement
 touch p q = touch_to p q (state_of p q)
 
+-- a user write of each of these pages, in turn
 abbrev pub touch_all : Placement → List Page → Placement
 touch_all p [] = p
 touch_all p (q ∷ qs) = touch_all (touch p q) qs
@@ -150,9 +163,11 @@ abbrev pub drop_at : Placement → Page → Option ℕ → Placement
 drop_at p q None = put p q Unfilled false
 drop_at p q (Some f) = record (put p q Unfilled false) { holds = set_frame p.holds f None; free = f ∷ without f p.free }
 
+-- the page is forgotten, and the frame that its state names, if any, is the first free one
 abbrev pub drop_page : Placement → Page → Placement
 drop_page p q = drop_at p q (frame_of (state_of p q))
 
+-- these pages are forgotten in turn
 abbrev pub drop_all : Placement → List Page → Placement
 drop_all p [] = p
 drop_all p (q ∷ qs) = drop_all (drop_page p q) qs
@@ -168,6 +183,7 @@ leave_by p q Unfilled listed = put p q Unfilled false
 leave_by p q (Coming f) listed = p
 leave_by p q (Going f) listed = p
 
+-- how often a frame stands on the free list; 0 for no frame
 abbrev pub listed_of : Placement → Option ℕ → ℕ
 listed_of p None = 0
 listed_of p (Some f) = times f p.free
@@ -176,9 +192,11 @@ listed_of p (Some f) = times f p.free
 abbrev pub listed : Placement → Page → ℕ
 listed p q = listed_of p (frame_of (state_of p q))
 
+-- a text page that nobody shares leaves, by its state; in flight it stays as it is
 abbrev pub leave_page : Placement → Page → Placement
 leave_page p q = leave_by p q (state_of p q) (listed p q)
 
+-- these text pages leave in turn
 abbrev pub leave_all : Placement → List Page → Placement
 leave_all p [] = p
 leave_all p (q ∷ qs) = leave_all (leave_page p q) qs

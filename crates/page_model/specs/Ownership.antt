@@ -24,6 +24,7 @@ seats listed (Coming f) = 0
 seats listed (Going f) = 0
 seats listed OnSwap = 0
 
+-- whether the page that a frame holds, if any, holds it off the free list: 1 or 0
 abbrev pub seated_of : Placement → ℕ → Option Page → ℕ
 seated_of p f None = 0
 seated_of p f (Some q) = seats (times f p.free) (state_of p q)
@@ -61,6 +62,7 @@ pub record IsListed (p : Placement) (f : ℕ) (q : Page) : Type 0 where
   pub state : state_of p q ≡ Invalid f
   pub clean : is_marked_dirty q (mark_of p q) ≡ false
 
+-- each frame has one owner; frames, pages and transfers agree; a dirty page has a frame, which isn't free
 pub record OwnsFrames (p : Placement) : Type 0 where
   -- each frame stands exactly once: on the free list, in a transfer, or with a page that holds it
   pub once : (f : ℕ) → IsFrame p f → times f p.free + times f (flying (parts_of p.transfers)) + seated p f ≡ 1
@@ -96,6 +98,7 @@ abbrev pub u_blocks : Bool → ℕ
 u_blocks true = 2
 u_blocks false = 0
 
+-- each space, shared text and living process holds the pieces of swap for its pages or its u page, and no others
 pub record OwnsBlocks (size : ℕ) (lives : ℕ → Bool) (p : Placement) (hs : Holdings) : Type 0 where
   -- no two holdings overlap, none passes the end and none crosses a multiple of 1,024
   pub book : IsBook size hs
@@ -109,6 +112,7 @@ pub record IsAside (p : Placement) (q : Page) : Type 0 where
   pub unsaved : mark_of p q ≡ false
   pub rests : (state_of p q ≡ Unfilled) ⊎ ((f : ℕ) × (state_of p q ≡ Invalid f) × (0 < times f p.free))
 
+-- each text page of an image that no space shares is unsaved, and at most in a free frame
 abbrev pub TextAside : Placement → Type 0
 TextAside p = (image v : ℕ) → sharers p image ≡ 0 → IsAside p (Text image v)
 
@@ -120,6 +124,7 @@ needs_blocks_by q (Coming f) mark = true
 needs_blocks_by q (Going f) mark = true
 needs_blocks_by q s mark = false
 
+-- whether a page needs its two blocks, by its state and mark
 abbrev pub needs_blocks : Placement → Page → Bool
 needs_blocks p q = needs_blocks_by q (state_of p q) (mark_of p q)
 

@@ -9,6 +9,7 @@ use Rattle.page_model.specs.Pages.{Filling, Zeros, OfImage, frame_of}
 use Rattle.page_model.specs.Frames.{at_frame, set_frame}
 use Rattle.page_model.specs.Placement.{Placement, Transfer, Part, Source, Errand, Writes, Reads, FromSwap, FromFile, Due, Start, CopyOf, state_of, mark_of, is_dirty, filling_of, errand_at, due_at, parts_of, IsThere}
 
+-- the 1,024 bytes of a page of zeros
 unfoldable pub zeros : List ℕ
 zeros = replicate 1024 0
 

@@ -12,6 +12,7 @@ pub data Filling : Type 0 where
   Zeros : Filling
   OfImage : Filling
 
+-- what is said of one page: its state, its mark, and what fills it
 pub record Slot : Type 0 where
   pub state : PageState
   -- a data or stack page is dirty; a text page is saved
@@ -57,14 +58,17 @@ abbrev pub changed : {A : Type 0} → (A → ℕ) → ℕ → (A → A) → List
 changed number n change [] = []
 changed number n change (x ∷ xs) = cond (number x == n) (change x ∷ xs) (x ∷ changed number n change xs)
 
+-- the data pages of a space; none where there is no such space
 abbrev pub data_in : Option SpacePages → List Slot
 data_in None = []
 data_in (Some s) = s.data_pages
 
+-- the stack pages of a space; none where there is no such space
 abbrev pub stack_in : Option SpacePages → List Slot
 stack_in None = []
 stack_in (Some s) = s.stack_pages
 
+-- the text pages of an image; none where there is no such image
 abbrev pub text_in : Option TextPages → List Slot
 text_in None = []
 text_in (Some t) = t.text_pages
@@ -73,9 +77,11 @@ text_in (Some t) = t.text_pages
 abbrev pub with_data : ℕ → PageState → Bool → SpacePages → SpacePages
 with_data v s m x = record x { data_pages = change_slot x.data_pages v s m }
 
+-- a space with stack page v in this state, with this mark
 abbrev pub with_stack : ℕ → PageState → Bool → SpacePages → SpacePages
 with_stack v s m x = record x { stack_pages = change_slot x.stack_pages v s m }
 
+-- an image with text page v in this state, with this mark
 abbrev pub with_text : ℕ → PageState → Bool → TextPages → TextPages
 with_text v s m x = record x { text_pages = change_slot x.text_pages v s m }
 
@@ -90,14 +96,17 @@ frame_of (Coming f) = Some f
 frame_of (Going f) = Some f
 frame_of OnSwap = None
 
+-- a page in this state may be used
 abbrev pub is_valid : PageState → Bool
 is_valid (Valid f) = true
 is_valid _ = false
 
+-- the bytes of a page in this state are on swap alone
 abbrev pub is_on_swap : PageState → Bool
 is_on_swap OnSwap = true
 is_on_swap _ = false
 
+-- a page in this state has no frame and no copy on swap, and is still to be filled
 abbrev pub is_unfilled : PageState → Bool
 is_unfilled Unfilled = true
 is_unfilled _ = false

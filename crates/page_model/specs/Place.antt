@@ -20,6 +20,7 @@ use Rattle.page_model.specs.Serve.{read_errand}
 
 -- Fills that are due.
 
+-- what is still due once this page is filled: the first goes where it is of this page, else all stays
 abbrev pub due_after : List Due → Page → List Due
 due_after [] q = []
 due_after (d ∷ ds) q = cond (same_page (due_page d) q) ds (d ∷ ds)
@@ -35,6 +36,7 @@ abbrev pub put_by : Placement → Page → List Page → Bool → Placement
 put_by p q qs true = launch_run p qs
 put_by p q qs false = retire p q
 
+-- a `Put` of these pages, by whether the first of them is dirty
 abbrev pub put_step : Placement → Page → List Page → Placement
 put_step p q qs = put_by p q qs (is_dirty p q)
 
@@ -62,6 +64,7 @@ place_entry locked at p _ = p
 abbrev pub data_from : ℕ → ℕ → ℕ → List Page
 data_from sid lo n = pages_from (Data sid lo) lo n
 
+-- so many pages of the stack of a space, from one on
 abbrev pub stack_from : ℕ → ℕ → ℕ → List Page
 stack_from sid lo n = pages_from (Stack sid lo) lo n
 
@@ -77,9 +80,11 @@ cut_space p sid data_count stack_count = record p {
   spaces = changed space_number sid (λ (s : SpacePages). record s { data_pages = sized data_count s.data_pages; stack_pages = sized stack_count s.stack_pages }) p.spaces;
 }
 
+-- how many data pages a space has; 0 where there is no such space
 abbrev pub data_count : Placement → ℕ → ℕ
 data_count p sid = length (slots_of p (Data sid 0))
 
+-- how many stack pages a space has; 0 where there is no such space
 abbrev pub stack_count : Placement → ℕ → ℕ
 stack_count p sid = length (slots_of p (Stack sid 0))
 
@@ -93,6 +98,7 @@ abbrev pub child_slot_by : Slot → PageState → Slot
 child_slot_by x Unfilled = unfilled x.filling
 child_slot_by x _ = unfilled Zeros
 
+-- what is said of a child's page at a fork, by what is said of its parent's
 abbrev pub child_slot : Slot → Slot
 child_slot x = child_slot_by x x.state
 
@@ -101,6 +107,7 @@ abbrev pub copy_due : Page → Page → PageState → List Due
 copy_due child parent Unfilled = []
 copy_due child parent _ = CopyOf child parent ∷ []
 
+-- the copies that are due of a segment from page v on, rising: of each page that the parent filled
 abbrev pub copies_from : (ℕ → Page) → (ℕ → Page) → ℕ → List Slot → List Due
 copies_from child parent v [] = []
 copies_from child parent v (x ∷ xs) = copy_due (child v) (parent v) x.state ++ copies_from child parent (v + 1) xs
@@ -121,6 +128,7 @@ fork_space p parent child = record p {
 abbrev pub enter_space : Placement → ℕ → ℕ → Image → Placement
 enter_space p sid image facts = record p { spaces = p.spaces ++ new_pages sid image facts ∷ []; due = Start (Stack sid 0) ∷ [] }
 
+-- the space of this number is gone
 abbrev pub remove_space : Placement → ℕ → Placement
 remove_space p sid = record p { spaces = filter (λ (s : SpacePages). not (s.sid == sid)) p.spaces }
 
@@ -128,6 +136,7 @@ remove_space p sid = record p { spaces = filter (λ (s : SpacePages). not (s.sid
 abbrev pub pages_of_space : Placement → ℕ → List Page
 pages_of_space p sid = data_from sid 0 (data_count p sid) ++ stack_from sid 0 (stack_count p sid)
 
+-- all text pages of an image, rising
 abbrev pub pages_of_text : Placement → ℕ → List Page
 pages_of_text p image = pages_from (Text image 0) 0 (length (slots_of p (Text image 0)))
 
@@ -136,6 +145,7 @@ abbrev pub leave_text_by : Placement → ℕ → ℕ → Placement
 leave_text_by p image zero = leave_all p (pages_of_text p image)
 leave_text_by p image (suc n) = p
 
+-- the image's text pages leave where no space shares them any more
 abbrev pub leave_text : Placement → ℕ → Placement
 leave_text p image = leave_text_by p image (sharers p image)
 
@@ -145,19 +155,23 @@ give_up p sid = leave_text (remove_space (drop_all p (pages_of_space p sid)) sid
 
 -- Processes that are resident.
 
+-- one more process is in, from this place in the journal on
 abbrev pub begin_residence : Placement → ℕ → ℕ → Placement
 begin_residence p pid at = record p { residents = p.residents ++ record { pid = pid; out = false; since = at } ∷ [] }
 
+-- the process is neither in nor out any more
 abbrev pub end_residence : Placement → ℕ → Placement
 end_residence p pid = record p { residents = filter (λ (r : Residence). not (r.pid == pid)) p.residents }
 
 -- The flat entries: what a change of a process does to the placement.
 
+-- the number of the space that is held or lent; 0 for a zombie
 abbrev pub space_of_holding : Holding → ℕ
 space_of_holding (Holds s) = s.sid
 space_of_holding (Lends sid child) = sid
 space_of_holding (Zombie status) = 0
 
+-- the number of the space that a process holds or lent; 0 for a zombie, and where there is no such process
 abbrev pub space_of_process : Option Process → ℕ
 space_of_process None = 0
 space_of_process (Some q) = space_of_holding q.holding
@@ -167,6 +181,7 @@ abbrev pub give_up_unless : Bool → Placement → ℕ → Placement
 give_up_unless true p sid = p
 give_up_unless false p sid = give_up p sid
 
+-- the facts of these images, in order
 abbrev pub facts_of : List NamedImage → List Image
 facts_of images = map (λ (named : NamedImage). named.image.facts) images
 
@@ -175,6 +190,7 @@ abbrev pub facts_numbered : List Image → ℕ → Option Image
 facts_numbered images zero = None
 facts_numbered images (suc place) = slice_get images place
 
+-- a new space for the image with these facts; where there is no such image nothing changes
 abbrev pub enter_image : Placement → ℕ → ℕ → Option Image → Placement
 enter_image p sid image None = p
 enter_image p sid image (Some facts) = enter_space p sid image facts

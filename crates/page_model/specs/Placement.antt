@@ -20,6 +20,7 @@ pub data Errand : Type 0 where
   Writes : Errand
   Reads : Source → Page → Errand
 
+-- one page of a transfer, and the frame that it is read into or written from
 pub record Part : Type 0 where
   pub page : Page
   pub frame : ℕ
@@ -40,6 +41,7 @@ pub record Residence : Type 0 where
   pub out : Bool
   pub since : ℕ
 
+-- the state of paging: pages, frames, transfers, hands, who is in or out, and the fills that are due
 pub record Placement : Type 0 where
   -- the live spaces, in the order in which they were made, and the texts of all images
   pub spaces : List SpacePages
@@ -58,9 +60,11 @@ pub record Placement : Type 0 where
 
 -- Questions.
 
+-- the number of a space
 abbrev pub space_number : SpacePages → ℕ
 space_number s = s.sid
 
+-- the number of the image that has these text pages
 abbrev pub image_number : TextPages → ℕ
 image_number t = t.image
 
@@ -70,15 +74,19 @@ slots_in spaces texts (Data sid v) = data_in (numbered space_number sid spaces)
 slots_in spaces texts (Stack sid v) = stack_in (numbered space_number sid spaces)
 slots_in spaces texts (Text image v) = text_in (numbered image_number image texts)
 
+-- what is said of each page of a page's segment; nothing where there is no such space or image
 abbrev pub slots_of : Placement → Page → List Slot
 slots_of p q = slots_in p.spaces p.texts q
 
+-- what is said of a page; the same as of an unfilled one with zeros where it isn't there
 abbrev pub slot_of : Placement → Page → Slot
 slot_of p q = get_or (slots_of p q) (number_of q) no_slot
 
+-- the state of a page; Unfilled where it isn't there
 abbrev pub state_of : Placement → Page → PageState
 state_of p q = (slot_of p q).state
 
+-- whether a page is dirty, or a text page saved; false where it isn't there
 abbrev pub mark_of : Placement → Page → Bool
 mark_of p q = (slot_of p q).mark
 
@@ -88,6 +96,7 @@ filling_by (Data sid v) x = x
 filling_by (Stack sid v) x = x
 filling_by (Text image v) x = OfImage
 
+-- what fills a page that is unfilled
 abbrev pub filling_of : Placement → Page → Filling
 filling_of p q = filling_by q (slot_of p q).filling
 
@@ -103,6 +112,7 @@ IsThere p q = number_of q < length (slots_of p q)
 abbrev pub page_of : Placement → ℕ → Option Page
 page_of p f = at_frame p.holds f None
 
+-- this is the number of a frame, from 1 up to how many there are
 abbrev pub IsFrame : Placement → ℕ → Type 0
 IsFrame p f = (0 < f) × (f ≤ length p.holds)
 
@@ -111,6 +121,7 @@ abbrev pub sharers_in : ℕ → List SpacePages → ℕ
 sharers_in image [] = 0
 sharers_in image (s ∷ ss) = cond (s.image == image) 1 0 + sharers_in image ss
 
+-- how many live spaces share the text of an image
 abbrev pub sharers : Placement → ℕ → ℕ
 sharers p image = sharers_in image p.spaces
 
@@ -119,6 +130,7 @@ abbrev pub image_in : Option SpacePages → ℕ
 image_in None = 0
 image_in (Some s) = s.image
 
+-- the number of a space's image; 0 where there is no such space
 abbrev pub image_of : Placement → ℕ → ℕ
 image_of p sid = image_in (numbered space_number sid p.spaces)
 
@@ -128,6 +140,7 @@ pub record Moving : Type 0 where
   pub page : Page
   pub frame : ℕ
 
+-- a page of a transfer, with its frame and what the transfer is for
 abbrev pub moving : Errand → Part → Moving
 moving e x = record { errand = e; page = x.page; frame = x.frame }
 
@@ -163,11 +176,13 @@ due_at (d ∷ ds) q = cond (same_page (due_page d) q) (Some d) (due_at ds q)
 
 -- Changes.
 
+-- the spaces once this page has this state and mark; a text page changes none of them
 abbrev pub spaces_with : List SpacePages → Page → PageState → Bool → List SpacePages
 spaces_with spaces (Data sid v) s m = changed space_number sid (with_data v s m) spaces
 spaces_with spaces (Stack sid v) s m = changed space_number sid (with_stack v s m) spaces
 spaces_with spaces (Text image v) s m = spaces
 
+-- the texts once this page has this state and mark; a data or stack page changes none of them
 abbrev pub texts_with : List TextPages → Page → PageState → Bool → List TextPages
 texts_with texts (Data sid v) s m = texts
 texts_with texts (Stack sid v) s m = texts
@@ -183,9 +198,11 @@ put p q s m = record p { spaces = spaces_with p.spaces q s m; texts = texts_with
 abbrev pub data_filling : Image → ℕ → Filling
 data_filling facts v = cond (nat_lt (1024 * v) (data_given facts)) OfImage Zeros
 
+-- an unfilled page, not marked, with what fills it
 abbrev pub unfilled : Filling → Slot
 unfilled x = record { state = Unfilled; mark = false; filling = x }
 
+-- so many unfilled data pages of an image, from page v on
 abbrev pub unfilled_data : Image → ℕ → ℕ → List Slot
 unfilled_data facts v zero = []
 unfilled_data facts v (suc n) = unfilled (data_filling facts v) ∷ unfilled_data facts (v + 1) n
@@ -199,6 +216,7 @@ new_pages sid image facts = record {
   stack_pages = unfilled Zeros ∷ [];
 }
 
+-- an image's text pages at the start, all unfilled and none saved
 abbrev pub new_text : ℕ → Image → TextPages
 new_text image facts = record { image = image; text_pages = replicate (text_pages_of facts) (unfilled Zeros) }
 
@@ -217,10 +235,12 @@ abbrev pub spaces_from : ℕ → List Starting → List SpacePages
 spaces_from n [] = []
 spaces_from n (a ∷ more) = new_pages n a.image a.facts ∷ spaces_from (n + 1) more
 
+-- the starting processes, numbered from one on, are in since the journal's start
 abbrev pub residents_from : ℕ → List Starting → List Residence
 residents_from n [] = []
 residents_from n (a ∷ more) = record { pid = n; out = false; since = 0 } ∷ residents_from (n + 1) more
 
+-- stack page 0 of each starting process, numbered from one on, is due
 abbrev pub due_from : ℕ → List Starting → List Due
 due_from n [] = []
 due_from n (a ∷ more) = Start (Stack n 0) ∷ due_from (n + 1) more

@@ -37,6 +37,7 @@ run_both passes v most =
     let below = passing_below passes v (most - 1 - above) in
     record { lo = v - below; n = below + 1 + above }
 
+-- the page and those above it that pass in turn, at most `most` pages in all
 abbrev pub run_up : (ℕ → Bool) → ℕ → ℕ → Run
 run_up passes v most = record { lo = v; n = 1 + passing_above passes v (most - 1) }
 
@@ -50,6 +51,7 @@ chunk_of (Data sid v) = (spot v false).0
 chunk_of (Stack sid v) = (spot v true).0
 chunk_of (Text image v) = (text_spot v).0
 
+-- page w of the segment is in the same chunk as the page, or of text in the same piece
 abbrev pub is_near : Page → ℕ → Bool
 is_near q w = chunk_of q == chunk_of (beside q w)
 
@@ -71,6 +73,7 @@ comes_from_swap p q w = is_on_swap (state_of p (beside q w)) && is_near q w
 abbrev pub comes_from_file : Placement → Page → ℕ → Bool
 comes_from_file p q w = nat_lt w (length (slots_of p q)) && is_unfilled (state_of p (beside q w))
 
+-- the run of a read, by the state of the page and how many frames it may take
 abbrev pub run_in_by : Placement → Page → PageState → ℕ → Run
 run_in_by p (Text image v) OnSwap spare = run_up (comes_from_swap p (Text image v)) v (min 2 spare)
 run_in_by p (Text image v) Unfilled spare = run_up (comes_from_file p (Text image v)) v (min 2 spare)
@@ -94,9 +97,11 @@ abbrev pub is_idle_by : Placement → PageState → Bool
 is_idle_by p (Invalid f) = times f p.free == 0
 is_idle_by p _ = false
 
+-- the page is invalid, in a frame off the free list
 abbrev pub is_idle : Placement → Page → Bool
 is_idle p q = is_idle_by p (state_of p q)
 
+-- a page that the back hand writes along with another: invalid off the free list, dirty, and not locked
 abbrev pub goes_along : Placement → List Page → Page → Bool
 goes_along p locked r = is_idle p r && (is_dirty p r && not (is_among r locked))
 
@@ -110,9 +115,11 @@ is_seated_by p (Valid f) = true
 is_seated_by p (Invalid f) = times f p.free == 0
 is_seated_by p _ = false
 
+-- the page is valid, or invalid in a frame off the free list
 abbrev pub is_seated : Placement → Page → Bool
 is_seated p q = is_seated_by p (state_of p q)
 
+-- the run of a `Put`, by whether its page is dirty
 abbrev pub run_put_by : Placement → Page → Bool → Run
 run_put_by p q true = run_up (λ w. is_seated p (beside q w) && (is_dirty p (beside q w) && is_near q w)) (number_of q) most_written
 run_put_by p q false = run_alone q

@@ -20,10 +20,12 @@ force_by p locked (t ∷ ts) = done p
 abbrev pub force : Placement → List Page → Placement
 force p locked = force_by p locked p.transfers
 
+-- the entry of forcing a frame, by the transfers that are in flight
 abbrev pub force_entry : List Transfer → Entry
 force_entry [] = entries.Hands 1
 force_entry (t ∷ ts) = entries.Done
 
+-- as many transfers are in flight as may be
 abbrev pub is_full : Placement → Bool
 is_full p = nat_le most_in_flight (length p.transfers)
 
@@ -32,6 +34,7 @@ abbrev pub source_for : PageState → Source
 source_for OnSwap = FromSwap
 source_for _ = FromFile
 
+-- what the read of a page is for: from swap where its state says so, else from the image's file, with this page demanded
 abbrev pub read_errand : Placement → Page → Errand
 read_errand p q = Reads (source_for (state_of p q)) q
 
@@ -39,6 +42,7 @@ read_errand p q = Reads (source_for (state_of p q)) q
 abbrev pub read_step : Placement → Page → Placement
 read_step p q = get_run p (read_errand p q) (pages_of_run q (run_in p q))
 
+-- the entry of the read of a page with its run
 abbrev pub read_entry : Placement → Page → Entry
 read_entry p q = entries.Get q (run_in p q).lo (run_in p q).n
 
@@ -49,6 +53,7 @@ abbrev pub read_if : Placement → Page → Bool → Placement
 read_if p q true = done p
 read_if p q false = read_step p q
 
+-- `Done` while 16 transfers are in flight, else the entry of the read
 abbrev pub read_entry_if : Placement → Page → Bool → Entry
 read_entry_if p q true = entries.Done
 read_entry_if p q false = read_entry p q
@@ -57,6 +62,7 @@ abbrev pub bring_by : Placement → Page → PageState → Filling → Bool → 
 bring_by p q Unfilled Zeros full = fill p q
 bring_by p q s filling full = read_if p q full
 
+-- the entry where a frame is free: a fill with zeros; else a read, or `Done` while 16 transfers are in flight
 abbrev pub bring_entry_by : Placement → Page → PageState → Filling → Bool → Entry
 bring_entry_by p q Unfilled Zeros full = entries.Zero q
 bring_entry_by p q s filling full = read_entry_if p q full
@@ -98,10 +104,12 @@ abbrev pub when_now : Bool → Entry → Option Entry
 when_now true e = Some e
 when_now false e = None
 
+-- the unit of a page without a frame: where no frame is free one is forced, if waiting is allowed
 abbrev pub feed_unit_by : Placement → Page → PageState → Filling → List ℕ → Bool → Bool → Option Entry
 feed_unit_by p q s filling [] full now = when_now now (force_entry p.transfers)
 feed_unit_by p q s filling (f ∷ fs) full now = Some (bring_entry_by p q s filling full)
 
+-- the next unit of serving a page, by its state and whether waiting is allowed
 abbrev pub serve_unit_by : Placement → Page → PageState → Bool → Option Entry
 serve_unit_by p q (Valid f) now = None
 serve_unit_by p q (Invalid f) now = Some (entries.Reclaim q)

@@ -15,6 +15,7 @@ stored_at image (Some b) = blocks_at image b
 abbrev pub stored : Holdings → List ℕ → Page → List ℕ
 stored hs image q = stored_at image (block_of hs q)
 
+-- the swap image once these bytes are in the two blocks from this one on; the same image where there is no block
 abbrev pub store_at : List ℕ → Option ℕ → List ℕ → List ℕ
 store_at image None bytes = image
 store_at image (Some b) bytes = put_blocks image b bytes
