@@ -15,6 +15,7 @@ use Rattle.kernel_model.specs.Kernel.{Life, Proc, Kernel, start_bytes, life_of}
 use Rattle.page_model.specs.Stored.{stored_at, stored}
 use Rattle.kernel_model.specs.UPage.{u_page}
 
+-- the text bytes of an image; none where there is no such image
 abbrev pub text_of : Option NamedImage → List ℕ
 text_of None = []
 text_of (Some named) = named.image.text
@@ -23,10 +24,12 @@ abbrev pub data_of : Option NamedImage → List ℕ
 data_of None = []
 data_of (Some named) = named.image.data
 
+-- the data bytes of a space; none where there is no such space
 abbrev pub data_bytes_in : Option Space → List ℕ
 data_bytes_in None = []
 data_bytes_in (Some s) = s.data_bytes
 
+-- the stack bytes of a space; none where there is no such space
 abbrev pub stack_bytes_in : Option Space → List ℕ
 stack_bytes_in None = []
 stack_bytes_in (Some s) = s.stack_bytes
@@ -69,6 +72,7 @@ pub record Outline : Type 0 where
   pub life : Life
   pub asleep : Bool
 
+-- the outline of a process of the flat state
 abbrev pub outline_of : Process → Outline
 outline_of q = record { pid = q.pid; parent = q.parent; life = life_of q.holding; asleep = q.asleep }
 
@@ -87,6 +91,7 @@ Fits None None = Unit {0}
 Fits (Some s) (Some x) = IsSized s x
 Fits _ _ = ⊥
 
+-- the flat state and the placement have the same spaces, of the same images and sizes
 abbrev pub AllFit : FlatState → Placement → Type 0
 AllFit flat p = (sid : ℕ) → Fits (numbered (λ (s : Space). s.sid) sid (spaces_of flat)) (numbered space_number sid p.spaces)
 

@@ -168,6 +168,7 @@ image_after k image = image_after_of k image k.place.transfers
 
 -- Coupling.
 
+-- what a process of the flat state has, by its holding
 abbrev pub life_of : Holding → Life
 life_of (Holds s) = HoldsSpace s.sid
 life_of (Lends sid child) = LendsSpace sid child

@@ -92,5 +92,6 @@ pub record ImageFits (named : NamedImage) : Type 0 where
   pub sound : IsSound named.image.facts
   pub name : length (argument_area (named.name ∷ [])) ≤ 1024
 
+-- each image's text and data are those of its pages, no more than may be, and its name finds room in stack page 0
 abbrev pub ImagesFit : List NamedImage → Type 0
 ImagesFit images = (number : ℕ) (named : NamedImage) → image_numbered images number ≡ Some named → ImageFits named

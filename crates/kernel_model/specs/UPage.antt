@@ -5,10 +5,12 @@ use Rattle.flat_state.specs.AoutImageImageSpecs.{word_bytes}
 
 -- The u page.
 
+-- the weight of a condition code that is set; 0 where it is clear
 abbrev pub bit_of : Bool → ℕ → ℕ
 bit_of true weight = weight
 bit_of false weight = 0
 
+-- the four condition codes as one number, with the weights 8, 4, 2 and 1 for N, Z, V and C
 abbrev pub codes_of : Regs → ℕ
 codes_of regs = bit_of regs.n 8 + bit_of regs.z 4 + bit_of regs.v 2 + bit_of regs.c 1
 
