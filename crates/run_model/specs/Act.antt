@@ -35,18 +35,22 @@ settled_in p (Holds s) = is_settled p s.sid
 settled_in p (Lends sid child) = true
 settled_in p (Zombie status) = true
 
+-- the same of a process that may not be there: then there is nothing to settle
 abbrev pub settled_if : Placement → Option Process → Bool
 settled_if p None = true
 settled_if p (Some q) = settled_in p q.holding
 
+-- no transfer names a page of the space that this process holds, nor of its text where no other space shares that
 abbrev pub settled : FlatState → Placement → ℕ → Bool
 settled F p pid = settled_if p (process_of F pid)
 
+-- a change gives up or cuts the space of this holding; a lender and a zombie have none to lose
 abbrev pub loses_in : Bool → Change → Holding → Bool
 loses_in borrowed change (Holds s) = loses_pages s borrowed change
 loses_in borrowed change (Lends sid child) = false
 loses_in borrowed change (Zombie status) = false
 
+-- the same of a process that may not be there: then no pages are lost
 abbrev pub loses_if : Bool → Change → Option Process → Bool
 loses_if borrowed change None = false
 loses_if borrowed change (Some q) = loses_in borrowed change q.holding
@@ -66,6 +70,7 @@ act_by A s pid true settling = Some (entries.Refused pid)
 act_by A s pid false true = Some entries.Done
 act_by A s pid false false = next_of_step A s.point pid
 
+-- the next unit of a process, by whether it can step
 abbrev pub act_if : Bool → Inputs → State → ℕ → Option Entry
 act_if true A s pid = act_by A s pid (must_refuse A s pid) (must_settle A s pid)
 act_if false A s pid = None

@@ -24,10 +24,12 @@ use Rattle.run_model.specs.Wanted.{locked}
 
 -- Marks.
 
+-- the mark of an interrupt, by the transfers in flight: without one it is over at once
 abbrev pub interrupt_mark : List Transfer → Mark
 interrupt_mark [] = marks.Over
 interrupt_mark (t ∷ ts) = marks.Interrupt
 
+-- the mark of the swapper's turn, by its choice: where it chooses nothing it is over at once
 abbrev pub swap_mark : Choice → Mark
 swap_mark (In pid) = marks.BringIn pid
 swap_mark (Out pid) = marks.PutOut pid
@@ -41,6 +43,7 @@ mark_of_event s (events.Hands count) = marks.Hands count
 mark_of_event s events.Swapper = swap_mark (swap_choice s.place (runners s.point.flat))
 mark_of_event s events.Audit = marks.Audit
 
+-- the mark of a line of the schedule; where there is no such line it is over at once
 abbrev pub mark_of_line : State → Option Event → Mark
 mark_of_line s None = marks.Over
 mark_of_line s (Some event) = mark_of_event s event
@@ -72,11 +75,13 @@ audited mark = mark
 
 -- Units.
 
+-- the page of each of these bytes, in order, in the space that is held; none of a lender or a zombie
 abbrev pub written_in : Holding → List ByteWrite → List Page
 written_in (Holds s) writes = filter_map (λ (w : ByteWrite). page_tested s (address_in s w.address)) writes
 written_in (Lends sid child) writes = []
 written_in (Zombie status) writes = []
 
+-- the same of a process that may not be there: then there are none
 abbrev pub written_by : Option Process → List ByteWrite → List Page
 written_by None writes = []
 written_by (Some q) writes = written_in q.holding writes

@@ -17,16 +17,19 @@ use Rattle.run_model.specs.State.{State}
 use Rattle.run_model.specs.Wanted.{wanted, locked}
 use Rattle.run_model.specs.Act.{act}
 
+-- this one where the condition holds, else none
 abbrev pub when : {A : Type 0} → Bool → Option A → Option A
 when true o = o
 when false o = None
 
+-- the first one, or where there is none the other
 abbrev pub or_else : {A : Type 0} → Option A → Option A → Option A
 or_else (Some x) other = Some x
 or_else None other = other
 
 -- Fills that are due.
 
+-- this fill where one of these frames is free, else the entry of forcing a frame
 abbrev pub fill_by : Placement → Entry → List ℕ → Entry
 fill_by p e [] = force_entry p.transfers
 fill_by p e (f ∷ fs) = e
@@ -35,6 +38,7 @@ fill_by p e (f ∷ fs) = e
 abbrev pub fill_unit : Placement → Entry → Entry
 fill_unit p e = fill_by p e p.free
 
+-- the unit that serves the parent's page; where there is none, the copy, and before it a frame is forced where none is free
 abbrev pub copy_unit_by : Placement → Page → Option Entry → Entry
 copy_unit_by p q (Some e) = e
 copy_unit_by p q None = fill_unit p (entries.Copy q)
@@ -51,6 +55,7 @@ due_unit p (CopyOf q parent ∷ due) = Some (copy_unit_by p q (serve_unit p pare
 abbrev pub goes_on : Inputs → State → ℕ → ℕ → Bool
 goes_on A s pid until = can_step s.point.flat pid && (nat_lt s.count A.limit && nat_lt s.count until)
 
+-- the next unit of a process that runs, by the page that is wanted, if any
 abbrev pub work_by : Inputs → State → ℕ → Bool → Option Page → Option Entry
 work_by A s pid now None = act A s pid
 work_by A s pid now (Some q) = serve_unit s.place q now
@@ -59,6 +64,7 @@ work_by A s pid now (Some q) = serve_unit s.place q now
 abbrev pub work : Inputs → State → ℕ → Bool → Option Entry
 work A s pid now = work_by A s pid now (wanted A s)
 
+-- the unit of a turn, by whether the process is out
 abbrev pub turn_by : Inputs → State → ℕ → Bool → Option Entry
 turn_by A s pid true = Some (entries.SwapIn pid)
 turn_by A s pid false = work A s pid true
@@ -77,6 +83,7 @@ turn_instructions = 1000
 abbrev pub begins_write : Placement → List Page → Bool
 begins_write p pages = is_some (hand_run p pages)
 
+-- a move of the hands, by whether the oldest transfer has to end before it
 abbrev pub move_by : Bool → Entry
 move_by true = entries.Done
 move_by false = entries.Hands 1
@@ -87,6 +94,7 @@ move_unit p pages = move_by (begins_write p pages && is_full p)
 
 -- Numbers of frames and blocks.
 
+-- how many blocks of swap are held in all
 abbrev pub blocks_held : Holdings → ℕ
 blocks_held [] = 0
 blocks_held (h ∷ hs) = h.length + blocks_held hs
@@ -97,6 +105,7 @@ owners_of p hs =
     entries.Owners (length p.free) (length p.holds - (length p.free + length (parts_of p.transfers))) (length (parts_of p.transfers))
     (blocks_held hs)
 
+-- the entry of an audit, with the numbers as they are at this state
 abbrev pub owners_entry : State → Entry
 owners_entry s = owners_of s.place s.holdings
 
@@ -120,6 +129,7 @@ abbrev pub last_turned : Mark → ℕ
 last_turned (marks.Turn pid since) = pid
 last_turned _ = 0
 
+-- the number of a process, if there is one
 abbrev pub pid_if : Option Process → Option ℕ
 pid_if None = None
 pid_if (Some q) = Some q.pid
@@ -132,6 +142,7 @@ next_ready F above = pid_if (find (λ q. is_ready q && nat_lt above q.pid) F.pro
 abbrev pub next_turned : FlatState → ℕ → Option ℕ
 next_turned F last = or_else (next_ready F last) (next_ready F 0)
 
+-- a turn of this process; none where there is no process
 abbrev pub turn_of : Option ℕ → Option Entry
 turn_of None = None
 turn_of (Some pid) = Some (entries.Turn pid)

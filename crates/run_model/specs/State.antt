@@ -11,6 +11,7 @@ use Rattle.run_model.specs.declared.mark.Mark.{Mark}
 use Rattle.run_model.specs.declared.mark.Mark.TheVariants as marks
 use Rattle.flat_model.specs.Run.{Point, start_point}
 
+-- the state of a run, at its start or after a unit
 pub record State : Type 0 where
   -- the flat machine's state, with the last flat entry
   pub point : Point
@@ -26,6 +27,7 @@ pub record State : Type 0 where
 
 -- The start.
 
+-- a process that starts in the image of this number; none where there is no such image
 abbrev pub starting_as : ℕ → Option NamedImage → List Starting
 starting_as number None = []
 starting_as number (Some named) = record { image = number; facts = named.image.facts } ∷ []
@@ -49,6 +51,7 @@ start A hs = record {
 
 -- What the swapper asks of the processes.
 
+-- a process as the swapper sees it, by what it holds; none where it holds no space
 abbrev pub runner_by : FlatState → Process → Holding → Option Runner
 runner_by F q (Holds s) = Some (record { pid = q.pid; sid = s.sid; borrowed = is_borrower F.processes q.pid; asleep = q.asleep })
 runner_by F q (Lends sid child) = None

@@ -22,14 +22,17 @@ abbrev pub pages_stored : Inputs → State → List Part → List ℕ → List �
 pages_stored A s [] image = image
 pages_stored A s (x ∷ xs) image = pages_stored A s xs (store_at image (block_of s.holdings x.page) (memory_of A.images s.point.flat x.page))
 
+-- the swap image once a transfer of these pages ends, by what it is for; a read changes nothing
 abbrev pub done_stored : Inputs → State → List Part → Errand → List ℕ → List ℕ
 done_stored A s xs Writes image = pages_stored A s xs image
 done_stored A s xs (Reads source demanded) image = image
 
+-- the swap image once the oldest transfer ends; without one nothing changes
 abbrev pub oldest_stored : Inputs → State → List Transfer → List ℕ → List ℕ
 oldest_stored A s [] image = image
 oldest_stored A s (t ∷ ts) image = done_stored A s t.parts t.errand image
 
+-- the swap image once a process's u page is in its blocks; without such a process nothing changes
 abbrev pub u_stored : State → ℕ → Option Process → List ℕ → List ℕ
 u_stored s pid None image = image
 u_stored s pid (Some q) image =
@@ -42,6 +45,7 @@ image_behind A s entries.Done image = oldest_stored A s s.place.transfers image
 image_behind A s (entries.SwapOut pid) image = u_stored s pid (process_of s.point.flat pid) image
 image_behind A s _ image = image
 
+-- the swap image after the writes of these units, from this state and this image on
 unfoldable pub swapped_from : Inputs → State → List Entry → List ℕ → List ℕ
 swapped_from A s [] image = image
 swapped_from A s (u ∷ us) image = swapped_from A (after A s u) us (image_behind A s u image)

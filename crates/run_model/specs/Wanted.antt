@@ -16,6 +16,7 @@ running (marks.Dispatch pid count since) = Some pid
 running (marks.Turn pid since) = Some pid
 running _ = None
 
+-- the pages that the next instruction of this process touches, in order; none without a process
 abbrev pub touched_by : Inputs → FlatState → Option ℕ → List Page
 touched_by A F None = []
 touched_by A F (Some pid) = touched A F pid
@@ -24,9 +25,11 @@ touched_by A F (Some pid) = touched A F pid
 abbrev pub touched_next : Inputs → State → List Page
 touched_next A s = touched_by A s.point.flat (running s.mark)
 
+-- each of these pages is valid
 abbrev pub AllValid : Placement → List Page → Type 0
 AllValid p qs = EachPage (λ q. is_valid (state_of p q) ≡ true) qs
 
+-- this page where it isn't valid, else the other
 abbrev pub absent_by : Bool → Page → Option Page → Option Page
 absent_by true q other = other
 absent_by false q other = Some q
@@ -36,6 +39,7 @@ abbrev pub first_absent : Placement → List Page → Option Page
 first_absent p [] = None
 first_absent p (q ∷ qs) = absent_by (is_valid (state_of p q)) q (first_absent p qs)
 
+-- this page and then the others where it is valid, else none
 abbrev pub present_by : Bool → Page → List Page → List Page
 present_by true q qs = q ∷ qs
 present_by false q qs = []
@@ -45,6 +49,7 @@ abbrev pub before_absent : Placement → List Page → List Page
 before_absent p [] = []
 before_absent p (q ∷ qs) = present_by (is_valid (state_of p q)) q (before_absent p qs)
 
+-- the page that is served next, by the fills that are due
 abbrev pub wanted_by : Inputs → State → List Due → Option Page
 wanted_by A s [] = first_absent s.place (touched_next A s)
 wanted_by A s (Start q ∷ due) = first_absent s.place (touched_next A s)
@@ -55,6 +60,7 @@ wanted_by A s (CopyOf child parent ∷ due) = first_absent s.place (parent ∷ [
 abbrev pub wanted : Inputs → State → Option Page
 wanted A s = wanted_by A s s.place.due
 
+-- the pages that the hands pass over, by the fills that are due
 abbrev pub locked_by : Inputs → State → List Due → List Page
 locked_by A s [] = before_absent s.place (touched_next A s)
 locked_by A s (Start q ∷ due) = []
