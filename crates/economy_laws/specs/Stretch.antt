@@ -21,6 +21,7 @@ begins_stretch (entries.Call pid number carry r0 r1) = true
 begins_stretch (entries.Ended pid status) = true
 begins_stretch _ = false
 
+-- none of these units is a turn or a counted instruction
 abbrev pub NoneBegins : List Entry → Type 0
 NoneBegins [] = Unit {0}
 NoneBegins (u ∷ us) = (begins_stretch u ≡ false) × NoneBegins us
@@ -30,6 +31,7 @@ abbrev pub copies : Entry → ℕ
 copies (entries.Copy q) = 1
 copies _ = 0
 
+-- how many pages of children these units copy
 abbrev pub copies_of : List Entry → ℕ
 copies_of [] = 0
 copies_of (u ∷ us) = copies u + copies_of us
@@ -71,10 +73,12 @@ GrowthTouches A = (s : State) (pid pages : ℕ) → IsRun A s → next_unit A s 
 
 -- Turns in a row.
 
+-- 1 for a turn of the closing phase, 0 for any other unit
 abbrev pub turns : Entry → ℕ
 turns (entries.Turn pid) = 1
 turns _ = 0
 
+-- how many of these units are turns
 abbrev pub turns_of : List Entry → ℕ
 turns_of [] = 0
 turns_of (u ∷ us) = turns u + turns_of us
@@ -86,6 +90,7 @@ counts (entries.Call pid number carry r0 r1) = true
 counts (entries.Ended pid status) = true
 counts _ = false
 
+-- none of these units counts an instruction
 abbrev pub NoneCounts : List Entry → Type 0
 NoneCounts [] = Unit {0}
 NoneCounts (u ∷ us) = (counts u ≡ false) × NoneCounts us

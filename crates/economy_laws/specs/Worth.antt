@@ -15,10 +15,12 @@ use Rattle.run_model.specs.After.{pages_written, after}
 
 -- Writes.
 
+-- the pages that a transfer writes to swap, by what it is for; a read writes none
 abbrev pub stored_by : Errand → List Part → List Page
 stored_by Writes xs = map (λ (x : Part). x.page) xs
 stored_by (Reads source demanded) xs = []
 
+-- the pages that the oldest transfer writes to swap; none where it is a read, or there is none
 abbrev pub stored_first : List Transfer → List Page
 stored_first [] = []
 stored_first (t ∷ ts) = stored_by t.errand t.parts
@@ -30,6 +32,7 @@ stored_pages p _ = []
 
 -- User writes and fills.
 
+-- a transfer for this is a read from the image's file that the page demanded
 abbrev pub arrives_by : Errand → Page → Bool
 arrives_by (Reads FromFile demanded) q = same_page demanded q
 arrives_by _ q = false
@@ -55,6 +58,7 @@ renews_page A s (entries.Sleeps pid) q = is_among q (step_writes A s pid)
 renews_page A s (entries.Ended pid status) q = is_among q (step_writes A s pid)
 renews_page A s _ q = false
 
+-- no lengths of pieces, so that none is held
 abbrev pub is_empty : List ℕ → Bool
 is_empty [] = true
 is_empty (n ∷ ns) = false
