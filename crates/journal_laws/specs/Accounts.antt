@@ -27,11 +27,13 @@ AtEach P A s (u ∷ us) = P A s u × AtEach P A (after A s u) us
 
 -- Owners.
 
+-- a process with this holding is no zombie
 abbrev pub living_with : Holding → Bool
 living_with (Holds s) = true
 living_with (Lends sid child) = true
 living_with (Zombie status) = false
 
+-- the same of a process that may not be there
 abbrev pub living_if : Option Process → Bool
 living_if None = false
 living_if (Some q) = living_with q.holding
