@@ -11,6 +11,7 @@ use Rattle.run_model.specs.State.{State}
 use Rattle.run_model.specs.After.{after}
 use Rattle.paging_laws.specs.Lost.{space_held}
 
+-- why a page that was dirty in this frame isn't so after a unit: its write completed, or it was given up
 pub data IsCleaned (A : Inputs) (s : State) (u : Entry) (q : Page) (f : ℕ) : Type 0 where
   -- the write of the page from its frame completed
   WasWritten : u ≡ entries.Done → IsWritten s.place (after A s u).place q f → IsCleaned A s u q f

@@ -21,6 +21,7 @@ pub record IsOwnPage (s : State) (pid : ℕ) (q : Page) : Type 0 where
   pub own : is_borrower s.point.flat.processes pid ≡ false
   pub page : is_of_space (space_held s pid) q ≡ true
 
+-- why a page lost this frame at a unit: the frame was free and was taken, or the page was given up
 pub data IsLost (A : Inputs) (s : State) (u : Entry) (q : Page) (f : ℕ) : Type 0 where
   -- the frame was free, and a fill or a read took it
   WasFree : takes_frames u ≡ true → IsTaken s.place (after A s u).place q f → IsLost A s u q f
