@@ -29,6 +29,7 @@ takes (entries.Zero q) = 1
 takes (entries.Get q lo n) = 1
 takes _ = 0
 
+-- how many of these units take frames for a page that is wanted: fills with zeros, and reads
 abbrev pub takings : List Entry → ℕ
 takings [] = 0
 takings (u ∷ us) = takes u + takings us
