@@ -32,6 +32,7 @@ SpoilsParts A s (x ∷ xs) image after =
     ((bytes : List ℕ) × (length bytes ≡ 1024) × (after ≡ store_at image (block_of s.holdings x.page) bytes))
     ⊎ SpoilsParts A s xs (store_at image (block_of s.holdings x.page) (memory_of A.images s.point.flat x.page)) after
 
+-- the oldest transfer is a write, of whose pages some are in their blocks, up to one whose blocks have any bytes
 abbrev pub SpoilsOldest : Inputs → State → List Transfer → List ℕ → List ℕ → Type 0
 SpoilsOldest A s [] image after = ⊥
 SpoilsOldest A s (t ∷ ts) image after = (t.errand ≡ Writes) × SpoilsParts A s t.parts image after
