@@ -98,10 +98,12 @@ abbrev pub IsReadFrom : Source → Errand → Type 0
 IsReadFrom source Writes = ⊥
 IsReadFrom source (Reads from demanded) = from ≡ source
 
+-- the oldest transfer is a read from this source
 abbrev pub OldestReadsFrom : Source → List Transfer → Type 0
 OldestReadsFrom source [] = ⊥
 OldestReadsFrom source (t ∷ ts) = IsReadFrom source t.errand
 
+-- the oldest transfer is a write
 abbrev pub OldestWrites : List Transfer → Type 0
 OldestWrites [] = ⊥
 OldestWrites (t ∷ ts) = t.errand ≡ Writes
