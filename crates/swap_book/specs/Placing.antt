@@ -12,6 +12,7 @@ pub record Wanted : Type 0 where
   pub owner : Owner
   pub length : ℕ
 
+-- a piece of this length that the owner wants
 abbrev pub one : Owner → ℕ → Wanted
 one owner length = record { owner = owner; length = length }
 
@@ -28,6 +29,7 @@ abbrev pub placed_at : List Held → Wanted → Option ℕ → Result (List Held
 placed_at hs w None = Err w.length
 placed_at hs w (Some start) = Ok (hs ++ record { owner = w.owner; start = start; length = w.length } ∷ [])
 
+-- goes on from these holdings; a length that found no place is the answer at once
 abbrev pub and_then : Result (List Held) ℕ → (List Held → Result (List Held) ℕ) → Result (List Held) ℕ
 and_then (Ok hs) next = next hs
 and_then (Err n) next = Err n
