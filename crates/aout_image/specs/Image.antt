@@ -40,6 +40,7 @@ facts_of head kind = record {
 
 -- The two segments.
 
+-- the kind is 0413, whose text begins at byte 1,024 of the file
 abbrev pub is_paged : Kind → Bool
 is_paged Impure = false
 is_paged Shared = false
@@ -67,9 +68,11 @@ data_given image = if has_text_segment image.kind then image.data_len else image
 abbrev pub pages_for : ℕ → ℕ
 pages_for bytes = (bytes + 1023) / 1024
 
+-- the pages of the text segment
 abbrev pub text_pages_of : Image → ℕ
 text_pages_of image = pages_for (text_given image)
 
+-- the pages of the data segment, with the zeros of the bss
 abbrev pub data_pages_of : Image → ℕ
 data_pages_of image = pages_for (data_given image + image.bss_len)
 
@@ -111,6 +114,7 @@ judged_facts image len =
     else (if is_cut_short image len then NotImage 5
     else (if starts_outside image then NotImage 6 else Is image)))
 
+-- the judgement by the kind that the magic number names: reason 2 where it names none
 abbrev pub judged_kind : Option Kind → List ℕ → ℕ → Judged
 judged_kind None head len = NotImage 2
 judged_kind (Some kind) head len = judged_facts (facts_of head kind) len
@@ -139,6 +143,7 @@ loaded image bytes = record {
   «data» = in_pages (data_pages_of image) (take (data_given image) (drop (text_offset image + text_given image) bytes));
 }
 
+-- the image with its two segments, where the file is judged to be one; else the reason
 abbrev pub loaded_if : Judged → List ℕ → Result Loaded ℕ
 loaded_if (Is image) bytes = Ok (loaded image bytes)
 loaded_if (NotImage reason) bytes = Err reason
@@ -154,6 +159,7 @@ judged_of (Err reason) = NotImage reason
 
 -- Images for which no reason but a file that ends too early is left.
 
+-- facts for which none of the reasons 3, 4 and 6 holds
 pub record IsSound (image : Image) : Type 0 where
   pub whole_text : IsTrue (is_paged image.kind) → image.text_len % 1024 ≡ 0
   pub whole_data : IsTrue (is_paged image.kind) → image.data_len % 1024 ≡ 0
@@ -181,6 +187,7 @@ abbrev pub given_of : Bool → Image → ℕ
 given_of true image = text_given image
 given_of false image = data_given image
 
+-- the place in the file of the first byte that it gives to the text segment, or else to the data segment
 abbrev pub offset_of : Bool → Image → ℕ
 offset_of true image = text_offset image
 offset_of false image = text_offset image + text_given image
@@ -223,5 +230,6 @@ abbrev pub words_of : Image → List ℕ
 words_of image =
     magic_of image.kind ∷ image.text_len ∷ image.data_len ∷ image.bss_len ∷ 0 ∷ image.entry ∷ 0 ∷ 0 ∷ []
 
+-- the 32 bytes of the header that has these facts
 unfoldable pub header_of : Image → List ℕ
 header_of image = flat_map word_bytes (words_of image)
