@@ -33,6 +33,7 @@ use Rattle.asm_grammar.specs.declared.syntax.Definition.{Definition}
 abbrev pub whole_of : ℕ → ℕ
 whole_of size = if size == 1 then 256 else (if size == 2 then 65536 else 4294967296)
 
+-- half of how many numbers 1, 2 or 4 bytes hold
 abbrev pub half_of : ℕ → ℕ
 half_of size = if size == 1 then 128 else (if size == 2 then 32768 else 2147483648)
 
@@ -57,10 +58,12 @@ as_signed number = if number.negative then neg_ℤ (pos number.magnitude) else p
 unfoldable pub found : List Definition → Label → Option Definition
 found labels label = find (λ definition. same_text definition.label.bytes label.bytes) labels
 
+-- the number that a value is: a label is its address, and none where it isn't defined
 unfoldable pub number_of_value : List Definition → Value → Option Number
 number_of_value labels (values.Number number) = Some number
 number_of_value labels (values.Label label) = found labels label >>= λ definition. Some (record { negative = false; magnitude = definition.address })
 
+-- the bits of a value in so many bytes; none where it is out of range or its label isn't defined
 unfoldable pub bits_of_value : List Definition → ℕ → Value → Option ℕ
 bits_of_value labels size value = number_of_value labels value >>= value_bits size
 
@@ -78,10 +81,12 @@ with_number first size bits = first ∷ to_le_bytes (width_of size) bits
 abbrev pub displacement_mode : ℕ → Bool → ℕ
 displacement_mode size deferred = (if size == 1 then 10 else (if size == 2 then 12 else 14)) + (if deferred then 1 else 0)
 
+-- a displacement of so many bytes on a register, deferred or not: its specifier, and the number where it is in range
 unfoldable pub displaced_bytes : ℕ → ℕ → Number → Bool → Option (List ℕ)
 displaced_bytes size reg by deferred =
     displacement_bits size by >>= λ bits. Some (with_number (specifier (displacement_mode size deferred) reg) size bits)
 
+-- the bytes of an operand that has an address; none where its register or its number isn't one that it may have
 unfoldable pub place_bytes : List Definition → Place → Option (List ℕ)
 place_bytes labels (places.Deferred reg) = plain_specifier 6 reg
 place_bytes labels (places.AutoDec reg) = plain_specifier 7 reg
@@ -98,6 +103,7 @@ leaves_index index (places.AutoInc reg) = not (reg == index)
 leaves_index index (places.AutoIncDef reg) = not (reg == index)
 leaves_index index _ = true
 
+-- the specifier of an index, which isn't PC nor a register that the base changes, and the bytes of the base
 unfoldable pub indexed_bytes : List Definition → ℕ → Place → Option (List ℕ)
 indexed_bytes labels index base =
     if nat_lt index 15 && leaves_index index base then (place_bytes labels base >>= λ bytes. Some (specifier 4 index ∷ bytes)) else None
@@ -106,6 +112,7 @@ indexed_bytes labels index base =
 abbrev pub literal_bytes : Number → Option (List ℕ)
 literal_bytes number = if not number.negative && nat_lt number.magnitude 64 then Some (number.magnitude ∷ []) else None
 
+-- mode 8 on PC, and a value in as many bytes as the slot's size, where it is in range
 unfoldable pub immediate_bytes : List Definition → Slot → Value → Option (List ℕ)
 immediate_bytes labels slot value = bits_of_value labels slot.size value >>= λ bits. Some (with_number 143 slot.size bits)
 
@@ -126,10 +133,12 @@ target_bytes labels from slot target = do
   bits ← branch_bits slot.size (distance address (from + slot.size))
   Some (to_le_bytes (width_of slot.size) bits)
 
+-- the bytes of an operand in a branch's slot, the first at this address: only a target within reach has some
 unfoldable pub branch_bytes : List Definition → ℕ → Slot → Written → Option (List ℕ)
 branch_bytes labels from slot (writtens.Target target) = target_bytes labels from slot target
 branch_bytes labels from slot _ = None
 
+-- the bytes of an operand with a specifier, where the slot's access takes it and it is in its range
 unfoldable pub specifier_bytes : List Definition → Slot → Written → Option (List ℕ)
 specifier_bytes labels slot (writtens.Literal number) = if is_read slot.access then literal_bytes number else None
 specifier_bytes labels slot (writtens.Register reg) = if is_address slot.access then None else plain_specifier 5 reg
@@ -140,6 +149,7 @@ specifier_bytes labels slot writtens.Absent = None
 specifier_bytes labels slot (writtens.Misindexed immediate) = None
 specifier_bytes labels slot (writtens.Target target) = None
 
+-- after the row's last operand only an absent one may stand, which has no bytes
 abbrev pub absent_bytes : Written → Option (List ℕ)
 absent_bytes writtens.Absent = Some []
 absent_bytes _ = None
@@ -167,6 +177,7 @@ abbrev pub or_zero : Option ℕ → ℕ
 or_zero (Some bits) = bits
 or_zero None = 0
 
+-- the base that a written place names; an absolute address whose value has no bits counts as 0
 abbrev pub named_base : List Definition → Place → Base
 named_base labels (places.Deferred reg) = bases.Deferred reg
 named_base labels (places.AutoDec reg) = bases.AutoDec reg
@@ -175,6 +186,7 @@ named_base labels (places.AutoIncDef reg) = bases.AutoIncDef reg
 named_base labels (places.Absolute address) = bases.Absolute (or_zero (bits_of_value labels 4 address))
 named_base labels (places.Disp size reg by deferred) = bases.Disp reg (as_signed by) deferred
 
+-- the operand that a written one names in its slot, the first byte at this address; the filler where it names none
 abbrev pub named_operand : List Definition → ℕ → Slot → Written → Operand
 named_operand labels from slot writtens.Absent = operands.Literal 0
 named_operand labels from slot (writtens.Literal number) = operands.Literal number.magnitude

@@ -16,6 +16,7 @@ use Rattle.asm_grammar.specs.declared.syntax.SourceLine.{SourceLine}
 unfoldable pub whole_value : List ℕ → Option Value
 whole_value text = value_at text >>= λ value. ended value.0 value.1
 
+-- the number that the whole text is
 unfoldable pub whole_number : List ℕ → Option Number
 whole_number text = number_at text >>= λ number. ended number.0 number.1
 
@@ -29,12 +30,15 @@ directive_by word text =
     else (if same_text word (codes "bss") then (whole_number text >>= λ number. Some (statements.Bss number))
     else None))))
 
+-- the directive after the `.`: one of the five words, a space, and its value or number
 unfoldable pub directive_of : List ℕ → Option Statement
 directive_of text = after 32 (behind is_word_byte text) >>= λ rest. directive_by (front_of is_word_byte text) rest
 
+-- the instruction that the whole text is, as a statement
 unfoldable pub instruction_of : List ℕ → Option Statement
 instruction_of text = sentence_of text >>= λ sentence. Some (statements.Instruction sentence)
 
+-- the statement that the whole text is: a directive where it begins with `.`, or else an instruction
 unfoldable pub statement_of : List ℕ → Option Statement
 statement_of [] = None
 statement_of (first ∷ rest) = if first == 46 then directive_of rest else instruction_of (first ∷ rest)
@@ -46,9 +50,11 @@ label_before text = do
   rest ← after 58 label.1
   Some (label.0, rest)
 
+-- a line of a statement without a label
 abbrev pub unlabelled : Statement → SourceLine
 unlabelled statement = record { label = None; statement = Some statement }
 
+-- a line of a label and a statement
 abbrev pub labelled : Label → Statement → SourceLine
 labelled label statement = record { label = Some label; statement = Some statement }
 
@@ -57,13 +63,16 @@ unfoldable pub behind_label : Label → List ℕ → Option SourceLine
 behind_label label [] = Some (record { label = Some label; statement = None })
 behind_label label (first ∷ rest) = if first == 32 then (statement_of rest >>= λ statement. Some (labelled label statement)) else None
 
+-- a line, by the label that its text begins with and the text after the `:`, or none
 abbrev pub by_label : List ℕ → Option (Label × List ℕ) → Option SourceLine
 by_label text None = statement_of text >>= λ statement. Some (unlabelled statement)
 by_label text (Some label) = behind_label label.0 label.1
 
+-- a line without a label and without a statement
 abbrev pub empty_line : SourceLine
 empty_line = record { label = None; statement = None }
 
+-- what a line of any length says: nothing where it is empty or begins with `#`; none where it is outside the grammar
 unfoldable pub line_by : List ℕ → Option SourceLine
 line_by [] = Some empty_line
 line_by (first ∷ rest) = if first == 35 then Some empty_line else by_label (first ∷ rest) (label_before (first ∷ rest))
@@ -87,5 +96,6 @@ lines_in (byte ∷ bytes) = if byte == 10 then Some [] ∷ lines_in bytes else p
 abbrev pub item_of : Option (List ℕ) → Option SourceLine
 item_of line = line >>= line_of
 
+-- what the lines of a source say, in order
 unfoldable pub items_in : List ℕ → List (Option SourceLine)
 items_in source = map item_of (lines_in source)

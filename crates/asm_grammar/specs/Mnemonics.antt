@@ -6,6 +6,7 @@ use Rattle.vax_code.specs.declared.table.Name.TheVariants as names
 use Rattle.vax_code.specs.declared.table.Row.{Row}
 use Rattle.vax_code.specs.Table.{all_rows}
 
+-- the mnemonic of an instruction, as a source has it
 abbrev pub mnemonic : Name → List ℕ
 mnemonic names.Nop = codes "nop"
 mnemonic names.Ret = codes "ret"
@@ -78,6 +79,7 @@ mnemonic names.Cvtlb = codes "cvtlb"
 mnemonic names.Callg = codes "callg"
 mnemonic names.Calls = codes "calls"
 
+-- two texts have the same bytes
 abbrev pub same_text : List ℕ → List ℕ → Bool
 same_text one other = pointwise nat_eq one other
 

@@ -13,6 +13,7 @@ is_digit base byte = is_in_range 48 57 byte || (base == 16) && is_in_range 97 10
 abbrev pub held : ℕ → ℕ
 held value = min value 4294967296
 
+-- the value of these digits, as it is held, and the text after them; none where there is no digit
 abbrev pub numeral_of : ℕ → List ℕ → List ℕ → Text ℕ
 numeral_of base [] rest = None
 numeral_of base (first ∷ more) rest = Some (held (digits_value base (first ∷ more)), rest)
@@ -26,6 +27,7 @@ abbrev pub AreDigits : ℕ → List ℕ → Type 0
 AreDigits base [] = ⊤
 AreDigits base (byte ∷ bytes) = IsTrue (is_digit base byte) × AreDigits base bytes
 
+-- the text begins with `0x`
 abbrev pub is_hexadecimal : List ℕ → Bool
 is_hexadecimal (first ∷ second ∷ rest) = (first == 48) && (second == 120)
 is_hexadecimal _ = false
@@ -38,11 +40,13 @@ magnitude_at text = if is_hexadecimal text then numeral_at 16 (drop 2 text) else
 abbrev pub signed : Bool → ℕ → Number
 signed minus magnitude = record { negative = minus && not (magnitude == 0); magnitude = magnitude }
 
+-- a magnitude, and the number that it is with a minus before it or without
 unfoldable pub signed_at : Bool → List ℕ → Text Number
 signed_at minus text = do
   magnitude ← magnitude_at text
   Some (signed minus magnitude.0, magnitude.1)
 
+-- a number: a magnitude, with a `-` before it or without
 unfoldable pub number_at : List ℕ → Text Number
 number_at [] = None
 number_at (first ∷ rest) = if first == 45 then signed_at true rest else signed_at false (first ∷ rest)

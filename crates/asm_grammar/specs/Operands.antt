@@ -39,6 +39,7 @@ incremented reg [] = Some (places.Deferred reg, [])
 incremented reg (first ∷ rest) =
     if (first == 43) && not (reg == 15) then Some (places.AutoInc reg, rest) else Some (places.Deferred reg, first ∷ rest)
 
+-- an operand that begins with `(`: `(rK)` or `(rK)+`
 unfoldable pub deferred_at : List ℕ → Text Place
 deferred_at text = in_parentheses_at text >>= λ reg. incremented reg.0 reg.1
 
@@ -69,6 +70,7 @@ displacement_at size deferred text = do
   reg ← in_parentheses_at by.1
   Some (places.Disp size reg.0 by.0 deferred, reg.1)
 
+-- `b^N(rK)`, `w^N(rK)` or `l^N(rK)`, after the `*` where it is deferred
 unfoldable pub displaced_at : Bool → List ℕ → Text Place
 displaced_at deferred [] = None
 displaced_at deferred (mark ∷ rest) = marked_size mark >>= λ size. displacement_at size deferred rest
@@ -97,10 +99,12 @@ index_at base text = do
   rest ← after 93 reg.1
   Some (writtens.Indexed reg.0 base, rest)
 
+-- a place, with the index `[rK]` where the text after it begins with one
 abbrev pub indexed : Place → List ℕ → Text Written
 indexed place [] = Some (writtens.Plain place, [])
 indexed place (first ∷ rest) = if first == 91 then index_at place rest else Some (writtens.Plain place, first ∷ rest)
 
+-- an operand that has an address, with an index or without
 unfoldable pub addressed_at : List ℕ → Text Written
 addressed_at text = place_at text >>= λ place. indexed place.0 place.1
 
@@ -128,6 +132,7 @@ immediate_at text = do
   value ← value_at number
   unaddressed true (writtens.Immediate value.0) value.1
 
+-- the operand `rK`
 unfoldable pub plain_register_at : List ℕ → Text Written
 plain_register_at text = register_at text >>= λ reg. unaddressed false (writtens.Register reg.0) reg.1
 
@@ -140,6 +145,7 @@ specifier_at (first ∷ rest) =
     else (if first == 114 then plain_register_at (first ∷ rest)
     else addressed_at (first ∷ rest)))
 
+-- the target of a branch, which is a value
 unfoldable pub target_at : List ℕ → Text Written
 target_at text = value_at text >>= λ value. Some (writtens.Target value.0, value.1)
 

@@ -21,10 +21,12 @@ place_of_row_at row place text =
     if nat_lt place row.count then (after (separator place) text >>= λ operand. operand_at (is_branch (slot_in row place).access) operand)
     else Some (writtens.Absent, text)
 
+-- what was read, where no text is left after it
 abbrev pub ended : {A : Type 0} → A → List ℕ → Option A
 ended x [] = Some x
 ended x (byte ∷ bytes) = None
 
+-- the instruction of this row whose operands are the whole text after the mnemonic
 unfoldable pub operands_at : Row → List ℕ → Option Sentence
 operands_at row text = do
   a ← place_of_row_at row 0 text

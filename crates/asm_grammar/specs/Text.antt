@@ -2,6 +2,7 @@
 use Rattle.std.specs.Prelude.{◌≡◌, ℕ, ◌==◌, Bool, if◌then◌else◌, List, [], ◌∷◌, Option, Some, None}
 
 infixl 10 ◌>>=◌
+-- what a function gives for what is there; none where nothing is
 abbrev pub ◌>>=◌ : {A B : Type 0} → Option A → (A → Option B) → Option B
 Some x >>= f = f x
 None >>= f = None
@@ -25,6 +26,7 @@ abbrev pub front_of : (ℕ → Bool) → List ℕ → List ℕ
 front_of is [] = []
 front_of is (byte ∷ bytes) = if is byte then byte ∷ front_of is bytes else []
 
+-- the text after the bytes of a kind at the front
 abbrev pub behind : (ℕ → Bool) → List ℕ → List ℕ
 behind is [] = []
 behind is (byte ∷ bytes) = if is byte then behind is bytes else byte ∷ bytes

@@ -7,6 +7,7 @@ use Rattle.asm_grammar.specs.declared.syntax.Label.{Label}
 use Rattle.asm_grammar.specs.declared.syntax.Value.{Value}
 use Rattle.asm_grammar.specs.declared.syntax.Value.TheVariants as values
 
+-- a letter in lower case or `_`, with which a label begins
 abbrev pub is_label_start : ℕ → Bool
 is_label_start byte = is_in_range 97 122 byte || (byte == 95)
 
@@ -22,6 +23,7 @@ padded word = word ++ drop (length word) (replicate 16 0)
 abbrev pub label_name : List ℕ → List ℕ
 label_name bytes = front_of is_word_byte bytes
 
+-- the label that a word is, and the text after it; none where it begins with a digit or hasn't 1 to 16 bytes
 abbrev pub label_of_word : List ℕ → List ℕ → Text Label
 label_of_word [] rest = None
 label_of_word (first ∷ more) rest =
@@ -32,12 +34,15 @@ label_of_word (first ∷ more) rest =
 unfoldable pub label_at : List ℕ → Text Label
 label_at text = label_of_word (front_of is_word_byte text) (behind is_word_byte text)
 
+-- a value that is a label
 unfoldable pub value_label_at : List ℕ → Text Value
 value_label_at text = label_at text >>= λ label. Some (values.Label label.0, label.1)
 
+-- a value that is a number
 unfoldable pub value_number_at : List ℕ → Text Value
 value_number_at text = number_at text >>= λ number. Some (values.Number number.0, number.1)
 
+-- a value: a label where the text begins with the first byte of one, or else a number
 unfoldable pub value_at : List ℕ → Text Value
 value_at [] = None
 value_at (first ∷ rest) = if is_label_start first then value_label_at (first ∷ rest) else value_number_at (first ∷ rest)
