@@ -45,6 +45,7 @@ pub data Writes (before after : Option (List ℕ)) (old_faults new_faults : ℕ)
   All : status ≡ whole → Appends before text after → new_faults ≡ old_faults → Writes before after old_faults new_faults text whole status
   Prefix : status ≡ sink_fault → AppendsSome before text after → Rose old_faults new_faults → Writes before after old_faults new_faults text whole status
 
+-- the text of an ending was written, with its status; or the output failed, and a prefix was written
 abbrev pub WritesEnding : Option (List ℕ) → Option (List ℕ) → ℕ → ℕ → Ending → ℕ → Type 0
 WritesEnding before after old_faults new_faults ending status =
     Writes before after old_faults new_faults (text_of ending) (status_of ending) status

@@ -23,6 +23,7 @@ fault_of name (unreads.NotImage reason) = NotImage name reason
 fault_of name unreads.FileFault = FileFault
 fault_of name unreads.NoMemory = NoMemory
 
+-- the status of a command that ends by a fault
 abbrev pub fault_status : Fault → ℕ
 fault_status BadWords = 1
 fault_status (Absent name) = 2
@@ -45,9 +46,11 @@ abbrev pub bytes_of : Line → List ℕ
 bytes_of (Fixed line) = line.now
 bytes_of (Made line) = line.items
 
+-- the line of a file of this name that isn't there
 abbrev pub absent_line : List ℕ → List ℕ
 absent_line name = codes "vmrun: absent " ++ name ++ codes "\n"
 
+-- the line of a file of this name that is no image, for this reason
 abbrev pub not_image_line : List ℕ → ℕ → List ℕ
 not_image_line name reason = codes "vmrun: not an image: " ++ name ++ codes " reason " ++ decimal reason ++ codes "\n"
 
@@ -55,6 +58,7 @@ not_image_line name reason = codes "vmrun: not an image: " ++ name ++ codes " re
 abbrev pub numbered_line : List ℕ → ℕ → List ℕ
 numbered_line words number = words ++ decimal number ++ codes "\n"
 
+-- the line of a swap device that has fewer blocks than are needed
 abbrev pub short_device_line : ℕ → ℕ → ℕ → List ℕ
 short_device_line device blocks needed =
     codes "vmrun: swap device " ++ decimal device ++ codes " has " ++ decimal blocks ++ codes " blocks, " ++ decimal needed ++ codes " needed\n"
@@ -105,6 +109,7 @@ abbrev pub text_of : Ending → List ℕ
 text_of (Ok output) = output
 text_of (Err fault) = fault_line fault
 
+-- the status of an ending: 0 where something was made, or else the fault's
 abbrev pub status_of : Ending → ℕ
 status_of (Ok output) = 0
 status_of (Err fault) = fault_status fault
