@@ -31,11 +31,13 @@ pieces_for owner pages = wanted owner (pieces_of owner (2 * pages))
 abbrev pub further_pieces : Owner → ℕ → ℕ → List Wanted
 further_pieces owner old new = drop (length (pieces_for owner old)) (pieces_for owner new)
 
+-- what a process has is a space of this image
 abbrev pub has_image : ℕ → Holding → Bool
 has_image image (Holds s) = s.image == image
 has_image image (Lends sid child) = false
 has_image image (Zombie status) = false
 
+-- there is a process
 abbrev pub is_there : Option Process → Bool
 is_there None = false
 is_there (Some p) = true
@@ -76,15 +78,18 @@ change_wanted images F s (Reap child) = []
 change_wanted images F s Sleep = []
 change_wanted images F s (End status) = []
 
+-- the pieces that a change takes, by what its process has: none without a space
 abbrev pub wanted_in : List NamedImage → FlatState → Change → Holding → List Wanted
 wanted_in images F change (Holds s) = change_wanted images F s change
 wanted_in images F change (Lends sid child) = []
 wanted_in images F change (Zombie status) = []
 
+-- the pieces that a change takes, by whether its process is there: none where it isn't
 abbrev pub wanted_if : List NamedImage → FlatState → Change → Option Process → List Wanted
 wanted_if images F change None = []
 wanted_if images F change (Some p) = wanted_in images F change p.holding
 
+-- the pieces that a process's next instruction wants, by whether the process can step: none where it can't
 abbrev pub asks_by : Bool → Inputs → FlatState → ℕ → List Wanted
 asks_by true A F pid = wanted_if A.images F (flat_step A F pid false).change (process_of F pid)
 asks_by false A F pid = []
@@ -104,6 +109,7 @@ without_owner owner hs = kept owner 0 hs
 abbrev pub with_pages : Owner → ℕ → Holdings → Holdings
 with_pages owner pages hs = kept owner (length (pieces_for owner pages)) hs
 
+-- the holdings without an image's text; the same where another space still shares it
 abbrev pub without_text : Bool → ℕ → Holdings → Holdings
 without_text true image hs = hs
 without_text false image hs = without_owner (owners.Text image) hs
@@ -113,10 +119,12 @@ abbrev pub without_space : FlatState → Space → Holdings → Holdings
 without_space after s hs =
     without_text (is_shared after s.image) s.image (without_owner (owners.Stack s.sid) (without_owner (owners.Data s.sid) hs))
 
+-- the holdings without the pieces of a process's space; the same where the process had borrowed it
 abbrev pub without_own : Bool → FlatState → Space → Holdings → Holdings
 without_own true after s hs = hs
 without_own false after s hs = without_space after s hs
 
+-- the holdings with new pieces; or those before, where a piece found no place
 abbrev pub or_before : Holdings → Result Holdings ℕ → Holdings
 or_before hs (Ok now) = now
 or_before hs (Err n) = hs
@@ -137,12 +145,14 @@ given_up F after pid s (Lend child) hs = hs
 given_up F after pid s (Reap child) hs = hs
 given_up F after pid s Sleep hs = hs
 
+-- the holdings after a step, by what its process has: the same without a space
 abbrev pub held_in : Inputs → FlatState → ℕ → Step → Holdings → Holding → Holdings
 held_in A F pid step hs (Holds s) =
     given_up F step.after pid s step.change (with_pieces A (change_wanted A.images F s step.change) hs)
 held_in A F pid step hs (Lends sid child) = hs
 held_in A F pid step hs (Zombie status) = hs
 
+-- the holdings after a step, by whether its process is there: the same where it isn't
 abbrev pub held_if : Inputs → FlatState → ℕ → Step → Holdings → Option Process → Holdings
 held_if A F pid step hs None = hs
 held_if A F pid step hs (Some p) = held_in A F pid step hs p.holding
@@ -158,11 +168,13 @@ held_entry A point (Call p n c r0 r1) hs = held_step A point.flat p (step_at A p
 held_entry A point (Ended p status) hs = held_step A point.flat p (step_at A point p) hs
 held_entry A point _ hs = hs
 
+-- the holdings after units from a point on; after a unit that can't come at its point nothing changes
 abbrev pub held_units : Inputs → Option Point → List Entry → Holdings → Holdings
 held_units A None units hs = hs
 held_units A (Some point) [] hs = hs
 held_units A (Some point) (u ∷ us) hs = held_units A (flat_entry A point u) us (held_entry A point u hs)
 
+-- the list has this number
 abbrev pub contains : List ℕ → ℕ → Bool
 contains [] n = false
 contains (m ∷ more) n = m == n || contains more n
@@ -188,6 +200,7 @@ first_held A earlier pid (number ∷ more) hs =
 abbrev pub start_held : Inputs → Result Holdings ℕ
 start_held A = first_held A [] 1 A.first []
 
+-- the holdings after a journal, from those at the start; or the pid for whose pieces there was no place at the start
 abbrev pub held_from : Inputs → List Entry → Result Holdings ℕ → Result Holdings ℕ
 held_from A journal (Ok hs) = Ok (held_units A (Some (start_point A)) (units_of journal) hs)
 held_from A journal (Err pid) = Err pid

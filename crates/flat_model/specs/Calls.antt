@@ -17,47 +17,60 @@ use Rattle.flat_model.specs.declared.calls.SystemCall.TheVariants as calls
 
 -- The numbers of the errors: ENOENT, E2BIG, EBADF, ECHILD, EAGAIN, ENOMEM and EFAULT.
 
+-- ENOENT: the path names no image
 abbrev pub no_such_file : ℕ
 no_such_file = 2
 
+-- E2BIG: more arguments than may be, or one that is too long
 abbrev pub too_big : ℕ
 too_big = 7
 
+-- EBADF: the file of a write isn't 1 or 2
 abbrev pub bad_file : ℕ
 bad_file = 9
 
+-- ECHILD: a process that waits has no children
 abbrev pub no_children : ℕ
 no_children = 10
 
+-- EAGAIN: there are as many processes as may be
 abbrev pub try_again : ℕ
 try_again = 11
 
+-- ENOMEM: a data segment of too many pages, or swap pieces that find no place
 abbrev pub no_memory : ℕ
 no_memory = 12
 
+-- EFAULT: a byte that the call reads is refused
 abbrev pub fault : ℕ
 fault = 14
 
 -- The limits: the bytes of one write, the processes, the pages of a data segment, the bytes of a path or an argument
 -- with its final 0, and the arguments.
 
+-- the most bytes that one write writes
 abbrev pub write_limit : ℕ
 write_limit = 1024
 
+-- the most processes that there may be, zombies counted
 abbrev pub process_limit : ℕ
 process_limit = 64
 
+-- the most pages of a data segment
 abbrev pub data_limit : ℕ
 data_limit = 4096
 
+-- the most bytes of a path or an argument, with its final 0
 abbrev pub string_limit : ℕ
 string_limit = 64
 
+-- the most arguments of an execve
 abbrev pub argument_limit : ℕ
 argument_limit = 8
 
 -- The calls by number.
 
+-- the number by which CHMK asks for a system call
 abbrev pub number_of : SystemCall → ℕ
 number_of calls.Exit = 1
 number_of calls.Fork = 2
@@ -68,6 +81,7 @@ number_of calls.Execve = 59
 number_of calls.Vfork = 66
 number_of calls.Wait = 84
 
+-- the system call with this number; none where it isn't one of the eight
 abbrev pub call_numbered : ℕ → Option SystemCall
 call_numbered number =
     if number == 1 then Some calls.Exit
@@ -131,6 +145,7 @@ abbrev pub last_pointer : ℕ → Program (Option (List (List ℕ)))
 last_pointer zero = Gives (Some [])
 last_pointer (suc n) = Gives None
 
+-- the arguments from a pointer on: its string and then more; no more where the pointer is 0
 abbrev pub pointer_after : ℕ → Program (Option (List (List ℕ))) → Program (Option (List (List ℕ)))
 pointer_after zero more = Gives (Some [])
 pointer_after (suc n) more = string_from string_limit (suc n) >>= string_before more
@@ -186,6 +201,7 @@ write_reply regs =
 abbrev pub pages_up_to : Space → ℕ → ℕ
 pages_up_to s address = pages_for (address - length s.text_bytes)
 
+-- the pages of a space's stack
 abbrev pub stack_pages_of : Space → ℕ
 stack_pages_of s = length s.stack_bytes / 1024
 
@@ -200,6 +216,7 @@ break_reply s regs = do
   address ← argument regs 1
   Gives (break_by (nat_le (pages_up_to s address) data_limit) regs (pages_up_to s address) (stack_pages_of s))
 
+-- an image with its number where it has the name, or else what is found among those after it
 abbrev pub numbered_by : Bool → ℕ → NamedImage → Option (ℕ × NamedImage) → Option (ℕ × NamedImage)
 numbered_by true number image more = Some (number, image)
 numbered_by false number image more = more
@@ -210,6 +227,7 @@ image_named number [] name = None
 image_named number (image ∷ images) name =
     numbered_by (bytes_eq image.name name) number image (image_named (suc number) images name)
 
+-- the image that a path names, with its number; none where the path is too long or names none
 abbrev pub path_image : List NamedImage → Option (List ℕ) → Option (ℕ × NamedImage)
 path_image images None = None
 path_image images (Some name) = image_named 1 images name
@@ -231,6 +249,7 @@ execve_reply images regs = do
   path ← string_from string_limit asked.0
   execve_of asked.1 (path_image images path)
 
+-- the status of a zombie; 0 for a process that is none
 abbrev pub status_of : Holding → ℕ
 status_of (Holds s) = 0
 status_of (Lends sid child) = 0
@@ -242,6 +261,7 @@ wait_by None zombie regs = Fails no_children
 wait_by (Some child) None regs = Waits
 wait_by (Some child) (Some z) regs = Does (replied_both regs z.pid (status_of z.holding)) (Reap z.pid)
 
+-- wait: ECHILD without a child, a sleep without a zombie child, or else the pid and the status of the lowest zombie child
 abbrev pub wait_reply : FlatState → ℕ → Regs → Reply
 wait_reply F pid regs = wait_by (find (λ q. q.parent == pid) F.processes) (find (is_zombie_child pid) F.processes) regs
 
@@ -256,6 +276,7 @@ reply_of images F p s calls.Execve regs = execve_reply images regs
 reply_of images F p s calls.Vfork regs = Gives (child_reply F regs (Lend F.next_pid))
 reply_of images F p s calls.Wait regs = Gives (wait_reply F p.pid regs)
 
+-- the reply of a call, or EFAULT where a byte that it reads is refused
 abbrev pub or_fault : Result Reply Refused → Reply
 or_fault (Ok reply) = reply
 or_fault (Err refused) = Fails fault
@@ -273,6 +294,7 @@ wants_space (Reap child) = false
 wants_space Sleep = false
 wants_space (End status) = false
 
+-- ENOMEM where a reply wants space that it can't have, or else the reply
 abbrev pub unless_refused : Bool → Reply → Reply
 unless_refused true reply = Fails no_memory
 unless_refused false reply = reply

@@ -17,6 +17,7 @@ abbrev pub is_refused : Option Entry → ℕ → Bool
 is_refused (Some (Refused p)) pid = p == pid
 is_refused _ pid = false
 
+-- the next step of a process at a point, by whether the last flat entry says that its pieces found no place
 abbrev pub step_at : Inputs → Point → ℕ → Step
 step_at A point pid = flat_step A point.flat pid (is_refused point.last pid)
 
@@ -30,6 +31,7 @@ abbrev pub due : Option Entry → ℕ → List Entry → List Entry
 due (Some (Out p bytes)) pid es = if p == pid then behind_first es else es
 due _ pid es = es
 
+-- the entries of a process's next step that aren't there yet at a point
 abbrev pub due_at : Inputs → Point → ℕ → List Entry
 due_at A point pid = due point.last pid (step_at A point pid).entries
 
@@ -49,9 +51,11 @@ behind point after [] = point
 behind point after (e ∷ []) = record { flat = after; last = Some e }
 behind point after (e ∷ f ∷ es) = record point { last = Some e }
 
+-- the point after the next entry of a process's step
 abbrev pub point_after : Inputs → Point → ℕ → Point
 point_after A point pid = behind point (step_at A point pid).after (due_at A point pid)
 
+-- both carries are set, or both are clear
 abbrev pub same_carry : Bool → Bool → Bool
 same_carry true true = true
 same_carry false false = true
@@ -67,6 +71,7 @@ same_entry (Sleeps p) (Sleeps q) = p == q
 same_entry (Ended p n) (Ended q m) = p == q && n == m
 same_entry _ _ = false
 
+-- an entry is the one that is wanted; no entry is where none is wanted
 abbrev pub same_as : Option Entry → Entry → Bool
 same_as None e = false
 same_as (Some wanted) e = same_entry wanted e
@@ -88,6 +93,7 @@ is_outcome_of pid (Call p n c r0 r1) = p == pid
 is_outcome_of pid (Ended p n) = p == pid
 is_outcome_of pid _ = false
 
+-- the reply of a call of this process
 abbrev pub is_call_of : ℕ → Entry → Bool
 is_call_of pid (Call p n c r0 r1) = p == pid
 is_call_of pid _ = false
@@ -98,6 +104,7 @@ may_follow (Some (Refused p)) e = is_outcome_of p e
 may_follow (Some (Out p bytes)) e = is_call_of p e
 may_follow _ e = true
 
+-- the point where something is so, or else none
 abbrev pub where_so : Bool → Point → Option Point
 where_so true point = Some point
 where_so false point = None
@@ -108,6 +115,7 @@ abbrev pub flat_entry_of : Inputs → Point → ℕ → Entry → Option Point
 flat_entry_of A point pid (Refused p) = where_so (can_step point.flat pid) record point { last = Some (Refused p) }
 flat_entry_of A point pid e = where_so (same_as (act A point pid) e) (point_after A point pid)
 
+-- the point after an entry of a process, by whether it may follow the last one: none where it may not
 abbrev pub flat_entry_if : Bool → Inputs → Point → ℕ → Entry → Option Point
 flat_entry_if true A point pid e = flat_entry_of A point pid e
 flat_entry_if false A point pid e = None
@@ -117,14 +125,17 @@ abbrev pub flat_entry_by : Inputs → Point → Option ℕ → Entry → Option 
 flat_entry_by A point None e = Some point
 flat_entry_by A point (Some pid) e = flat_entry_if (may_follow point.last e) A point pid e
 
+-- the point after a unit; none where the unit can't come at this point
 unfoldable pub flat_entry : Inputs → Point → Entry → Option Point
 flat_entry A point e = flat_entry_by A point (process_of_entry e) e
 
+-- the point after units in order; none where one of them can't come at its point
 unfoldable pub flat_units : Inputs → Option Point → List Entry → Option Point
 flat_units A None units = None
 flat_units A (Some point) [] = Some point
 flat_units A (Some point) (u ∷ us) = flat_units A (flat_entry A point u) us
 
+-- the flat machine at the start, before any entry
 abbrev pub start_point : Inputs → Point
 start_point A = record { flat = start_state A; last = None }
 

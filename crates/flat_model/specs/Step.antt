@@ -29,6 +29,7 @@ pub record Step : Type 0 where
   pub change : Change
   pub after : FlatState
 
+-- a process's step with these entries, writes, registers and change, and the flat state to which they lead
 abbrev pub step_with : List NamedImage → FlatState → Process → List Entry → List ByteWrite → Regs → Change → Step
 step_with images F p entries writes regs change = record {
   entries = entries;
@@ -50,6 +51,7 @@ ended_step images F p writes status = step_with images F p (Ended p.pid status �
 abbrev pub pages_down_to : ℕ → ℕ
 pages_down_to address = (stack_top - 1 - address) / 1024 + 1
 
+-- the pages of a space's data
 abbrev pub data_pages_of : Space → ℕ
 data_pages_of s = length s.data_bytes / 1024
 
@@ -58,6 +60,7 @@ abbrev pub grown_step : List NamedImage → FlatState → Process → Space → 
 grown_step images F p s address =
     step_with images F p (Grew p.pid (pages_down_to address) ∷ []) [] p.regs (Resize (data_pages_of s) (pages_down_to address))
 
+-- the entry of a call's reply: the call's number, and the carry, R0 and R1 that it leaves
 abbrev pub call_entry : ℕ → SystemCall → Regs → Entry
 call_entry pid call regs = Call pid (number_of call) regs.c (register regs 0) (register regs 1)
 
@@ -100,6 +103,7 @@ called_step images F p s refused effect None = ended_step images F p effect.writ
 called_step images F p s refused effect (Some call) =
     replied_step images F p call effect (reply_behind images F p s refused call effect)
 
+-- the step after an instruction that was carried out: one instruction that ran, or the call that it makes
 abbrev pub step_behind : List NamedImage → FlatState → Process → Space → Bool → Effect → Option ℤ → Step
 step_behind images F p s refused effect None = step_with images F p (Ran p.pid 1 ∷ []) effect.writes effect.regs Keep
 step_behind images F p s refused effect (Some number) = called_step images F p s refused effect (call_of number)
@@ -112,11 +116,13 @@ step_of images F p s true (Err (Below address)) = ended_step images F p [] 11
 step_of images F p s false (Err (Below address)) = grown_step images F p s address
 step_of images F p s refused (Err (Signal number)) = ended_step images F p [] number
 
+-- the next step of a process, by what it has: none without a space
 abbrev pub step_holding : List NamedImage → FlatState → Process → Bool → Holding → Step
 step_holding images F p refused (Holds s) = step_of images F p s refused (instruction_in s p.regs)
 step_holding images F p refused (Lends sid child) = no_step F
 step_holding images F p refused (Zombie status) = no_step F
 
+-- the next step of a process, by whether it is there: none where it isn't
 abbrev pub step_if : List NamedImage → FlatState → Bool → Option Process → Step
 step_if images F refused None = no_step F
 step_if images F refused (Some p) = step_holding images F p refused p.holding

@@ -33,6 +33,7 @@ page_tested s (Stack i) = Some (pages.Stack s.sid (i / 1024))
 page_tested s Below = None
 page_tested s Outside = None
 
+-- the page of a byte that is read or tested; none where that is refused
 abbrev pub page_of_access : Space → Access → Option Page
 page_of_access s (ReadOf address) = page_read s (address_in s address)
 page_of_access s (TestOf address) = page_tested s (address_in s address)
@@ -49,10 +50,12 @@ call_accesses images F p s effect (Some call) =
     accesses (answers_of (puts s effect.writes))
     (reply_of images (apply_writes F p.pid effect.writes) (written_process p s effect.writes) (puts s effect.writes) call effect.regs)
 
+-- the accesses of the call that an instruction makes, by its number; none where it makes none
 abbrev pub accesses_behind : List NamedImage → FlatState → Process → Space → Effect → Option ℤ → List Access
 accesses_behind images F p s effect None = []
 accesses_behind images F p s effect (Some number) = call_accesses images F p s effect (call_of number)
 
+-- the accesses after an instruction: those of its call, and none where the instruction is refused
 abbrev pub accesses_after : List NamedImage → FlatState → Process → Space → Result Effect Refused → List Access
 accesses_after images F p s (Ok effect) = accesses_behind images F p s effect effect.call
 accesses_after images F p s (Err refused) = []
@@ -62,15 +65,18 @@ unfoldable pub step_accesses : List NamedImage → FlatState → Process → Spa
 step_accesses images F p s =
     accesses (answers_of s) (instruction p.regs) ++ accesses_after images F p s (instruction_in s p.regs)
 
+-- the pages that the next instruction touches, by what its process has: none without a space
 abbrev pub touched_in : List NamedImage → FlatState → Process → Holding → List Page
 touched_in images F p (Holds s) = distinct (filter_map (page_of_access s) (step_accesses images F p s))
 touched_in images F p (Lends sid child) = []
 touched_in images F p (Zombie status) = []
 
+-- the pages that a process's next instruction touches, by whether the process can step: none where it can't
 abbrev pub touched_by : Bool → List NamedImage → FlatState → Process → List Page
 touched_by true images F p = touched_in images F p p.holding
 touched_by false images F p = []
 
+-- the pages that a process's next instruction touches, by whether the process is there: none where it isn't
 abbrev pub touched_if : List NamedImage → FlatState → Option Process → List Page
 touched_if images F None = []
 touched_if images F (Some p) = touched_by (is_ready p) images F p
