@@ -19,6 +19,7 @@ pub record IsImageFile (f : FlatFile) : Type 0 where
   pub image : IsTrue (is_ok (image_of f.bytes))
   pub short : length f.name < 64
 
+-- the image that a file is, with this name; none where the file is no image
 abbrev pub named_as : List ℕ → Result Loaded ℕ → List NamedImage
 named_as name (Ok image) = record { name = name; image = image } ∷ []
 named_as name (Err reason) = []
