@@ -7,6 +7,7 @@ use Rattle.vm_facts.specs.declared.regs.Regs.{Regs}
 use Rattle.flat_state.specs.declared.change.Change.{Change}
 use Rattle.flat_state.specs.declared.change.Change.TheVariants.{Keep, Resize, Fork, Lend, Exec, Reap, Sleep, End}
 
+-- the processes from q on, by whether q has the number of p: then p is in its place, or else in that of a later one
 abbrev pub replaced_by : Bool → Process → Process → List Process → List Process → List Process
 replaced_by true p q more changed = p ∷ more
 replaced_by false p q more changed = q ∷ changed
@@ -20,6 +21,7 @@ replaced (q ∷ more) p = replaced_by (q.pid == p.pid) p q more (replaced more p
 abbrev pub with_process : FlatState → Process → FlatState
 with_process F p = record F { processes = replaced F.processes p }
 
+-- the flat state without the process of this number
 abbrev pub without_process : FlatState → ℕ → FlatState
 without_process F pid = record F { processes = filter (λ q. not (q.pid == pid)) F.processes }
 
@@ -29,6 +31,7 @@ without_process F pid = record F { processes = filter (λ q. not (q.pid == pid))
 abbrev pub resized_bytes : ℕ → List ℕ → List ℕ
 resized_bytes pages bytes = take (1024 * pages) bytes ++ replicate (1024 * pages - length bytes) 0
 
+-- a space whose data and stack have so many pages, with zeros in those that are added
 abbrev pub resized : Space → ℕ → ℕ → Space
 resized s data_pages stack_pages = record s {
   data_bytes = resized_bytes data_pages s.data_bytes;
@@ -37,6 +40,7 @@ resized s data_pages stack_pages = record s {
 
 -- Children.
 
+-- the registers with these values in R0 and R1
 abbrev pub with_results : Regs → ℕ → ℕ → Regs
 with_results regs r0 r1 = record regs { r = slice_set (slice_set regs.r 0 r0) 1 r1 }
 
@@ -76,6 +80,7 @@ abbrev pub is_borrower : List Process → ℕ → Bool
 is_borrower [] pid = false
 is_borrower (q ∷ qs) pid = lends_to pid q.holding || is_borrower qs pid
 
+-- the processes from q on, by whether q lent this space: then q has it again, or else a later one
 abbrev pub returned_by : Bool → Space → Process → List Process → List Process → List Process
 returned_by true s q more changed = record q { holding = Holds s } ∷ more
 returned_by false s q more changed = q ∷ changed
@@ -85,11 +90,13 @@ unfoldable pub returned : ℕ → Space → List Process → List Process
 returned pid s [] = []
 returned pid s (q ∷ more) = returned_by (lends_to pid q.holding) s q more (returned pid s more)
 
+-- the space that this process had borrowed is its lender's again; the same where nobody lent it
 abbrev pub given_back : FlatState → ℕ → Space → FlatState
 given_back F pid s = record F { processes = returned pid s F.processes }
 
 -- A new image.
 
+-- the process has a new space of an image with this stack page 0, and a borrowed one goes back; the same without an image
 abbrev pub entered : FlatState → Process → Space → ℕ → Option NamedImage → List ℕ → FlatState
 entered F p s image None top = F
 entered F p s image (Some named) top =
@@ -99,14 +106,17 @@ entered F p s image (Some named) top =
 
 -- The end of a process.
 
+-- what a process has is an exit status
 abbrev pub is_zombie : Holding → Bool
 is_zombie (Holds s) = false
 is_zombie (Lends sid child) = false
 is_zombie (Zombie status) = true
 
+-- a zombie whose parent is the process of this number
 abbrev pub is_zombie_child : ℕ → Process → Bool
 is_zombie_child pid q = q.parent == pid && is_zombie q.holding
 
+-- a process, with no parent where that was the process of this number
 abbrev pub without_parent : ℕ → Process → Process
 without_parent pid q = record q { parent = if q.parent == pid then 0 else q.parent }
 
@@ -114,9 +124,11 @@ without_parent pid q = record q { parent = if q.parent == pid then 0 else q.pare
 abbrev pub orphaned : FlatState → ℕ → FlatState
 orphaned F pid = record F { processes = map (without_parent pid) (filter (λ q. not (is_zombie_child pid q)) F.processes) }
 
+-- a process, which doesn't sleep where it is the one of this number
 abbrev pub awake : ℕ → Process → Process
 awake pid q = record q { asleep = if q.pid == pid then false else q.asleep }
 
+-- the process of this number sleeps no more
 abbrev pub woken : FlatState → ℕ → FlatState
 woken F pid = record F { processes = map (awake pid) F.processes }
 
@@ -143,11 +155,13 @@ changed images F p s (Reap child) = with_process (without_process F child) p
 changed images F p s Sleep = with_process F record p { asleep = true }
 changed images F p s (End status) = ended F p s status
 
+-- what a change does, by what its process has: nothing without a space
 abbrev pub changed_by : List NamedImage → FlatState → Process → Change → Holding → FlatState
 changed_by images F p change (Holds s) = changed images F p s change
 changed_by images F p change (Lends sid child) = F
 changed_by images F p change (Zombie status) = F
 
+-- what a change of a process does, which is left with these registers, by whether it is there: nothing where it isn't
 abbrev pub changed_if : List NamedImage → FlatState → Regs → Change → Option Process → FlatState
 changed_if images F regs change None = F
 changed_if images F regs change (Some p) = changed_by images F (record p { regs = regs }) change p.holding
@@ -158,11 +172,13 @@ apply_change images F pid regs change = changed_if images F regs change (process
 
 -- Bytes written.
 
+-- what writes do, by what their process has: nothing without a space
 abbrev pub wrote_by : FlatState → Process → List ByteWrite → Holding → FlatState
 wrote_by F p writes (Holds s) = with_process F record p { holding = Holds (puts s writes) }
 wrote_by F p writes (Lends sid child) = F
 wrote_by F p writes (Zombie status) = F
 
+-- what writes do, by whether their process is there: nothing where it isn't
 abbrev pub wrote_if : FlatState → List ByteWrite → Option Process → FlatState
 wrote_if F writes None = F
 wrote_if F writes (Some p) = wrote_by F p writes p.holding

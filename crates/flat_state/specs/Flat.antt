@@ -12,6 +12,7 @@ pub data Holding : Type 0 where
   Lends : (sid child : ℕ) → Holding
   Zombie : ℕ → Holding
 
+-- a process: its number, its parent's or 0 for none, its registers, what it has, and whether it sleeps till a child ends
 pub record Process : Type 0 where
   pub pid : ℕ
   pub parent : ℕ
@@ -27,11 +28,13 @@ pub record FlatState : Type 0 where
 
 -- The flat memory.
 
+-- the space that a process holds, if it holds one
 abbrev pub space_held : Holding → List Space
 space_held (Holds s) = s ∷ []
 space_held (Lends sid child) = []
 space_held (Zombie status) = []
 
+-- the spaces that the processes hold, in the order of the processes
 abbrev pub spaces_of : FlatState → List Space
 spaces_of flat = flat_map (λ (q : Process). space_held q.holding) flat.processes
 
@@ -45,13 +48,16 @@ holds_space (Holds s) = true
 holds_space (Lends sid child) = false
 holds_space (Zombie status) = false
 
+-- the process holds a space and isn't asleep
 abbrev pub is_ready : Process → Bool
 is_ready p = if p.asleep then false else holds_space p.holding
 
+-- the process is there, holds a space and isn't asleep
 abbrev pub ready_if : Option Process → Bool
 ready_if None = false
 ready_if (Some p) = is_ready p
 
+-- the process of this number is there, holds a space and isn't asleep
 abbrev pub can_step : FlatState → ℕ → Bool
 can_step F pid = ready_if (process_of F pid)
 
@@ -94,6 +100,7 @@ start_page arguments = replicate (1024 - length (argument_area arguments)) 0 ++ 
 abbrev pub start_sp : List (List ℕ) → ℕ
 start_sp arguments = stack_top - length (argument_area arguments)
 
+-- all registers 0, and all condition codes clear
 abbrev pub cleared : Regs
 cleared = record { r = replicate 16 0; n = false; z = false; v = false; c = false }
 
@@ -118,6 +125,7 @@ new_space sid image loaded arguments = space_with sid image loaded (start_page a
 
 -- What a run is of.
 
+-- an image and the name of its file
 pub record NamedImage : Type 0 where
   pub name : List ℕ
   pub image : Loaded
@@ -132,6 +140,7 @@ pub record Inputs : Type 0 where
   pub swap_blocks : ℕ
   pub limit : ℕ
 
+-- the image of this number, counted from 1; none where there is none
 abbrev pub image_numbered : List NamedImage → ℕ → Option NamedImage
 image_numbered images zero = None
 image_numbered images (suc place) = slice_get images place
@@ -146,6 +155,7 @@ start_process pid number named = record {
   asleep = false;
 }
 
+-- a first process, with this pid, where there is an image of its number
 abbrev pub start_if : ℕ → ℕ → Option NamedImage → List Process
 start_if pid number None = []
 start_if pid number (Some named) = start_process pid number named ∷ []

@@ -14,10 +14,12 @@ join (Ran p m) (Ran q n) = join_by (p == q) p m q n
 join (Hands m) (Hands n) = Hands (m + n) ∷ []
 join e u = e ∷ u ∷ []
 
+-- a journal that begins with this entry, and one more unit, joined to the last entry where the two join
 abbrev pub append_after : Entry → List Entry → Entry → List Entry
 append_after e [] u = join e u
 append_after e (f ∷ journal) u = e ∷ append_after f journal u
 
+-- a journal and one more unit, joined to the last entry where the two join
 abbrev pub append_joined : List Entry → Entry → List Entry
 append_joined [] u = u ∷ []
 append_joined (e ∷ journal) u = append_after e journal u
@@ -38,6 +40,7 @@ abbrev pub repeated : Entry → ℕ → List Entry → List Entry
 repeated u zero us = us
 repeated u (suc n) us = u ∷ repeated u n us
 
+-- the units of one entry, and then these
 abbrev pub units_with : Entry → List Entry → List Entry
 units_with (Ran p n) us = repeated (Ran p 1) n us
 units_with (Hands n) us = repeated (Hands 1) n us
@@ -55,6 +58,7 @@ counted (Call p number carry r0 r1) = 1
 counted (Ended p status) = 1
 counted e = 0
 
+-- how many instructions a journal counts
 abbrev pub instructions_of : List Entry → ℕ
 instructions_of [] = 0
 instructions_of (e ∷ journal) = counted e + instructions_of journal

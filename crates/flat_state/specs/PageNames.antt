@@ -29,6 +29,7 @@ same_page (Stack a v) (Stack b w) = (a == b) && (v == w)
 same_page (Text a v) (Text b w) = (a == b) && (v == w)
 same_page a b = false
 
+-- the page is one of these
 abbrev pub is_among : Page → List Page → Bool
 is_among q [] = false
 is_among q (r ∷ rs) = same_page q r || is_among q rs

@@ -46,9 +46,11 @@ spot_at text_len data_len stack_len address =
     (nat_le (stack_top - stack_reach) address && nat_lt address stack_top)
     text_len address
 
+-- the spot of an address in this space
 abbrev pub address_in : Space → ℕ → Spot
 address_in s address = spot_at (length s.text_bytes) (length s.data_bytes) (length s.stack_bytes) address
 
+-- what a read at a spot answers: the byte of the segment, or why there is none
 abbrev pub byte_at : Space → Spot → ByteRead
 byte_at s (Text i) = reads.Is (slice_index s.text_bytes i)
 byte_at s (Data i) = reads.Is (slice_index s.data_bytes i)
@@ -71,6 +73,7 @@ answers_of s = record {
   may_write = λ address. may_write_at (address_in s address);
 }
 
+-- a space with this byte at a spot; the same where the spot isn't one of the data or the stack
 abbrev pub put_at : Space → Spot → ℕ → Space
 put_at s (Text i) byte = s
 put_at s (Data i) byte = record s { data_bytes = slice_set s.data_bytes i byte }
