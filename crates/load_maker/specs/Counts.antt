@@ -15,10 +15,12 @@ abbrev pub is_granted_fork : Entry → Bool
 is_granted_fork (Call pid number carry r0 r1) = is_forking number && not carry
 is_granted_fork _ = false
 
+-- an entry that says that a process ended
 abbrev pub is_end : Entry → Bool
 is_end (Ended pid status) = true
 is_end _ = false
 
+-- an entry that says that the pieces of a process found no place
 abbrev pub is_refusal : Entry → Bool
 is_refusal (Refused pid) = true
 is_refusal _ = false

@@ -21,6 +21,7 @@ load_pages number = 40 + number % 25
 abbrev pub w_bss : ℕ
 w_bss = 8192
 
+-- how many zeros `v` wants after its text: 1,024 for each page that it changes
 abbrev pub v_bss : ℕ → ℕ
 v_bss pages = 1024 * pages
 

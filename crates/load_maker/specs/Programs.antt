@@ -116,6 +116,7 @@ v_source pages = source_text (
     ∷ codes ".byte 0x0a"
     ∷ [])
 
+-- the bytes of `v` from address 0 on; each line has its address after it, and what it is
 unfoldable pub v_bytes : ℕ → List ℕ
 v_bytes pages =
     (0x00 ∷ 0x00 ∷ [])  -- 0000 the entry mask
