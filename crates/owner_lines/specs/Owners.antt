@@ -30,9 +30,11 @@ page_if (Some q) = page_text q
 
 -- The journal's length, and the hands.
 
+-- the line of the journal's length, with the word `end` where the run is over
 abbrev pub entries_line : ℕ → Bool → List ℕ
 entries_line entries over = codes "entries" ++ parts (entries ∷ []) ++ word_if over (codes " end") ++ codes "\n"
 
+-- the line of the hands: the frames of the front one and of the back one
 abbrev pub hands_line : Placement → List ℕ
 hands_line p = codes "hands" ++ rest_of_line (p.front ∷ p.back ∷ [])
 
@@ -90,18 +92,22 @@ abbrev pub owner_text : Placement → ℕ → ℕ → List ℕ
 owner_text p f zero = used_text p (page_of p f)
 owner_text p f (suc n) = free_text (suc n) (page_of p f)
 
+-- the line of a frame: its number, and what is said of it
 abbrev pub frame_line : Placement → ℕ → List ℕ
 frame_line p f = codes "frame" ++ parts (f ∷ []) ++ owner_text p f (free_place p f) ++ codes "\n"
 
+-- the lines of all frames, from frame 1 on
 abbrev pub frame_lines : Placement → List ℕ
 frame_lines p = flat_map (frame_line p) (count_up 1 (length p.holds))
 
 -- Transfers.
 
+-- the word for where a read is from: swap, or the file of the image
 abbrev pub source_word : Source → List ℕ
 source_word FromSwap = codes " swap"
 source_word FromFile = codes " file"
 
+-- what a transfer is for: a write, or a read, with where it is from and the page that is demanded
 abbrev pub errand_text : Errand → List ℕ
 errand_text Writes = codes " write"
 errand_text (Reads source demanded) = source_word source ++ page_text demanded
@@ -136,6 +142,7 @@ transfers_from hs n (t ∷ ts) = transfer_lines hs n t ++ transfers_from hs (n +
 
 -- Processes.
 
+-- the word for a process that is swapped out, or for one that isn't
 abbrev pub in_or_out : Bool → List ℕ
 in_or_out true = codes " out"
 in_or_out false = codes " in"
@@ -151,6 +158,7 @@ life_text out asleep (HoldsSpace sid) = holder_text out sid asleep
 life_text out asleep (LendsSpace sid child) = codes " lent" ++ parts (sid ∷ child ∷ [])
 life_text out asleep (Ended status) = codes " ended" ++ parts (status ∷ [])
 
+-- the line of a process: its number, and what it has
 abbrev pub process_line : Placement → Outline → List ℕ
 process_line p q = codes "process" ++ parts (q.pid ∷ []) ++ life_text (is_out p q.pid) q.asleep q.life ++ codes "\n"
 
@@ -161,9 +169,11 @@ abbrev pub from_text : Option Page → List ℕ
 from_text None = []
 from_text (Some parent) = codes " from" ++ page_text parent
 
+-- the line of a page that is due for a fill, with the parent's page where it is copied from one
 abbrev pub fill_line : Page → Option Page → List ℕ
 fill_line q parent = codes "due" ++ page_text q ++ from_text parent ++ codes "\n"
 
+-- the line of a page that is due for a fill: a new stack page 0, or a child's page and its parent's
 abbrev pub due_line : Due → List ℕ
 due_line (Start q) = fill_line q None
 due_line (CopyOf q parent) = fill_line q (Some parent)
@@ -181,6 +191,7 @@ owner_of_piece (owners.Text image) = codes " x" ++ parts (image ∷ [])
 abbrev pub swap_line : ℕ → ℕ → List ℕ → List ℕ
 swap_line start blocks said = codes "swap" ++ parts (start ∷ blocks ∷ []) ++ said ++ codes "\n"
 
+-- the line of a piece: its first block, how many it has, and who holds it
 abbrev pub piece_line : Held → List ℕ
 piece_line h = swap_line h.start h.length (owner_of_piece h.owner)
 
@@ -203,6 +214,7 @@ abbrev pub blocks_from : ℕ → ℕ → Holdings → List ℕ
 blocks_from size b [] = gap_line b size
 blocks_from size b (h ∷ hs) = gap_line b h.start ++ piece_line h ++ blocks_from size (h.start + h.length) hs
 
+-- the lines of a swap area of so many blocks, from block 0 on: the pieces that are held, and what is free
 abbrev pub swap_lines : ℕ → Holdings → List ℕ
 swap_lines size hs = blocks_from size 0 (rising hs)
 
