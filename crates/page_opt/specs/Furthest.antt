@@ -14,6 +14,7 @@ unfoldable pub is_further : List ℕ → ℕ → ℕ → Bool
 is_further future p q =
     nat_lt (next_use q future) (next_use p future) || ((next_use p future == next_use q future) && nat_le p q)
 
+-- the one of two pages that is used again later; the page itself where there is no other
 unfoldable pub further : List ℕ → ℕ → Option ℕ → ℕ
 further future p None = p
 further future p (Some q) = cond (is_further future p q) p q

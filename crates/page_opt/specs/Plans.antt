@@ -55,6 +55,7 @@ unfoldable pub all_left : List Victim → ℕ → Option ℕ
 all_left [] faults = Some faults
 all_left (v ∷ vs) faults = None
 
+-- the faults of a run that came to its end; none where a reference wasn't served or a victim is left over
 unfoldable pub faults_of : Option Run → Option ℕ
 faults_of None = None
 faults_of (Some run) = all_left run.victims run.faults
