@@ -35,6 +35,7 @@ touched_by_unit A point (Call pid number carry r0 r1) = touched A point.flat pid
 touched_by_unit A point (Ended pid status) = touched A point.flat pid
 touched_by_unit A point _ = []
 
+-- the pages that units touch from a point on, in order; no more after a unit that can't come at its point
 unfoldable pub references_from : Inputs → Option Point → List Entry → List Page
 references_from A None units = []
 references_from A (Some point) [] = []
