@@ -36,9 +36,11 @@ pub record IsJudged (words : List (List ℕ)) (read : Read) (entries : List Entr
   pub are : read.images ≡ Ok images
   pub verdict : FirstBadIs images (first_images (image_names words) words) entries bad
 
+-- the transcript's entries are a run of the flat machine over these images, and the output is the line that says so
 abbrev pub IsRun : List (List ℕ) → Read → List ℕ → Type 0
 IsRun words read output = (entries : List Entry) × IsJudged words read entries None × (output ≡ run_line (length entries))
 
+-- the transcript's entries are no run of the flat machine over these images: so many of the first are the fewest that are none
 abbrev pub IsNoRun : List (List ℕ) → Read → ℕ → Type 0
 IsNoRun words read line = (entries : List Entry) × IsJudged words read entries (Some line)
 

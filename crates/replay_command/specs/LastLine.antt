@@ -5,6 +5,7 @@ use Rattle.std.specs.Prelude.{◌≡◌, ◌≢◌, ℕ, ◌+◌, ◌-◌, ◌<�
 abbrev pub is_fault_line : List ℕ → Bool
 is_fault_line line = bytes_eq (codes "vmrun: ") (take 7 line)
 
+-- a last line, by whether it is the line of a fault, which is left out
 abbrev pub unless_fault : Bool → List ℕ → List (List ℕ)
 unless_fault true line = []
 unless_fault false line = line ∷ []
