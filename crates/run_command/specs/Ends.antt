@@ -26,6 +26,7 @@ use Rattle.run_command.specs.Machines.{journal_entries}
 abbrev pub Ending : Type 0
 Ending = Result (Unit {0}) Fault
 
+-- the status of an ending: 0 where the run is finished, or else the fault's
 abbrev pub status_of : Ending → ℕ
 status_of (Ok done) = 0
 status_of (Err fault) = fault_status fault
@@ -101,6 +102,7 @@ DevicesSuffice swap seen = device_fault swap seen.zero_blocks seen.one_blocks �
 abbrev pub FailsBefore : Seen → List Entry → Type 0
 FailsBefore seen journal = OpenFailed seen.faults × NothingDone seen journal
 
+-- the ending has its cause in what the run saw and in its journal
 abbrev pub IsCaused : Request → Seen → List Entry → Ending → Type 0
 IsCaused request seen journal (Err (Absent name)) = Unbegun seen journal
 IsCaused request seen journal (Err (NotImage name reason)) = Unbegun seen journal
@@ -120,10 +122,12 @@ pub record AllGood (request : Request) (seen : Seen) (files : List NamedFile) : 
   pub found : HasAll (found_told request.schedule request.words files)
   pub devices : DevicesSuffice request.numbers.swap seen
 
+-- opening the run ends by this fault, as the files are told and the devices have so many blocks
 abbrev pub EndsUnopened : Request → Seen → List NamedFile → Fault → Type 0
 EndsUnopened request seen files fault =
     EndsOpening request.schedule request.words request.numbers.swap seen.zero_blocks seen.one_blocks (found_told request.schedule request.words files) seen.faults (let r : Result Opening Fault = Err fault in r)
 
+-- the ending is one that fits what is judged before the run: the told files, and then the devices
 abbrev pub IsJudged : Request → Seen → List NamedFile → Ending → Type 0
 IsJudged request seen files (Err (Absent name)) = EndsUnopened request seen files (Absent name)
 IsJudged request seen files (Err (NotImage name reason)) = EndsUnopened request seen files (NotImage name reason)
@@ -168,6 +172,7 @@ FileFaultTold request seen files journal image =
     (FailsBefore seen journal × NoneMade journal image seen.swap_after)
     ⊎ (PageFailed seen.faults × AllGood request seen files × RunOfWords request seen files journal image (Err FileFault))
 
+-- where files and devices are told: nothing was done, or the ending is that of a run which the words ask for
 abbrev pub EndsTold : Request → Seen → List NamedFile → List Entry → List ℕ → Ending → Type 0
 EndsTold request seen files journal image (Err (Absent name)) = NoneMade journal image seen.swap_after
 EndsTold request seen files journal image (Err (NotImage name reason)) = NoneMade journal image seen.swap_after
@@ -191,6 +196,7 @@ WritesSome traced journal ending before after old_faults new_faults status =
     Writes before after old_faults new_faults (text_of traced journal ++ line_of ending) (status_of ending) status
     ⊎ (CanBeLost ending × Writes before after old_faults new_faults (text_of traced journal ++ fault_line NoMemory) (fault_status NoMemory) status)
 
+-- the text of the journal and the line of the ending were written, with its status; or the output failed, and a prefix was
 abbrev pub Writing : Bool → Seen → List Entry → Ending → ℕ → Type 0
 Writing traced seen journal ending status =
     Writes seen.written_before seen.written_after seen.sink_faults_before seen.sink_faults_after (text_of traced journal ++ line_of ending) (status_of ending) status

@@ -21,6 +21,7 @@ pub record NoneFailed (f : DeviceFaults) : Type 0 where
 abbrev pub DeviceFailed : ℕ → DeviceFaults → Type 0
 DeviceFailed device f = (device < 2) × Rose (of_device device f.zero_before f.one_before) (of_device device f.zero_after f.one_after)
 
+-- what a run sees of its files, its two swap devices and its output, before and after
 pub record Seen : Type 0 where
   -- the files, where they are told, and the counts of their faults
   pub files : Option (List NamedFile)
