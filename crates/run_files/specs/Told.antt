@@ -6,6 +6,7 @@ use Rattle.aout_image.specs.Image.{Loaded, image_of, file_length_of}
 use Rattle.run_files.specs.declared.answers.Unread.{Unread}
 use Rattle.run_files.specs.declared.answers.Unread.TheVariants.{Absent, NotImage}
 
+-- the first bytes of the file at a place, so many at most; it is absent where there is no place
 abbrev pub bytes_told_at : List NamedFile → Option ℕ → ℕ → Result (List ℕ) Unread
 bytes_told_at files None most = Err Absent
 bytes_told_at files (Some place) most = Ok (take most (bytes_at files place))
@@ -19,6 +20,7 @@ abbrev pub bytes_if : Bool → List ℕ → Option (List ℕ)
 bytes_if true bytes = Some bytes
 bytes_if false bytes = None
 
+-- the bytes of the file at a place, where they are no more than so many; it is absent where there is no place
 abbrev pub whole_told_at : List NamedFile → Option ℕ → ℕ → Result (Option (List ℕ)) Unread
 whole_told_at files None most = Err Absent
 whole_told_at files (Some place) most = Ok (bytes_if (nat_le (length (bytes_at files place)) most) (bytes_at files place))
@@ -45,6 +47,7 @@ abbrev pub image_in : List ℕ → Result Loaded ℕ → Result (Image × List �
 image_in bytes (Ok image) = Ok (image.facts, take (file_length_of image.facts) bytes)
 image_in bytes (Err reason) = Err (NotImage reason)
 
+-- the image of the file at a place; it is absent where there is no place
 abbrev pub image_told_at : List NamedFile → Option ℕ → Result (Image × List ℕ) Unread
 image_told_at files None = Err Absent
 image_told_at files (Some place) = image_in (bytes_at files place) (image_of (bytes_at files place))
