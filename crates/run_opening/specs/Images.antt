@@ -15,6 +15,7 @@ abbrev pub named_image : List ℕ → Result Loaded ℕ → Result NamedImage Wh
 named_image name (Ok image) = Ok (record { name = name; image = image })
 named_image name (Err reason) = Err (name, unreads.NotImage reason)
 
+-- the image of this name, by its place among the files; absent where there is no place
 abbrev pub image_found_at : List NamedFile → List ℕ → Option ℕ → Result NamedImage Why
 image_found_at files name None = Err (name, unreads.Absent)
 image_found_at files name (Some place) = named_image name (image_of (bytes_at files place))
@@ -44,6 +45,7 @@ pub record IsIn (files : List NamedFile) (image : OpenedImage) : Type 0 where
 abbrev pub heading_of : NamedImage → List ℕ × Image
 heading_of image = (image.name, image.image.facts)
 
+-- what is said of an image that was opened: its name and its facts
 abbrev pub opened_heading : OpenedImage → List ℕ × Image
 opened_heading image = (image.name.now, image.facts)
 

@@ -18,6 +18,7 @@ schedule_lines = 65536
 abbrev pub schedule_bytes : ℕ
 schedule_bytes = 1310741
 
+-- the bytes of the schedule at a place among the files; it is absent where there is no place
 abbrev pub schedule_found_at : List NamedFile → Option ℕ → Result (List ℕ) Unread
 schedule_found_at files None = Err unreads.Absent
 schedule_found_at files (Some place) = Ok (bytes_at files place)
