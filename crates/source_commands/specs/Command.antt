@@ -21,6 +21,7 @@ pub record IsFileFrom (source output : List ℕ) : Type 0 where
   pub program : IsProgramOf source bytes bss
   pub file : output ≡ program_file bytes bss
 
+-- the output is the file of the program that the source makes, where the source was read
 abbrev pub MakesFile : Result (List ℕ) Unread → List ℕ → Type 0
 MakesFile (Ok source) output = IsFileFrom source output
 MakesFile (Err unread) output = ⊥
