@@ -4,6 +4,7 @@ use Rattle.std.specs.Int.{w8, w32, cast_signed, cast_unsigned}
 use Rattle.vax_alu.specs.declared.Sum.{Sum}
 use Rattle.vax_alu.specs.Words.{signed}
 
+-- the low byte of a value
 abbrev pub byte_of : ℕ → ℕ
 byte_of value = value % 256
 

@@ -14,6 +14,7 @@ use Rattle.user_vax.specs.Bytes.{signed_byte, byte_after, byte_before, widened, 
 use Rattle.user_vax.specs.Frames.{procedure_call, procedure_return}
 use Rattle.user_vax.specs.Effects.{Effect, registers_only, with_codes, with_move_codes, with_test_codes, store_effect, move_effect, result_effect, push_effect, jump_effect, count_effect, division, entry_effect, subroutine_return, complement}
 
+-- what the instruction of this name computes from its registers, with PC past it, and from its three operands
 unfoldable pub computation : Name → Regs → Evaluated → Evaluated → Evaluated → Program Effect
 computation names.Nop regs a b c = Gives (registers_only regs)
 computation names.Ret regs a b c = procedure_return regs

@@ -72,6 +72,7 @@ linkage regs = do
   with_fp ← pop_into with_ap 13
   pop_into with_fp 15
 
+-- the registers with SP so many bytes higher
 abbrev pub with_raised_stack : Regs → ℕ → Regs
 with_raised_stack regs by = with_register regs 14 (past (register regs 14) by)
 
@@ -89,6 +90,7 @@ unwound state regs = do
   with_saved ← restored 12 (state / 2 ^ 16) linked
   arguments_dropped (bit state 29) (with_raised_stack with_saved (state / 2 ^ 30))
 
+-- the registers with N, Z, V and C from bits 3, 2, 1 and 0 of the state longword
 abbrev pub with_state_codes : Regs → ℕ → Regs
 with_state_codes regs state = record regs { n = bit state 3; z = bit state 2; v = bit state 1; c = bit state 0 }
 

@@ -20,6 +20,7 @@ use Rattle.user_vax.specs.Operands.{register, with_register, past, evaluation}
 use Rattle.user_vax.specs.Effects.{Effect}
 use Rattle.user_vax.specs.Computation.{computation}
 
+-- by what the bytes so far decode to: the instruction, SIGILL where they are reserved, or what more bytes give
 abbrev pub on_decoded : Decoded → Program Instr → Program Instr
 on_decoded (decodings.Is instr) more = Gives instr
 on_decoded decodings.Reserved more = Refuses sigill
@@ -60,6 +61,7 @@ execution row regs instr = do
   effect ← computation row.name all.0 all.1 all.2 all.3
   tested_effect effect
 
+-- the effect of an instruction by the row of its opcode, with PC moved past it; SIGILL where there is no row
 unfoldable pub execution_by : Option Row → Regs → Instr → Program Effect
 execution_by None regs instr = Refuses sigill
 execution_by (Some row) regs instr = execution row (with_register regs 15 (past (register regs 15) instr.length)) instr

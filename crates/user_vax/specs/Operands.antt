@@ -21,9 +21,11 @@ past address by = (address + by) % 2 ^ 32
 abbrev pub back : ℕ → ℕ → ℕ
 back address by = (address + (2 ^ 32 - by)) % 2 ^ 32
 
+-- the longword in this register
 abbrev pub register : Regs → ℕ → ℕ
 register regs reg = slice_index regs.r reg
 
+-- the registers with this longword in one of them
 abbrev pub with_register : Regs → ℕ → ℕ → Regs
 with_register regs reg value = record regs { r = slice_set regs.r reg value }
 
@@ -61,6 +63,7 @@ evaluation_at slot regs address =
       | accesses.Branch ↦ Gives (regs, record { value = address; place = places.Memory address })
     ]
 
+-- the registers after an operand at the address that a base names, and what it is
 unfoldable pub evaluation_through : Slot → Regs → Base → Program (Regs × Evaluated)
 evaluation_through slot regs base = do
   found ← address_of regs slot.size base

@@ -19,18 +19,21 @@ pub data Program (A : Type 0) : Type 0 where
 
 -- one computation, and then another one from the value that it gives
 infixl 10 ◌>>=◌
+-- a refusal of the first one is that of both
 abbrev pub ◌>>=◌ : {A B : Type 0} → Program A → (A → Program B) → Program B
 (Gives x) >>= f = f x
 (Refuses signal) >>= f = Refuses signal
 (Reads address next) >>= f = Reads address (λ byte. next byte >>= f)
 (Tests address next) >>= f = Tests address (next >>= f)
 
+-- what a read leads to: what follows with its byte, or a refusal: a miss, below the stack, or SIGSEGV outside
 abbrev pub after_read : {A : Type 0} → ByteRead → ℕ → (ℕ → Result A Refused) → Result A Refused
 after_read (bytes.Is byte) address next = next byte
 after_read bytes.Miss address next = Err (Miss address false)
 after_read bytes.Below address next = Err (Below address)
 after_read bytes.Outside address next = Err (Signal sigsegv)
 
+-- what a test leads to: what follows, or a refusal: a miss, below the stack, SIGBUS in the text, or SIGSEGV outside
 abbrev pub after_test : {A : Type 0} → MayWrite → ℕ → Result A Refused → Result A Refused
 after_test tests.May address next = next
 after_test tests.Miss address next = Err (Miss address true)
@@ -45,14 +48,17 @@ run memory (Refuses signal) = Err (Signal signal)
 run memory (Reads address next) = after_read (memory.read address) address (λ byte. run memory (next byte))
 run memory (Tests address next) = after_test (memory.may_write address) address (run memory next)
 
+-- an access to a byte, by its address: a read, or a test whether it may be written
 pub data Access : Type 0 where
   ReadOf : ℕ → Access
   TestOf : ℕ → Access
 
+-- the accesses after a read, which depend on its byte; none where it is refused
 abbrev pub rest_of_read : ByteRead → (ℕ → List Access) → List Access
 rest_of_read (bytes.Is byte) next = next byte
 rest_of_read _ next = []
 
+-- the accesses after a test; none where it is refused
 abbrev pub rest_of_test : MayWrite → List Access → List Access
 rest_of_test tests.May next = next
 rest_of_test _ next = []
