@@ -19,6 +19,7 @@ fits_word (negsuc n) = nat_lt n (2 ^ 31)
 abbrev pub low_bytes : ℕ → ℕ → ℕ
 low_bytes bytes longword = longword % 2 ^ (8 * bytes)
 
+-- the width of a number of 1, 2 or 4 bytes
 abbrev pub width_of : ℕ → Width
 width_of bytes = if bytes == 1 then w8 else (if bytes == 2 then w16 else w32)
 
