@@ -27,14 +27,17 @@ use Rattle.vax_asm.specs.declared.answers.Assembled.TheVariants as assemblies
 
 -- ---- sizes, which the form of a line gives
 
+-- how many bytes a displacement has: 1, 2 or 4
 abbrev pub number_size : ℕ → ℕ
 number_size size = if size == 1 then 1 else (if size == 2 then 2 else 4)
 
+-- how many bytes an operand with an address has: its specifier, and its absolute address or displacement if any
 abbrev pub place_size : Place → ℕ
 place_size (places.Absolute address) = 5
 place_size (places.Disp size reg by deferred) = 1 + number_size size
 place_size _ = 1
 
+-- how many bytes an operand has in one of the places 0, 1 and 2 of its row; 0 where it is absent
 abbrev pub operand_size : Row → ℕ → Written → ℕ
 operand_size row place writtens.Absent = 0
 operand_size row place (writtens.Literal number) = 1
@@ -45,6 +48,7 @@ operand_size row place (writtens.Indexed index base) = 1 + place_size base
 operand_size row place (writtens.Misindexed immediate) = 2 + (if immediate then (slot_in row place).size else 0)
 operand_size row place (writtens.Target target) = (slot_in row place).size
 
+-- how many bytes an instruction has: one of its opcode, and those of its operands
 unfoldable pub sentence_size : Sentence → ℕ
 sentence_size sentence = 1 + operand_size sentence.row 0 sentence.a + operand_size sentence.row 1 sentence.b + operand_size sentence.row 2 sentence.c
 
@@ -61,6 +65,7 @@ statement_size (statements.Space number) = if is_up_to 65536 number then number.
 statement_size (statements.Bss number) = 0
 statement_size (statements.Instruction sentence) = sentence_size sentence
 
+-- how many bytes a statement has; 0 where there is none
 abbrev pub optional_size : Option Statement → ℕ
 optional_size None = 0
 optional_size (Some statement) = statement_size statement
@@ -77,10 +82,12 @@ address_after (item ∷ items) = item_size item + address_after items
 
 -- ---- labels
 
+-- the definition of a label at this address, where there is one
 abbrev pub optional_definition : ℕ → Option Label → List Definition
 optional_definition at None = []
 optional_definition at (Some label) = record { label = label; address = at } ∷ []
 
+-- the definition of a line's label at this address; none without a label or outside the grammar
 abbrev pub item_definition : ℕ → Option SourceLine → List Definition
 item_definition at None = []
 item_definition at (Some line) = optional_definition at line.label
@@ -96,14 +103,17 @@ labels_of source = definitions 0 (take 4096 (items_in source))
 
 -- ---- `.bss`
 
+-- the N of a `.bss`; none of any other statement
 abbrev pub bss_in : Option Statement → Option ℕ
 bss_in (Some (statements.Bss number)) = Some number.magnitude
 bss_in _ = None
 
+-- the N of a line's `.bss`, where it has one
 abbrev pub item_bss : Option SourceLine → Option ℕ
 item_bss None = None
 item_bss (Some line) = bss_in line.statement
 
+-- the first number where there is one, or else the other
 abbrev pub first_of : Option ℕ → Option ℕ → Option ℕ
 first_of (Some n) other = Some n
 first_of None other = other
@@ -115,6 +125,7 @@ bss_found (item ∷ items) = first_of (item_bss item) (bss_found items)
 
 -- ---- bytes
 
+-- the bytes of a value, the low one first; none where it is out of range or its label isn't defined
 unfoldable pub value_bytes : List Definition → ℕ → Value → Option (List ℕ)
 value_bytes labels size value = bits_of_value labels size value >>= λ bits. Some (to_le_bytes (width_of size) bits)
 
@@ -127,6 +138,7 @@ statement_bytes labels with_bss at (statements.Space number) = if is_up_to 65536
 statement_bytes labels with_bss at (statements.Bss number) = if not with_bss && is_up_to 4194304 number then Some [] else None
 statement_bytes labels with_bss at (statements.Instruction sentence) = sentence_bytes labels at sentence
 
+-- the bytes of a statement at an address, where there is one; else no bytes
 abbrev pub optional_bytes : List Definition → Bool → ℕ → Option Statement → Option (List ℕ)
 optional_bytes labels with_bss at None = Some []
 optional_bytes labels with_bss at (Some statement) = statement_bytes labels with_bss at statement
@@ -135,9 +147,11 @@ optional_bytes labels with_bss at (Some statement) = statement_bytes labels with
 abbrev pub within : ℕ → List ℕ → Option (List ℕ)
 within at bytes = if nat_le (at + length bytes) 65536 then Some bytes else None
 
+-- bytes at an address, where a statement has them and they end within a program's limit
 abbrev pub bounded : ℕ → Option (List ℕ) → Option (List ℕ)
 bounded at bytes = bytes >>= within at
 
+-- a line has no label, or one that no earlier line defines
 abbrev pub is_new : List Definition → Option Label → Bool
 is_new earlier None = true
 is_new earlier (Some label) = is_none (found earlier label)
