@@ -28,6 +28,7 @@ pub record SpellsSigned (size : ℕ) (by : ℤ) (bytes : List ℕ) : Type 0 wher
 
 -- ---- the first byte of a specifier: the mode in its high four bits, the register in its low four
 
+-- the byte of a mode and a register
 abbrev pub specifier : ℕ → ℕ → ℕ
 specifier mode reg = 16 * mode + reg
 
@@ -109,6 +110,7 @@ SpellsPlace false slot operand bytes = (operand ≡ operands.Literal 0) × (byte
 
 -- ---- instructions
 
+-- an operand, and how many bytes spell it
 abbrev pub spelled : Operand → List ℕ → Spelled
 spelled operand bytes = record { operand = operand; size = length bytes }
 

@@ -21,14 +21,17 @@ width_of size = if size == 1 then w8 else (if size == 2 then w16 else w32)
 
 -- what an access allows
 
+-- the operand is read and not written
 abbrev pub is_read : Access → Bool
 is_read accesses.Read = true
 is_read _ = false
 
+-- the operand's address is asked
 abbrev pub is_address : Access → Bool
 is_address accesses.Address = true
 is_address _ = false
 
+-- the operand is a branch displacement
 abbrev pub is_branch : Access → Bool
 is_branch accesses.Branch = true
 is_branch _ = false
@@ -49,6 +52,7 @@ base_from_end behind (bases.Disp reg by deferred) =
     else bases.Disp reg by deferred
 base_from_end behind base = base
 
+-- an operand, whose displacement on PC counts from the end of the instruction, so many bytes after the operand
 abbrev pub from_end : ℕ → Operand → Operand
 from_end behind (operands.Disp reg by deferred) = operand_of (base_from_end behind (bases.Disp reg by deferred))
 from_end behind (operands.Indexed index base) = operands.Indexed index (base_from_end behind base)

@@ -18,6 +18,7 @@ use Rattle.vax_code.specs.Table.{row_for, slot_in}
 use Rattle.vax_code.specs.Operands.{width_of, operand_of, is_read, is_address, is_branch, assembled}
 
 infixl 10 ◌>>=◌
+-- one reading, and then another from the value that it gives; a fault of the first is that of both
 abbrev pub ◌>>=◌ : {A B : Type 0} → Result A Fault → (A → Result B Fault) → Result B Fault
 (Ok x) >>= f = f x
 (Err e) >>= f = Err e
@@ -26,6 +27,7 @@ abbrev pub ◌>>=◌ : {A B : Type 0} → Result A Fault → (A → Result B Fau
 abbrev pub Read : Type 0 → Type 0
 Read A = Result (A × List ℕ) Fault
 
+-- the next byte; `Short` where there is none
 unfoldable pub byte_at : List ℕ → Read ℕ
 byte_at [] = Err Short
 byte_at (byte ∷ rest) = Ok (byte, rest)
@@ -36,6 +38,7 @@ number_at size bytes =
     if nat_lt (length bytes) size then Err Short
     else Ok (from_le_bytes (width_of size) (take size bytes), drop size bytes)
 
+-- the little-endian number of 1, 2 or 4 bytes in two's complement
 unfoldable pub signed_at : ℕ → List ℕ → Read ℤ
 signed_at size bytes = do
   number ← number_at size bytes
@@ -76,6 +79,7 @@ specifier_at slot mode reg bytes =
     (if is_read slot.access then (number_at slot.size bytes >>= λ number. Ok (operands.Immediate number.0, number.1)) else Err Bad)
     else (base_at mode reg bytes >>= λ base. Ok (operand_of base.0, base.1)))))
 
+-- the operand of a slot: a branch displacement, or what its specifier begins
 unfoldable pub operand_at : Slot → List ℕ → Read Operand
 operand_at slot bytes =
     if is_branch slot.access then (signed_at slot.size bytes >>= λ by. Ok (operands.Branch by.0, by.1))
@@ -111,12 +115,14 @@ operands_at op row bytes = do
   c ← place_at row 2 b.1
   Ok (assembled op row a.0 b.0 c.0, c.1)
 
+-- the instruction at the front of the bytes
 unfoldable pub instruction_at : List ℕ → Read Instr
 instruction_at bytes = do
   first ← byte_at bytes
   row ← row_or_bad (row_for first.0)
   operands_at first.0 row first.1
 
+-- what reading an instruction says: the instruction, that more bytes are needed, or that it is reserved
 abbrev pub decoding_of : Read Instr → Decoded
 decoding_of (Ok read) = decodings.Is read.0
 decoding_of (Err Short) = decodings.NeedMore

@@ -12,15 +12,19 @@ use Rattle.vax_code.specs.declared.table.Access.TheVariants as accesses
 
 -- the row of an opcode, a mnemonic and so many operands in order; the places after them are filled
 
+-- the row of an instruction with three operands
 abbrev pub ternary : ℕ → Name → Kind → Kind → Kind → Row
 ternary op name a b c = record { op = op; name = name; count = 3; a = a; b = b; c = c }
 
+-- the row of an instruction with two operands
 abbrev pub binary : ℕ → Name → Kind → Kind → Row
 binary op name a b = record { op = op; name = name; count = 2; a = a; b = b; c = Rl }
 
+-- the row of an instruction with one operand
 abbrev pub unary : ℕ → Name → Kind → Row
 unary op name a = record { op = op; name = name; count = 1; a = a; b = Rl; c = Rl }
 
+-- the row of an instruction without operands
 abbrev pub nullary : ℕ → Name → Row
 nullary op name = record { op = op; name = name; count = 0; a = Rl; b = Rl; c = Rl }
 
@@ -100,6 +104,7 @@ all_rows =
     ∷ binary 0xFB names.Calls Rl Ab
     ∷ []
 
+-- the row of an opcode; none where the opcode is reserved
 unfoldable pub row_for : ℕ → Option Row
 row_for op = find (λ row. row.op == op) all_rows
 
