@@ -4,10 +4,12 @@ use Rattle.vm_facts.specs.declared.memory.ByteRead.{ByteRead}
 use Rattle.vm_facts.specs.declared.memory.ByteRead.TheVariants.{Is}
 use Rattle.vm_facts.specs.declared.memory.MayWrite.{MayWrite}
 
+-- a memory by its answers: what a read at each address gives, and whether the byte there may be written
 pub record Answers : Type 0 where
   pub read : ℕ → ByteRead
   pub may_write : ℕ → MayWrite
 
+-- a byte, and the address at which it is written
 pub record ByteWrite : Type 0 where
   pub address : ℕ
   pub byte : ℕ
