@@ -20,51 +20,24 @@ images =
 
 operations : List Operation
 operations =
-    Fixed [] 1 (entries.Zero (Stack 1 0)) ∷
-    Serve [] 19 (Text 1 0) false ∷
-    Serve [] 0 (Text 1 0) false ∷
-    Serve [] 21 (Text 1 0) true ∷
-    Serve (Text 1 0 ∷ []) 23 (Data 1 0) true ∷
-    Serve (Text 1 0 ∷ []) 24 (Data 1 0) true ∷
-    Step 1 1 false 2 26 [] (Lend 2) ∷
-    Step 2 1 true 2 32 [] (Exec 3 []) ∷
-    Fixed [] 33 (entries.Zero (Stack 2 0)) ∷
-    Serve [] 34 (Text 3 0) true ∷
-    Serve [] 35 (Text 3 0) true ∷
-    Step 2 2 false 3 37 [] (End 11) ∷
-    Step 1 1 false 3 40 [] (Fork 3) ∷
-    Fixed (Data 1 0 ∷ []) 41 (entries.Copy (Data 3 0)) ∷
-    Fixed (Stack 1 0 ∷ []) 42 (entries.Copy (Stack 3 0)) ∷
-    Step 1 1 false 4 46 [] (Lend 4) ∷
-    Step 3 3 false 4 49 [] (Exec 1 []) ∷
-    Fixed [] 50 (entries.Zero (Stack 4 0)) ∷
-    Serve (Text 1 0 ∷ []) 52 (Data 4 0) true ∷
-    Serve (Text 1 0 ∷ []) 53 (Data 4 0) true ∷
-    Step 3 4 false 5 55 [] (Lend 5) ∷
-    Step 4 1 true 5 58 [] (Resize 4 1) ∷
-    Step 4 1 true 5 63 [] (End 25088) ∷
-    Step 5 4 true 5 72 [] (End 12800) ∷
-    Step 3 4 false 5 82 [] (Fork 6) ∷
-    Fixed (Data 4 0 ∷ []) 83 (entries.Copy (Data 5 0)) ∷
-    Fixed (Stack 4 0 ∷ []) 84 (entries.Copy (Stack 5 0)) ∷
-    Step 3 4 false 6 88 [] (Lend 7) ∷
-    Step 6 5 false 6 94 [] (End 60416) ∷
-    Step 7 4 true 6 97 [] (Resize 4 1) ∷
-    Step 7 4 true 6 99 [] (Exec 1 []) ∷
-    Fixed [] 100 (entries.Zero (Stack 6 0)) ∷
-    Serve (Text 1 0 ∷ []) 102 (Data 6 0) true ∷
-    Serve (Text 1 0 ∷ []) 103 (Data 6 0) true ∷
-    Step 7 6 false 7 105 [] (Lend 8) ∷
-    Step 8 6 true 7 114 [] (End 12800) ∷
-    Step 7 6 false 7 127 [] (Lend 9) ∷
-    Step 9 6 true 7 130 [] (Resize 4 1) ∷
-    Step 9 6 true 7 135 [] (End 25088) ∷
-    Step 7 6 false 7 145 [] (Resize 6 1) ∷
-    Step 7 6 false 7 149 [] (End 16640) ∷
-    Step 3 4 false 7 154 [] (Resize 6 1) ∷
-    Step 3 4 false 7 158 [] (End 16640) ∷
-    Step 1 1 false 7 163 [] (Resize 6 1) ∷
-    Step 1 1 false 7 167 [] (End 16640) ∷ []
+    Fixed [] 1 (entries.Zero (Stack 1 0)) ∷ Serve [] 19 (Text 1 0) false ∷ Serve [] 0 (Text 1 0) false ∷
+    Serve [] 21 (Text 1 0) true ∷ Serve (Text 1 0 ∷ []) 23 (Data 1 0) true ∷
+    Serve (Text 1 0 ∷ []) 24 (Data 1 0) true ∷ Step 1 1 false 2 26 [] (Lend 2) ∷ Step 2 1 true 2 32 [] (Exec 3 []) ∷
+    Fixed [] 33 (entries.Zero (Stack 2 0)) ∷ Serve [] 34 (Text 3 0) true ∷ Serve [] 35 (Text 3 0) true ∷
+    Step 2 2 false 3 37 [] (End 11) ∷ Step 1 1 false 3 40 [] (Fork 3) ∷
+    Fixed (Data 1 0 ∷ []) 41 (entries.Copy (Data 3 0)) ∷ Fixed (Stack 1 0 ∷ []) 42 (entries.Copy (Stack 3 0)) ∷
+    Step 1 1 false 4 46 [] (Lend 4) ∷ Step 3 3 false 4 49 [] (Exec 1 []) ∷ Fixed [] 50 (entries.Zero (Stack 4 0)) ∷
+    Serve (Text 1 0 ∷ []) 52 (Data 4 0) true ∷ Serve (Text 1 0 ∷ []) 53 (Data 4 0) true ∷
+    Step 3 4 false 5 55 [] (Lend 5) ∷ Step 4 1 true 5 58 [] (Resize 4 1) ∷ Step 4 1 true 5 63 [] (End 25088) ∷
+    Step 5 4 true 5 72 [] (End 12800) ∷ Step 3 4 false 5 82 [] (Fork 6) ∷
+    Fixed (Data 4 0 ∷ []) 83 (entries.Copy (Data 5 0)) ∷ Fixed (Stack 4 0 ∷ []) 84 (entries.Copy (Stack 5 0)) ∷
+    Step 3 4 false 6 88 [] (Lend 7) ∷ Step 6 5 false 6 94 [] (End 60416) ∷ Step 7 4 true 6 97 [] (Resize 4 1) ∷
+    Step 7 4 true 6 99 [] (Exec 1 []) ∷ Fixed [] 100 (entries.Zero (Stack 6 0)) ∷
+    Serve (Text 1 0 ∷ []) 102 (Data 6 0) true ∷ Serve (Text 1 0 ∷ []) 103 (Data 6 0) true ∷
+    Step 7 6 false 7 105 [] (Lend 8) ∷ Step 8 6 true 7 114 [] (End 12800) ∷ Step 7 6 false 7 127 [] (Lend 9) ∷
+    Step 9 6 true 7 130 [] (Resize 4 1) ∷ Step 9 6 true 7 135 [] (End 25088) ∷ Step 7 6 false 7 145 [] (Resize 6 1) ∷
+    Step 7 6 false 7 149 [] (End 16640) ∷ Step 3 4 false 7 154 [] (Resize 6 1) ∷ Step 3 4 false 7 158 [] (End 16640) ∷
+    Step 1 1 false 7 163 [] (Resize 6 1) ∷ Step 1 1 false 7 167 [] (End 16640) ∷ []
 
 last : Placement
 last = record {

@@ -9,7 +9,7 @@ use Rattle.flat_state.specs.Flat.{NamedImage}
 use Rattle.flat_state.specs.declared.change.Change.TheVariants.{Resize, End}
 use Rattle.page_model.specs.Pages.{Zeros}
 use Rattle.page_model.specs.Placement.{Placement}
-use Rattle.place_vectors.proofs.Walk.{Operation, Fixed, Serve, Step, Seen, Made, Ends, named, slot, empty, frames, starting, walk}
+use Rattle.place_vectors.proofs.Walk.{Operation, Fixed, Serve, Step, Seen, Made, Ends, named, slot, empty, frames, starting, walk, space}
 
 images : List NamedImage
 images =
@@ -18,26 +18,15 @@ images =
 
 operations : List Operation
 operations =
-    Fixed [] 1 (entries.Zero (Stack 1 0)) ∷
-    Fixed [] 2 (entries.Zero (Stack 2 0)) ∷
-    Serve [] 4 (Text 1 0) false ∷
-    Serve [] 0 (Text 1 0) false ∷
-    Fixed [] 6 entries.Done ∷
-    Serve [] 12 (Text 2 0) false ∷
-    Serve [] 0 (Text 2 0) false ∷
-    Fixed [] 14 entries.Done ∷
-    Step 2 2 false 3 20 [] (End 0) ∷
+    Fixed [] 1 (entries.Zero (Stack 1 0)) ∷ Fixed [] 2 (entries.Zero (Stack 2 0)) ∷ Serve [] 4 (Text 1 0) false ∷
+    Serve [] 0 (Text 1 0) false ∷ Fixed [] 6 entries.Done ∷ Serve [] 12 (Text 2 0) false ∷
+    Serve [] 0 (Text 2 0) false ∷ Fixed [] 14 entries.Done ∷ Step 2 2 false 3 20 [] (End 0) ∷
     Step 1 1 false 3 22 [] (Resize 49 1) ∷ []
 
 last : Placement
 last = record {
   spaces =
-      record {
-        sid = 1;
-        image = 1;
-        data_pages = replicate 49 (slot Unfilled false Zeros);
-        stack_pages = slot (Valid 1) true Zeros ∷ [];
-      } ∷ [];
+      space 1 1 (replicate 49 (slot Unfilled false Zeros)) (slot (Valid 1) true Zeros ∷ []) ∷ [];
   texts =
       record {
         image = 1;

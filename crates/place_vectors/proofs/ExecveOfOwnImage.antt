@@ -11,7 +11,7 @@ use Rattle.flat_state.specs.declared.change.Change.TheVariants.{Resize, Fork, Ex
 use Rattle.page_model.specs.Pages.{Zeros, OfImage}
 use Rattle.page_model.specs.Placement.{Placement}
 use Rattle.page_model.specs.Swapper.{Nothing}
-use Rattle.place_vectors.proofs.Walk.{Operation, Fixed, Serve, Choose, Step, Seen, Made, Chose, Ends, named, runner, slot, empty, frames, starting, walk}
+use Rattle.place_vectors.proofs.Walk.{Operation, Fixed, Serve, Choose, Step, Seen, Made, Chose, Ends, named, runner, slot, empty, frames, starting, walk, space}
 
 images : List NamedImage
 images =
@@ -20,63 +20,30 @@ images =
 
 operations : List Operation
 operations =
-    Fixed [] 1 (entries.Zero (Stack 1 0)) ∷
-    Serve [] 5 (Text 1 0) false ∷
-    Serve [] 0 (Text 1 0) false ∷
-    Fixed [] 8 entries.Done ∷
-    Choose (runner 1 1 false false ∷ []) ∷
-    Choose (runner 1 1 false false ∷ []) ∷
-    Choose (runner 1 1 false false ∷ []) ∷
-    Choose (runner 1 1 false false ∷ []) ∷
-    Choose (runner 1 1 false false ∷ []) ∷
-    Choose (runner 1 1 false false ∷ []) ∷
-    Choose (runner 1 1 false false ∷ []) ∷
-    Step 1 1 false 2 47 [] (Resize 7 1) ∷
-    Serve (Text 1 0 ∷ []) 48 (Data 1 3) false ∷
-    Step 1 1 false 2 50 [] (Fork 2) ∷
-    Fixed (Data 1 3 ∷ []) 51 (entries.Copy (Data 2 3)) ∷
-    Fixed (Stack 1 0 ∷ []) 52 (entries.Copy (Stack 2 0)) ∷
-    Serve (Text 1 0 ∷ []) 54 (Data 1 0) false ∷
-    Serve [] 0 (Data 1 0) false ∷
-    Choose (runner 1 1 false false ∷ runner 2 2 false false ∷ []) ∷
-    Serve [] 0 (Data 1 0) false ∷
-    Step 2 2 false 3 65 [] (End 18944) ∷
-    Choose (runner 1 1 false false ∷ []) ∷
-    Serve [] 0 (Data 1 0) false ∷
-    Serve [] 0 (Data 1 0) false ∷
-    Fixed [] 74 entries.Done ∷
-    Choose (runner 1 1 false false ∷ []) ∷
-    Serve (Text 1 0 ∷ []) 96 (Data 1 1) false ∷
-    Step 1 1 false 3 99 [] (Resize 7 2) ∷
-    Serve (Text 1 0 ∷ []) 100 (Stack 1 1) false ∷
-    Serve (Text 1 0 ∷ []) 102 (Data 1 2) false ∷
-    Step 1 1 false 3 104 [] (Exec 1 []) ∷
-    Fixed [] 105 (entries.Zero (Stack 3 0)) ∷
-    Step 1 3 false 4 107 [] (Resize 7 1) ∷
-    Serve (Text 1 0 ∷ []) 108 (Data 3 3) false ∷
-    Step 1 3 false 4 110 [] (Fork 3) ∷
-    Fixed (Data 3 3 ∷ []) 111 (entries.Copy (Data 4 3)) ∷
-    Fixed (Stack 3 0 ∷ []) 112 (entries.Copy (Stack 4 0)) ∷ []
+    Fixed [] 1 (entries.Zero (Stack 1 0)) ∷ Serve [] 5 (Text 1 0) false ∷ Serve [] 0 (Text 1 0) false ∷
+    Fixed [] 8 entries.Done ∷ replicate 7 (Choose (runner 1 1 false false ∷ [])) ++
+    Step 1 1 false 2 47 [] (Resize 7 1) ∷ Serve (Text 1 0 ∷ []) 48 (Data 1 3) false ∷
+    Step 1 1 false 2 50 [] (Fork 2) ∷ Fixed (Data 1 3 ∷ []) 51 (entries.Copy (Data 2 3)) ∷
+    Fixed (Stack 1 0 ∷ []) 52 (entries.Copy (Stack 2 0)) ∷ Serve (Text 1 0 ∷ []) 54 (Data 1 0) false ∷
+    Serve [] 0 (Data 1 0) false ∷ Choose (runner 1 1 false false ∷ runner 2 2 false false ∷ []) ∷
+    Serve [] 0 (Data 1 0) false ∷ Step 2 2 false 3 65 [] (End 18944) ∷ Choose (runner 1 1 false false ∷ []) ∷
+    Serve [] 0 (Data 1 0) false ∷ Serve [] 0 (Data 1 0) false ∷ Fixed [] 74 entries.Done ∷
+    Choose (runner 1 1 false false ∷ []) ∷ Serve (Text 1 0 ∷ []) 96 (Data 1 1) false ∷
+    Step 1 1 false 3 99 [] (Resize 7 2) ∷ Serve (Text 1 0 ∷ []) 100 (Stack 1 1) false ∷
+    Serve (Text 1 0 ∷ []) 102 (Data 1 2) false ∷ Step 1 1 false 3 104 [] (Exec 1 []) ∷
+    Fixed [] 105 (entries.Zero (Stack 3 0)) ∷ Step 1 3 false 4 107 [] (Resize 7 1) ∷
+    Serve (Text 1 0 ∷ []) 108 (Data 3 3) false ∷ Step 1 3 false 4 110 [] (Fork 3) ∷
+    Fixed (Data 3 3 ∷ []) 111 (entries.Copy (Data 4 3)) ∷ Fixed (Stack 3 0 ∷ []) 112 (entries.Copy (Stack 4 0)) ∷ []
 
 last : Placement
 last = record {
   spaces =
-      record {
-        sid = 3;
-        image = 1;
-        data_pages =
-            slot Unfilled false OfImage ∷ slot Unfilled false Zeros ∷ slot Unfilled false Zeros ∷
-            slot (Valid 1) true Zeros ∷ replicate 3 (slot Unfilled false Zeros);
-        stack_pages = slot (Valid 5) true Zeros ∷ [];
-      } ∷
-      record {
-        sid = 4;
-        image = 1;
-        data_pages =
-            slot Unfilled false OfImage ∷ slot Unfilled false Zeros ∷ slot Unfilled false Zeros ∷
-            slot (Valid 4) true Zeros ∷ replicate 3 (slot Unfilled false Zeros);
-        stack_pages = slot (Valid 8) true Zeros ∷ [];
-      } ∷ [];
+      space 3 1 (slot Unfilled false OfImage ∷ slot Unfilled false Zeros ∷ slot Unfilled false Zeros ∷
+      slot (Valid 1) true Zeros ∷ replicate 3 (slot Unfilled false Zeros))
+      (slot (Valid 5) true Zeros ∷ []) ∷
+      space 4 1 (slot Unfilled false OfImage ∷ slot Unfilled false Zeros ∷ slot Unfilled false Zeros ∷
+      slot (Valid 4) true Zeros ∷ replicate 3 (slot Unfilled false Zeros))
+      (slot (Valid 8) true Zeros ∷ []) ∷ [];
   texts =
       record {
         image = 1;

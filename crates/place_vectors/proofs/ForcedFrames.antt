@@ -1,5 +1,5 @@
 -- Forks and execve of other images in 70 frames: fills force frames by moves of the hands and by transfers that end.
-use Rattle.std.proofs.Common.{◌≡◌, true, false, List, [], ◌∷◌, ◌++◌, replicate, Some, None, refl}
+use Rattle.std.proofs.Common.{◌≡◌, true, false, List, [], ◌∷◌, ◌++◌, replicate, Some, None, refl, ◌*◌, ◌+◌}
 use Rattle.vm_facts.specs.declared.page.Page.TheVariants.{Data, Stack, Text}
 use Rattle.vm_facts.specs.declared.page.PageState.TheVariants.{Unfilled, Valid, Invalid, OnSwap}
 use Rattle.vm_facts.specs.declared.entry.Entry.TheVariants as entries
@@ -10,7 +10,7 @@ use Rattle.flat_state.specs.declared.change.Change.TheVariants.{Fork, Lend, Exec
 use Rattle.page_model.specs.Pages.{Zeros}
 use Rattle.page_model.specs.Placement.{Placement}
 use Rattle.page_model.specs.Swapper.{Nothing}
-use Rattle.place_vectors.proofs.Walk.{Operation, Fixed, Serve, Choose, Step, Seen, Made, Chose, Ends, named, runner, slot, starting, walk}
+use Rattle.place_vectors.proofs.Walk.{Operation, Fixed, Serve, Choose, Step, Seen, Made, Chose, Ends, named, runner, slot, starting, walk, rows, space}
 
 images : List NamedImage
 images =
@@ -19,267 +19,76 @@ images =
 
 operations : List Operation
 operations =
-    Fixed [] 1 (entries.Zero (Stack 1 0)) ∷
-    Choose (runner 1 1 false false ∷ []) ∷
-    Serve [] 8 (Text 1 0) false ∷
-    Serve [] 0 (Text 1 0) false ∷
-    Serve [] 0 (Text 1 0) false ∷
-    Serve [] 11 (Text 1 0) true ∷
-    Serve (Text 1 0 ∷ []) 12 (Data 1 38) true ∷
-    Serve (Text 1 0 ∷ []) 14 (Data 1 10) true ∷
-    Step 1 1 false 2 16 [] (Fork 2) ∷
-    Fixed (Data 1 10 ∷ []) 17 (entries.Copy (Data 2 10)) ∷
-    Fixed (Data 1 38 ∷ []) 18 (entries.Copy (Data 2 38)) ∷
-    Fixed (Stack 1 0 ∷ []) 19 (entries.Copy (Stack 2 0)) ∷
-    Serve (Text 1 0 ∷ []) 21 (Data 1 6) true ∷
-    Serve (Text 1 0 ∷ []) 23 (Data 1 7) true ∷
-    Serve (Text 1 0 ∷ []) 25 (Data 1 8) true ∷
-    Serve (Text 1 0 ∷ []) 27 (Data 1 9) true ∷
-    Serve (Text 1 0 ∷ []) 29 (Data 1 11) true ∷
-    Serve (Text 1 0 ∷ []) 31 (Data 1 12) true ∷
-    Serve (Text 1 0 ∷ []) 33 (Data 1 13) true ∷
-    Serve (Text 1 0 ∷ []) 35 (Data 1 14) true ∷
-    Serve (Text 1 0 ∷ []) 37 (Data 1 15) true ∷
-    Serve (Text 1 0 ∷ []) 39 (Data 1 16) true ∷
-    Serve (Text 1 0 ∷ []) 41 (Data 1 17) true ∷
-    Serve (Text 1 0 ∷ []) 43 (Data 1 18) true ∷
-    Serve (Text 1 0 ∷ []) 45 (Data 1 19) true ∷
-    Serve (Text 1 0 ∷ []) 47 (Data 1 20) true ∷
-    Serve (Text 1 0 ∷ []) 49 (Data 1 21) true ∷
-    Serve (Text 1 0 ∷ []) 51 (Data 1 22) true ∷
-    Serve (Text 1 0 ∷ []) 53 (Data 1 23) true ∷
-    Serve (Text 1 0 ∷ []) 55 (Data 1 24) true ∷
-    Serve (Text 1 0 ∷ []) 57 (Data 1 25) true ∷
-    Serve (Text 1 0 ∷ []) 59 (Data 1 26) true ∷
-    Serve (Text 1 0 ∷ []) 61 (Data 1 27) true ∷
-    Serve (Text 1 0 ∷ []) 63 (Data 1 28) true ∷
-    Serve (Text 1 0 ∷ []) 65 (Data 1 29) true ∷
-    Serve (Text 1 0 ∷ []) 67 (Data 1 30) true ∷
-    Serve (Text 1 0 ∷ []) 69 (Data 1 31) true ∷
-    Serve (Text 1 0 ∷ []) 71 (Data 1 32) true ∷
-    Serve (Text 1 0 ∷ []) 73 (Data 1 33) true ∷
-    Serve (Text 1 0 ∷ []) 75 (Data 1 34) true ∷
-    Serve (Text 1 0 ∷ []) 77 (Data 1 35) true ∷
-    Serve (Text 1 0 ∷ []) 79 (Data 1 36) true ∷
-    Serve (Text 1 0 ∷ []) 81 (Data 1 37) true ∷
-    Serve (Text 1 0 ∷ []) 83 (Data 1 39) true ∷
-    Serve (Text 1 0 ∷ []) 85 (Data 1 40) true ∷
-    Serve (Text 1 0 ∷ []) 87 (Data 1 41) true ∷
-    Serve (Text 1 0 ∷ []) 89 (Data 1 42) true ∷
-    Serve (Text 1 0 ∷ []) 91 (Data 1 43) true ∷
-    Serve (Text 1 0 ∷ []) 93 (Data 1 44) true ∷
-    Serve (Text 1 0 ∷ []) 95 (Data 1 45) true ∷
-    Serve (Text 1 0 ∷ []) 97 (Data 1 46) true ∷
-    Serve (Text 1 0 ∷ []) 99 (Data 1 47) true ∷
-    Serve (Text 1 0 ∷ []) 101 (Data 1 48) true ∷
-    Serve (Text 1 0 ∷ []) 103 (Data 1 49) true ∷
-    Serve (Text 1 0 ∷ []) 105 (Data 1 50) true ∷
-    Serve (Text 1 0 ∷ []) 107 (Data 1 51) true ∷
-    Serve (Text 1 0 ∷ []) 109 (Data 1 52) true ∷
-    Serve (Text 1 0 ∷ []) 111 (Data 1 53) true ∷
-    Serve (Text 1 0 ∷ []) 113 (Data 1 54) true ∷
-    Serve (Text 1 0 ∷ []) 115 (Data 1 55) true ∷
-    Serve (Text 1 0 ∷ []) 117 (Data 1 56) true ∷
+    Fixed [] 1 (entries.Zero (Stack 1 0)) ∷ Choose (runner 1 1 false false ∷ []) ∷ Serve [] 8 (Text 1 0) false ∷
+    Serve [] 0 (Text 1 0) false ∷ Serve [] 0 (Text 1 0) false ∷ Serve [] 11 (Text 1 0) true ∷
+    Serve (Text 1 0 ∷ []) 12 (Data 1 38) true ∷ Serve (Text 1 0 ∷ []) 14 (Data 1 10) true ∷
+    Step 1 1 false 2 16 [] (Fork 2) ∷ Fixed (Data 1 10 ∷ []) 17 (entries.Copy (Data 2 10)) ∷
+    Fixed (Data 1 38 ∷ []) 18 (entries.Copy (Data 2 38)) ∷ Fixed (Stack 1 0 ∷ []) 19 (entries.Copy (Stack 2 0)) ∷
+    rows 6 4 (λ k. Serve (Text 1 0 ∷ []) (2 * k + 9) (Data 1 k) true ∷ []) ++
+    rows 11 27 (λ k. Serve (Text 1 0 ∷ []) (2 * k + 7) (Data 1 k) true ∷ []) ++
+    rows 39 18 (λ k. Serve (Text 1 0 ∷ []) (2 * k + 5) (Data 1 k) true ∷ []) ++
     Step 1 1 false 3 119 [] (Lend 3) ∷
-    Serve (Text 1 0 ∷ []) 122 (Data 2 32) true ∷
-    Serve (Text 1 0 ∷ []) 124 (Data 2 33) true ∷
-    Serve (Text 1 0 ∷ []) 126 (Data 2 34) true ∷
-    Serve (Text 1 0 ∷ []) 128 (Data 2 35) true ∷
-    Serve (Text 1 0 ∷ []) 130 (Data 2 36) true ∷
-    Serve (Text 1 0 ∷ []) 132 (Data 2 37) true ∷
-    Serve (Text 1 0 ∷ []) 134 (Data 2 39) true ∷
-    Serve (Text 1 0 ∷ []) 136 (Data 2 40) true ∷
-    Step 2 2 false 3 138 [] (Exec 2 []) ∷
-    Fixed [] 139 (entries.Zero (Stack 3 0)) ∷
-    Serve [] 140 (Text 2 0) true ∷
-    Serve [] 141 (Text 2 0) true ∷
-    Serve (Text 2 0 ∷ []) 143 (Data 3 1) true ∷
-    Serve (Text 2 0 ∷ []) 145 (Data 3 2) true ∷
-    Step 2 3 false 4 149 [] (Exec 1 []) ∷
-    Fixed [] 150 (entries.Zero (Stack 4 0)) ∷
-    Serve (Text 1 0 ∷ []) 151 (Data 4 38) true ∷
-    Serve (Text 1 0 ∷ []) 153 (Data 4 10) true ∷
-    Step 2 4 false 5 155 [] (Fork 4) ∷
-    Fixed (Data 4 10 ∷ []) 156 (entries.Copy (Data 5 10)) ∷
-    Fixed (Data 4 38 ∷ []) 157 (entries.Copy (Data 5 38)) ∷
+    rows 32 6 (λ k. Serve (Text 1 0 ∷ []) (2 * k + 58) (Data 2 k) true ∷ []) ++
+    Serve (Text 1 0 ∷ []) 134 (Data 2 39) true ∷ Serve (Text 1 0 ∷ []) 136 (Data 2 40) true ∷
+    Step 2 2 false 3 138 [] (Exec 2 []) ∷ Fixed [] 139 (entries.Zero (Stack 3 0)) ∷ Serve [] 140 (Text 2 0) true ∷
+    Serve [] 141 (Text 2 0) true ∷ Serve (Text 2 0 ∷ []) 143 (Data 3 1) true ∷
+    Serve (Text 2 0 ∷ []) 145 (Data 3 2) true ∷ Step 2 3 false 4 149 [] (Exec 1 []) ∷
+    Fixed [] 150 (entries.Zero (Stack 4 0)) ∷ Serve (Text 1 0 ∷ []) 151 (Data 4 38) true ∷
+    Serve (Text 1 0 ∷ []) 153 (Data 4 10) true ∷ Step 2 4 false 5 155 [] (Fork 4) ∷
+    Fixed (Data 4 10 ∷ []) 156 (entries.Copy (Data 5 10)) ∷ Fixed (Data 4 38 ∷ []) 157 (entries.Copy (Data 5 38)) ∷
     Fixed (Stack 4 0 ∷ []) 158 (entries.Copy (Stack 5 0)) ∷
-    Serve (Text 1 0 ∷ []) 160 (Data 4 6) true ∷
-    Serve (Text 1 0 ∷ []) 162 (Data 4 7) true ∷
-    Serve (Text 1 0 ∷ []) 164 (Data 4 8) true ∷
-    Serve (Text 1 0 ∷ []) 166 (Data 4 9) true ∷
-    Serve (Text 1 0 ∷ []) 168 (Data 4 11) true ∷
-    Serve (Text 1 0 ∷ []) 170 (Data 4 12) true ∷
-    Serve (Text 1 0 ∷ []) 172 (Data 4 13) true ∷
-    Serve (Text 1 0 ∷ []) 174 (Data 4 14) true ∷
-    Serve (Text 1 0 ∷ []) 176 (Data 4 15) true ∷
-    Serve (Text 1 0 ∷ []) 178 (Data 4 16) true ∷
-    Serve (Text 1 0 ∷ []) 180 (Data 4 17) true ∷
-    Serve (Text 1 0 ∷ []) 182 (Data 4 18) true ∷
-    Serve (Text 1 0 ∷ []) 182 (Data 4 18) true ∷
-    Serve (Text 1 0 ∷ []) 182 (Data 4 18) true ∷
-    Serve (Text 1 0 ∷ []) 182 (Data 4 18) true ∷
-    Serve (Text 1 0 ∷ []) 182 (Data 4 18) true ∷
-    Serve (Text 1 0 ∷ []) 182 (Data 4 18) true ∷
-    Serve (Text 1 0 ∷ []) 182 (Data 4 18) true ∷
-    Serve (Text 1 0 ∷ []) 182 (Data 4 18) true ∷
-    Serve (Text 1 0 ∷ []) 182 (Data 4 18) true ∷
-    Serve (Text 1 0 ∷ []) 182 (Data 4 18) true ∷
-    Serve (Text 1 0 ∷ []) 182 (Data 4 18) true ∷
-    Serve (Text 1 0 ∷ []) 182 (Data 4 18) true ∷
-    Serve (Text 1 0 ∷ []) 182 (Data 4 18) true ∷
-    Serve (Text 1 0 ∷ []) 182 (Data 4 18) true ∷
-    Serve (Text 1 0 ∷ []) 182 (Data 4 18) true ∷
-    Serve (Text 1 0 ∷ []) 182 (Data 4 18) true ∷
-    Serve (Text 1 0 ∷ []) 182 (Data 4 18) true ∷
-    Serve (Text 1 0 ∷ []) 182 (Data 4 18) true ∷
-    Serve (Text 1 0 ∷ []) 183 (Data 4 18) true ∷
-    Serve (Text 1 0 ∷ []) 184 (Data 4 18) true ∷
-    Serve (Text 1 0 ∷ []) 186 (Data 4 19) true ∷
-    Serve (Text 1 0 ∷ []) 188 (Data 4 20) true ∷
-    Serve (Text 1 0 ∷ []) 190 (Data 4 21) true ∷
-    Serve (Text 1 0 ∷ []) 192 (Data 4 22) true ∷
-    Serve (Text 1 0 ∷ []) 194 (Data 4 23) true ∷
-    Serve (Text 1 0 ∷ []) 196 (Data 4 24) true ∷
-    Serve (Text 1 0 ∷ []) 198 (Data 4 25) true ∷
-    Serve (Text 1 0 ∷ []) 200 (Data 4 26) true ∷
-    Serve (Text 1 0 ∷ []) 202 (Data 4 27) true ∷
-    Serve (Text 1 0 ∷ []) 204 (Data 4 28) true ∷
-    Serve (Text 1 0 ∷ []) 206 (Data 4 29) true ∷
-    Serve (Text 1 0 ∷ []) 208 (Data 4 30) true ∷
-    Serve (Text 1 0 ∷ []) 210 (Data 4 31) true ∷
-    Serve (Text 1 0 ∷ []) 212 (Data 4 32) true ∷
-    Serve (Text 1 0 ∷ []) 214 (Data 4 33) true ∷
-    Serve (Text 1 0 ∷ []) 216 (Data 4 34) true ∷
-    Serve (Text 1 0 ∷ []) 216 (Data 4 34) true ∷
-    Serve (Text 1 0 ∷ []) 216 (Data 4 34) true ∷
-    Serve (Text 1 0 ∷ []) 216 (Data 4 34) true ∷
-    Serve (Text 1 0 ∷ []) 216 (Data 4 34) true ∷
-    Serve (Text 1 0 ∷ []) 216 (Data 4 34) true ∷
-    Serve (Text 1 0 ∷ []) 216 (Data 4 34) true ∷
-    Serve (Text 1 0 ∷ []) 216 (Data 4 34) true ∷
-    Serve (Text 1 0 ∷ []) 216 (Data 4 34) true ∷
-    Serve (Text 1 0 ∷ []) 216 (Data 4 34) true ∷
-    Serve (Text 1 0 ∷ []) 216 (Data 4 34) true ∷
-    Serve (Text 1 0 ∷ []) 216 (Data 4 34) true ∷
-    Serve (Text 1 0 ∷ []) 216 (Data 4 34) true ∷
-    Serve (Text 1 0 ∷ []) 216 (Data 4 34) true ∷
-    Serve (Text 1 0 ∷ []) 216 (Data 4 34) true ∷
-    Serve (Text 1 0 ∷ []) 216 (Data 4 34) true ∷
-    Serve (Text 1 0 ∷ []) 217 (Data 4 34) true ∷
-    Serve (Text 1 0 ∷ []) 218 (Data 4 34) true ∷
-    Serve (Text 1 0 ∷ []) 220 (Data 4 35) true ∷
-    Serve (Text 1 0 ∷ []) 222 (Data 4 36) true ∷
-    Serve (Text 1 0 ∷ []) 224 (Data 4 37) true ∷
-    Serve (Text 1 0 ∷ []) 226 (Data 4 39) true ∷
-    Serve (Text 1 0 ∷ []) 228 (Data 4 40) true ∷
-    Serve (Text 1 0 ∷ []) 230 (Data 4 41) true ∷
-    Serve (Text 1 0 ∷ []) 230 (Data 4 41) true ∷
-    Serve (Text 1 0 ∷ []) 230 (Data 4 41) true ∷
-    Serve (Text 1 0 ∷ []) 230 (Data 4 41) true ∷
-    Serve (Text 1 0 ∷ []) 230 (Data 4 41) true ∷
-    Serve (Text 1 0 ∷ []) 230 (Data 4 41) true ∷
-    Serve (Text 1 0 ∷ []) 231 (Data 4 41) true ∷
-    Serve (Text 1 0 ∷ []) 232 (Data 4 41) true ∷
-    Serve (Text 1 0 ∷ []) 234 (Data 4 42) true ∷
-    Serve (Text 1 0 ∷ []) 236 (Data 4 43) true ∷
-    Serve (Text 1 0 ∷ []) 238 (Data 4 44) true ∷
-    Serve (Text 1 0 ∷ []) 240 (Data 4 45) true ∷
-    Serve (Text 1 0 ∷ []) 242 (Data 4 46) true ∷
-    Serve (Text 1 0 ∷ []) 244 (Data 4 47) true ∷
-    Serve (Text 1 0 ∷ []) 246 (Data 4 48) true ∷
-    Serve (Text 1 0 ∷ []) 248 (Data 4 49) true ∷
-    Serve (Text 1 0 ∷ []) 250 (Data 4 50) true ∷
-    Serve (Text 1 0 ∷ []) 250 (Data 4 50) true ∷
-    Serve (Text 1 0 ∷ []) 250 (Data 4 50) true ∷
-    Serve (Text 1 0 ∷ []) 250 (Data 4 50) true ∷
-    Serve (Text 1 0 ∷ []) 250 (Data 4 50) true ∷
-    Serve (Text 1 0 ∷ []) 250 (Data 4 50) true ∷
-    Serve (Text 1 0 ∷ []) 250 (Data 4 50) true ∷
-    Serve (Text 1 0 ∷ []) 250 (Data 4 50) true ∷
-    Serve (Text 1 0 ∷ []) 250 (Data 4 50) true ∷
-    Serve (Text 1 0 ∷ []) 251 (Data 4 50) true ∷
-    Serve (Text 1 0 ∷ []) 252 (Data 4 50) true ∷
-    Serve (Text 1 0 ∷ []) 254 (Data 4 51) true ∷
-    Serve (Text 1 0 ∷ []) 256 (Data 4 52) true ∷
-    Serve (Text 1 0 ∷ []) 258 (Data 4 53) true ∷
-    Serve (Text 1 0 ∷ []) 260 (Data 4 54) true ∷
-    Serve (Text 1 0 ∷ []) 262 (Data 4 55) true ∷
-    Serve (Text 1 0 ∷ []) 264 (Data 4 56) true ∷
-    Step 2 4 false 6 266 [] (Lend 5) ∷
-    Serve (Text 1 0 ∷ []) 269 (Data 1 0) true ∷
-    Serve (Text 1 0 ∷ []) 271 (Data 1 1) true ∷
-    Serve (Text 1 0 ∷ []) 273 (Data 1 2) true ∷
-    Serve (Text 1 0 ∷ []) 273 (Data 1 2) true ∷
-    Serve (Text 1 0 ∷ []) 273 (Data 1 2) true ∷
-    Serve (Text 1 0 ∷ []) 273 (Data 1 2) true ∷
-    Serve (Text 1 0 ∷ []) 273 (Data 1 2) true ∷
-    Serve (Text 1 0 ∷ []) 273 (Data 1 2) true ∷
-    Serve (Text 1 0 ∷ []) 273 (Data 1 2) true ∷
-    Serve (Text 1 0 ∷ []) 273 (Data 1 2) true ∷
-    Serve (Text 1 0 ∷ []) 273 (Data 1 2) true ∷
+    rows 6 4 (λ k. Serve (Text 1 0 ∷ []) (2 * k + 148) (Data 4 k) true ∷ []) ++
+    rows 11 7 (λ k. Serve (Text 1 0 ∷ []) (2 * k + 146) (Data 4 k) true ∷ []) ++
+    replicate 18 (Serve (Text 1 0 ∷ []) 182 (Data 4 18) true) ++ Serve (Text 1 0 ∷ []) 183 (Data 4 18) true ∷
+    rows 18 16 (λ k. Serve (Text 1 0 ∷ []) (2 * k + 148) (Data 4 k) true ∷ []) ++
+    replicate 16 (Serve (Text 1 0 ∷ []) 216 (Data 4 34) true) ++ Serve (Text 1 0 ∷ []) 217 (Data 4 34) true ∷
+    rows 34 4 (λ k. Serve (Text 1 0 ∷ []) (2 * k + 150) (Data 4 k) true ∷ []) ++
+    Serve (Text 1 0 ∷ []) 226 (Data 4 39) true ∷ Serve (Text 1 0 ∷ []) 228 (Data 4 40) true ∷
+    replicate 6 (Serve (Text 1 0 ∷ []) 230 (Data 4 41) true) ++ Serve (Text 1 0 ∷ []) 231 (Data 4 41) true ∷
+    rows 41 9 (λ k. Serve (Text 1 0 ∷ []) (2 * k + 150) (Data 4 k) true ∷ []) ++
+    replicate 9 (Serve (Text 1 0 ∷ []) 250 (Data 4 50) true) ++ Serve (Text 1 0 ∷ []) 251 (Data 4 50) true ∷
+    rows 50 7 (λ k. Serve (Text 1 0 ∷ []) (2 * k + 152) (Data 4 k) true ∷ []) ++
+    Step 2 4 false 6 266 [] (Lend 5) ∷ Serve (Text 1 0 ∷ []) 269 (Data 1 0) true ∷
+    Serve (Text 1 0 ∷ []) 271 (Data 1 1) true ∷ replicate 9 (Serve (Text 1 0 ∷ []) 273 (Data 1 2) true) ++
     Serve (Text 1 0 ∷ []) 274 (Data 1 2) true ∷
-    Serve (Text 1 0 ∷ []) 275 (Data 1 2) true ∷
-    Serve (Text 1 0 ∷ []) 277 (Data 1 3) true ∷
-    Serve (Text 1 0 ∷ []) 279 (Data 1 4) true ∷
-    Serve (Text 1 0 ∷ []) 279 (Data 1 4) true ∷
-    Serve (Text 1 0 ∷ []) 280 (Data 1 4) true ∷
-    Serve (Text 1 0 ∷ []) 281 (Data 1 4) true ∷
-    Serve (Text 1 0 ∷ []) 283 (Data 1 5) true ∷
-    Serve (Text 1 0 ∷ []) 284 (Data 1 5) true ∷
-    Serve (Text 1 0 ∷ []) 285 (Data 1 5) true ∷ []
+    rows 2 3 (λ k. Serve (Text 1 0 ∷ []) (2 * k + 271) (Data 1 k) true ∷ []) ++
+    rows 279 3 (λ k. Serve (Text 1 0 ∷ []) k (Data 1 4) true ∷ []) ++
+    rows 283 3 (λ k. Serve (Text 1 0 ∷ []) k (Data 1 5) true ∷ [])
 
 last : Placement
 last = record {
   spaces =
-      record {
-        sid = 1;
-        image = 1;
-        data_pages =
-            slot (Valid 56) true Zeros ∷ slot (Valid 57) true Zeros ∷ slot (Valid 59) true Zeros ∷
-            slot (Valid 58) true Zeros ∷ slot (Valid 60) true Zeros ∷ slot (Valid 61) true Zeros ∷
-            slot (Valid 9) true Zeros ∷ slot (Valid 10) true Zeros ∷ slot (Valid 11) true Zeros ∷
-            slot (Valid 12) true Zeros ∷ slot (Invalid 5) true Zeros ∷ slot (Valid 13) true Zeros ∷
-            slot (Valid 14) true Zeros ∷ slot (Valid 15) true Zeros ∷ slot (Valid 16) true Zeros ∷
-            slot (Valid 17) true Zeros ∷ replicate 22 (slot OnSwap false Zeros) ++
-            slot (Invalid 4) true Zeros ∷ replicate 18 (slot OnSwap false Zeros) ++
-            slot Unfilled false Zeros ∷ slot Unfilled false Zeros ∷ [];
-        stack_pages = slot (Invalid 1) true Zeros ∷ [];
-      } ∷
-      record {
-        sid = 4;
-        image = 1;
-        data_pages =
-            replicate 6 (slot Unfilled false Zeros) ++ slot OnSwap false Zeros ∷
-            slot OnSwap false Zeros ∷ slot (Invalid 6) true Zeros ∷ slot (Invalid 66) true Zeros ∷
-            slot (Invalid 7) true Zeros ∷ slot (Invalid 67) true Zeros ∷
-            slot (Invalid 68) true Zeros ∷ slot (Invalid 69) true Zeros ∷
-            slot (Invalid 70) true Zeros ∷ slot (Invalid 3) true Zeros ∷
-            slot (Invalid 64) true Zeros ∷ slot (Invalid 65) true Zeros ∷ slot (Valid 18) true Zeros ∷
-            slot (Valid 19) true Zeros ∷ slot (Valid 20) true Zeros ∷ slot (Valid 21) true Zeros ∷
-            slot (Valid 22) true Zeros ∷ slot (Valid 23) true Zeros ∷ slot (Valid 24) true Zeros ∷
-            slot (Valid 25) true Zeros ∷ slot (Valid 26) true Zeros ∷ slot (Valid 27) true Zeros ∷
-            slot (Valid 28) true Zeros ∷ slot (Valid 29) true Zeros ∷ slot (Valid 30) true Zeros ∷
-            slot (Valid 31) true Zeros ∷ slot (Valid 32) true Zeros ∷ slot (Valid 33) true Zeros ∷
-            slot (Valid 34) true Zeros ∷ slot (Valid 35) true Zeros ∷ slot (Valid 36) true Zeros ∷
-            slot (Valid 37) true Zeros ∷ slot (Invalid 63) true Zeros ∷ slot (Valid 38) true Zeros ∷
-            slot (Valid 39) true Zeros ∷ slot (Valid 40) true Zeros ∷ slot (Valid 41) true Zeros ∷
-            slot (Valid 42) true Zeros ∷ slot (Valid 43) true Zeros ∷ slot (Valid 44) true Zeros ∷
-            slot (Valid 45) true Zeros ∷ slot (Valid 46) true Zeros ∷ slot (Valid 47) true Zeros ∷
-            slot (Valid 48) true Zeros ∷ slot (Valid 49) true Zeros ∷ slot (Valid 50) true Zeros ∷
-            slot (Valid 51) true Zeros ∷ slot (Valid 52) true Zeros ∷ slot (Valid 53) true Zeros ∷
-            slot (Valid 54) true Zeros ∷ slot (Valid 55) true Zeros ∷ slot Unfilled false Zeros ∷
-            slot Unfilled false Zeros ∷ [];
-        stack_pages = slot (Invalid 8) true Zeros ∷ [];
-      } ∷
-      record {
-        sid = 5;
-        image = 1;
-        data_pages =
-            replicate 10 (slot Unfilled false Zeros) ++ slot (Invalid 62) true Zeros ∷
-            replicate 27 (slot Unfilled false Zeros) ++ slot OnSwap false Zeros ∷
-            replicate 20 (slot Unfilled false Zeros);
-        stack_pages = slot OnSwap false Zeros ∷ [];
-      } ∷ [];
+      space 1 1 (slot (Valid 56) true Zeros ∷ slot (Valid 57) true Zeros ∷ slot (Valid 59) true Zeros ∷
+      slot (Valid 58) true Zeros ∷ slot (Valid 60) true Zeros ∷ slot (Valid 61) true Zeros ∷
+      slot (Valid 9) true Zeros ∷ slot (Valid 10) true Zeros ∷ slot (Valid 11) true Zeros ∷
+      slot (Valid 12) true Zeros ∷ slot (Invalid 5) true Zeros ∷ slot (Valid 13) true Zeros ∷
+      slot (Valid 14) true Zeros ∷ slot (Valid 15) true Zeros ∷ slot (Valid 16) true Zeros ∷
+      slot (Valid 17) true Zeros ∷ replicate 22 (slot OnSwap false Zeros) ++ slot (Invalid 4) true Zeros ∷
+      replicate 18 (slot OnSwap false Zeros) ++ slot Unfilled false Zeros ∷ slot Unfilled false Zeros ∷ [])
+      (slot (Invalid 1) true Zeros ∷ []) ∷
+      space 4 1 (replicate 6 (slot Unfilled false Zeros) ++ slot OnSwap false Zeros ∷ slot OnSwap false Zeros ∷
+      slot (Invalid 6) true Zeros ∷ slot (Invalid 66) true Zeros ∷ slot (Invalid 7) true Zeros ∷
+      slot (Invalid 67) true Zeros ∷ slot (Invalid 68) true Zeros ∷ slot (Invalid 69) true Zeros ∷
+      slot (Invalid 70) true Zeros ∷ slot (Invalid 3) true Zeros ∷ slot (Invalid 64) true Zeros ∷
+      slot (Invalid 65) true Zeros ∷ slot (Valid 18) true Zeros ∷ slot (Valid 19) true Zeros ∷
+      slot (Valid 20) true Zeros ∷ slot (Valid 21) true Zeros ∷ slot (Valid 22) true Zeros ∷
+      slot (Valid 23) true Zeros ∷ slot (Valid 24) true Zeros ∷ slot (Valid 25) true Zeros ∷
+      slot (Valid 26) true Zeros ∷ slot (Valid 27) true Zeros ∷ slot (Valid 28) true Zeros ∷
+      slot (Valid 29) true Zeros ∷ slot (Valid 30) true Zeros ∷ slot (Valid 31) true Zeros ∷
+      slot (Valid 32) true Zeros ∷ slot (Valid 33) true Zeros ∷ slot (Valid 34) true Zeros ∷
+      slot (Valid 35) true Zeros ∷ slot (Valid 36) true Zeros ∷ slot (Valid 37) true Zeros ∷
+      slot (Invalid 63) true Zeros ∷ slot (Valid 38) true Zeros ∷ slot (Valid 39) true Zeros ∷
+      slot (Valid 40) true Zeros ∷ slot (Valid 41) true Zeros ∷ slot (Valid 42) true Zeros ∷
+      slot (Valid 43) true Zeros ∷ slot (Valid 44) true Zeros ∷ slot (Valid 45) true Zeros ∷
+      slot (Valid 46) true Zeros ∷ slot (Valid 47) true Zeros ∷ slot (Valid 48) true Zeros ∷
+      slot (Valid 49) true Zeros ∷ slot (Valid 50) true Zeros ∷ slot (Valid 51) true Zeros ∷
+      slot (Valid 52) true Zeros ∷ slot (Valid 53) true Zeros ∷ slot (Valid 54) true Zeros ∷
+      slot (Valid 55) true Zeros ∷ slot Unfilled false Zeros ∷ slot Unfilled false Zeros ∷ [])
+      (slot (Invalid 8) true Zeros ∷ []) ∷
+      space 5 1 (replicate 10 (slot Unfilled false Zeros) ++ slot (Invalid 62) true Zeros ∷
+      replicate 27 (slot Unfilled false Zeros) ++ slot OnSwap false Zeros ∷
+      replicate 20 (slot Unfilled false Zeros))
+      (slot OnSwap false Zeros ∷ []) ∷ [];
   texts =
       record {
         image = 1;

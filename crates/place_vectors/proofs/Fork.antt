@@ -18,15 +18,10 @@ images =
 
 operations : List Operation
 operations =
-    Fixed [] 1 (entries.Zero (Stack 1 0)) ∷
-    Serve [] 3 (Text 1 0) true ∷
-    Serve [] 4 (Text 1 0) true ∷
-    Step 1 1 false 2 5 [] (Fork 2) ∷
-    Fixed (Stack 1 0 ∷ []) 6 (entries.Copy (Stack 2 0)) ∷
-    Serve (Text 1 0 ∷ []) 8 (Data 1 0) true ∷
-    Step 1 1 false 3 13 [] (End 0) ∷
-    Serve (Text 1 0 ∷ []) 16 (Data 2 0) true ∷
-    Step 2 2 false 3 21 [] (End 0) ∷ []
+    Fixed [] 1 (entries.Zero (Stack 1 0)) ∷ Serve [] 3 (Text 1 0) true ∷ Serve [] 4 (Text 1 0) true ∷
+    Step 1 1 false 2 5 [] (Fork 2) ∷ Fixed (Stack 1 0 ∷ []) 6 (entries.Copy (Stack 2 0)) ∷
+    Serve (Text 1 0 ∷ []) 8 (Data 1 0) true ∷ Step 1 1 false 3 13 [] (End 0) ∷
+    Serve (Text 1 0 ∷ []) 16 (Data 2 0) true ∷ Step 2 2 false 3 21 [] (End 0) ∷ []
 
 last : Placement
 last = record {

@@ -1,6 +1,6 @@
 -- Two processes fork in 65 frames, with frames forced for the copies: locked pages stay, writes of the back hand, and
 -- reads of one, two and three pages as frames are spared.
-use Rattle.std.proofs.Common.{◌≡◌, true, false, List, [], ◌∷◌, ◌++◌, replicate, Some, None, refl}
+use Rattle.std.proofs.Common.{◌≡◌, true, false, List, [], ◌∷◌, ◌++◌, replicate, Some, None, refl, ◌*◌, ◌+◌}
 use Rattle.vm_facts.specs.declared.page.Page.TheVariants.{Data, Stack, Text}
 use Rattle.vm_facts.specs.declared.page.PageState.TheVariants.{Unfilled, Valid, Invalid, OnSwap}
 use Rattle.vm_facts.specs.declared.entry.Entry.TheVariants as entries
@@ -11,7 +11,7 @@ use Rattle.flat_state.specs.declared.change.Change.TheVariants.{Fork, Lend, End}
 use Rattle.page_model.specs.Pages.{Zeros}
 use Rattle.page_model.specs.Placement.{Placement}
 use Rattle.page_model.specs.Swapper.{Nothing}
-use Rattle.place_vectors.proofs.Walk.{Operation, Fixed, Serve, Choose, Step, Seen, Made, Chose, Ends, named, runner, slot, empty, starting, walk}
+use Rattle.place_vectors.proofs.Walk.{Operation, Fixed, Serve, Choose, Step, Seen, Made, Chose, Ends, named, runner, slot, empty, starting, walk, rows, space}
 
 images : List NamedImage
 images =
@@ -19,207 +19,76 @@ images =
 
 operations : List Operation
 operations =
-    Fixed [] 1 (entries.Zero (Stack 1 0)) ∷
-    Fixed [] 2 (entries.Zero (Stack 2 0)) ∷
-    Serve [] 5 (Text 1 0) false ∷
-    Serve [] 0 (Text 1 0) false ∷
+    Fixed [] 1 (entries.Zero (Stack 1 0)) ∷ Fixed [] 2 (entries.Zero (Stack 2 0)) ∷ Serve [] 5 (Text 1 0) false ∷
+    Serve [] 0 (Text 1 0) false ∷ Choose (runner 1 1 false false ∷ runner 2 2 false false ∷ []) ∷
+    Choose (runner 1 1 false false ∷ runner 2 2 false false ∷ []) ∷ Fixed [] 12 entries.Done ∷
     Choose (runner 1 1 false false ∷ runner 2 2 false false ∷ []) ∷
-    Choose (runner 1 1 false false ∷ runner 2 2 false false ∷ []) ∷
-    Fixed [] 12 entries.Done ∷
-    Choose (runner 1 1 false false ∷ runner 2 2 false false ∷ []) ∷
-    Serve (Text 1 0 ∷ []) 24 (Data 2 2) false ∷
-    Serve (Text 1 0 ∷ []) 26 (Data 2 3) false ∷
-    Serve (Text 1 0 ∷ []) 28 (Data 2 4) false ∷
-    Serve (Text 1 0 ∷ []) 30 (Data 2 5) false ∷
-    Serve (Text 1 0 ∷ []) 32 (Data 2 6) false ∷
-    Serve (Text 1 0 ∷ []) 34 (Data 2 7) false ∷
-    Serve (Text 1 0 ∷ []) 36 (Data 2 8) false ∷
-    Serve (Text 1 0 ∷ []) 38 (Data 2 9) false ∷
-    Serve (Text 1 0 ∷ []) 40 (Data 2 10) false ∷
-    Serve (Text 1 0 ∷ []) 42 (Data 2 11) false ∷
-    Serve (Text 1 0 ∷ []) 44 (Data 2 12) false ∷
-    Serve (Text 1 0 ∷ []) 46 (Data 2 13) false ∷
-    Serve (Text 1 0 ∷ []) 48 (Data 2 14) false ∷
-    Serve (Text 1 0 ∷ []) 50 (Data 2 15) false ∷
-    Serve (Text 1 0 ∷ []) 52 (Data 2 16) false ∷
-    Serve (Text 1 0 ∷ []) 54 (Data 2 17) false ∷
-    Serve (Text 1 0 ∷ []) 56 (Data 2 18) false ∷
-    Serve (Text 1 0 ∷ []) 58 (Data 2 19) false ∷
-    Serve (Text 1 0 ∷ []) 60 (Data 2 20) false ∷
-    Serve (Text 1 0 ∷ []) 62 (Data 2 21) false ∷
-    Serve (Text 1 0 ∷ []) 64 (Data 2 22) false ∷
-    Serve (Text 1 0 ∷ []) 66 (Data 2 0) false ∷
-    Serve (Text 1 0 ∷ []) 68 (Data 2 1) false ∷
-    Serve (Text 1 0 ∷ []) 77 (Data 1 2) true ∷
-    Serve (Text 1 0 ∷ []) 79 (Data 1 3) true ∷
-    Serve (Text 1 0 ∷ []) 81 (Data 1 4) true ∷
-    Serve (Text 1 0 ∷ []) 83 (Data 1 5) true ∷
-    Serve (Text 1 0 ∷ []) 85 (Data 1 6) true ∷
-    Serve (Text 1 0 ∷ []) 87 (Data 1 7) true ∷
-    Serve (Text 1 0 ∷ []) 89 (Data 1 8) true ∷
-    Serve (Text 1 0 ∷ []) 91 (Data 1 9) true ∷
-    Serve (Text 1 0 ∷ []) 93 (Data 1 10) true ∷
-    Serve (Text 1 0 ∷ []) 95 (Data 1 11) true ∷
-    Serve (Text 1 0 ∷ []) 97 (Data 1 12) true ∷
-    Serve (Text 1 0 ∷ []) 99 (Data 1 13) true ∷
-    Serve (Text 1 0 ∷ []) 101 (Data 1 14) true ∷
-    Serve (Text 1 0 ∷ []) 103 (Data 1 15) true ∷
-    Serve (Text 1 0 ∷ []) 105 (Data 1 16) true ∷
-    Serve (Text 1 0 ∷ []) 107 (Data 1 17) true ∷
-    Serve (Text 1 0 ∷ []) 109 (Data 1 18) true ∷
-    Serve (Text 1 0 ∷ []) 111 (Data 1 19) true ∷
-    Serve (Text 1 0 ∷ []) 113 (Data 1 20) true ∷
-    Serve (Text 1 0 ∷ []) 115 (Data 1 21) true ∷
-    Serve (Text 1 0 ∷ []) 117 (Data 1 22) true ∷
-    Serve (Text 1 0 ∷ []) 119 (Data 1 0) true ∷
-    Serve (Text 1 0 ∷ []) 121 (Data 1 1) true ∷
-    Serve (Text 1 0 ∷ []) 123 (Data 1 23) true ∷
-    Serve (Text 1 0 ∷ []) 125 (Data 1 24) true ∷
-    Step 1 1 false 3 127 [] (Lend 3) ∷
-    Serve (Text 1 0 ∷ []) 130 (Data 2 23) true ∷
-    Serve (Text 1 0 ∷ []) 132 (Data 2 24) true ∷
-    Step 2 2 false 3 134 [] (Lend 4) ∷
-    Step 3 1 true 3 137 [] (End 35072) ∷
-    Step 4 2 true 3 140 [] (End 35072) ∷
-    Step 1 1 false 3 145 [] (Fork 5) ∷
-    Fixed (Data 1 0 ∷ []) 146 (entries.Copy (Data 3 0)) ∷
-    Fixed (Data 1 1 ∷ []) 147 (entries.Copy (Data 3 1)) ∷
-    Fixed (Data 1 2 ∷ []) 148 (entries.Copy (Data 3 2)) ∷
-    Fixed (Data 1 3 ∷ []) 149 (entries.Copy (Data 3 3)) ∷
-    Fixed (Data 1 4 ∷ []) 150 (entries.Copy (Data 3 4)) ∷
-    Fixed (Data 1 5 ∷ []) 151 (entries.Copy (Data 3 5)) ∷
-    Fixed (Data 1 6 ∷ []) 152 (entries.Copy (Data 3 6)) ∷
-    Fixed (Data 1 7 ∷ []) 153 (entries.Copy (Data 3 7)) ∷
-    Fixed (Data 1 8 ∷ []) 154 (entries.Copy (Data 3 8)) ∷
-    Fixed (Data 1 9 ∷ []) 155 (entries.Copy (Data 3 9)) ∷
-    Fixed (Data 1 10 ∷ []) 156 (entries.Copy (Data 3 10)) ∷
-    Fixed (Data 1 11 ∷ []) 157 (entries.Copy (Data 3 11)) ∷
-    Fixed (Data 1 12 ∷ []) 158 (entries.Hands 17) ∷
-    Fixed (Data 1 12 ∷ []) 159 entries.Done ∷
-    Fixed (Data 1 12 ∷ []) 160 (entries.Copy (Data 3 12)) ∷
-    Fixed (Data 1 13 ∷ []) 161 (entries.Copy (Data 3 13)) ∷
-    Fixed (Data 1 14 ∷ []) 162 (entries.Hands 2) ∷
-    Fixed (Data 1 14 ∷ []) 163 entries.Done ∷
-    Fixed (Data 1 14 ∷ []) 164 (entries.Copy (Data 3 14)) ∷
-    Fixed (Data 1 15 ∷ []) 165 (entries.Copy (Data 3 15)) ∷
-    Fixed (Data 1 16 ∷ []) 166 (entries.Copy (Data 3 16)) ∷
-    Fixed (Data 1 17 ∷ []) 167 (entries.Copy (Data 3 17)) ∷
-    Fixed (Data 1 18 ∷ []) 168 (entries.Copy (Data 3 18)) ∷
-    Fixed (Data 1 19 ∷ []) 169 (entries.Copy (Data 3 19)) ∷
-    Fixed (Data 1 20 ∷ []) 170 (entries.Copy (Data 3 20)) ∷
-    Fixed (Data 1 21 ∷ []) 171 (entries.Hands 7) ∷
-    Fixed (Data 1 21 ∷ []) 172 entries.Done ∷
-    Fixed (Data 1 21 ∷ []) 173 (entries.Copy (Data 3 21)) ∷
-    Fixed (Data 1 22 ∷ []) 174 (entries.Copy (Data 3 22)) ∷
-    Fixed (Data 1 23 ∷ []) 175 (entries.Hands 2) ∷
-    Fixed (Data 1 23 ∷ []) 176 entries.Done ∷
-    Fixed (Data 1 23 ∷ []) 177 (entries.Copy (Data 3 23)) ∷
-    Fixed (Data 1 24 ∷ []) 178 (entries.Copy (Data 3 24)) ∷
-    Fixed (Stack 1 0 ∷ []) 179 (entries.Copy (Stack 3 0)) ∷
-    Step 1 1 false 4 181 [] (End 21248) ∷
-    Step 2 2 false 4 186 [] (Fork 6) ∷
-    Serve (Data 2 0 ∷ []) 187 (Data 2 0) true ∷
-    Serve (Data 2 0 ∷ []) 188 (Data 2 0) true ∷
-    Fixed (Data 2 0 ∷ []) 189 (entries.Copy (Data 4 0)) ∷
+    rows 2 21 (λ k. Serve (Text 1 0 ∷ []) (2 * k + 20) (Data 2 k) false ∷ []) ++
+    Serve (Text 1 0 ∷ []) 66 (Data 2 0) false ∷ Serve (Text 1 0 ∷ []) 68 (Data 2 1) false ∷
+    rows 2 21 (λ k. Serve (Text 1 0 ∷ []) (2 * k + 73) (Data 1 k) true ∷ []) ++
+    Serve (Text 1 0 ∷ []) 119 (Data 1 0) true ∷ Serve (Text 1 0 ∷ []) 121 (Data 1 1) true ∷
+    Serve (Text 1 0 ∷ []) 123 (Data 1 23) true ∷ Serve (Text 1 0 ∷ []) 125 (Data 1 24) true ∷
+    Step 1 1 false 3 127 [] (Lend 3) ∷ Serve (Text 1 0 ∷ []) 130 (Data 2 23) true ∷
+    Serve (Text 1 0 ∷ []) 132 (Data 2 24) true ∷ Step 2 2 false 3 134 [] (Lend 4) ∷
+    Step 3 1 true 3 137 [] (End 35072) ∷ Step 4 2 true 3 140 [] (End 35072) ∷ Step 1 1 false 3 145 [] (Fork 5) ∷
+    rows 0 12 (λ k. Fixed (Data 1 k ∷ []) (k + 146) (entries.Copy (Data 3 k)) ∷ []) ++
+    Fixed (Data 1 12 ∷ []) 158 (entries.Hands 17) ∷ Fixed (Data 1 12 ∷ []) 159 entries.Done ∷
+    Fixed (Data 1 12 ∷ []) 160 (entries.Copy (Data 3 12)) ∷ Fixed (Data 1 13 ∷ []) 161 (entries.Copy (Data 3 13)) ∷
+    Fixed (Data 1 14 ∷ []) 162 (entries.Hands 2) ∷ Fixed (Data 1 14 ∷ []) 163 entries.Done ∷
+    rows 14 7 (λ k. Fixed (Data 1 k ∷ []) (k + 150) (entries.Copy (Data 3 k)) ∷ []) ++
+    Fixed (Data 1 21 ∷ []) 171 (entries.Hands 7) ∷ Fixed (Data 1 21 ∷ []) 172 entries.Done ∷
+    Fixed (Data 1 21 ∷ []) 173 (entries.Copy (Data 3 21)) ∷ Fixed (Data 1 22 ∷ []) 174 (entries.Copy (Data 3 22)) ∷
+    Fixed (Data 1 23 ∷ []) 175 (entries.Hands 2) ∷ Fixed (Data 1 23 ∷ []) 176 entries.Done ∷
+    Fixed (Data 1 23 ∷ []) 177 (entries.Copy (Data 3 23)) ∷ Fixed (Data 1 24 ∷ []) 178 (entries.Copy (Data 3 24)) ∷
+    Fixed (Stack 1 0 ∷ []) 179 (entries.Copy (Stack 3 0)) ∷ Step 1 1 false 4 181 [] (End 21248) ∷
+    Step 2 2 false 4 186 [] (Fork 6) ∷ Serve (Data 2 0 ∷ []) 187 (Data 2 0) true ∷
+    Serve (Data 2 0 ∷ []) 188 (Data 2 0) true ∷ Fixed (Data 2 0 ∷ []) 189 (entries.Copy (Data 4 0)) ∷
     Serve (Data 2 1 ∷ []) 190 (Data 2 1) true ∷
-    Fixed (Data 2 1 ∷ []) 191 (entries.Copy (Data 4 1)) ∷
-    Fixed (Data 2 2 ∷ []) 192 (entries.Copy (Data 4 2)) ∷
-    Fixed (Data 2 3 ∷ []) 193 (entries.Copy (Data 4 3)) ∷
-    Fixed (Data 2 4 ∷ []) 194 (entries.Copy (Data 4 4)) ∷
-    Fixed (Data 2 5 ∷ []) 195 (entries.Copy (Data 4 5)) ∷
-    Fixed (Data 2 6 ∷ []) 196 (entries.Copy (Data 4 6)) ∷
-    Fixed (Data 2 7 ∷ []) 197 (entries.Copy (Data 4 7)) ∷
-    Fixed (Data 2 8 ∷ []) 198 (entries.Copy (Data 4 8)) ∷
-    Fixed (Data 2 9 ∷ []) 199 (entries.Copy (Data 4 9)) ∷
-    Fixed (Data 2 10 ∷ []) 200 (entries.Copy (Data 4 10)) ∷
-    Fixed (Data 2 11 ∷ []) 201 (entries.Copy (Data 4 11)) ∷
-    Fixed (Data 2 12 ∷ []) 202 (entries.Copy (Data 4 12)) ∷
-    Fixed (Data 2 13 ∷ []) 203 (entries.Copy (Data 4 13)) ∷
-    Serve (Data 2 14 ∷ []) 204 (Data 2 14) true ∷
-    Serve (Data 2 14 ∷ []) 205 (Data 2 14) true ∷
-    Fixed (Data 2 14 ∷ []) 206 (entries.Copy (Data 4 14)) ∷
-    Serve (Data 2 15 ∷ []) 207 (Data 2 15) true ∷
-    Serve (Data 2 15 ∷ []) 208 (Data 2 15) true ∷
-    Fixed (Data 2 15 ∷ []) 209 (entries.Copy (Data 4 15)) ∷
-    Serve (Data 2 16 ∷ []) 210 (Data 2 16) true ∷
-    Serve (Data 2 16 ∷ []) 211 (Data 2 16) true ∷
-    Fixed (Data 2 16 ∷ []) 212 (entries.Copy (Data 4 16)) ∷
-    Serve (Data 2 17 ∷ []) 213 (Data 2 17) true ∷
-    Serve (Data 2 17 ∷ []) 214 (Data 2 17) true ∷
-    Fixed (Data 2 17 ∷ []) 215 (entries.Hands 17) ∷
-    Fixed (Data 2 17 ∷ []) 216 entries.Done ∷
-    Fixed (Data 2 17 ∷ []) 217 (entries.Copy (Data 4 17)) ∷
-    Serve (Data 2 18 ∷ []) 218 (Data 2 18) true ∷
-    Serve (Data 2 18 ∷ []) 219 (Data 2 18) true ∷
-    Fixed (Data 2 18 ∷ []) 220 (entries.Copy (Data 4 18)) ∷
-    Serve (Data 2 19 ∷ []) 221 (Data 2 19) true ∷
-    Serve (Data 2 19 ∷ []) 222 (Data 2 19) true ∷
+    rows 1 12 (λ k. Fixed (Data 2 k ∷ []) (k + 190) (entries.Copy (Data 4 k)) ∷ []) ++
+    rows 13 4 (λ k.
+    Fixed (Data 2 k ∷ []) (3 * k + 164) (entries.Copy (Data 4 k)) ∷
+    Serve (Data 2 (k + 1) ∷ []) (3 * k + 165) (Data 2 (k + 1)) true ∷
+    Serve (Data 2 (k + 1) ∷ []) (3 * k + 166) (Data 2 (k + 1)) true ∷ []) ++
+    Fixed (Data 2 17 ∷ []) 215 (entries.Hands 17) ∷ Fixed (Data 2 17 ∷ []) 216 entries.Done ∷
+    Fixed (Data 2 17 ∷ []) 217 (entries.Copy (Data 4 17)) ∷ Serve (Data 2 18 ∷ []) 218 (Data 2 18) true ∷
+    Serve (Data 2 18 ∷ []) 219 (Data 2 18) true ∷ Fixed (Data 2 18 ∷ []) 220 (entries.Copy (Data 4 18)) ∷
+    Serve (Data 2 19 ∷ []) 221 (Data 2 19) true ∷ Serve (Data 2 19 ∷ []) 222 (Data 2 19) true ∷
     Fixed (Data 2 19 ∷ []) 223 (entries.Copy (Data 4 19)) ∷
-    Serve (Data 2 20 ∷ []) 224 (Data 2 20) true ∷
-    Serve (Data 2 20 ∷ []) 224 (Data 2 20) true ∷
-    Serve (Data 2 20 ∷ []) 224 (Data 2 20) true ∷
-    Serve (Data 2 20 ∷ []) 224 (Data 2 20) true ∷
-    Serve (Data 2 20 ∷ []) 224 (Data 2 20) true ∷
-    Serve (Data 2 20 ∷ []) 225 (Data 2 20) true ∷
-    Serve (Data 2 20 ∷ []) 226 (Data 2 20) true ∷
-    Serve (Data 2 20 ∷ []) 227 (Data 2 20) true ∷
-    Fixed (Data 2 20 ∷ []) 228 (entries.Hands 2) ∷
-    Fixed (Data 2 20 ∷ []) 229 (entries.Copy (Data 4 20)) ∷
-    Serve (Data 2 21 ∷ []) 230 (Data 2 21) true ∷
-    Serve (Data 2 21 ∷ []) 231 (Data 2 21) true ∷
-    Serve (Data 2 21 ∷ []) 232 (Data 2 21) true ∷
-    Serve (Data 2 21 ∷ []) 233 (Data 2 21) true ∷
-    Fixed (Data 2 21 ∷ []) 234 (entries.Copy (Data 4 21)) ∷
-    Serve (Data 2 22 ∷ []) 235 (Data 2 22) true ∷
-    Serve (Data 2 22 ∷ []) 235 (Data 2 22) true ∷
-    Serve (Data 2 22 ∷ []) 236 (Data 2 22) true ∷
-    Serve (Data 2 22 ∷ []) 237 (Data 2 22) true ∷
-    Serve (Data 2 22 ∷ []) 238 (Data 2 22) true ∷
-    Fixed (Data 2 22 ∷ []) 239 (entries.Copy (Data 4 22)) ∷
-    Serve (Data 2 23 ∷ []) 240 (Data 2 23) true ∷
-    Fixed (Data 2 23 ∷ []) 241 (entries.Copy (Data 4 23)) ∷
-    Serve (Data 2 24 ∷ []) 242 (Data 2 24) true ∷
-    Fixed (Data 2 24 ∷ []) 243 (entries.Copy (Data 4 24)) ∷
-    Serve (Stack 2 0 ∷ []) 244 (Stack 2 0) true ∷
-    Fixed (Stack 2 0 ∷ []) 245 (entries.Copy (Stack 4 0)) ∷
-    Serve [] 246 (Text 1 0) true ∷
-    Step 2 2 false 5 248 [] (End 21248) ∷
-    Serve (Text 1 0 ∷ []) 251 (Data 3 25) true ∷
-    Serve (Text 1 0 ∷ []) 253 (Data 3 26) true ∷
-    Serve (Text 1 0 ∷ []) 255 (Data 3 27) true ∷ []
+    replicate 5 (Serve (Data 2 20 ∷ []) 224 (Data 2 20) true) ++
+    rows 225 3 (λ k. Serve (Data 2 20 ∷ []) k (Data 2 20) true ∷ []) ++
+    Fixed (Data 2 20 ∷ []) 228 (entries.Hands 2) ∷ Fixed (Data 2 20 ∷ []) 229 (entries.Copy (Data 4 20)) ∷
+    rows 230 4 (λ k. Serve (Data 2 21 ∷ []) k (Data 2 21) true ∷ []) ++
+    Fixed (Data 2 21 ∷ []) 234 (entries.Copy (Data 4 21)) ∷ Serve (Data 2 22 ∷ []) 235 (Data 2 22) true ∷
+    rows 235 3 (λ k. Serve (Data 2 22 ∷ []) k (Data 2 22) true ∷ []) ++
+    rows 22 3 (λ k.
+    Serve (Data 2 k ∷ []) (2 * k + 194) (Data 2 k) true ∷
+    Fixed (Data 2 k ∷ []) (2 * k + 195) (entries.Copy (Data 4 k)) ∷ []) ++
+    Serve (Stack 2 0 ∷ []) 244 (Stack 2 0) true ∷ Fixed (Stack 2 0 ∷ []) 245 (entries.Copy (Stack 4 0)) ∷
+    Serve [] 246 (Text 1 0) true ∷ Step 2 2 false 5 248 [] (End 21248) ∷
+    rows 25 3 (λ k. Serve (Text 1 0 ∷ []) (2 * k + 201) (Data 3 k) true ∷ [])
 
 last : Placement
 last = record {
   spaces =
-      record {
-        sid = 3;
-        image = 1;
-        data_pages =
-            replicate 7 (slot OnSwap false Zeros) ++ slot (Invalid 62) false Zeros ∷
-            slot (Invalid 63) false Zeros ∷ slot (Invalid 64) false Zeros ∷
-            slot (Invalid 65) false Zeros ∷ slot (Invalid 4) false Zeros ∷
-            slot (Valid 17) true Zeros ∷ slot (Valid 18) true Zeros ∷ slot (Valid 19) true Zeros ∷
-            slot (Valid 20) true Zeros ∷ slot (Valid 21) true Zeros ∷ slot (Valid 22) true Zeros ∷
-            slot (Valid 23) true Zeros ∷ slot (Valid 24) true Zeros ∷ slot (Valid 25) true Zeros ∷
-            slot (Valid 26) true Zeros ∷ slot (Valid 27) true Zeros ∷ slot (Valid 28) true Zeros ∷
-            slot (Valid 29) true Zeros ∷ slot (Valid 2) true Zeros ∷ slot (Valid 57) true Zeros ∷
-            slot (Valid 56) true Zeros ∷ slot Unfilled false Zeros ∷ slot Unfilled false Zeros ∷ [];
-        stack_pages = slot (Valid 30) true Zeros ∷ [];
-      } ∷
-      record {
-        sid = 4;
-        image = 1;
-        data_pages =
-            replicate 5 (slot OnSwap false Zeros) ++ slot (Valid 44) true Zeros ∷
-            slot (Valid 43) true Zeros ∷ slot (Valid 42) true Zeros ∷ slot (Valid 41) true Zeros ∷
-            slot (Valid 40) true Zeros ∷ slot (Valid 39) true Zeros ∷ slot (Valid 38) true Zeros ∷
-            slot (Valid 37) true Zeros ∷ slot (Valid 36) true Zeros ∷ slot (Valid 34) true Zeros ∷
-            slot (Valid 32) true Zeros ∷ slot OnSwap false Zeros ∷ slot (Valid 51) true Zeros ∷
-            slot (Valid 47) true Zeros ∷ slot (Valid 45) true Zeros ∷ slot (Valid 52) true Zeros ∷
-            slot (Valid 54) true Zeros ∷ slot (Valid 58) true Zeros ∷ slot (Valid 59) true Zeros ∷
-            slot (Valid 60) true Zeros ∷ replicate 5 (slot Unfilled false Zeros);
-        stack_pages = slot (Valid 61) true Zeros ∷ [];
-      } ∷ [];
+      space 3 1 (replicate 7 (slot OnSwap false Zeros) ++ slot (Invalid 62) false Zeros ∷
+      slot (Invalid 63) false Zeros ∷ slot (Invalid 64) false Zeros ∷ slot (Invalid 65) false Zeros ∷
+      slot (Invalid 4) false Zeros ∷ slot (Valid 17) true Zeros ∷ slot (Valid 18) true Zeros ∷
+      slot (Valid 19) true Zeros ∷ slot (Valid 20) true Zeros ∷ slot (Valid 21) true Zeros ∷
+      slot (Valid 22) true Zeros ∷ slot (Valid 23) true Zeros ∷ slot (Valid 24) true Zeros ∷
+      slot (Valid 25) true Zeros ∷ slot (Valid 26) true Zeros ∷ slot (Valid 27) true Zeros ∷
+      slot (Valid 28) true Zeros ∷ slot (Valid 29) true Zeros ∷ slot (Valid 2) true Zeros ∷
+      slot (Valid 57) true Zeros ∷ slot (Valid 56) true Zeros ∷ slot Unfilled false Zeros ∷
+      slot Unfilled false Zeros ∷ [])
+      (slot (Valid 30) true Zeros ∷ []) ∷
+      space 4 1 (replicate 5 (slot OnSwap false Zeros) ++ slot (Valid 44) true Zeros ∷ slot (Valid 43) true Zeros ∷
+      slot (Valid 42) true Zeros ∷ slot (Valid 41) true Zeros ∷ slot (Valid 40) true Zeros ∷
+      slot (Valid 39) true Zeros ∷ slot (Valid 38) true Zeros ∷ slot (Valid 37) true Zeros ∷
+      slot (Valid 36) true Zeros ∷ slot (Valid 34) true Zeros ∷ slot (Valid 32) true Zeros ∷
+      slot OnSwap false Zeros ∷ slot (Valid 51) true Zeros ∷ slot (Valid 47) true Zeros ∷
+      slot (Valid 45) true Zeros ∷ slot (Valid 52) true Zeros ∷ slot (Valid 54) true Zeros ∷
+      slot (Valid 58) true Zeros ∷ slot (Valid 59) true Zeros ∷ slot (Valid 60) true Zeros ∷
+      replicate 5 (slot Unfilled false Zeros))
+      (slot (Valid 61) true Zeros ∷ []) ∷ [];
   texts =
       record {
         image = 1;

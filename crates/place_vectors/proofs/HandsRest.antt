@@ -1,78 +1,24 @@
 -- A process of 48 data pages in 64 frames: with 14 frames free the hands move when they may, and once a write of two
 -- pages has ended and 16 are free they make no move. Then a page that was written is reclaimed. The units were
 -- recorded, and what the run leaves wasn't.
-use Rattle.std.proofs.Common.{◌≡◌, true, false, List, [], ◌∷◌, Some, None, refl}
+use Rattle.std.proofs.Common.{◌≡◌, true, false, List, [], ◌∷◌, Some, None, refl, ◌++◌, ◌*◌, ◌+◌}
 use Rattle.vm_facts.specs.declared.page.Page.TheVariants.{Data, Stack, Text}
 use Rattle.vm_facts.specs.declared.entry.Entry.TheVariants as entries
 use Rattle.aout_image.specs.declared.Kind.TheVariants.{Paged}
 use Rattle.swap_dmap.specs.Chunks.{chunk, chunk_start, lowest, chunk_reached, counted_from, spot, text_spot}
 use Rattle.flat_state.specs.Flat.{NamedImage}
-use Rattle.place_vectors.proofs.Walk.{Operation, Fixed, Serve, Wants, Seen, Made, Moves, named, starting, walk, chosen}
+use Rattle.place_vectors.proofs.Walk.{Operation, Fixed, Serve, Wants, Seen, Made, Moves, named, starting, walk, chosen, rows}
 
 images : List NamedImage
 images = named Paged 1024 0 49152 0 ∷ []
 
 operations : List Operation
 operations =
-    Fixed [] 1 (entries.Zero (Stack 1 0)) ∷
-    Serve [] 3 (Text 1 0) false ∷
-    Serve [] 0 (Text 1 0) false ∷
+    Fixed [] 1 (entries.Zero (Stack 1 0)) ∷ Serve [] 3 (Text 1 0) false ∷ Serve [] 0 (Text 1 0) false ∷
     Fixed [] 5 entries.Done ∷
-    Serve (Text 1 0 ∷ []) 8 (Data 1 0) false ∷
-    Serve (Text 1 0 ∷ []) 10 (Data 1 1) false ∷
-    Serve (Text 1 0 ∷ []) 12 (Data 1 2) false ∷
-    Serve (Text 1 0 ∷ []) 14 (Data 1 3) false ∷
-    Serve (Text 1 0 ∷ []) 16 (Data 1 4) false ∷
-    Serve (Text 1 0 ∷ []) 18 (Data 1 5) false ∷
-    Serve (Text 1 0 ∷ []) 20 (Data 1 6) false ∷
-    Serve (Text 1 0 ∷ []) 22 (Data 1 7) false ∷
-    Serve (Text 1 0 ∷ []) 24 (Data 1 8) false ∷
-    Serve (Text 1 0 ∷ []) 26 (Data 1 9) false ∷
-    Serve (Text 1 0 ∷ []) 28 (Data 1 10) false ∷
-    Serve (Text 1 0 ∷ []) 30 (Data 1 11) false ∷
-    Serve (Text 1 0 ∷ []) 32 (Data 1 12) false ∷
-    Serve (Text 1 0 ∷ []) 34 (Data 1 13) false ∷
-    Serve (Text 1 0 ∷ []) 36 (Data 1 14) false ∷
-    Serve (Text 1 0 ∷ []) 38 (Data 1 15) false ∷
-    Serve (Text 1 0 ∷ []) 40 (Data 1 16) false ∷
-    Serve (Text 1 0 ∷ []) 42 (Data 1 17) false ∷
-    Serve (Text 1 0 ∷ []) 44 (Data 1 18) false ∷
-    Serve (Text 1 0 ∷ []) 46 (Data 1 19) false ∷
-    Serve (Text 1 0 ∷ []) 48 (Data 1 20) false ∷
-    Serve (Text 1 0 ∷ []) 50 (Data 1 21) false ∷
-    Serve (Text 1 0 ∷ []) 52 (Data 1 22) false ∷
-    Serve (Text 1 0 ∷ []) 54 (Data 1 23) false ∷
-    Serve (Text 1 0 ∷ []) 56 (Data 1 24) false ∷
-    Serve (Text 1 0 ∷ []) 58 (Data 1 25) false ∷
-    Serve (Text 1 0 ∷ []) 60 (Data 1 26) false ∷
-    Serve (Text 1 0 ∷ []) 62 (Data 1 27) false ∷
-    Serve (Text 1 0 ∷ []) 64 (Data 1 28) false ∷
-    Serve (Text 1 0 ∷ []) 66 (Data 1 29) false ∷
-    Serve (Text 1 0 ∷ []) 68 (Data 1 30) false ∷
-    Serve (Text 1 0 ∷ []) 70 (Data 1 31) false ∷
-    Serve (Text 1 0 ∷ []) 72 (Data 1 32) false ∷
-    Serve (Text 1 0 ∷ []) 74 (Data 1 33) false ∷
-    Serve (Text 1 0 ∷ []) 76 (Data 1 34) false ∷
-    Serve (Text 1 0 ∷ []) 78 (Data 1 35) false ∷
-    Serve (Text 1 0 ∷ []) 80 (Data 1 36) false ∷
-    Serve (Text 1 0 ∷ []) 82 (Data 1 37) false ∷
-    Serve (Text 1 0 ∷ []) 84 (Data 1 38) false ∷
-    Serve (Text 1 0 ∷ []) 86 (Data 1 39) false ∷
-    Serve (Text 1 0 ∷ []) 88 (Data 1 40) false ∷
-    Serve (Text 1 0 ∷ []) 90 (Data 1 41) false ∷
-    Serve (Text 1 0 ∷ []) 92 (Data 1 42) false ∷
-    Serve (Text 1 0 ∷ []) 94 (Data 1 43) false ∷
-    Serve (Text 1 0 ∷ []) 96 (Data 1 44) false ∷
-    Serve (Text 1 0 ∷ []) 98 (Data 1 45) false ∷
-    Serve (Text 1 0 ∷ []) 100 (Data 1 46) false ∷
-    Serve (Text 1 0 ∷ []) 102 (Data 1 47) false ∷
-    Wants ∷
-    Fixed [] 105 (entries.Hands 16) ∷
-    Wants ∷
-    Fixed [] 105 (entries.Hands 1) ∷
-    Fixed [] 107 entries.Done ∷
-    Wants ∷
-    Serve [] 111 (Data 1 14) false ∷ []
+    rows 0 48 (λ k. Serve (Text 1 0 ∷ []) (2 * k + 8) (Data 1 k) false ∷ []) ++
+    Wants ∷ Fixed [] 105 (entries.Hands 16) ∷ Wants ∷ Fixed [] 105 (entries.Hands 1) ∷ Fixed [] 107 entries.Done ∷
+    Wants ∷ Serve [] 111 (Data 1 14) false ∷ []
 
 seen : List Seen
 seen =

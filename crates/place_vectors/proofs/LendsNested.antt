@@ -17,15 +17,9 @@ images =
 
 operations : List Operation
 operations =
-    Fixed [] 1 (entries.Zero (Stack 1 0)) ∷
-    Serve [] 3 (Text 1 0) true ∷
-    Serve [] 4 (Text 1 0) true ∷
-    Step 1 1 false 2 5 [] (Lend 2) ∷
-    Step 2 1 true 2 8 [] (Lend 3) ∷
-    Serve (Text 1 0 ∷ []) 11 (Data 1 0) true ∷
-    Step 3 1 true 2 13 [] (End 0) ∷
-    Step 2 1 true 2 16 [] (End 0) ∷
-    Step 1 1 false 2 22 [] (End 0) ∷ []
+    Fixed [] 1 (entries.Zero (Stack 1 0)) ∷ Serve [] 3 (Text 1 0) true ∷ Serve [] 4 (Text 1 0) true ∷
+    Step 1 1 false 2 5 [] (Lend 2) ∷ Step 2 1 true 2 8 [] (Lend 3) ∷ Serve (Text 1 0 ∷ []) 11 (Data 1 0) true ∷
+    Step 3 1 true 2 13 [] (End 0) ∷ Step 2 1 true 2 16 [] (End 0) ∷ Step 1 1 false 2 22 [] (End 0) ∷ []
 
 last : Placement
 last = record {

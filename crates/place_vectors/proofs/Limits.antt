@@ -12,7 +12,7 @@ use Rattle.page_model.specs.Placement.{Placement, Writes}
 use Rattle.page_model.specs.Hands.{wants_moves}
 use Rattle.page_model.specs.Serve.{serve_unit}
 use Rattle.page_model.specs.Swapper.{put_out_unit}
-use Rattle.place_vectors.proofs.Walk.{slot, empty, frames}
+use Rattle.place_vectors.proofs.Walk.{slot, empty, frames, space}
 
 -- A space of 17 data pages and 17 stack pages on swap, and five text pages on swap that are saved: chunk 0 has 16 of the
 -- pages of a segment. The image's second text is unfilled but for its page 2, and space 2 has a data page of the file
@@ -20,24 +20,10 @@ use Rattle.place_vectors.proofs.Walk.{slot, empty, frames}
 waiting : ℕ → ℕ → Placement
 waiting free flying = record {
   spaces =
-      record {
-        sid = 1;
-        image = 1;
-        data_pages = replicate 17 (slot OnSwap false Zeros);
-        stack_pages = replicate 17 (slot OnSwap false Zeros);
-      } ∷
-      record {
-        sid = 2;
-        image = 2;
-        data_pages = slot Unfilled false OfImage ∷ slot Unfilled false OfImage ∷ slot Unfilled false Zeros ∷ [];
-        stack_pages = slot (Valid 64) true Zeros ∷ [];
-      } ∷
-      record {
-        sid = 3;
-        image = 2;
-        data_pages = slot (Valid 63) false Zeros ∷ [];
-        stack_pages = [];
-      } ∷ [];
+      space 1 1 (replicate 17 (slot OnSwap false Zeros)) (replicate 17 (slot OnSwap false Zeros)) ∷
+      space 2 2 (slot Unfilled false OfImage ∷ slot Unfilled false OfImage ∷ slot Unfilled false Zeros ∷ [])
+      (slot (Valid 64) true Zeros ∷ []) ∷
+      space 3 2 (slot (Valid 63) false Zeros ∷ []) [] ∷ [];
   texts =
       record { image = 1; text_pages = replicate 5 (slot OnSwap true Zeros) } ∷
       record {

@@ -1,6 +1,6 @@
 -- The swapper puts out a process of 56 dirty data pages, by writes of at most 16 pages of one chunk, each ended before
 -- the next, and brings it in again; its text page stays.
-use Rattle.std.proofs.Common.{◌≡◌, true, false, List, [], ◌∷◌, ◌++◌, replicate, Some, None, refl}
+use Rattle.std.proofs.Common.{◌≡◌, true, false, List, [], ◌∷◌, ◌++◌, replicate, Some, None, refl, ◌*◌, ◌+◌}
 use Rattle.vm_facts.specs.declared.page.Page.TheVariants.{Data, Stack, Text}
 use Rattle.vm_facts.specs.declared.page.PageState.TheVariants.{Unfilled, Valid, Invalid}
 use Rattle.vm_facts.specs.declared.entry.Entry.TheVariants as entries
@@ -10,7 +10,7 @@ use Rattle.flat_state.specs.Flat.{NamedImage}
 use Rattle.page_model.specs.Pages.{Zeros}
 use Rattle.page_model.specs.Placement.{Placement}
 use Rattle.page_model.specs.Swapper.{Out}
-use Rattle.place_vectors.proofs.Walk.{Operation, Fixed, Serve, PutsOut, Choose, Seen, Made, Chose, Ends, named, runner, slot, empty, frames, starting, walk}
+use Rattle.place_vectors.proofs.Walk.{Operation, Fixed, Serve, PutsOut, Choose, Seen, Made, Chose, Ends, named, runner, slot, empty, frames, starting, walk, rows, space}
 
 images : List NamedImage
 images =
@@ -18,119 +18,37 @@ images =
 
 operations : List Operation
 operations =
-    Fixed [] 1 (entries.Zero (Stack 1 0)) ∷
-    Serve [] 3 (Text 1 0) false ∷
-    Serve [] 0 (Text 1 0) false ∷
+    Fixed [] 1 (entries.Zero (Stack 1 0)) ∷ Serve [] 3 (Text 1 0) false ∷ Serve [] 0 (Text 1 0) false ∷
     Fixed [] 5 entries.Done ∷
-    Serve (Text 1 0 ∷ []) 8 (Data 1 0) false ∷
-    Serve (Text 1 0 ∷ []) 10 (Data 1 1) false ∷
-    Serve (Text 1 0 ∷ []) 12 (Data 1 2) false ∷
-    Serve (Text 1 0 ∷ []) 14 (Data 1 3) false ∷
-    Serve (Text 1 0 ∷ []) 16 (Data 1 4) false ∷
-    Serve (Text 1 0 ∷ []) 18 (Data 1 5) false ∷
-    Serve (Text 1 0 ∷ []) 20 (Data 1 6) false ∷
-    Serve (Text 1 0 ∷ []) 22 (Data 1 7) false ∷
-    Serve (Text 1 0 ∷ []) 24 (Data 1 8) false ∷
-    Serve (Text 1 0 ∷ []) 26 (Data 1 9) false ∷
-    Serve (Text 1 0 ∷ []) 28 (Data 1 10) false ∷
-    Serve (Text 1 0 ∷ []) 30 (Data 1 11) false ∷
-    Serve (Text 1 0 ∷ []) 32 (Data 1 12) false ∷
-    Serve (Text 1 0 ∷ []) 34 (Data 1 13) false ∷
-    Serve (Text 1 0 ∷ []) 36 (Data 1 14) false ∷
-    Serve (Text 1 0 ∷ []) 38 (Data 1 15) false ∷
-    Serve (Text 1 0 ∷ []) 40 (Data 1 16) false ∷
-    Serve (Text 1 0 ∷ []) 42 (Data 1 17) false ∷
-    Serve (Text 1 0 ∷ []) 44 (Data 1 18) false ∷
-    Serve (Text 1 0 ∷ []) 46 (Data 1 19) false ∷
-    Serve (Text 1 0 ∷ []) 48 (Data 1 20) false ∷
-    Serve (Text 1 0 ∷ []) 50 (Data 1 21) false ∷
-    Serve (Text 1 0 ∷ []) 52 (Data 1 22) false ∷
-    Serve (Text 1 0 ∷ []) 54 (Data 1 23) false ∷
-    Serve (Text 1 0 ∷ []) 56 (Data 1 24) false ∷
-    Serve (Text 1 0 ∷ []) 58 (Data 1 25) false ∷
-    Serve (Text 1 0 ∷ []) 60 (Data 1 26) false ∷
-    Serve (Text 1 0 ∷ []) 62 (Data 1 27) false ∷
-    Serve (Text 1 0 ∷ []) 64 (Data 1 28) false ∷
-    Serve (Text 1 0 ∷ []) 66 (Data 1 29) false ∷
-    Serve (Text 1 0 ∷ []) 68 (Data 1 30) false ∷
-    Serve (Text 1 0 ∷ []) 70 (Data 1 31) false ∷
-    Serve (Text 1 0 ∷ []) 72 (Data 1 32) false ∷
-    Serve (Text 1 0 ∷ []) 74 (Data 1 33) false ∷
-    Serve (Text 1 0 ∷ []) 76 (Data 1 34) false ∷
-    Serve (Text 1 0 ∷ []) 78 (Data 1 35) false ∷
-    Serve (Text 1 0 ∷ []) 80 (Data 1 36) false ∷
-    Serve (Text 1 0 ∷ []) 82 (Data 1 37) false ∷
-    Serve (Text 1 0 ∷ []) 84 (Data 1 38) false ∷
-    Serve (Text 1 0 ∷ []) 86 (Data 1 39) false ∷
-    Serve (Text 1 0 ∷ []) 88 (Data 1 40) false ∷
-    Serve (Text 1 0 ∷ []) 90 (Data 1 41) false ∷
-    Serve (Text 1 0 ∷ []) 92 (Data 1 42) false ∷
-    Serve (Text 1 0 ∷ []) 94 (Data 1 43) false ∷
-    Serve (Text 1 0 ∷ []) 96 (Data 1 44) false ∷
-    Serve (Text 1 0 ∷ []) 98 (Data 1 45) false ∷
-    Serve (Text 1 0 ∷ []) 100 (Data 1 46) false ∷
-    Serve (Text 1 0 ∷ []) 102 (Data 1 47) false ∷
-    Serve (Text 1 0 ∷ []) 104 (Data 1 48) false ∷
-    Serve (Text 1 0 ∷ []) 106 (Data 1 49) false ∷
-    Serve (Text 1 0 ∷ []) 108 (Data 1 50) false ∷
-    Serve (Text 1 0 ∷ []) 110 (Data 1 51) false ∷
-    Serve (Text 1 0 ∷ []) 112 (Data 1 52) false ∷
-    Serve (Text 1 0 ∷ []) 114 (Data 1 53) false ∷
-    Serve (Text 1 0 ∷ []) 116 (Data 1 54) false ∷
-    Serve (Text 1 0 ∷ []) 118 (Data 1 55) false ∷
+    rows 0 56 (λ k. Serve (Text 1 0 ∷ []) (2 * k + 8) (Data 1 k) false ∷ []) ++
     Choose (runner 1 1 false false ∷ []) ∷
-    PutsOut 121 1 1 ∷
-    PutsOut 122 1 1 ∷
-    PutsOut 123 1 1 ∷
-    PutsOut 124 1 1 ∷
-    PutsOut 125 1 1 ∷
-    PutsOut 126 1 1 ∷
-    PutsOut 127 1 1 ∷
-    PutsOut 128 1 1 ∷
-    PutsOut 129 1 1 ∷
-    PutsOut 130 1 1 ∷
-    PutsOut 131 1 1 ∷
-    Fixed (Text 1 0 ∷ []) 135 (entries.SwapIn 1) ∷
-    Serve (Text 1 0 ∷ []) 136 (Data 1 56) true ∷ []
+    rows 121 11 (λ k. PutsOut k 1 1 ∷ []) ++
+    Fixed (Text 1 0 ∷ []) 135 (entries.SwapIn 1) ∷ Serve (Text 1 0 ∷ []) 136 (Data 1 56) true ∷ []
 
 last : Placement
 last = record {
   spaces =
-      record {
-        sid = 1;
-        image = 1;
-        data_pages =
-            slot (Invalid 3) false Zeros ∷ slot (Invalid 4) false Zeros ∷
-            slot (Invalid 5) false Zeros ∷ slot (Invalid 6) false Zeros ∷
-            slot (Invalid 7) false Zeros ∷ slot (Invalid 8) false Zeros ∷
-            slot (Invalid 9) false Zeros ∷ slot (Invalid 10) false Zeros ∷
-            slot (Invalid 11) false Zeros ∷ slot (Invalid 12) false Zeros ∷
-            slot (Invalid 13) false Zeros ∷ slot (Invalid 14) false Zeros ∷
-            slot (Invalid 15) false Zeros ∷ slot (Invalid 16) false Zeros ∷
-            slot (Invalid 17) false Zeros ∷ slot (Invalid 18) false Zeros ∷
-            slot (Invalid 19) false Zeros ∷ slot (Invalid 20) false Zeros ∷
-            slot (Invalid 21) false Zeros ∷ slot (Invalid 22) false Zeros ∷
-            slot (Invalid 23) false Zeros ∷ slot (Invalid 24) false Zeros ∷
-            slot (Invalid 25) false Zeros ∷ slot (Invalid 26) false Zeros ∷
-            slot (Invalid 27) false Zeros ∷ slot (Invalid 28) false Zeros ∷
-            slot (Invalid 29) false Zeros ∷ slot (Invalid 30) false Zeros ∷
-            slot (Invalid 31) false Zeros ∷ slot (Invalid 32) false Zeros ∷
-            slot (Invalid 33) false Zeros ∷ slot (Invalid 34) false Zeros ∷
-            slot (Invalid 35) false Zeros ∷ slot (Invalid 36) false Zeros ∷
-            slot (Invalid 37) false Zeros ∷ slot (Invalid 38) false Zeros ∷
-            slot (Invalid 39) false Zeros ∷ slot (Invalid 40) false Zeros ∷
-            slot (Invalid 41) false Zeros ∷ slot (Invalid 42) false Zeros ∷
-            slot (Invalid 43) false Zeros ∷ slot (Invalid 44) false Zeros ∷
-            slot (Invalid 45) false Zeros ∷ slot (Invalid 46) false Zeros ∷
-            slot (Invalid 47) false Zeros ∷ slot (Invalid 48) false Zeros ∷
-            slot (Invalid 49) false Zeros ∷ slot (Invalid 50) false Zeros ∷
-            slot (Invalid 51) false Zeros ∷ slot (Invalid 52) false Zeros ∷
-            slot (Invalid 53) false Zeros ∷ slot (Invalid 54) false Zeros ∷
-            slot (Invalid 55) false Zeros ∷ slot (Invalid 56) false Zeros ∷
-            slot (Invalid 57) false Zeros ∷ slot (Invalid 58) false Zeros ∷
-            slot (Valid 59) true Zeros ∷ replicate 143 (slot Unfilled false Zeros);
-        stack_pages = slot (Invalid 1) false Zeros ∷ [];
-      } ∷ [];
+      space 1 1 (slot (Invalid 3) false Zeros ∷ slot (Invalid 4) false Zeros ∷ slot (Invalid 5) false Zeros ∷
+      slot (Invalid 6) false Zeros ∷ slot (Invalid 7) false Zeros ∷ slot (Invalid 8) false Zeros ∷
+      slot (Invalid 9) false Zeros ∷ slot (Invalid 10) false Zeros ∷ slot (Invalid 11) false Zeros ∷
+      slot (Invalid 12) false Zeros ∷ slot (Invalid 13) false Zeros ∷ slot (Invalid 14) false Zeros ∷
+      slot (Invalid 15) false Zeros ∷ slot (Invalid 16) false Zeros ∷ slot (Invalid 17) false Zeros ∷
+      slot (Invalid 18) false Zeros ∷ slot (Invalid 19) false Zeros ∷ slot (Invalid 20) false Zeros ∷
+      slot (Invalid 21) false Zeros ∷ slot (Invalid 22) false Zeros ∷ slot (Invalid 23) false Zeros ∷
+      slot (Invalid 24) false Zeros ∷ slot (Invalid 25) false Zeros ∷ slot (Invalid 26) false Zeros ∷
+      slot (Invalid 27) false Zeros ∷ slot (Invalid 28) false Zeros ∷ slot (Invalid 29) false Zeros ∷
+      slot (Invalid 30) false Zeros ∷ slot (Invalid 31) false Zeros ∷ slot (Invalid 32) false Zeros ∷
+      slot (Invalid 33) false Zeros ∷ slot (Invalid 34) false Zeros ∷ slot (Invalid 35) false Zeros ∷
+      slot (Invalid 36) false Zeros ∷ slot (Invalid 37) false Zeros ∷ slot (Invalid 38) false Zeros ∷
+      slot (Invalid 39) false Zeros ∷ slot (Invalid 40) false Zeros ∷ slot (Invalid 41) false Zeros ∷
+      slot (Invalid 42) false Zeros ∷ slot (Invalid 43) false Zeros ∷ slot (Invalid 44) false Zeros ∷
+      slot (Invalid 45) false Zeros ∷ slot (Invalid 46) false Zeros ∷ slot (Invalid 47) false Zeros ∷
+      slot (Invalid 48) false Zeros ∷ slot (Invalid 49) false Zeros ∷ slot (Invalid 50) false Zeros ∷
+      slot (Invalid 51) false Zeros ∷ slot (Invalid 52) false Zeros ∷ slot (Invalid 53) false Zeros ∷
+      slot (Invalid 54) false Zeros ∷ slot (Invalid 55) false Zeros ∷ slot (Invalid 56) false Zeros ∷
+      slot (Invalid 57) false Zeros ∷ slot (Invalid 58) false Zeros ∷ slot (Valid 59) true Zeros ∷
+      replicate 143 (slot Unfilled false Zeros))
+      (slot (Invalid 1) false Zeros ∷ []) ∷ [];
   texts =
       record {
         image = 1;

@@ -17,11 +17,8 @@ images =
 
 operations : List Operation
 operations =
-    Fixed [] 1 (entries.Zero (Stack 1 0)) ∷
-    Serve [] 3 (Text 1 0) true ∷
-    Serve [] 4 (Text 1 0) true ∷
-    Step 1 1 false 2 5 [] (Resize 0 2) ∷
-    Serve (Text 1 0 ∷ []) 6 (Stack 1 1) true ∷
+    Fixed [] 1 (entries.Zero (Stack 1 0)) ∷ Serve [] 3 (Text 1 0) true ∷ Serve [] 4 (Text 1 0) true ∷
+    Step 1 1 false 2 5 [] (Resize 0 2) ∷ Serve (Text 1 0 ∷ []) 6 (Stack 1 1) true ∷
     Step 1 1 false 2 8 [] (End 64512) ∷ []
 
 last : Placement

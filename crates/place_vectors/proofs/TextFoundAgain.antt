@@ -19,17 +19,10 @@ images =
 
 operations : List Operation
 operations =
-    Fixed [] 1 (entries.Zero (Stack 1 0)) ∷
-    Fixed [] 2 (entries.Zero (Stack 2 0)) ∷
-    Serve [] 4 (Text 1 0) true ∷
-    Serve [] 5 (Text 1 0) true ∷
-    Step 1 1 false 3 10 [] (End 0) ∷
-    Serve [] 12 (Text 2 0) true ∷
-    Serve [] 13 (Text 2 0) true ∷
-    Step 2 2 false 3 15 [] (Exec 1 []) ∷
-    Fixed [] 16 (entries.Zero (Stack 3 0)) ∷
-    Serve [] 17 (Text 1 0) true ∷
-    Step 2 3 false 4 22 [] (End 0) ∷ []
+    Fixed [] 1 (entries.Zero (Stack 1 0)) ∷ Fixed [] 2 (entries.Zero (Stack 2 0)) ∷ Serve [] 4 (Text 1 0) true ∷
+    Serve [] 5 (Text 1 0) true ∷ Step 1 1 false 3 10 [] (End 0) ∷ Serve [] 12 (Text 2 0) true ∷
+    Serve [] 13 (Text 2 0) true ∷ Step 2 2 false 3 15 [] (Exec 1 []) ∷ Fixed [] 16 (entries.Zero (Stack 3 0)) ∷
+    Serve [] 17 (Text 1 0) true ∷ Step 2 3 false 4 22 [] (End 0) ∷ []
 
 last : Placement
 last = record {

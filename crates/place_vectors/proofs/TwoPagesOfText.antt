@@ -18,9 +18,7 @@ images =
 
 operations : List Operation
 operations =
-    Fixed [] 1 (entries.Zero (Stack 1 0)) ∷
-    Serve [] 3 (Text 1 0) true ∷
-    Serve [] 4 (Text 1 0) true ∷
+    Fixed [] 1 (entries.Zero (Stack 1 0)) ∷ Serve [] 3 (Text 1 0) true ∷ Serve [] 4 (Text 1 0) true ∷
     Step 1 1 false 2 9 [] (End 0) ∷ []
 
 last : Placement

@@ -6,7 +6,7 @@ use Rattle.vm_facts.specs.declared.entry.Entry.{Entry}
 use Rattle.aout_image.specs.declared.Kind.{Kind}
 use Rattle.flat_state.specs.Flat.{NamedImage, image_numbered}
 use Rattle.flat_state.specs.declared.change.Change.{Change}
-use Rattle.page_model.specs.Pages.{Slot, Filling}
+use Rattle.page_model.specs.Pages.{Slot, Filling, SpacePages}
 use Rattle.page_model.specs.Placement.{Placement, Starting, start_placement}
 use Rattle.page_model.specs.Moves.{touch_all}
 use Rattle.page_model.specs.Hands.{wants_moves}
@@ -26,6 +26,10 @@ named kind text_len data_len bss_len entry = record {
 abbrev pub slot : PageState → Bool → Filling → Slot
 slot state mark filling = record { state = state; mark = mark; filling = filling }
 
+-- a space by its number, its image, its data pages and its stack pages
+abbrev pub space : ℕ → ℕ → List Slot → List Slot → SpacePages
+space sid image data_pages stack_pages = record { sid = sid; image = image; data_pages = data_pages; stack_pages = stack_pages }
+
 -- what the swapper asks of a process: its pid, its space, whether it borrowed that, and whether it sleeps
 abbrev pub runner : ℕ → ℕ → Bool → Bool → Runner
 runner pid sid borrowed asleep = record { pid = pid; sid = sid; borrowed = borrowed; asleep = asleep }
@@ -38,6 +42,11 @@ empty n = replicate n None
 abbrev pub frames : ℕ → ℕ → List ℕ
 frames f zero = []
 frames f (suc n) = f ∷ frames (f + 1) n
+
+-- so many groups of rows, each by its number, numbered from one on
+abbrev pub rows : {A : Type 0} → ℕ → ℕ → (ℕ → List A) → List A
+rows k zero group = []
+rows k (suc n) group = group k ++ rows (k + 1) n group
 
 -- a process that starts with an image
 abbrev pub starts_with : ℕ → Option NamedImage → List Starting
@@ -77,6 +86,10 @@ pub data Seen : Type 0 where
   Chose : Choice → Seen
   Moves : Bool → Seen
   Ends : Placement → Seen
+
+-- units that are made
+abbrev pub made : List Entry → List Seen
+made entries = map (λ (e : Entry). Made (Some e)) entries
 
 -- a unit is made where there is one
 abbrev pub by_unit : List Page → ℕ → Placement → Option Entry → Placement

@@ -1,6 +1,6 @@
 -- A process of 48 dirty data pages, and 66 moves of the hands: five writes begin, of 2, 16, 16, 1 and 1 pages, by the
 -- chunks of data and with a page of text among them; once they ended the text page and a data page are reclaimed.
-use Rattle.std.proofs.Common.{◌≡◌, true, false, List, [], ◌∷◌, ◌++◌, Some, None, refl}
+use Rattle.std.proofs.Common.{◌≡◌, true, false, List, [], ◌∷◌, ◌++◌, Some, None, refl, ◌*◌, ◌+◌}
 use Rattle.vm_facts.specs.declared.page.Page.TheVariants.{Data, Stack, Text}
 use Rattle.vm_facts.specs.declared.page.PageState.TheVariants.{Valid, Invalid}
 use Rattle.vm_facts.specs.declared.entry.Entry.TheVariants as entries
@@ -9,7 +9,7 @@ use Rattle.swap_dmap.specs.Chunks.{chunk, chunk_start, lowest, chunk_reached, co
 use Rattle.flat_state.specs.Flat.{NamedImage}
 use Rattle.page_model.specs.Pages.{Zeros}
 use Rattle.page_model.specs.Placement.{Placement}
-use Rattle.place_vectors.proofs.Walk.{Operation, Fixed, Serve, Seen, Made, Ends, named, slot, empty, frames, starting, walk}
+use Rattle.place_vectors.proofs.Walk.{Operation, Fixed, Serve, Seen, Made, Ends, named, slot, empty, frames, starting, walk, rows, space}
 
 images : List NamedImage
 images =
@@ -17,99 +17,33 @@ images =
 
 operations : List Operation
 operations =
-    Fixed [] 1 (entries.Zero (Stack 1 0)) ∷
-    Serve [] 3 (Text 1 0) false ∷
-    Serve [] 0 (Text 1 0) false ∷
+    Fixed [] 1 (entries.Zero (Stack 1 0)) ∷ Serve [] 3 (Text 1 0) false ∷ Serve [] 0 (Text 1 0) false ∷
     Fixed [] 5 entries.Done ∷
-    Serve (Text 1 0 ∷ []) 8 (Data 1 0) false ∷
-    Serve (Text 1 0 ∷ []) 10 (Data 1 1) false ∷
-    Serve (Text 1 0 ∷ []) 12 (Data 1 2) false ∷
-    Serve (Text 1 0 ∷ []) 14 (Data 1 3) false ∷
-    Serve (Text 1 0 ∷ []) 16 (Data 1 4) false ∷
-    Serve (Text 1 0 ∷ []) 18 (Data 1 5) false ∷
-    Serve (Text 1 0 ∷ []) 20 (Data 1 6) false ∷
-    Serve (Text 1 0 ∷ []) 22 (Data 1 7) false ∷
-    Serve (Text 1 0 ∷ []) 24 (Data 1 8) false ∷
-    Serve (Text 1 0 ∷ []) 26 (Data 1 9) false ∷
-    Serve (Text 1 0 ∷ []) 28 (Data 1 10) false ∷
-    Serve (Text 1 0 ∷ []) 30 (Data 1 11) false ∷
-    Serve (Text 1 0 ∷ []) 32 (Data 1 12) false ∷
-    Serve (Text 1 0 ∷ []) 34 (Data 1 13) false ∷
-    Serve (Text 1 0 ∷ []) 36 (Data 1 14) false ∷
-    Serve (Text 1 0 ∷ []) 38 (Data 1 15) false ∷
-    Serve (Text 1 0 ∷ []) 40 (Data 1 16) false ∷
-    Serve (Text 1 0 ∷ []) 42 (Data 1 17) false ∷
-    Serve (Text 1 0 ∷ []) 44 (Data 1 18) false ∷
-    Serve (Text 1 0 ∷ []) 46 (Data 1 19) false ∷
-    Serve (Text 1 0 ∷ []) 48 (Data 1 20) false ∷
-    Serve (Text 1 0 ∷ []) 50 (Data 1 21) false ∷
-    Serve (Text 1 0 ∷ []) 52 (Data 1 22) false ∷
-    Serve (Text 1 0 ∷ []) 54 (Data 1 23) false ∷
-    Serve (Text 1 0 ∷ []) 56 (Data 1 24) false ∷
-    Serve (Text 1 0 ∷ []) 58 (Data 1 25) false ∷
-    Serve (Text 1 0 ∷ []) 60 (Data 1 26) false ∷
-    Serve (Text 1 0 ∷ []) 62 (Data 1 27) false ∷
-    Serve (Text 1 0 ∷ []) 64 (Data 1 28) false ∷
-    Serve (Text 1 0 ∷ []) 66 (Data 1 29) false ∷
-    Serve (Text 1 0 ∷ []) 68 (Data 1 30) false ∷
-    Serve (Text 1 0 ∷ []) 70 (Data 1 31) false ∷
-    Serve (Text 1 0 ∷ []) 72 (Data 1 32) false ∷
-    Serve (Text 1 0 ∷ []) 74 (Data 1 33) false ∷
-    Serve (Text 1 0 ∷ []) 76 (Data 1 34) false ∷
-    Serve (Text 1 0 ∷ []) 78 (Data 1 35) false ∷
-    Serve (Text 1 0 ∷ []) 80 (Data 1 36) false ∷
-    Serve (Text 1 0 ∷ []) 82 (Data 1 37) false ∷
-    Serve (Text 1 0 ∷ []) 84 (Data 1 38) false ∷
-    Serve (Text 1 0 ∷ []) 86 (Data 1 39) false ∷
-    Serve (Text 1 0 ∷ []) 88 (Data 1 40) false ∷
-    Serve (Text 1 0 ∷ []) 90 (Data 1 41) false ∷
-    Serve (Text 1 0 ∷ []) 92 (Data 1 42) false ∷
-    Serve (Text 1 0 ∷ []) 94 (Data 1 43) false ∷
-    Serve (Text 1 0 ∷ []) 96 (Data 1 44) false ∷
-    Serve (Text 1 0 ∷ []) 98 (Data 1 45) false ∷
-    Serve (Text 1 0 ∷ []) 100 (Data 1 46) false ∷
-    Serve (Text 1 0 ∷ []) 102 (Data 1 47) false ∷
+    rows 0 48 (λ k. Serve (Text 1 0 ∷ []) (2 * k + 8) (Data 1 k) false ∷ []) ++
     Fixed [] 105 (entries.Hands 66) ∷
-    Serve [] 107 (Text 1 0) true ∷
-    Serve [] 108 (Text 1 0) true ∷
-    Serve [] 109 (Text 1 0) true ∷
-    Serve [] 110 (Text 1 0) true ∷
-    Serve [] 111 (Text 1 0) true ∷
-    Serve [] 112 (Text 1 0) true ∷
+    rows 107 6 (λ k. Serve [] k (Text 1 0) true ∷ []) ++
     Serve (Text 1 0 ∷ []) 113 (Data 1 14) true ∷ []
 
 last : Placement
 last = record {
   spaces =
-      record {
-        sid = 1;
-        image = 1;
-        data_pages =
-            slot (Invalid 3) true Zeros ∷ slot (Invalid 4) true Zeros ∷ slot (Invalid 5) true Zeros ∷
-            slot (Invalid 6) true Zeros ∷ slot (Invalid 7) true Zeros ∷ slot (Invalid 8) true Zeros ∷
-            slot (Invalid 9) true Zeros ∷ slot (Invalid 10) true Zeros ∷
-            slot (Invalid 11) true Zeros ∷ slot (Invalid 12) true Zeros ∷
-            slot (Invalid 13) true Zeros ∷ slot (Invalid 14) true Zeros ∷
-            slot (Invalid 15) true Zeros ∷ slot (Invalid 16) true Zeros ∷
-            slot (Valid 17) false Zeros ∷ slot (Invalid 18) false Zeros ∷
-            slot (Invalid 19) false Zeros ∷ slot (Invalid 20) false Zeros ∷
-            slot (Invalid 21) false Zeros ∷ slot (Invalid 22) false Zeros ∷
-            slot (Invalid 23) false Zeros ∷ slot (Invalid 24) false Zeros ∷
-            slot (Invalid 25) false Zeros ∷ slot (Invalid 26) false Zeros ∷
-            slot (Invalid 27) false Zeros ∷ slot (Invalid 28) false Zeros ∷
-            slot (Invalid 29) false Zeros ∷ slot (Invalid 30) false Zeros ∷
-            slot (Invalid 31) false Zeros ∷ slot (Invalid 32) false Zeros ∷
-            slot (Invalid 33) false Zeros ∷ slot (Invalid 34) false Zeros ∷
-            slot (Invalid 35) false Zeros ∷ slot (Invalid 36) false Zeros ∷
-            slot (Invalid 37) false Zeros ∷ slot (Invalid 38) false Zeros ∷
-            slot (Invalid 39) false Zeros ∷ slot (Invalid 40) false Zeros ∷
-            slot (Invalid 41) false Zeros ∷ slot (Invalid 42) false Zeros ∷
-            slot (Invalid 43) false Zeros ∷ slot (Invalid 44) false Zeros ∷
-            slot (Invalid 45) false Zeros ∷ slot (Invalid 46) false Zeros ∷
-            slot (Invalid 47) false Zeros ∷ slot (Invalid 48) false Zeros ∷
-            slot (Invalid 49) false Zeros ∷ slot (Invalid 50) false Zeros ∷ [];
-        stack_pages = slot (Invalid 1) false Zeros ∷ [];
-      } ∷ [];
+      space 1 1 (slot (Invalid 3) true Zeros ∷ slot (Invalid 4) true Zeros ∷ slot (Invalid 5) true Zeros ∷
+      slot (Invalid 6) true Zeros ∷ slot (Invalid 7) true Zeros ∷ slot (Invalid 8) true Zeros ∷
+      slot (Invalid 9) true Zeros ∷ slot (Invalid 10) true Zeros ∷ slot (Invalid 11) true Zeros ∷
+      slot (Invalid 12) true Zeros ∷ slot (Invalid 13) true Zeros ∷ slot (Invalid 14) true Zeros ∷
+      slot (Invalid 15) true Zeros ∷ slot (Invalid 16) true Zeros ∷ slot (Valid 17) false Zeros ∷
+      slot (Invalid 18) false Zeros ∷ slot (Invalid 19) false Zeros ∷ slot (Invalid 20) false Zeros ∷
+      slot (Invalid 21) false Zeros ∷ slot (Invalid 22) false Zeros ∷ slot (Invalid 23) false Zeros ∷
+      slot (Invalid 24) false Zeros ∷ slot (Invalid 25) false Zeros ∷ slot (Invalid 26) false Zeros ∷
+      slot (Invalid 27) false Zeros ∷ slot (Invalid 28) false Zeros ∷ slot (Invalid 29) false Zeros ∷
+      slot (Invalid 30) false Zeros ∷ slot (Invalid 31) false Zeros ∷ slot (Invalid 32) false Zeros ∷
+      slot (Invalid 33) false Zeros ∷ slot (Invalid 34) false Zeros ∷ slot (Invalid 35) false Zeros ∷
+      slot (Invalid 36) false Zeros ∷ slot (Invalid 37) false Zeros ∷ slot (Invalid 38) false Zeros ∷
+      slot (Invalid 39) false Zeros ∷ slot (Invalid 40) false Zeros ∷ slot (Invalid 41) false Zeros ∷
+      slot (Invalid 42) false Zeros ∷ slot (Invalid 43) false Zeros ∷ slot (Invalid 44) false Zeros ∷
+      slot (Invalid 45) false Zeros ∷ slot (Invalid 46) false Zeros ∷ slot (Invalid 47) false Zeros ∷
+      slot (Invalid 48) false Zeros ∷ slot (Invalid 49) false Zeros ∷ slot (Invalid 50) false Zeros ∷ [])
+      (slot (Invalid 1) false Zeros ∷ []) ∷ [];
   texts =
       record {
         image = 1;
