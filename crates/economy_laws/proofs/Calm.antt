@@ -250,18 +250,7 @@ entry_calm locked at p (entries.Reclaim q) w h c = reclaim_calm p q w c
 entry_calm locked at p (entries.Hands n) w h c = moves_calm n p locked w c
 entry_calm locked at p (entries.Put q n) w h c = put_step_calm p q (pages_from q (number_of q) n) w h c
 entry_calm locked at p entries.Done w h c = done_calm p w h c
-entry_calm locked at p (entries.SwapOut pid) w h c = c
-entry_calm locked at p (entries.SwapIn pid) w h c = c
-entry_calm locked at p (entries.Event line) w h c = c
-entry_calm locked at p (entries.Turn pid) w h c = c
-entry_calm locked at p (entries.Ran pid n) w h c = c
-entry_calm locked at p (entries.Out pid bytes) w h c = c
-entry_calm locked at p (entries.Grew pid pages) w h c = c
-entry_calm locked at p (entries.Call pid number carry r0 r1) w h c = c
-entry_calm locked at p (entries.Refused pid) w h c = c
-entry_calm locked at p (entries.Sleeps pid) w h c = c
-entry_calm locked at p (entries.Ended pid status) w h c = c
-entry_calm locked at p (entries.Owners a b m d) w h c = c
+entry_calm locked at p _ w h c = c
 
 -- Writes that end.
 
@@ -308,11 +297,7 @@ first_calm p q (t ∷ ts) there h = by t.errand h
 
 going_frame : (s : PageState) → is_going s ≡ true → (f : ℕ) × (frame_of s ≡ Some f)
 going_frame (Going f) e = (f, refl)
-going_frame Unfilled e = absurd cc
-going_frame (Valid f) e = absurd cc
-going_frame (Invalid f) e = absurd cc
-going_frame (Coming f) e = absurd cc
-going_frame OnSwap e = absurd cc
+going_frame _ e = absurd cc
 
 -- and calm after it
 pub stored_calm : (locked : List Page) (at : ℕ) (p : Placement) (u : Entry) (q : Page) → OwnsFrames p → is_among q (stored_pages p u) ≡ true

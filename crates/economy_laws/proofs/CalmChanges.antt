@@ -7,7 +7,7 @@ use Rattle.vm_facts.specs.declared.page.Page.TheVariants.{Data, Stack, Text}
 use Rattle.vm_facts.specs.declared.page.PageState.{PageState}
 use Rattle.vm_facts.specs.declared.page.PageState.TheVariants.{Unfilled, Valid, Invalid, Coming, Going, OnSwap}
 use Rattle.flat_state.specs.declared.change.Change.{Change}
-use Rattle.flat_state.specs.declared.change.Change.TheVariants.{Keep, Resize, Fork, Lend, Exec, Reap, Sleep, End}
+use Rattle.flat_state.specs.declared.change.Change.TheVariants.{Resize, Fork, Exec, End}
 use Rattle.page_model.specs.Pages.{Slot, no_slot, SpacePages, numbered, changed, data_in, stack_in, is_dirty_by, frame_of}
 use Rattle.flat_state.specs.PageNames.{same_page, is_among}
 use Rattle.page_model.specs.Placement.{Placement, Due, space_number, slots_of, state_of, image_of, sharers, new_pages}
@@ -46,8 +46,7 @@ touch_calm p v w h c = go v h (state_of p v)
 
 pub text_clean : (v : Page) → is_text v ≡ true → is_dirty_by v true ≡ false
 text_clean (Text image n) e = refl
-text_clean (Data sid n) e = absurd cc
-text_clean (Stack sid n) e = absurd cc
+text_clean _ e = absurd cc
 
 -- a page that isn't among these, or of text
 abbrev pub Untouched : List Page → Page → Type 0
@@ -211,15 +210,12 @@ unless_calm false p sid w h c = give_up_calm p sid w h c
 
 pub change_calm : (images : List Image) (p : Placement) (pid sid : ℕ) (borrowed : Bool) (next_sid at : ℕ) (change : Change) (w : Page)
     → TextShared (place_change images p pid sid borrowed next_sid at change) w → Calm p w → Calm (place_change images p pid sid borrowed next_sid at change) w
-change_calm images p pid sid borrowed next_sid at Keep w h c = c
 change_calm images p pid sid borrowed next_sid at (Resize d s) w h c = resize_calm p sid d s w c
 change_calm images p pid sid borrowed next_sid at (Fork child) w h c = fork_calm p sid next_sid w c
-change_calm images p pid sid borrowed next_sid at (Lend child) w h c = c
 change_calm images p pid sid borrowed next_sid at (Exec image top) w h c =
     unless_calm borrowed (enter_image p next_sid image (facts_numbered images image)) sid w h (enter_calm p next_sid image (facts_numbered images image) w c)
-change_calm images p pid sid borrowed next_sid at (Reap child) w h c = c
-change_calm images p pid sid borrowed next_sid at Sleep w h c = c
 change_calm images p pid sid borrowed next_sid at (End status) w h c = unless_calm borrowed p sid w h c
+change_calm images p pid sid borrowed next_sid at _ w h c = c
 
 pub place_step_calm : (images : List Image) (flat : FlatState) (pid at : ℕ) (written : List Page) (change : Change) (p : Placement) (w : Page)
     → Untouched written w

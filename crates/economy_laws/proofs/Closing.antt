@@ -90,20 +90,12 @@ stays_closing A s (entries.Turn p) pid c n e = absurd cc
 stays_closing A s (entries.Ran p k) pid c n e = absurd cc
 stays_closing A s (entries.Call p k b r0 r1) pid c n e = absurd cc
 stays_closing A s (entries.Ended p k) pid c n e = absurd cc
-stays_closing A s (entries.Out p bytes) pid c n e = record { since = c.since; mark = c.mark; lines = c.lines }
-stays_closing A s (entries.Grew p k) pid c n e = record { since = c.since; mark = c.mark; lines = c.lines }
-stays_closing A s (entries.Refused p) pid c n e = record { since = c.since; mark = c.mark; lines = c.lines }
-stays_closing A s (entries.Sleeps p) pid c n e = record { since = c.since; mark = c.mark; lines = c.lines }
-stays_closing A s (entries.Zero q) pid c n e = record { since = c.since; mark = c.mark; lines = c.lines }
-stays_closing A s (entries.Get q lo k) pid c n e = record { since = c.since; mark = c.mark; lines = c.lines }
-stays_closing A s (entries.Copy q) pid c n e = record { since = c.since; mark = c.mark; lines = c.lines }
-stays_closing A s (entries.Reclaim q) pid c n e = record { since = c.since; mark = c.mark; lines = c.lines }
 stays_closing A s (entries.Hands k) pid c n e = record { since = c.since; mark = ap (moved_on k) c.mark; lines = c.lines }
-stays_closing A s (entries.Put q k) pid c n e = record { since = c.since; mark = c.mark; lines = c.lines }
 stays_closing A s entries.Done pid c n e = record { since = c.since; mark = ap completed c.mark; lines = c.lines }
 stays_closing A s (entries.SwapOut p) pid c n e = record { since = c.since; mark = ap put_out c.mark; lines = c.lines }
 stays_closing A s (entries.SwapIn p) pid c n e = record { since = c.since; mark = ap brought_in c.mark; lines = c.lines }
 stays_closing A s (entries.Owners a b m d) pid c n e = record { since = c.since; mark = ap audited c.mark; lines = c.lines }
+stays_closing A s _ pid c n e = record { since = c.since; mark = c.mark; lines = c.lines }
 
 -- no unit of the closing phase is a line of the schedule
 pub no_event : (A : Inputs) (s : State) (u : Entry) (pid : ℕ) → Closes A s u pid → (line : ℕ) → u ≡ entries.Event line → ⊥

@@ -192,12 +192,10 @@ refused_room F true (Exits status) h = tt
 replied_room : (images : List NamedImage) (F : FlatState) (p : Process) (call : SystemCall) (effect : Effect) (reply : Reply)
     → ReplyRoom (apply_writes F p.pid effect.writes) reply
     → RoomFor (apply_writes F p.pid (replied_step images F p call effect reply).writes) (replied_step images F p call effect reply).change
-replied_room images F p call effect (Fails error) h = tt
 replied_room images F p call effect (Does regs change) h = h
 replied_room images F p call effect (Writes []) h = tt
 replied_room images F p call effect (Writes (byte ∷ more)) h = tt
-replied_room images F p call effect Waits h = tt
-replied_room images F p call effect (Exits status) h = tt
+replied_room images F p call effect _ h = tt
 
 behind_room : (images : List NamedImage) (F : FlatState) (p : Process) (s : Space) (refused : Bool) (effect : Effect) (o : Option ℤ)
     → RoomFor (apply_writes F p.pid (step_behind images F p s refused effect o).writes) (step_behind images F p s refused effect o).change

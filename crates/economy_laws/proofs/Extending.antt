@@ -12,7 +12,7 @@ use Rattle.vm_facts.specs.declared.memory.MayWrite.{MayWrite}
 use Rattle.vm_facts.specs.declared.memory.MayWrite.TheVariants as tests
 use Rattle.vm_facts.specs.declared.page.Page.{Page}
 use Rattle.vm_facts.specs.declared.page.Page.TheVariants.{Data, Stack, Text}
-use Rattle.user_vax.specs.Program.{Program, Gives, Refuses, Reads, Tests, Access, ReadOf, TestOf, run, after_read, after_test, accesses, rest_of_read, rest_of_test}
+use Rattle.user_vax.specs.Program.{Program, Reads, Tests, Access, ReadOf, TestOf, run, after_read, after_test, accesses, rest_of_read, rest_of_test}
 use Rattle.user_vax.specs.declared.refused.Refused.TheVariants.{Below}
 use Rattle.flat_state.specs.declared.spot.Spot.{Spot}
 use Rattle.flat_state.specs.declared.spot.Spot.TheVariants as spots
@@ -25,7 +25,7 @@ use Rattle.economy_laws.specs.Stretch.{Extends}
 
 -- Lists in which each page stands once.
 
-filter_both : (test : Page → Bool) (xs ys : List Page) → filter test (xs ++ ys) ≡ filter test xs ++ filter test ys
+pub filter_both : (test : Page → Bool) (xs ys : List Page) → filter test (xs ++ ys) ≡ filter test xs ++ filter test ys
 filter_both test [] ys = refl
 filter_both test (x ∷ xs) ys = go (test x) (filter_both test xs ys)
   where
@@ -59,11 +59,9 @@ pub record Bigger (s : Space) (d t a : ℕ) : Type 0 where
   pub reach : stack_top ≤ a + 1024 * t
 
 abbrev pub Found : Spot → Type 0
-Found (spots.Text i) = Unit {0}
-Found (spots.Data i) = Unit {0}
-Found (spots.Stack i) = Unit {0}
 Found spots.Below = ⊥
 Found spots.Outside = ⊥
+Found _ = Unit {0}
 
 spot_more : (a b l m x : ℕ) (spot : Spot) → l ≤ m → spot_at a b l x ≡ spot → Found spot → spot_at a b m x ≡ spot
 unfolding spot_at
@@ -93,8 +91,7 @@ byte_kept : (s : Space) (d t a : ℕ) (spot : Spot) → Bigger s d t a → Found
 byte_kept s d t a (spots.Text i) b f w = refl
 byte_kept s d t a (spots.Data i) b f w = ap (λ (n : ℕ). Rattle.vm_facts.specs.declared.memory.ByteRead.TheVariants.Is n) (bytes_kept d i s.data_bytes (let k = b.data_pages in omega arith) w)
 byte_kept s d t a (spots.Stack i) b f w = ap (λ (n : ℕ). Rattle.vm_facts.specs.declared.memory.ByteRead.TheVariants.Is n) (bytes_kept t i s.stack_bytes b.stack_pages w)
-byte_kept s d t a spots.Below b f w = absurd f
-byte_kept s d t a spots.Outside b f w = absurd f
+byte_kept s d t a _ b f w = absurd f
 
 -- the page of the address at which it grew
 pub grown_page : Space → ℕ → Page
@@ -128,8 +125,7 @@ not_grown s d t a (spots.Stack i) q b w e = ap (λ (x : Page). same_page x (grow
   where
     apart : (x y : ℕ) → x < y → ((s.sid == s.sid) && (x == y)) ≡ false
     apart x y l = grind (arith, nat_tests)
-not_grown s d t a spots.Below q b w e = absurd cc
-not_grown s d t a spots.Outside q b w e = absurd cc
+not_grown s d t a _ q b w e = absurd cc
 
 -- An instruction that found no stack at an address.
 
@@ -153,17 +149,11 @@ pub record Reached (X : Type 0) (s : Space) (d t a : ℕ) (p : Program X) : Type
 
 read_page : (s : Space) (d t : ℕ) (spot : Spot) → page_read (resized s d t) spot ≡ page_read s spot
 read_page s d t (spots.Text i) = refl
-read_page s d t (spots.Data i) = refl
-read_page s d t (spots.Stack i) = refl
-read_page s d t spots.Below = refl
-read_page s d t spots.Outside = refl
+read_page s d t _ = refl
 
 test_page : (s : Space) (d t : ℕ) (spot : Spot) → page_tested (resized s d t) spot ≡ page_tested s spot
 test_page s d t (spots.Text i) = refl
-test_page s d t (spots.Data i) = refl
-test_page s d t (spots.Stack i) = refl
-test_page s d t spots.Below = refl
-test_page s d t spots.Outside = refl
+test_page s d t _ = refl
 
 read_kept : (s : Space) (d t a b : ℕ) (spot : Spot) → Bigger s d t a → address_in s b ≡ spot → Found spot → Kept s d t a (ReadOf b)
 read_kept s d t a b spot g e f = (
@@ -232,8 +222,6 @@ test_ends X s d t a next g e = record {
 }
 
 pub reached : (X : Type 0) (s : Space) (d t a : ℕ) (p : Program X) → Bigger s d t a → run (answers_of s) p ≡ Err (Below a) → Reached X s d t a p
-reached X s d t a (Gives x) g h = absurd cc
-reached X s d t a (Refuses signal) g h = absurd cc
 reached X s d t a (Reads b next) g h = go (address_in s b) refl (λ v k. reached X s d t a (next v) g k) h
   where
     go : (spot : Spot) → address_in s b ≡ spot → ((v : ℕ) → run (answers_of s) (next v) ≡ Err (Below a) → Reached X s d t a (next v)) → after_read (byte_at s spot) b (λ byte. run (answers_of s) (next byte)) ≡ Err (Below a) → Reached X s d t a (Reads b next)
@@ -250,6 +238,7 @@ reached X s d t a (Tests b next) g h = go (address_in s b) refl (λ k. reached X
     go (spots.Stack i) e more k = test_on X s d t a b next (spots.Stack i) g e tt refl (more k)
     go spots.Below e more k = let z : b ≡ a = cc in subst (λ (x : ℕ). Reached X s d t a (Tests x next)) (sym z) (test_ends X s d t a next g (subst (λ (x : ℕ). address_in s x ≡ spots.Below) z e))
     go spots.Outside e more k = absurd cc
+reached X s d t a _ g h = absurd cc
 
 -- Its pages.
 

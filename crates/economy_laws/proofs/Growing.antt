@@ -9,7 +9,7 @@ use Rattle.vm_facts.specs.declared.page.Page.{Page}
 use Rattle.vm_facts.specs.declared.page.Page.TheVariants.{Data, Stack, Text}
 use Rattle.vm_facts.specs.declared.entry.Entry.TheVariants as entries
 use Rattle.user_vax.specs.Instruction.{instruction}
-use Rattle.user_vax.specs.Program.{Program, Gives, Refuses, Reads, Tests, run, after_read, after_test}
+use Rattle.user_vax.specs.Program.{Program, Refuses, Reads, Tests, run, after_read, after_test}
 use Rattle.user_vax.specs.declared.refused.Refused.{Refused}
 use Rattle.user_vax.specs.declared.refused.Refused.TheVariants.{Below}
 use Rattle.flat_state.specs.declared.change.Change.TheVariants.{Resize}
@@ -88,8 +88,6 @@ resize_cut p sid d s ld ls = go (data_count p sid - d) (stack_count p sid - s) (
 -- Where the stack grows.
 
 pub below_spot : {X : Type 0} (s : Space) (p : Program X) (a : ℕ) → run (answers_of s) p ≡ Err (Below a) → address_in s a ≡ spots.Below
-below_spot s (Gives x) a h = absurd cc
-below_spot s (Refuses signal) a h = absurd cc
 below_spot s (Reads b next) a h = go (address_in s b) refl (λ byte k. below_spot s (next byte) a k) h
   where
     same : (let r : Result ℕ Refused = Err (Below b) in r) ≡ Err (Below a) → b ≡ a
@@ -109,6 +107,7 @@ below_spot s (Tests b next) a h = go (address_in s b) refl (λ k. below_spot s n
     go (spots.Stack i) e more k = more k
     go spots.Below e more k = subst (λ (x : ℕ). address_in s x ≡ spots.Below) (let z : b ≡ a = cc in z) e
     go spots.Outside e more k = absurd cc
+below_spot s _ a h = absurd cc
 
 -- an address below the stack lies under all its bytes
 pub spot_below : (a b len address : ℕ) → spot_at a b len address ≡ spots.Below → address + len + 1 ≤ stack_top

@@ -3,11 +3,11 @@ use Rattle.std.proofs.Common.{◌≡◌, ℕ, ◌+◌, ◌*◌, ◌≤◌, Bool,
 use Rattle.vm_facts.specs.declared.page.Page.{Page}
 use Rattle.vm_facts.specs.declared.page.Page.TheVariants.{Data, Stack}
 use Rattle.vm_facts.specs.declared.page.PageState.{PageState}
-use Rattle.vm_facts.specs.declared.page.PageState.TheVariants.{Unfilled, Valid, Invalid, Coming, Going, OnSwap}
+use Rattle.vm_facts.specs.declared.page.PageState.TheVariants.{Unfilled}
 use Rattle.vm_facts.specs.declared.entry.Entry.{Entry}
 use Rattle.vm_facts.specs.declared.entry.Entry.TheVariants as entries
 use Rattle.flat_state.specs.declared.change.Change.{Change}
-use Rattle.flat_state.specs.declared.change.Change.TheVariants.{Keep, Resize, Fork, Lend, Exec, Reap, Sleep, End}
+use Rattle.flat_state.specs.declared.change.Change.TheVariants.{Resize, Fork, Exec, End}
 use Rattle.flat_state.specs.Flat.{Inputs, process_of}
 use Rattle.page_model.specs.Pages.{Slot}
 use Rattle.page_model.specs.Placement.{Placement, Due, Start, CopyOf, slots_of}
@@ -59,11 +59,7 @@ all_both (CopyOf q parent ∷ ds) es a b = all_both ds es a b
 
 one_copy : (child parent : Page) (s : PageState) → AllCopies (copy_due child parent s)
 one_copy child parent Unfilled = tt
-one_copy child parent (Valid f) = tt
-one_copy child parent (Invalid f) = tt
-one_copy child parent (Coming f) = tt
-one_copy child parent (Going f) = tt
-one_copy child parent OnSwap = tt
+one_copy child parent _ = tt
 
 from_copies : (child parent : ℕ → Page) (v : ℕ) (xs : List Slot) → AllCopies (copies_from child parent v xs)
 from_copies child parent v [] = tt
@@ -76,15 +72,12 @@ exec_opens borrowed p next image sid (Some facts) e = NewStack (Stack next 0) (u
 
 change_opens : (images : List Image) (p : Placement) (pid sid : ℕ) (borrowed : Bool) (next at : ℕ) (change : Change) → p.due ≡ []
     → Opens (place_change images p pid sid borrowed next at change).due
-change_opens images p pid sid borrowed next at Keep e = Nothing e
 change_opens images p pid sid borrowed next at (Resize d s) e = Nothing ((drop_all_rest (dropped_pages p sid d s) p).1 ∙ e)
 change_opens images p pid sid borrowed next at (Fork child) e = copies_open (copies_from (Data next) (Data sid) 0 (slots_of p (Data sid 0)) ++ copies_from (Stack next) (Stack sid) 0 (slots_of p (Stack sid 0)))
     (all_both (copies_from (Data next) (Data sid) 0 (slots_of p (Data sid 0))) (copies_from (Stack next) (Stack sid) 0 (slots_of p (Stack sid 0))) (from_copies (Data next) (Data sid) 0 (slots_of p (Data sid 0))) (from_copies (Stack next) (Stack sid) 0 (slots_of p (Stack sid 0))))
-change_opens images p pid sid borrowed next at (Lend child) e = Nothing e
 change_opens images p pid sid borrowed next at (Exec image top) e = exec_opens borrowed p next image sid (facts_numbered images image) e
-change_opens images p pid sid borrowed next at (Reap child) e = Nothing e
-change_opens images p pid sid borrowed next at Sleep e = Nothing e
 change_opens images p pid sid borrowed next at (End status) e = Nothing (unless_due borrowed p sid ∙ e)
+change_opens images p pid sid borrowed next at _ e = Nothing e
 
 -- where a turn begins nothing is due
 turn_clear : (A : Inputs) (s : State) (p : ℕ) → Kind A s (entries.Turn p) → s.place.due ≡ []

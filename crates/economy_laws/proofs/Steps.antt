@@ -12,7 +12,7 @@ use Rattle.user_vax.specs.Program.{run}
 use Rattle.user_vax.specs.declared.refused.Refused.{Refused}
 use Rattle.user_vax.specs.declared.refused.Refused.TheVariants.{Miss, Below, Signal}
 use Rattle.flat_model.specs.declared.calls.Reply.{Reply}
-use Rattle.flat_model.specs.declared.calls.Reply.TheVariants.{Fails, Does, Writes, Waits, Exits}
+use Rattle.flat_model.specs.declared.calls.Reply.TheVariants.{Writes}
 use Rattle.flat_model.specs.declared.calls.SystemCall.{SystemCall}
 use Rattle.flat_model.specs.Calls.{call_of}
 use Rattle.flat_model.specs.Instruction.{instruction_in}
@@ -30,12 +30,9 @@ use Rattle.run_laws.proofs.Flows.{on_steps}
 
 replied_some : (images : List NamedImage) (F : FlatState) (p : Process) (call : SystemCall) (effect : Effect) (reply : Reply)
     → (replied_step images F p call effect reply).entries ≡ [] → ⊥
-replied_some images F p call effect (Fails error) h = absurd cc
-replied_some images F p call effect (Does regs change) h = absurd cc
 replied_some images F p call effect (Writes []) h = absurd cc
 replied_some images F p call effect (Writes (byte ∷ bytes)) h = absurd cc
-replied_some images F p call effect Waits h = absurd cc
-replied_some images F p call effect (Exits status) h = absurd cc
+replied_some images F p call effect _ h = absurd cc
 
 behind_some : (images : List NamedImage) (F : FlatState) (p : Process) (s : Space) (refused : Bool) (effect : Effect) (o : Option ℤ)
     → (step_behind images F p s refused effect o).entries ≡ [] → ⊥
@@ -123,12 +120,9 @@ pub record Grows (images : List NamedImage) (F : FlatState) (p : Process) (s : S
 
 replied_grows : (images : List NamedImage) (F : FlatState) (p : Process) (call : SystemCall) (effect : Effect) (reply : Reply) (a n : ℕ)
     → (replied_step images F p call effect reply).entries ≡ entries.Grew a n ∷ [] → ⊥
-replied_grows images F p call effect (Fails error) a n h = absurd cc
-replied_grows images F p call effect (Does regs change) a n h = absurd cc
 replied_grows images F p call effect (Writes []) a n h = absurd cc
 replied_grows images F p call effect (Writes (byte ∷ bytes)) a n h = absurd cc
-replied_grows images F p call effect Waits a n h = absurd cc
-replied_grows images F p call effect (Exits status) a n h = absurd cc
+replied_grows images F p call effect _ a n h = absurd cc
 
 behind_grows : (images : List NamedImage) (F : FlatState) (p : Process) (s : Space) (refused : Bool) (effect : Effect) (o : Option ℤ) (a n : ℕ)
     → (step_behind images F p s refused effect o).entries ≡ entries.Grew a n ∷ [] → ⊥

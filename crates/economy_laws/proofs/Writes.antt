@@ -135,9 +135,8 @@ abbrev pub Unmarked : Inputs → State → Entry → Page → Type 0
 Unmarked A s u q = (is_text q ≡ true) ⊎ (renews_page A s u q ≡ false)
 
 unmarked : (A : Inputs) (s : State) (u : Entry) (q : Page) → renews A s u q ≡ false → Unmarked A s u q
-unmarked A s u (Data sid v) h = inr h
-unmarked A s u (Stack sid v) h = inr h
 unmarked A s u (Text image v) h = inl refl
+unmarked A s u _ h = inr h
 
 -- where no space shares an image, none of its text pieces is held
 text_given_back : (A : Inputs) (s : State) (image : ℕ) → IsRun A s → sharers s.place image ≡ 0 → lengths (owners.Text image) s.holdings ≡ []
@@ -149,8 +148,6 @@ text_given_back A s image r z =
     b.text_held image ∙ ap (λ (n : ℕ). text_pieces_while n (2 * length (slots_of s.place (Text image 0)))) z
 
 shared : (A : Inputs) (s : State) (u : Entry) (q : Page) → IsRun A (after A s u) → renews A s u q ≡ false → TextShared (after A s u).place q
-shared A s u (Data sid v) r h = λ image n e z. absurd cc
-shared A s u (Stack sid v) r h = λ image n e z. absurd cc
 shared A s u (Text i v) r h = λ image n e z. absurd (
     let k : i ≡ image = ap key e in
     let y : lengths (owners.Text i) (after A s u).holdings ≡ [] = text_given_back A (after A s u) i r (ap (sharers (after A s u).place) k ∙ z) in
@@ -160,6 +157,7 @@ shared A s u (Text i v) r h = λ image n e z. absurd (
     key (Data sid v) = sid
     key (Stack sid v) = sid
     key (Text image v) = image
+shared A s u _ r h = λ image n e z. absurd cc
 
 differs : (r q : Page) → (is_text q ≡ true) ⊎ (same_page r q ≡ false) → q ≡ r → is_dirty_by r true ≡ false
 differs r q (inl t) e = text_clean r (ap is_text (sym e) ∙ t)

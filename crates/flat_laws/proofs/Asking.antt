@@ -11,7 +11,7 @@ use Rattle.swap_book.specs.declared.Owner.TheVariants as owners
 use Rattle.swap_book.specs.Owners.{u_pieces}
 use Rattle.swap_book.specs.Placing.{Wanted, one, wanted}
 use Rattle.flat_state.specs.declared.change.Change.{Change}
-use Rattle.flat_state.specs.declared.change.Change.TheVariants.{Keep, Resize, Fork, Lend, Exec, Reap, Sleep, End}
+use Rattle.flat_state.specs.declared.change.Change.TheVariants.{Resize, Fork, Exec}
 use Rattle.page_model.specs.Pages.{SpacePages, numbered, data_in, stack_in}
 use Rattle.page_model.specs.Placement.{space_number, slots_of, sharers, sharers_in}
 use Rattle.page_model.specs.Place.{data_count, stack_count, facts_of}
@@ -199,7 +199,6 @@ image_same images k flat image (Some named) i x c n t e =
 sizes_same : (images : List NamedImage) (k : Kernel) (flat : FlatState) (s : Space) (change : Change) → ImagesFit images → TextFits images k.place
     → Numbered k → IsNumbered flat → SameTables k flat
     → data_count k.place s.sid ≡ data_pages_in s → stack_count k.place s.sid ≡ stack_pages_of s → change_asks (facts_of images) k.place s.sid k.next_sid change ≡ change_wanted images flat s change
-sizes_same images k flat s Keep i x c n t d u = refl
 sizes_same images k flat s (Resize data_pages stack_pages) i x c n t d u =
     ap₂ (λ (v w : List Wanted). v ++ w)
     (further_same (owners.Data s.sid) (pieces (2 * data_count k.place s.sid)) (pieces (2 * data_pages)) ∙ ap (λ (m : ℕ). drop (length (pieces_for (owners.Data s.sid) m)) (pieces_for (owners.Data s.sid) data_pages)) d)
@@ -208,11 +207,8 @@ sizes_same images k flat s (Fork child) i x c n t d u =
     ap (λ (sid : ℕ). wanted (owners.Data sid) (pieces (2 * data_count k.place s.sid)) ++ (wanted (owners.Stack sid) (pieces (2 * stack_count k.place s.sid)) ++ wanted (owners.U child) (u_pieces 2))) t.next_sid
     ∙ ap₂ (λ (a b : ℕ). wanted (owners.Data flat.next_sid) (pieces (2 * a)) ++ (wanted (owners.Stack flat.next_sid) (pieces (2 * b)) ++ wanted (owners.U child) (u_pieces 2))) d u
     ∙ sym (append_assoc (pieces_for (owners.Data flat.next_sid) (data_pages_in s)) (pieces_for (owners.Stack flat.next_sid) (stack_pages_of s)) (pieces_for (owners.U child) 1))
-sizes_same images k flat s (Lend child) i x c n t d u = refl
 sizes_same images k flat s (Exec image top) i x c n t d u = ap (image_asked k.place k.next_sid image) (facts_same images image) ∙ image_same images k flat image (image_numbered images image) i x c n t refl
-sizes_same images k flat s (Reap child) i x c n t d u = refl
-sizes_same images k flat s Sleep i x c n t d u = refl
-sizes_same images k flat s (End status) i x c n t d u = refl
+sizes_same images k flat s _ i x c n t d u = refl
 
 pub change_same : (images : List NamedImage) (k : Kernel) (flat : FlatState) (pid : ℕ) (p : Process) (s : Space) (change : Change) → ImagesFit images
     → TextFits images k.place → Numbered k → IsNumbered flat → SameTables k flat

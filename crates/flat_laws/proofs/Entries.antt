@@ -57,7 +57,7 @@ next_same A point other pid flat refused writing =
 
 -- Entries that are the same.
 
-carry_is : (a b : Bool) → same_carry a b ≡ true → a ≡ b
+pub carry_is : (a b : Bool) → same_carry a b ≡ true → a ≡ b
 carry_is true true h = refl
 carry_is false false h = refl
 carry_is true false h = absurd cc

@@ -1,9 +1,9 @@
 -- Each process has a number of its own, and so has each space, below the next ones.
-use Rattle.std.proofs.Common.{◌≡◌, ℕ, ◌+◌, ◌<◌, ◌≤◌, Bool, true, false, List, [], ◌∷◌, ◌++◌, length, map, flat_map, Option, Some, None, Result, Ok, Err, ℤ, refl, sym, ap, ◌∙◌, subst, arith}
+use Rattle.std.proofs.Common.{◌≡◌, ℕ, Bool, true, false, List, [], ◌∷◌, Option, Some, None, Result, Ok, Err, ℤ, refl, sym, ap, ◌∙◌, subst}
 use Rattle.kernel_laws.proofs.Stands.Starts.{start_numbered}
 use Rattle.vm_facts.specs.Answers.{ByteWrite}
 use Rattle.flat_state.specs.Space.{Space, answers_of, puts}
-use Rattle.flat_state.specs.Flat.{Holding, Holds, Lends, Zombie, Process, FlatState, NamedImage, Inputs, image_numbered, process_of, can_step, start_if, start_processes, space_held}
+use Rattle.flat_state.specs.Flat.{Holding, Holds, Lends, Zombie, Process, FlatState, NamedImage, Inputs, process_of, can_step}
 use Rattle.vm_facts.specs.declared.entry.Entry.{Entry}
 use Rattle.vm_facts.specs.declared.entry.Entry.TheVariants.{Refused}
 use Rattle.vm_facts.specs.declared.regs.Regs.{Regs}
@@ -12,7 +12,7 @@ use Rattle.user_vax.specs.declared.refused.Refused.{Refused as Refusal}
 use Rattle.user_vax.specs.declared.refused.Refused.TheVariants.{Miss, Below, Signal}
 use Rattle.flat_state.specs.Journal.{units_of}
 use Rattle.flat_state.specs.Change.{changed_by, changed_if, apply_change, apply_writes, wrote_by, wrote_if, NamesChild}
-use Rattle.flat_state.specs.Numbers.{IsAbsent, AllDistinct, AllBelow, IsNumbered}
+use Rattle.flat_state.specs.Numbers.{AllDistinct, IsNumbered}
 use Rattle.kernel_laws.proofs.Flat.Numbers.{writes_numbered, changes_numbered}
 use Rattle.flat_state.specs.declared.change.Change.{Change}
 use Rattle.flat_state.specs.declared.change.Change.TheVariants.{Keep, Sleep, End}
@@ -77,11 +77,10 @@ after_kept images F p ws regs change fits h = change_kept images (apply_writes F
 replied_kept : (images : List NamedImage) (F : FlatState) (p : Process) (call : SystemCall) (effect : Effect) (reply : Reply)
     → ReplyFits (apply_writes F p.pid effect.writes) reply → IsNumbered F
     → IsNumbered (replied_step images F p call effect reply).after
-replied_kept images F p call effect (replies.Fails error) fits h = after_kept images F p effect.writes _ Keep tt h
 replied_kept images F p call effect (replies.Does regs change) fits h = after_kept images F p effect.writes regs change fits h
-replied_kept images F p call effect (replies.Writes bytes) fits h = after_kept images F p effect.writes _ Keep tt h
 replied_kept images F p call effect replies.Waits fits h = after_kept images F p effect.writes p.regs Sleep tt h
 replied_kept images F p call effect (replies.Exits status) fits h = after_kept images F p effect.writes p.regs (End status) tt h
+replied_kept images F p call effect _ fits h = after_kept images F p effect.writes _ Keep tt h
 
 called_kept : (images : List NamedImage) (F : FlatState) (p : Process) (t : Space) (refused : Bool) (effect : Effect) (call : Option SystemCall)
     → IsNumbered F → IsNumbered (called_step images F p t refused effect call).after
@@ -119,47 +118,11 @@ step_numbered A F of refused h = go (process_of F of)
 
 -- The start.
 
-absent_started : (images : List NamedImage) (first : List ℕ) (m n : ℕ) → m < n → IsAbsent m (pids (start_processes images n first))
-absent_started images [] m n low = tt
-absent_started images (number ∷ more) m n low = go (image_numbered images number) (absent_started images more m (n + 1) (omega (arith, low)))
-  where
-    go : (o : Option NamedImage) → IsAbsent m (pids (start_processes images (n + 1) more)) → IsAbsent m (pids (start_if n number o ++ start_processes images (n + 1) more))
-    go None k = k
-    go (Some named) k = (λ e. absurd (omega (arith, e, low)), k)
-
-distinct_started : (images : List NamedImage) (first : List ℕ) (n : ℕ) → AllDistinct (pids (start_processes images n first))
-distinct_started images [] n = tt
-distinct_started images (number ∷ more) n = go (image_numbered images number) (distinct_started images more (n + 1))
-  where
-    go : (o : Option NamedImage) → AllDistinct (pids (start_processes images (n + 1) more)) → AllDistinct (pids (start_if n number o ++ start_processes images (n + 1) more))
-    go None k = k
-    go (Some named) k = (absent_started images more n (n + 1) (omega arith), k)
-
-below_started : (images : List NamedImage) (first : List ℕ) (n end : ℕ) → n + length first ≤ end → AllBelow end (pids (start_processes images n first))
-below_started images [] n end room = tt
-below_started images (number ∷ more) n end room = go (image_numbered images number) (below_started images more (n + 1) end (omega (arith, room)))
-  where
-    go : (o : Option NamedImage) → AllBelow end (pids (start_processes images (n + 1) more)) → AllBelow end (pids (start_if n number o ++ start_processes images (n + 1) more))
-    go None k = k
-    go (Some named) k = (omega (arith, room), k)
-
--- a first process has a space of its own number
-same_sids : (images : List NamedImage) (first : List ℕ) (n : ℕ)
-    → map (λ (s : Space). s.sid) (flat_map (λ (q : Process). space_held q.holding) (start_processes images n first)) ≡ pids (start_processes images n first)
-same_sids images [] n = refl
-same_sids images (number ∷ more) n = go (image_numbered images number) (same_sids images more (n + 1))
-  where
-    go : (o : Option NamedImage) → map (λ (s : Space). s.sid) (flat_map (λ (q : Process). space_held q.holding) (start_processes images (n + 1) more)) ≡ pids (start_processes images (n + 1) more)
-        → map (λ (s : Space). s.sid) (flat_map (λ (q : Process). space_held q.holding) (start_if n number o ++ start_processes images (n + 1) more)) ≡ pids (start_if n number o ++ start_processes images (n + 1) more)
-    go None k = k
-    go (Some named) k = ap (λ (ns : List ℕ). n ∷ ns) k
-
 -- Runs.
 
 behind_numbered : (point : Point) (after : FlatState) (es : List Entry) → IsNumbered point.flat → IsNumbered after → IsNumbered (behind point after es).flat
-behind_numbered point after [] h k = h
 behind_numbered point after (e ∷ []) h k = k
-behind_numbered point after (e ∷ f ∷ es) h k = h
+behind_numbered point after _ h k = h
 
 where_numbered : (b : Bool) (p q : Point) → where_so b p ≡ Some q → IsNumbered p.flat → IsNumbered q.flat
 where_numbered true p q e h = let same : p ≡ q = cc in subst (λ (x : Point). IsNumbered x.flat) same h

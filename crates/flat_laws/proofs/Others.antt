@@ -134,11 +134,10 @@ with_stays images F p ws regs change pid s fits other h =
 
 replied_stays : (images : List NamedImage) (F : FlatState) (p : Process) (call : SystemCall) (effect : Effect) (reply : Reply) (pid : ℕ) (s : Space)
     → ReplyFits (apply_writes F p.pid effect.writes) reply → p.pid ≢ pid → FoundHolding F.processes pid s → FoundHolding (replied_step images F p call effect reply).after.processes pid s
-replied_stays images F p call effect (replies.Fails error) pid s fits other h = with_stays images F p effect.writes _ Keep pid s tt other h
 replied_stays images F p call effect (replies.Does regs change) pid s fits other h = with_stays images F p effect.writes regs change pid s fits other h
-replied_stays images F p call effect (replies.Writes bytes) pid s fits other h = with_stays images F p effect.writes _ Keep pid s tt other h
 replied_stays images F p call effect replies.Waits pid s fits other h = with_stays images F p effect.writes p.regs Sleep pid s tt other h
 replied_stays images F p call effect (replies.Exits status) pid s fits other h = with_stays images F p effect.writes p.regs (End status) pid s tt other h
+replied_stays images F p call effect _ pid s fits other h = with_stays images F p effect.writes _ Keep pid s tt other h
 
 called_stays : (images : List NamedImage) (F : FlatState) (p : Process) (t : Space) (refused : Bool) (effect : Effect) (call : Option SystemCall) (pid : ℕ) (s : Space)
     → AllDistinct (pids_of F) → p.pid ≢ pid → FoundHolding F.processes pid s → FoundHolding (called_step images F p t refused effect call).after.processes pid s

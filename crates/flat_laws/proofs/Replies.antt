@@ -2,7 +2,7 @@
 use Rattle.std.proofs.Common.{◌&&◌, ◌≡◌, ℕ, ◌==◌, ◌||◌, nat_lt, nat_le, min, length, ◌%◌, ◌*◌, Bool, true, false, List, find, Option, Some, None, refl}
 use Rattle.vm_facts.specs.Answers.{Answers}
 use Rattle.flat_state.specs.Space.{Space}
-use Rattle.flat_state.specs.Flat.{Holding, Holds, Lends, Zombie, Process, FlatState, NamedImage}
+use Rattle.flat_state.specs.Flat.{Holding, Zombie, Process, FlatState, NamedImage}
 use Rattle.vm_facts.specs.declared.memory.ByteRead.{ByteRead}
 use Rattle.vm_facts.specs.declared.memory.ByteRead.TheVariants as bytes
 use Rattle.vm_facts.specs.declared.memory.MayWrite.{MayWrite}
@@ -22,10 +22,7 @@ use Rattle.flat_laws.proofs.Finding.{pids, found_by_number, zombie_passes}
 -- a reply whose change may be made
 abbrev pub ReplyFits : FlatState → Reply → Type 0
 ReplyFits F (Does regs change) = NamesChild F change
-ReplyFits F (Fails error) = Unit {0}
-ReplyFits F (Writes bytes) = Unit {0}
-ReplyFits F Waits = Unit {0}
-ReplyFits F (Exits status) = Unit {0}
+ReplyFits F _ = Unit {0}
 
 -- all that a computation may give
 abbrev AllGive : FlatState → Program Reply → Type 0
@@ -84,9 +81,8 @@ execve_fits F argv None = tt
 execve_fits F argv (Some found) = all_bind F (arguments_at argv) (λ arguments. Gives (starts found arguments)) (λ arguments. starts_fits F found arguments)
 
 zombie_is : (held : Holding) → is_zombie held ≡ true → (status : ℕ) × (held ≡ Zombie status)
-zombie_is (Holds s) h = absurd cc
-zombie_is (Lends sid child) h = absurd cc
 zombie_is (Zombie status) h = (status, refl)
+zombie_is _ h = absurd cc
 
 second : (a b : Bool) → (a && b) ≡ true → b ≡ true
 second true b h = h

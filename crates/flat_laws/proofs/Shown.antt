@@ -10,7 +10,7 @@ use Rattle.vm_facts.specs.declared.memory.MayWrite.{MayWrite}
 use Rattle.vm_facts.specs.declared.memory.MayWrite.TheVariants as tests
 use Rattle.vm_facts.specs.declared.page.Page.{Page}
 use Rattle.vm_facts.specs.declared.page.Page.TheVariants.{Data, Stack}
-use Rattle.user_vax.specs.Program.{Program, Gives, Refuses, Reads, Tests, Access, ReadOf, TestOf, run, after_read, after_test, accesses, rest_of_read, rest_of_test}
+use Rattle.user_vax.specs.Program.{Program, Reads, Tests, Access, ReadOf, TestOf, run, after_read, after_test, accesses, rest_of_read, rest_of_test}
 use Rattle.user_vax.specs.Effects.{Effect}
 use Rattle.user_vax.specs.Instruction.{instruction, MayAll}
 use Rattle.user_vax.specs.declared.refused.Refused.{Refused}
@@ -45,8 +45,6 @@ AreAlike some other (a ∷ list) = IsAlike some other a × AreAlike some other l
 
 -- a computation whose accesses are answered alike comes to the same
 same_run : {A : Type 0} (some other : Answers) (p : Program A) → AreAlike some other (accesses other p) → run some p ≡ run other p
-same_run some other (Gives x) h = refl
-same_run some other (Refuses signal) h = refl
 same_run some other (Reads a next) h =
     ap (λ (answer : ByteRead). after_read answer a (λ byte. run some (next byte))) h.0 ∙ go (λ byte k. same_run some other (next byte) k) (other.read a) h.1
   where
@@ -64,6 +62,7 @@ same_run some other (Tests a next) h =
     go later tests.Below k = refl
     go later tests.Text k = refl
     go later tests.Outside k = refl
+same_run some other _ h = refl
 
 -- Accesses to pages that are there.
 
@@ -198,11 +197,9 @@ where_may false h = absurd cc
 
 one_of : (s : Space) (pages : List Page) (p : Spot) → test_where (is_shown pages (page_tested s p)) (may_write_at p) ≡ tests.May
     → IsOneOf pages (page_tested s p)
-one_of s pages (spots.Text i) h = absurd cc
-one_of s pages spots.Below h = absurd cc
-one_of s pages spots.Outside h = absurd cc
 one_of s pages (spots.Data i) h = where_may (is_among (Data s.sid (i / 1024)) pages) h
 one_of s pages (spots.Stack i) h = where_may (is_among (Stack s.sid (i / 1024)) pages) h
+one_of s pages _ h = absurd cc
 
 written_shown : (s : Space) (pages : List Page) (ws : List ByteWrite) → MayAll (shown s pages) ws → AreOf s pages ws
 written_shown s pages [] h = tt
@@ -211,10 +208,7 @@ written_shown s pages (w ∷ ws) h = (one_of s pages (address_in s w.address) h.
 replied_writes : (images : List NamedImage) (F : FlatState) (p : Process) (call : SystemCall) (effect : Effect) (reply : Reply)
     → (replied_step images F p call effect reply).writes ≡ effect.writes
 replied_writes images F p call effect (replies.Fails error) = refl
-replied_writes images F p call effect (replies.Does regs change) = refl
-replied_writes images F p call effect (replies.Writes bytes) = refl
-replied_writes images F p call effect replies.Waits = refl
-replied_writes images F p call effect (replies.Exits status) = refl
+replied_writes images F p call effect _ = refl
 
 called_writes : (images : List NamedImage) (F : FlatState) (p : Process) (s : Space) (refused : Bool) (effect : Effect) (call : Option SystemCall)
     → (called_step images F p s refused effect call).writes ≡ effect.writes

@@ -22,10 +22,7 @@ use Rattle.outcome_laws.proofs.Numbers.{BringsNone}
 -- no process comes by the reply of this call, unless its entry is a fork's
 abbrev pub Spares : SystemCall → Reply → Type 0
 Spares call (Does regs change) = is_fork_reply (number_of call) regs.c ≡ false → BringsNone change
-Spares call (Fails error) = Unit {0}
-Spares call (Writes bytes) = Unit {0}
-Spares call Waits = Unit {0}
-Spares call (Exits status) = Unit {0}
+Spares call _ = Unit {0}
 
 -- so it is of all that a computation may give
 abbrev AllSpare : SystemCall → Program Reply → Type 0

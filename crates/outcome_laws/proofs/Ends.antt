@@ -38,12 +38,10 @@ stops_ended n images F p ws status k = λ h. end_applied n images (apply_writes 
 
 stops_replied : (n : ℕ) (images : List NamedImage) (F : FlatState) (p : Process) (call : SystemCall) (effect : Effect) (reply : Reply) → Only n F.processes
     → Stops p.pid (replied_step images F p call effect reply)
-stops_replied n images F p call effect (replies.Fails error) k = λ h. absurd cc
-stops_replied n images F p call effect (replies.Does regs change) k = λ h. absurd cc
 stops_replied n images F p call effect (replies.Writes []) k = λ h. absurd cc
 stops_replied n images F p call effect (replies.Writes (byte ∷ bytes)) k = (refl, (λ h. absurd cc))
-stops_replied n images F p call effect replies.Waits k = λ h. absurd cc
 stops_replied n images F p call effect (replies.Exits status) k = stops_ended n images F p effect.writes status k
+stops_replied n images F p call effect _ k = λ h. absurd cc
 
 stops_called : (n : ℕ) (images : List NamedImage) (F : FlatState) (p : Process) (s : Space) (refused : Bool) (effect : Effect) (call : Option SystemCall) → Only n F.processes
     → Stops p.pid (called_step images F p s refused effect call)

@@ -21,14 +21,9 @@ Only n (q ∷ qs) = IsSole n q × Only n qs
 
 -- no process comes by the change
 abbrev pub BringsNone : Change → Type 0
-BringsNone Keep = Unit {0}
-BringsNone (Resize data_pages stack_pages) = Unit {0}
 BringsNone (Fork child) = ⊥
 BringsNone (Lend child) = ⊥
-BringsNone (Exec image top) = Unit {0}
-BringsNone (Reap child) = Unit {0}
-BringsNone Sleep = Unit {0}
-BringsNone (End status) = Unit {0}
+BringsNone _ = Unit {0}
 
 only_replaced : (n : ℕ) (qs : List Process) (p : Process) → IsSole n p → Only n qs → Only n (replaced qs p)
 unfolding replaced
@@ -103,13 +98,12 @@ only_changed : (n : ℕ) (images : List NamedImage) (F : FlatState) (p : Process
     → Only n (changed images F p s change).processes
 only_changed n images F p s Keep none h k = only_replaced n F.processes p h k
 only_changed n images F p s (Resize data_pages stack_pages) none h k = only_replaced n F.processes (record p { holding = Holds (resized s data_pages stack_pages) }) h k
-only_changed n images F p s (Fork child) none h k = absurd none
-only_changed n images F p s (Lend child) none h k = absurd none
 only_changed n images F p s (Exec image top) none h k = only_entered n F p s image (image_numbered images image) top h k
 only_changed n images F p s (Reap child) none h k =
     only_replaced n (without_process F child).processes p h (only_filtered n (λ q. not (q.pid == child)) F.processes k)
 only_changed n images F p s Sleep none h k = only_replaced n F.processes (record p { asleep = true }) h k
 only_changed n images F p s (End status) none h k = only_ended n F p s status h k
+only_changed n images F p s _ none h k = absurd none
 
 pub only_applied : (n : ℕ) (images : List NamedImage) (F : FlatState) (pid : ℕ) (regs : Regs) (change : Change) → BringsNone change → Only n F.processes
     → Only n (apply_change images F pid regs change).processes

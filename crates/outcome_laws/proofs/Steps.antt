@@ -24,6 +24,7 @@ use Rattle.flat_model.specs.Run.{Point, is_refused, step_at, behind_first, due, 
 use Rattle.outcome_laws.specs.Visible.{is_fork_reply, is_fork}
 use Rattle.outcome_laws.proofs.Numbers.{Only, BringsNone, only_applied, only_written}
 use Rattle.outcome_laws.proofs.Children.{Spares, reply_spares}
+use Rattle.flat_laws.proofs.Entries.{carry_is}
 
 -- the last of these entries is a fork's
 abbrev ends_in_fork : List Entry → Bool
@@ -39,11 +40,10 @@ only_after n images F pid ws regs change none k = only_applied n images (apply_w
 
 only_replied : (n : ℕ) (images : List NamedImage) (F : FlatState) (p : Process) (call : SystemCall) (effect : Effect) (reply : Reply) → Spares call reply → Only n F.processes
     → ends_in_fork (replied_step images F p call effect reply).entries ≡ false → Only n (replied_step images F p call effect reply).after.processes
-only_replied n images F p call effect (replies.Fails error) spares k none = only_after n images F p.pid effect.writes _ Keep tt k
 only_replied n images F p call effect (replies.Does regs change) spares k none = only_after n images F p.pid effect.writes regs change (spares none) k
-only_replied n images F p call effect (replies.Writes bytes) spares k none = only_after n images F p.pid effect.writes _ Keep tt k
 only_replied n images F p call effect replies.Waits spares k none = only_after n images F p.pid effect.writes p.regs Sleep tt k
 only_replied n images F p call effect (replies.Exits status) spares k none = only_after n images F p.pid effect.writes p.regs (End status) tt k
+only_replied n images F p call effect _ spares k none = only_after n images F p.pid effect.writes _ Keep tt k
 
 only_called : (n : ℕ) (images : List NamedImage) (F : FlatState) (p : Process) (s : Space) (refused : Bool) (effect : Effect) (call : Option SystemCall) → Only n F.processes
     → ends_in_fork (called_step images F p s refused effect call).entries ≡ false → Only n (called_step images F p s refused effect call).after.processes
@@ -89,12 +89,6 @@ pub point_where : (b : Bool) (p q : Point) → where_so b p ≡ Some q → p ≡
 point_where true p q h = same_Some p q h
 point_where false p q h = absurd cc
 
-carry_is : (a b : Bool) → same_carry a b ≡ true → a ≡ b
-carry_is true true h = refl
-carry_is false false h = refl
-carry_is true false h = absurd cc
-carry_is false true h = absurd cc
-
 -- entries that are the same are both a fork's, or neither is
 fork_same : (e f : Entry) → same_entry e f ≡ true → is_fork f ≡ false → is_fork e ≡ false
 fork_same (entries.Call a n c r0 r1) (entries.Call b m d s0 s1) h k =
@@ -124,9 +118,8 @@ first_same false e f h = absurd cc
 
 only_point : (n : ℕ) (point : Point) (after : FlatState) (es : List Entry) → Only n point.flat.processes → ((e : Entry) → es ≡ e ∷ [] → Only n after.processes)
     → Only n (behind point after es).flat.processes
-only_point n point after [] k next = k
 only_point n point after (e ∷ []) k next = next e refl
-only_point n point after (e ∷ f ∷ es) k next = k
+only_point n point after _ k next = k
 
 only_entry_of : (n : ℕ) (A : Inputs) (point q : Point) (pid : ℕ) (e : Entry) → flat_entry_of A point pid e ≡ Some q → is_fork e ≡ false → Only n point.flat.processes → Only n q.flat.processes
 only_entry_of n A point q pid (entries.Refused p) h none k =

@@ -1,7 +1,7 @@
 -- A dirty page stays dirty in its frame till it was written or given up.
 use Rattle.std.proofs.Common.{◌≡◌, ◌⊎◌, inl, inr, ℕ, ◌<◌, Bool, true, false, List, [], ◌∷◌, Option, Some, None, refl, sym, ap, ◌∙◌, subst, arith}
 use Rattle.vm_facts.specs.declared.page.Page.{Page}
-use Rattle.vm_facts.specs.declared.page.Page.TheVariants.{Data, Stack, Text}
+use Rattle.vm_facts.specs.declared.page.Page.TheVariants.{Text}
 use Rattle.vm_facts.specs.declared.page.PageState.{PageState}
 use Rattle.vm_facts.specs.declared.page.PageState.TheVariants.{Unfilled, Valid, Invalid, Coming, Going, OnSwap}
 use Rattle.vm_facts.specs.declared.entry.Entry.{Entry}
@@ -34,14 +34,12 @@ use Rattle.paging_laws.proofs.Lost.{touched_new, unit_written}
 -- Of data and stack, a dirty page is one that must be written.
 
 marked_is : (q : Page) (m : Bool) → is_marked_dirty q m ≡ true → is_dirty_by q m ≡ true
-marked_is (Data sid v) m h = h
-marked_is (Stack sid v) m h = h
 marked_is (Text image v) m h = absurd cc
+marked_is _ m h = h
 
 is_marked : (q : Page) (m n : Bool) → is_marked_dirty q m ≡ true → is_dirty_by q n ≡ true → is_marked_dirty q n ≡ true
-is_marked (Data sid v) m n h k = k
-is_marked (Stack sid v) m n h k = k
 is_marked (Text image v) m n h k = absurd cc
+is_marked _ m n h k = k
 
 zero_or : (n : ℕ) → (n ≡ 0) ⊎ (0 < n)
 zero_or n = grind arith

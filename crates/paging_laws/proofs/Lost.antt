@@ -5,7 +5,7 @@ use Rattle.vm_facts.specs.declared.entry.Entry.{Entry}
 use Rattle.vm_facts.specs.declared.entry.Entry.TheVariants as entries
 use Rattle.flat_state.specs.Flat.{Inputs}
 use Rattle.flat_state.specs.declared.change.Change.{Change}
-use Rattle.flat_state.specs.declared.change.Change.TheVariants.{Keep, Resize, Fork, Lend, Exec, Reap, Sleep, End}
+use Rattle.flat_state.specs.declared.change.Change.TheVariants.{Resize, Exec, End}
 use Rattle.page_model.specs.Pages.{frame_of}
 use Rattle.page_model.specs.Placement.{Placement, state_of}
 use Rattle.page_model.specs.Moves.{touch_all}
@@ -56,11 +56,7 @@ given : (A : Inputs) (s : State) (u : Entry) (q : Page) (f pid : ℕ) (change : 
 given A s u q f pid (Resize d t) e i k = WasCutOff pid d t e i k
 given A s u q f pid (Exec image top) e i k = WasReplaced pid image top e i (record { own = k.0; page = k.1 })
 given A s u q f pid (End status) e i k = HasEnded pid status e i (record { own = k.0; page = k.1 })
-given A s u q f pid Keep e i k = absurd k
-given A s u q f pid (Fork child) e i k = absurd k
-given A s u q f pid (Lend child) e i k = absurd k
-given A s u q f pid (Reap child) e i k = absurd k
-given A s u q f pid Sleep e i k = absurd k
+given A s u q f pid _ e i k = absurd k
 
 -- once a process wrote its pages, the next space's number is new still
 pub touched_new : (A : Inputs) (s : State) (qs : List Page) → IsRun A s → IsNew (touch_all s.place qs) s.point.flat.next_sid

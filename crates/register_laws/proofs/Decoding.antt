@@ -49,24 +49,14 @@ on_pc_long mode size number bs p a =
 
 base_long : (base : Base) (bs : List ℕ) → SpellsBase base bs → AreOctets bs → IsLongBase base
 base_long (bases.Absolute address) bs s a = on_pc_long 9 4 address bs s a
-base_long (bases.Deferred reg) bs s a = tt
-base_long (bases.AutoDec reg) bs s a = tt
-base_long (bases.AutoInc reg) bs s a = tt
-base_long (bases.AutoIncDef reg) bs s a = tt
-base_long (bases.Disp reg by deferred) bs s a = tt
+base_long _ bs s a = tt
 
 specifier_long : (slot : Slot) (operand : Operand) (bs : List ℕ) → SpellsSpecifier slot operand bs → AreOctets bs → IsLongOperand operand
 specifier_long slot (operands.Literal value) bs s a = let k = s.1 in omega arith
 specifier_long slot (operands.Immediate number) bs s a = on_pc_long 8 slot.size number bs s.1 a
 specifier_long slot (operands.Absolute address) bs s a = on_pc_long 9 4 address bs s a
 specifier_long slot (operands.Indexed index base) bs s a = base_long base s.rest s.spells (let o = subst AreOctets s.split a in o.1)
-specifier_long slot (operands.Register reg) bs s a = tt
-specifier_long slot (operands.Deferred reg) bs s a = tt
-specifier_long slot (operands.AutoDec reg) bs s a = tt
-specifier_long slot (operands.AutoInc reg) bs s a = tt
-specifier_long slot (operands.AutoIncDef reg) bs s a = tt
-specifier_long slot (operands.Disp reg by deferred) bs s a = tt
-specifier_long slot (operands.Branch by) bs s a = tt
+specifier_long slot _ bs s a = tt
 
 branch_long : (slot : Slot) (operand : Operand) (bs : List ℕ) → SpellsBranch slot operand bs → IsLongOperand operand
 branch_long slot (operands.Branch by) bs s = tt
@@ -86,18 +76,11 @@ from_end_base behind (bases.Disp reg by deferred) l = go (reg == 15)
     go true = tt
     go false = tt
 from_end_base behind (bases.Absolute address) l = l
-from_end_base behind (bases.Deferred reg) l = tt
-from_end_base behind (bases.AutoDec reg) l = tt
-from_end_base behind (bases.AutoInc reg) l = tt
-from_end_base behind (bases.AutoIncDef reg) l = tt
+from_end_base behind _ l = tt
 
 base_operand : (base : Base) → IsLongBase base → IsLongOperand (operand_of base)
 base_operand (bases.Absolute address) l = l
-base_operand (bases.Deferred reg) l = tt
-base_operand (bases.AutoDec reg) l = tt
-base_operand (bases.AutoInc reg) l = tt
-base_operand (bases.AutoIncDef reg) l = tt
-base_operand (bases.Disp reg by deferred) l = tt
+base_operand _ l = tt
 
 from_end_long : (behind : ℕ) (operand : Operand) → IsLongOperand operand → IsLongOperand (from_end behind operand)
 from_end_long behind (operands.Disp reg by deferred) l = base_operand (base_from_end behind (bases.Disp reg by deferred)) (from_end_base behind (bases.Disp reg by deferred) tt)
@@ -105,12 +88,7 @@ from_end_long behind (operands.Indexed index base) l = from_end_base behind base
 from_end_long behind (operands.Literal value) l = l
 from_end_long behind (operands.Immediate value) l = l
 from_end_long behind (operands.Absolute address) l = l
-from_end_long behind (operands.Register reg) l = tt
-from_end_long behind (operands.Deferred reg) l = tt
-from_end_long behind (operands.AutoDec reg) l = tt
-from_end_long behind (operands.AutoInc reg) l = tt
-from_end_long behind (operands.AutoIncDef reg) l = tt
-from_end_long behind (operands.Branch by) l = tt
+from_end_long behind _ l = tt
 
 -- a decoded instruction's operands
 abbrev pub IsLong : Instr → Type 0

@@ -247,21 +247,13 @@ computation_leaves names.Sobgeq regs a b c x y z h = let k = store_leaves _ 4 a.
 computation_leaves names.Sobgtr regs a b c x y z h = let k = store_leaves _ 4 a.place _ four_fits record { count = h.count; each = h.each } in (jump_leaves _ _ b.value y k.0, k.1)
 computation_leaves names.Movb regs a b c x y z h = store_leaves _ 1 b.place _ one_fits record { count = h.count; each = h.each }
 computation_leaves names.Movw regs a b c x y z h = store_leaves _ 2 b.place _ two_fits record { count = h.count; each = h.each }
-computation_leaves names.Movl regs a b c x y z h = store_leaves _ 4 b.place _ four_fits record { count = h.count; each = h.each }
-computation_leaves names.Movzbl regs a b c x y z h = store_leaves _ 4 b.place _ four_fits record { count = h.count; each = h.each }
-computation_leaves names.Movab regs a b c x y z h = store_leaves _ 4 b.place _ four_fits record { count = h.count; each = h.each }
-computation_leaves names.Moval regs a b c x y z h = store_leaves _ 4 b.place _ four_fits record { count = h.count; each = h.each }
-computation_leaves names.Mcoml regs a b c x y z h = store_leaves _ 4 b.place _ four_fits record { count = h.count; each = h.each }
 computation_leaves names.Clrb regs a b c x y z h = store_leaves _ 1 a.place _ one_fits record { count = h.count; each = h.each }
 computation_leaves names.Clrl regs a b c x y z h = store_leaves _ 4 a.place _ four_fits record { count = h.count; each = h.each }
 computation_leaves names.Pushl regs a b c x y z h = push_leaves (registers_only (with_move_codes regs 4 a.value)) a.value (record { count = h.count; each = h.each }, tt)
 computation_leaves names.Pushab regs a b c x y z h = push_leaves (registers_only (with_move_codes regs 4 a.value)) a.value (record { count = h.count; each = h.each }, tt)
 computation_leaves names.Pushal regs a b c x y z h = push_leaves (registers_only (with_move_codes regs 4 a.value)) a.value (record { count = h.count; each = h.each }, tt)
-computation_leaves names.Bisl2 regs a b c x y z h = store_leaves _ 4 b.place _ four_fits record { count = h.count; each = h.each }
 computation_leaves names.Bisl3 regs a b c x y z h = store_leaves _ 4 c.place _ four_fits record { count = h.count; each = h.each }
-computation_leaves names.Bicl2 regs a b c x y z h = store_leaves _ 4 b.place _ four_fits record { count = h.count; each = h.each }
 computation_leaves names.Bicl3 regs a b c x y z h = store_leaves _ 4 c.place _ four_fits record { count = h.count; each = h.each }
-computation_leaves names.Xorl2 regs a b c x y z h = store_leaves _ 4 b.place _ four_fits record { count = h.count; each = h.each }
 computation_leaves names.Xorl3 regs a b c x y z h = store_leaves _ 4 c.place _ four_fits record { count = h.count; each = h.each }
 computation_leaves names.Bitl regs a b c x y z h = (record { count = h.count; each = h.each }, tt)
 computation_leaves names.Cmpb regs a b c x y z h = (record { count = h.count; each = h.each }, tt)
@@ -269,28 +261,24 @@ computation_leaves names.Cmpw regs a b c x y z h = (record { count = h.count; ea
 computation_leaves names.Cmpl regs a b c x y z h = (record { count = h.count; each = h.each }, tt)
 computation_leaves names.Tstb regs a b c x y z h = (record { count = h.count; each = h.each }, tt)
 computation_leaves names.Tstl regs a b c x y z h = (record { count = h.count; each = h.each }, tt)
-computation_leaves names.Cvtbl regs a b c x y z h = store_leaves _ 4 b.place _ four_fits record { count = h.count; each = h.each }
 computation_leaves names.Cvtlb regs a b c x y z h = store_leaves _ 1 b.place _ one_fits record { count = h.count; each = h.each }
-computation_leaves names.Addl2 regs a b c x y z h = store_leaves _ 4 b.place _ four_fits record { count = h.count; each = h.each }
 computation_leaves names.Addl3 regs a b c x y z h = store_leaves _ 4 c.place _ four_fits record { count = h.count; each = h.each }
 computation_leaves names.Incb regs a b c x y z h = store_leaves _ 1 a.place _ one_fits record { count = h.count; each = h.each }
 computation_leaves names.Incl regs a b c x y z h = store_leaves _ 4 a.place _ four_fits record { count = h.count; each = h.each }
-computation_leaves names.Subl2 regs a b c x y z h = store_leaves _ 4 b.place _ four_fits record { count = h.count; each = h.each }
 computation_leaves names.Subl3 regs a b c x y z h = store_leaves _ 4 c.place _ four_fits record { count = h.count; each = h.each }
 computation_leaves names.Decb regs a b c x y z h = store_leaves _ 1 a.place _ one_fits record { count = h.count; each = h.each }
 computation_leaves names.Decl regs a b c x y z h = store_leaves _ 4 a.place _ four_fits record { count = h.count; each = h.each }
-computation_leaves names.Mull2 regs a b c x y z h = store_leaves _ 4 b.place _ four_fits record { count = h.count; each = h.each }
 computation_leaves names.Mull3 regs a b c x y z h = store_leaves _ 4 c.place _ four_fits record { count = h.count; each = h.each }
 computation_leaves names.Divl2 regs a b c x y z h = division_leaves regs b.place b.value a.value h
 computation_leaves names.Divl3 regs a b c x y z h = division_leaves regs c.place b.value a.value h
 computation_leaves names.Ashl regs a b c x y z h = store_leaves _ 4 c.place _ four_fits record { count = h.count; each = h.each }
-computation_leaves names.Mnegl regs a b c x y z h = store_leaves _ 4 b.place _ four_fits record { count = h.count; each = h.each }
 computation_leaves names.Chmk regs a b c x y z h = (h, tt)
 computation_leaves names.Callg regs a b c x y z h = procedure_call_leaves (registers_only regs) false a.value b.value x (h, tt)
 computation_leaves names.Calls regs a b c x y z h =
     let k = push_leaves (registers_only regs) a.value (h, tt) in
     let r : AreRegs (push_effect regs a.value).regs = k.0 in
     procedure_call_leaves (push_effect regs a.value) true (register (push_effect regs a.value).regs 14) b.value (index_small (push_effect regs a.value).regs.r 14 r.each) k
+computation_leaves _ regs a b c x y z h = store_leaves _ 4 b.place _ four_fits record { count = h.count; each = h.each }
 
 -- Operands.
 
@@ -359,17 +347,7 @@ through_leaves slot regs base few long h =
 
 slot_small : (kind : Kind) → (256 ^ (slot_of kind).size ≤ 2 ^ 32) × ((x : ℕ) → x < 2 ^ 32 → x % 256 ^ (slot_of kind).size < 2 ^ 32)
 slot_small kinds.Ab = (omega arith, λ x h. omega (arith, h))
-slot_small kinds.Al = (omega arith, λ x h. omega (arith, h))
-slot_small kinds.Bb = (omega arith, λ x h. omega (arith, h))
-slot_small kinds.Bw = (omega arith, λ x h. omega (arith, h))
-slot_small kinds.Mb = (omega arith, λ x h. omega (arith, h))
-slot_small kinds.Ml = (omega arith, λ x h. omega (arith, h))
-slot_small kinds.Rb = (omega arith, λ x h. omega (arith, h))
-slot_small kinds.Rl = (omega arith, λ x h. omega (arith, h))
-slot_small kinds.Rw = (omega arith, λ x h. omega (arith, h))
-slot_small kinds.Wb = (omega arith, λ x h. omega (arith, h))
-slot_small kinds.Wl = (omega arith, λ x h. omega (arith, h))
-slot_small kinds.Ww = (omega arith, λ x h. omega (arith, h))
+slot_small _ = (omega arith, λ x h. omega (arith, h))
 
 pub row_small : (row : Row) (place : ℕ) → (256 ^ (slot_in row place).size ≤ 2 ^ 32) × ((x : ℕ) → x < 2 ^ 32 → x % 256 ^ (slot_in row place).size < 2 ^ 32)
 row_small row place = slot_small (if place == 0 then row.a else (if place == 1 then row.b else row.c))
@@ -378,8 +356,6 @@ pub operand_leaves : (slot : Slot) (regs : Regs) (operand : Operand)
     → (256 ^ slot.size ≤ 2 ^ 32) × ((x : ℕ) → x < 2 ^ 32 → x % 256 ^ slot.size < 2 ^ 32) → IsLongOperand operand → AreRegs regs
     → AllLeave IsEvaluated (evaluation slot regs operand)
 unfolding evaluation
-operand_leaves slot regs (operands.Literal value) few long h = (h, long)
-operand_leaves slot regs (operands.Immediate value) few long h = (h, long)
 operand_leaves slot regs (operands.Register reg) few long h = (h, few.1 (register regs reg) (index_small regs.r reg h.each))
 operand_leaves slot regs (operands.Branch by) few long h = (h, omega arith)
 operand_leaves slot regs (operands.Deferred reg) few long h = through_leaves slot regs (bases.Deferred reg) few.0 tt h
@@ -391,6 +367,7 @@ operand_leaves slot regs (operands.Disp reg by deferred) few long h = through_le
 operand_leaves slot regs (operands.Indexed index base) few long h =
     leave_bind IsFound IsEvaluated (address_of regs slot.size base) (λ found. evaluation_at slot found.0 (past found.1 (slot.size * register found.0 index))) (address_leaves regs slot.size base long h)
     (λ found k. at_leaves slot found.0 (past found.1 (slot.size * register found.0 index)) few.0 (omega arith) k.0)
+operand_leaves slot regs _ few long h = (h, long)
 
 -- three operands
 abbrev pub AreEvaluated : Regs × Evaluated × Evaluated × Evaluated → Type 0
@@ -431,8 +408,6 @@ execution_by_leaves (Some row) regs instr la lb lc h =
 
 pub run_leaves : (memory : Answers) (p : Program Effect) → ((a byte : ℕ) → memory.read a ≡ bytes.Is byte → byte < 256) → AllLeave EffectFits p
     → LeavesLongwords (run memory p)
-run_leaves memory (Gives x) small h = h
-run_leaves memory (Refuses signal) small h = h
 run_leaves memory (Reads a next) small h = go (λ byte low. run_leaves memory (next byte) small (h byte low)) (memory.read a) refl
   where
     go : ((byte : ℕ) → byte < 256 → LeavesLongwords (run memory (next byte))) → (answer : ByteRead) → memory.read a ≡ answer → LeavesLongwords (after_read answer a (λ byte. run memory (next byte)))
@@ -448,3 +423,4 @@ run_leaves memory (Tests a next) small h = go (run_leaves memory next small h) (
     go later tests.Below = tt
     go later tests.Text = omega arith
     go later tests.Outside = omega arith
+run_leaves memory _ small h = h

@@ -39,11 +39,9 @@ pub octets_resized : (pages : ℕ) (xs : List ℕ) → AreOctets xs → AreOctet
 octets_resized pages xs a = both_octets (take (1024 * pages) xs) (replicate (1024 * pages - length xs) 0) (take_octets (1024 * pages) xs a) (zero_octets (1024 * pages - length xs))
 
 put_octets : (s : Space) (spot : Spot) (byte : ℕ) → byte < 256 → HasOctets s → HasOctets (put_at s spot byte)
-put_octets s (spots.Text i) byte b o = o
 put_octets s (spots.Data i) byte b o = record { text = o.text; «data» = set_octets s.data_bytes i byte b o.data; stack = o.stack }
 put_octets s (spots.Stack i) byte b o = record { text = o.text; «data» = o.data; stack = set_octets s.stack_bytes i byte b o.stack }
-put_octets s spots.Below byte b o = o
-put_octets s spots.Outside byte b o = o
+put_octets s _ byte b o = o
 
 pub puts_octets : (ws : List ByteWrite) (s : Space) → AreWritten ws → HasOctets s → HasOctets (puts s ws)
 puts_octets [] s w o = o

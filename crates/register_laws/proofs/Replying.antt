@@ -197,9 +197,8 @@ found_lower test (q ∷ ps) p e h = go (λ k. found_lower test ps p k h.1) (test
     go later false k = later k
 
 status_small : (held : Holding) → HeldFits held → status_of held < 2 ^ 32
-status_small (Holds s) k = omega arith
-status_small (Lends sid child) k = omega arith
 status_small (Zombie status) k = k
+status_small _ k = omega arith
 
 wait_keeps : (F : FlatState) (pid : ℕ) (regs : Regs) → AllFit F.processes → AllBelow (2 ^ 32) (pids_of F) → AreRegs regs → ReplyKeeps (wait_reply F pid regs)
 wait_keeps F pid regs all low h = go (find (λ q. q.parent == pid) F.processes) (find (is_zombie_child pid) F.processes) refl

@@ -9,7 +9,7 @@ use Rattle.vm_facts.specs.declared.entry.Entry.TheVariants.{Ran, Out, Grew, Call
 use Rattle.flat_state.specs.Space.{Space}
 use Rattle.flat_state.specs.Flat.{Holding, Holds, Lends, Zombie, Process, FlatState, NamedImage, Inputs, image_numbered, process_of, can_step}
 use Rattle.flat_state.specs.declared.change.Change.{Change}
-use Rattle.flat_state.specs.declared.change.Change.TheVariants.{Keep, Resize, Fork, Lend, Exec, Reap, Sleep, End}
+use Rattle.flat_state.specs.declared.change.Change.TheVariants.{Keep, Resize, Fork, Lend, Exec, Sleep, End}
 use Rattle.flat_state.specs.Change.{with_process, given_back, orphaned, left, entered, changed, changed_by, changed_if, apply_change, apply_writes}
 use Rattle.flat_state.specs.Journal.{counted, instructions_of, units_of}
 use Rattle.flat_state.specs.Numbers.{IsNumbered}
@@ -32,9 +32,8 @@ use Rattle.register_laws.proofs.Registers.{start_regs_are}
 use Rattle.register_laws.proofs.Replying.{next_written, step_regs}
 
 behind_so : (P : FlatState → Type 0) (point : Point) (after : FlatState) (es : List Entry) → P point.flat → P after → P (behind point after es).flat
-behind_so P point after [] h k = h
 behind_so P point after (e ∷ []) h k = k
-behind_so P point after (e ∷ f ∷ es) h k = h
+behind_so P point after _ h k = h
 
 where_is_so : (P : FlatState → Type 0) (b : Bool) (p q : Point) → where_so b p ≡ Some q → P p.flat → P q.flat
 where_is_so P true p q e h = let same : p ≡ q = cc in subst (λ (x : Point). P x.flat) same h
@@ -72,22 +71,17 @@ made _ = 0
 
 changed_next : (images : List NamedImage) (F : FlatState) (p : Process) (s : Space) (change : Change)
     → (changed images F p s change).next_pid ≤ F.next_pid + made change
-changed_next images F p s Keep = omega arith
-changed_next images F p s (Resize data_pages stack_pages) = omega arith
-changed_next images F p s (Fork child) = omega arith
-changed_next images F p s (Lend child) = omega arith
 changed_next images F p s (Exec image top) = go (image_numbered images image)
   where
     go : (o : Option NamedImage) → (entered F p s image o top).next_pid ≤ F.next_pid + 0
     go None = omega arith
     go (Some named) = omega arith
-changed_next images F p s (Reap child) = omega arith
-changed_next images F p s Sleep = omega arith
 changed_next images F p s (End status) = go (p.parent == 0)
   where
     go : (b : Bool) → (left b (orphaned (given_back (with_process F record p { holding = Zombie status }) p.pid s) p.pid) p.pid p.parent).next_pid ≤ F.next_pid + 0
     go true = omega arith
     go false = omega arith
+changed_next images F p s _ = omega arith
 
 change_next : (images : List NamedImage) (F : FlatState) (pid : ℕ) (regs : Regs) (change : Change)
     → (apply_change images F pid regs change).next_pid ≤ F.next_pid + made change

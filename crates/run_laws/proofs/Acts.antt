@@ -122,18 +122,7 @@ arrives A s pid (entries.Sleeps p) e o = subst (λ (x : ℕ). Arrives A s x (ent
 arrives A s pid (entries.Ended p n) e o = subst (λ (x : ℕ). Arrives A s x (entries.Ended p n)) (sym (number_of p pid o)) (record { point = refl; place = refl; holdings = refl })
 arrives A s pid (entries.Out p bytes) e o = absurd e
 arrives A s pid (entries.Refused p) e o = absurd e
-arrives A s pid (entries.Event line) e o = absurd cc
-arrives A s pid (entries.Turn p) e o = absurd cc
-arrives A s pid (entries.Zero q) e o = absurd cc
-arrives A s pid (entries.Get q lo n) e o = absurd cc
-arrives A s pid (entries.Copy q) e o = absurd cc
-arrives A s pid (entries.Reclaim q) e o = absurd cc
-arrives A s pid (entries.Hands n) e o = absurd cc
-arrives A s pid (entries.Put q n) e o = absurd cc
-arrives A s pid entries.Done e o = absurd cc
-arrives A s pid (entries.SwapOut p) e o = absurd cc
-arrives A s pid (entries.SwapIn p) e o = absurd cc
-arrives A s pid (entries.Owners a b c d) e o = absurd cc
+arrives A s pid _ e o = absurd cc
 
 -- Pieces.
 

@@ -15,7 +15,7 @@ use Rattle.swap_book.specs.Owners.{same_owner}
 use Rattle.swap_book.specs.Holdings.{Holdings, kept}
 use Rattle.swap_book.specs.Placing.{Wanted, place_all}
 use Rattle.flat_state.specs.declared.change.Change.{Change}
-use Rattle.flat_state.specs.declared.change.Change.TheVariants.{Keep, Resize, Fork, Lend, Exec, Reap, Sleep, End}
+use Rattle.flat_state.specs.declared.change.Change.TheVariants.{Resize, Fork, Exec, End}
 use Rattle.flat_state.specs.Change.{is_borrower}
 use Rattle.page_model.specs.Pages.{Slot}
 use Rattle.flat_state.specs.PageNames.{same_page}
@@ -76,18 +76,14 @@ pub given_same : (flat after : FlatState) (pid : ℕ) (s : Space) (change : Chan
     → is_borrower flat.processes pid ≡ borrowed → image_of p s.sid ≡ s.image
     → (borrowed ≡ false → (sharers q (image_of p s.sid) ≡ 0 → is_shared after s.image ≡ false) × ((m : ℕ) → sharers q (image_of p s.sid) ≡ suc m → is_shared after s.image ≡ true))
     → given_up flat after pid s change hs ≡ holdings_after hs p q pid s.sid borrowed change
-given_same flat after pid s Keep hs p q borrowed b i h = refl
 given_same flat after pid s (Resize d t) hs p q borrowed b i h =
     ap₂ (λ (m n : ℕ). kept (owners.Stack s.sid) m (kept (owners.Data s.sid) n hs)) (map_count (Rattle.swap_book.specs.Placing.one (owners.Stack s.sid)) (pieces (2 * t))) (map_count (Rattle.swap_book.specs.Placing.one (owners.Data s.sid)) (pieces (2 * d)))
-given_same flat after pid s (Fork child) hs p q borrowed b i h = refl
-given_same flat after pid s (Lend child) hs p q borrowed b i h = refl
 given_same flat after pid s (Exec image top) hs p q borrowed b i h =
     ap (λ (x : Bool). without_own x after s hs) b ∙ own_back borrowed after s hs (image_of p s.sid) (sharers q (image_of p s.sid)) (sym i) h
-given_same flat after pid s (Reap child) hs p q borrowed b i h = refl
-given_same flat after pid s Sleep hs p q borrowed b i h = refl
 given_same flat after pid s (End status) hs p q borrowed b i h =
     ap (λ (x : Bool). without_own x after s (kept (owners.U pid) 0 hs)) b
     ∙ own_back borrowed after s (kept (owners.U pid) 0 hs) (image_of p s.sid) (sharers q (image_of p s.sid)) (sym i) h ∙ u_back borrowed hs s.sid (image_of p s.sid) (sharers q (image_of p s.sid)) pid
+given_same flat after pid s _ hs p q borrowed b i h = refl
 
 -- No page is due twice.
 
@@ -147,28 +143,24 @@ copies_once child parent v (x ∷ xs) h = go x.state (copies_once child parent (
 
 stack_absent : (child parent : ℕ) (xs ys : List Slot) (r : Page) → (due_at (copies_from (pages.Data child) (pages.Data parent) 0 xs) r ≡ None → ⊥)
     → NotDue (copies_from (pages.Stack child) (pages.Stack parent) 0 ys) r
-stack_absent child parent xs ys (pages.Data sid n) h = absent_copies (pages.Stack child) (pages.Stack parent) (pages.Data sid n) 0 ys (λ w l. refl)
 stack_absent child parent xs ys (pages.Stack sid n) h = absurd (h (absent_copies (pages.Data child) (pages.Data parent) (pages.Stack sid n) 0 xs (λ w l. refl)))
-stack_absent child parent xs ys (pages.Text sid n) h = absent_copies (pages.Stack child) (pages.Stack parent) (pages.Text sid n) 0 ys (λ w l. refl)
+stack_absent child parent xs ys x h = absent_copies (pages.Stack child) (pages.Stack parent) x 0 ys (λ w l. refl)
 
 none_once : (p : Placement) → p.due ≡ [] → EachOnce p.due
 none_once p e = subst EachOnce (sym e) tt
 
 pub change_once : (images : List Image) (p : Placement) (pid sid : ℕ) (borrowed : Bool) (next at : ℕ) (change : Change) → p.due ≡ []
     → EachOnce (place_change images p pid sid borrowed next at change).due
-change_once images p pid sid borrowed next at Keep e = none_once p e
 change_once images p pid sid borrowed next at (Resize d s) e = none_once (place_change images p pid sid borrowed next at (Resize d s)) ((Rattle.page_laws.proofs.Bytes.Changes.drop_all_rest (Rattle.page_laws.proofs.Ownership.Changes.dropped_pages p sid d s) p).1 ∙ e)
 change_once images p pid sid borrowed next at (Fork child) e =
     append_once (copies_from (pages.Data next) (pages.Data sid) 0 (slots_of p (pages.Data sid 0))) (copies_from (pages.Stack next) (pages.Stack sid) 0 (slots_of p (pages.Stack sid 0)))
     (copies_once (pages.Data next) (pages.Data sid) 0 (slots_of p (pages.Data sid 0)) (λ u w l. ap (λ (b : Bool). (next == next) && b) (later_apart u w l) ∙ and-false (next == next)))
     (copies_once (pages.Stack next) (pages.Stack sid) 0 (slots_of p (pages.Stack sid 0)) (λ u w l. ap (λ (b : Bool). (next == next) && b) (later_apart u w l) ∙ and-false (next == next)))
     (stack_absent next sid (slots_of p (pages.Data sid 0)) (slots_of p (pages.Stack sid 0)))
-change_once images p pid sid borrowed next at (Lend child) e = none_once p e
 change_once images p pid sid borrowed next at (Exec image top) e = go (facts_numbered images image)
   where
     go : (o : Option Image) → EachOnce (give_up_unless borrowed (Rattle.page_model.specs.Place.enter_image p next image o) sid).due
     go None = subst EachOnce (sym (Rattle.kernel_laws.proofs.Machine.Gone.gone_unless borrowed p sid).due) (none_once p e)
     go (Some facts) = subst EachOnce (sym (Rattle.kernel_laws.proofs.Machine.Gone.gone_unless borrowed (Rattle.page_model.specs.Place.enter_space p next image facts) sid).due) (refl, tt)
-change_once images p pid sid borrowed next at (Reap child) e = none_once p e
-change_once images p pid sid borrowed next at Sleep e = none_once p e
 change_once images p pid sid borrowed next at (End status) e = subst EachOnce (sym (Rattle.kernel_laws.proofs.Machine.Gone.gone_unless borrowed p sid).due) (none_once p e)
+change_once images p pid sid borrowed next at _ e = none_once p e

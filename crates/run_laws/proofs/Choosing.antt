@@ -1,7 +1,7 @@
 -- Whom the swapper puts out, or brings in, holds a space, and is in, or out.
 use Rattle.std.proofs.Common.{◌≡◌, inl, inr, ℕ, ◌==◌, Bool, true, false, cond, List, [], ◌∷◌, map, filter_map, find, Option, Some, None, refl, sym, ap, ◌∙◌, subst}
 use Rattle.std.specs.List.{cons_option}
-use Rattle.flat_state.specs.Flat.{Holding, Holds, Lends, Zombie, Process, FlatState, process_of, holds_space}
+use Rattle.flat_state.specs.Flat.{Holding, Holds, Process, FlatState, process_of, holds_space}
 use Rattle.page_model.specs.Placement.{Placement}
 use Rattle.flat_state.specs.Change.{is_borrower}
 use Rattle.page_model.specs.Swapper.{is_out, Runner, In, Out, swap_choice}
@@ -18,8 +18,7 @@ some_runner x y e = cc
 
 runner_holds : (F : FlatState) (q : Process) (h : Holding) (r : Runner) → runner_by F q h ≡ Some r → (q.pid ≡ r.pid) × (holds_space h ≡ true)
 runner_holds F q (Holds s) r e = (ap (λ (x : Runner). x.pid) (some_runner (record { pid = q.pid; sid = s.sid; borrowed = is_borrower F.processes q.pid; asleep = q.asleep }) r e), refl)
-runner_holds F q (Lends sid child) r e = absurd cc
-runner_holds F q (Zombie status) r e = absurd cc
+runner_holds F q _ r e = absurd cc
 
 -- one of the processes has the runner's number, and holds a space
 held_in : (F : FlatState) (ps : List Process) (r : Runner) → AllDistinct (map (λ (q : Process). q.pid) ps)

@@ -148,10 +148,7 @@ found_image images (Some name) found e =
 
 abbrev ReplyExecs : List NamedImage → Reply → Type 0
 ReplyExecs images (Does regs change) = EntersImage images change
-ReplyExecs images (Fails error) = Unit {0}
-ReplyExecs images (Writes bytes) = Unit {0}
-ReplyExecs images Waits = Unit {0}
-ReplyExecs images (Exits status) = Unit {0}
+ReplyExecs images _ = Unit {0}
 
 starts_execs : (images : List NamedImage) (found : ℕ × NamedImage) (arguments : Option (List (List ℕ))) → image_numbered images found.0 ≡ Some found.1
     → ListFits 8 arguments → ReplyExecs images (starts found arguments)
@@ -231,11 +228,8 @@ refused_execs images true (Exits status) h = tt
 
 replied_execs : (images : List NamedImage) (F : FlatState) (p : Process) (call : SystemCall) (effect : Effect) (reply : Reply)
     → ReplyExecs images reply → EntersImage images (replied_step images F p call effect reply).change
-replied_execs images F p call effect (Fails error) h = tt
 replied_execs images F p call effect (Does regs change) h = h
-replied_execs images F p call effect (Writes bytes) h = tt
-replied_execs images F p call effect Waits h = tt
-replied_execs images F p call effect (Exits status) h = tt
+replied_execs images F p call effect _ h = tt
 
 called_execs : (images : List NamedImage) (F : FlatState) (p : Process) (s : Space) (refused : Bool) (effect : Effect) (o : Option SystemCall)
     → EntersImage images (called_step images F p s refused effect o).change

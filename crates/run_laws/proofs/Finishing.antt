@@ -8,7 +8,7 @@ use Rattle.flat_state.specs.Flat.{Holding, Process, FlatState, NamedImage, Input
 use Rattle.vm_facts.specs.declared.entry.Entry.{Entry}
 use Rattle.vm_facts.specs.declared.entry.Entry.TheVariants as entries
 use Rattle.user_vax.specs.Effects.{Effect}
-use Rattle.user_vax.specs.Program.{Program, Gives, Refuses, Reads, Tests, run}
+use Rattle.user_vax.specs.Program.{Program, Reads, Tests, run}
 use Rattle.user_vax.specs.Instruction.{instruction}
 use Rattle.user_vax.specs.declared.refused.Refused.{Refused}
 use Rattle.user_vax.specs.declared.refused.Refused.TheVariants.{Miss, Below, Signal}
@@ -18,7 +18,7 @@ use Rattle.flat_state.specs.Journal.{counted, IsUnit}
 use Rattle.page_model.specs.Placement.{Due, Start, CopyOf}
 use Rattle.flat_model.specs.Instruction.{instruction_in}
 use Rattle.flat_model.specs.declared.calls.Reply.{Reply}
-use Rattle.flat_model.specs.declared.calls.Reply.TheVariants.{Fails, Does, Writes, Waits, Exits}
+use Rattle.flat_model.specs.declared.calls.Reply.TheVariants.{Writes}
 use Rattle.flat_model.specs.declared.calls.SystemCall.{SystemCall}
 use Rattle.flat_model.specs.Calls.{call_of}
 use Rattle.flat_model.specs.Step.{replied_step, reply_behind, called_step, step_behind, step_of, step_holding, step_if, flat_step}
@@ -99,8 +99,6 @@ none_ends A s h = due s.place.due h
 -- The flat machine's instructions never miss.
 
 pub never_misses : {A : Type 0} (s : Space) (p : Program A) (a : ℕ) (w : Bool) → run (answers_of s) p ≡ Err (Miss a w) → ⊥
-never_misses s (Gives x) a w e = cc
-never_misses s (Refuses signal) a w e = cc
 never_misses s (Reads b next) a w e = go (address_in s b) (λ byte. never_misses s (next byte) a w) e
   where
     go : (spot : Spot) → ((byte : ℕ) → run (answers_of s) (next byte) ≡ Err (Miss a w) → ⊥) → Rattle.user_vax.specs.Program.after_read (Rattle.flat_state.specs.Space.byte_at s spot) b (λ byte. run (answers_of s) (next byte)) ≡ Err (Miss a w) → ⊥
@@ -117,17 +115,15 @@ never_misses s (Tests b next) a w e = go (address_in s b) (never_misses s next a
     go (spots.Stack i) ih e = ih e
     go spots.Below ih e = cc
     go spots.Outside ih e = cc
+never_misses s _ a w e = cc
 
 -- So each step of a process that can step has an entry.
 
 replied_some : (images : List NamedImage) (F : FlatState) (p : Process) (call : SystemCall) (effect : Effect) (reply : Reply)
     → HasEntry (replied_step images F p call effect reply).entries
-replied_some images F p call effect (Fails error) = tt
-replied_some images F p call effect (Does regs change) = tt
 replied_some images F p call effect (Writes []) = tt
 replied_some images F p call effect (Writes (byte ∷ bytes)) = tt
-replied_some images F p call effect Waits = tt
-replied_some images F p call effect (Exits status) = tt
+replied_some images F p call effect _ = tt
 
 called_some : (images : List NamedImage) (F : FlatState) (p : Process) (s : Space) (refused : Bool) (effect : Effect) (o : Option SystemCall)
     → HasEntry (called_step images F p s refused effect o).entries

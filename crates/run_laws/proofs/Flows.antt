@@ -501,18 +501,7 @@ step_waits A s pid now (entries.Refused p) r w h says = absurd (never (steps_sha
     never : Ends (entries.Refused p) ⊎ ((bytes : List ℕ) × (entries.Refused p ≡ entries.Out pid bytes)) → ⊥
     never (inl x) = x
     never (inr x) = let e = x.1 in absurd cc
-step_waits A s pid now (entries.Event line) r w h says = absurd (let e = steps_own A s.point pid (entries.Event line) h in cc)
-step_waits A s pid now (entries.Turn p) r w h says = absurd (let e = steps_own A s.point pid (entries.Turn p) h in cc)
-step_waits A s pid now (entries.Zero q) r w h says = absurd (let e = steps_own A s.point pid (entries.Zero q) h in cc)
-step_waits A s pid now (entries.Get q lo n) r w h says = absurd (let e = steps_own A s.point pid (entries.Get q lo n) h in cc)
-step_waits A s pid now (entries.Copy q) r w h says = absurd (let e = steps_own A s.point pid (entries.Copy q) h in cc)
-step_waits A s pid now (entries.Reclaim q) r w h says = absurd (let e = steps_own A s.point pid (entries.Reclaim q) h in cc)
-step_waits A s pid now (entries.Hands n) r w h says = absurd (let e = steps_own A s.point pid (entries.Hands n) h in cc)
-step_waits A s pid now (entries.Put q n) r w h says = absurd (let e = steps_own A s.point pid (entries.Put q n) h in cc)
-step_waits A s pid now entries.Done r w h says = absurd (let e = steps_own A s.point pid entries.Done h in cc)
-step_waits A s pid now (entries.SwapOut p) r w h says = absurd (let e = steps_own A s.point pid (entries.SwapOut p) h in cc)
-step_waits A s pid now (entries.SwapIn p) r w h says = absurd (let e = steps_own A s.point pid (entries.SwapIn p) h in cc)
-step_waits A s pid now (entries.Owners a b c d) r w h says = absurd (let e = steps_own A s.point pid (entries.Owners a b c d) h in cc)
+step_waits A s pid now x r w h says = absurd (let e = steps_own A s.point pid x h in cc)
 
 pub plain_point : (A : Inputs) (s : State) (u : Entry) → process_of_entry u ≡ None → (after A s u).point ≡ s.point
 unfolding flat_entry

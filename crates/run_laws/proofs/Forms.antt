@@ -10,13 +10,13 @@ use Rattle.user_vax.specs.declared.refused.Refused.{Refused}
 use Rattle.user_vax.specs.declared.refused.Refused.TheVariants.{Miss, Below, Signal}
 use Rattle.flat_state.specs.Change.{apply_change, apply_writes, NamesChild}
 use Rattle.flat_state.specs.declared.change.Change.{Change}
-use Rattle.flat_state.specs.declared.change.Change.TheVariants.{Keep, Resize, Fork, Lend, Exec, Reap, Sleep, End}
+use Rattle.flat_state.specs.declared.change.Change.TheVariants.{Keep, Resize, Fork, Lend, Exec, Sleep}
 use Rattle.flat_state.specs.Numbers.{AllDistinct, IsNumbered}
 use Rattle.register_laws.proofs.Replies.{ReplyFits, reply_fits}
 use Rattle.register_laws.proofs.Others.{pids_written}
 use Rattle.flat_model.specs.Instruction.{instruction_in}
 use Rattle.flat_model.specs.declared.calls.Reply.{Reply}
-use Rattle.flat_model.specs.declared.calls.Reply.TheVariants.{Fails, Does, Writes, Waits, Exits}
+use Rattle.flat_model.specs.declared.calls.Reply.TheVariants.{Does, Writes, Waits}
 use Rattle.flat_model.specs.declared.calls.SystemCall.{SystemCall}
 use Rattle.flat_model.specs.Calls.{call_of, unless_refused, wants_space, refused_reply}
 use Rattle.flat_model.specs.Step.{Step, written_process, replied_step, reply_behind, called_step, step_behind, step_of, step_holding, step_if, flat_step}
@@ -40,14 +40,11 @@ pub data Form (images : List NamedImage) (F : FlatState) (p : Process) (s : Spac
   Came : Formed images F p s refused S → Form images F p s refused S
 
 wants_none : (images : List NamedImage) (F : FlatState) (s : Space) (change : Change) → wants_space change ≡ false → change_wanted images F s change ≡ []
-wants_none images F s Keep e = refl
 wants_none images F s (Resize d t) e = absurd cc
 wants_none images F s (Fork child) e = absurd cc
 wants_none images F s (Lend child) e = absurd cc
 wants_none images F s (Exec image top) e = absurd cc
-wants_none images F s (Reap child) e = refl
-wants_none images F s Sleep e = refl
-wants_none images F s (End status) e = refl
+wants_none images F s _ e = refl
 
 -- a reply of which the pieces were refused wants none
 abbrev NoneRefused : Bool → Reply → Type 0
@@ -59,26 +56,19 @@ none_unless true regs change e = tt
 none_unless false regs change e = λ z. e
 
 none_refused : (refused : Bool) (reply : Reply) → NoneRefused refused (refused_reply refused reply)
-none_refused false (Fails error) = tt
 none_refused false (Does regs change) = λ z. absurd cc
-none_refused false (Writes bytes) = tt
-none_refused false Waits = tt
-none_refused false (Exits status) = tt
-none_refused true (Fails error) = tt
+none_refused false _ = tt
 none_refused true (Does regs change) = none_unless (wants_space change) regs change refl
-none_refused true (Writes bytes) = tt
-none_refused true Waits = tt
-none_refused true (Exits status) = tt
+none_refused true _ = tt
 
 replied_form : (images : List NamedImage) (F : FlatState) (p : Process) (s : Space) (refused : Bool) (call : SystemCall) (effect : Effect) (reply : Reply)
     → ReplyFits (apply_writes F p.pid effect.writes) reply → NoneRefused refused reply
     → Formed images F p s refused (replied_step images F p call effect reply)
-replied_form images F p s refused call effect (Fails error) m n = record { after = refl; may = tt; wants = λ z. refl; suits = tt }
 replied_form images F p s refused call effect (Does regs change) m n = record { after = refl; may = m; wants = λ z. wants_none images F s change (n z); suits = tt }
 replied_form images F p s refused call effect (Writes []) m n = record { after = refl; may = tt; wants = λ z. refl; suits = tt }
 replied_form images F p s refused call effect (Writes (byte ∷ bytes)) m n = record { after = refl; may = tt; wants = λ z. refl; suits = tt }
 replied_form images F p s refused call effect Waits m n = record { after = refl; may = tt; wants = λ z. refl; suits = refl }
-replied_form images F p s refused call effect (Exits status) m n = record { after = refl; may = tt; wants = λ z. refl; suits = tt }
+replied_form images F p s refused call effect _ m n = record { after = refl; may = tt; wants = λ z. refl; suits = tt }
 
 called_form : (images : List NamedImage) (F : FlatState) (p : Process) (s : Space) (refused : Bool) (effect : Effect) (o : Option SystemCall)
     → IsNumbered F → Formed images F p s refused (called_step images F p s refused effect o)

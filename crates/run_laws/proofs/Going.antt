@@ -10,7 +10,7 @@ use Rattle.vm_facts.specs.declared.regs.Regs.{Regs}
 use Rattle.vm_facts.specs.declared.entry.Entry.{Entry}
 use Rattle.vm_facts.specs.declared.entry.Entry.TheVariants as entries
 use Rattle.flat_state.specs.declared.change.Change.{Change}
-use Rattle.flat_state.specs.declared.change.Change.TheVariants.{Keep, Resize, Fork, Lend, Exec, Reap, Sleep, End}
+use Rattle.flat_state.specs.declared.change.Change.TheVariants.{Keep, Exec, End}
 use Rattle.page_model.specs.Pages.{numbered}
 use Rattle.page_model.specs.Placement.{state_of}
 use Rattle.page_model.specs.Place.{facts_of}
@@ -59,24 +59,13 @@ flat_goes images k pid regs e change = go (numbered (λ (p : Proc). p.pid) pid k
 keeps_goes : (images : List NamedImage) (k : Kernel) (pid : ℕ) (regs : Regs) (e : Entry) (change : Change)
     → (keeps_step (facts_of images) k pid regs e change).stopped ≡ k.stopped
 keeps_goes images k pid regs e Keep = flat_goes images k pid regs e Keep
-keeps_goes images k pid regs e (Resize d s) = flat_goes images k pid regs e (Resize d s)
-keeps_goes images k pid regs e (Fork child) = flat_goes images k pid regs e (Fork child)
-keeps_goes images k pid regs e (Lend child) = flat_goes images k pid regs e (Lend child)
-keeps_goes images k pid regs e (Exec image top) = flat_goes images k pid regs e (Exec image top)
-keeps_goes images k pid regs e (Reap child) = flat_goes images k pid regs e (Reap child)
-keeps_goes images k pid regs e Sleep = flat_goes images k pid regs e Sleep
-keeps_goes images k pid regs e (End status) = flat_goes images k pid regs e (End status)
+keeps_goes images k pid regs e x = flat_goes images k pid regs e x
 
 back_goes : (images : List NamedImage) (k : Kernel) (pid : ℕ) (regs : Regs) (e : Entry) (change : Change)
     → (back_step (facts_of images) k pid regs e change).stopped ≡ k.stopped
-back_goes images k pid regs e Keep = flat_goes images k pid regs e Keep
-back_goes images k pid regs e (Resize d s) = flat_goes images k pid regs e (Resize d s)
-back_goes images k pid regs e (Fork child) = flat_goes images k pid regs e (Fork child)
-back_goes images k pid regs e (Lend child) = flat_goes images k pid regs e (Lend child)
 back_goes images k pid regs e (Exec image top) = flat_goes images (pass_step k pid (lender_among k.processes pid)) pid regs e (Exec image top)
-back_goes images k pid regs e (Reap child) = flat_goes images k pid regs e (Reap child)
-back_goes images k pid regs e Sleep = flat_goes images k pid regs e Sleep
 back_goes images k pid regs e (End status) = flat_goes images (pass_step k pid (lender_among k.processes pid)) pid regs e (End status)
+back_goes images k pid regs e x = flat_goes images k pid regs e x
 
 step_goes : (A : Inputs) (s : State) (k : Kernel) (pid : ℕ) (e : Entry) → (process_step A s k pid e).stopped ≡ k.stopped
 step_goes A s k pid e = go (is_borrower s.point.flat.processes pid) ∙ by_goes k (process_of s.point.flat pid) (step_at A s.point pid).writes
@@ -86,22 +75,9 @@ step_goes A s k pid e = go (is_borrower s.point.flat.processes pid) ∙ by_goes 
     go false = keeps_goes A.images (taken_step A s k pid) pid (step_at A s.point pid).regs e (step_at A s.point pid).change
 
 pub unit_goes : (A : Inputs) (s : State) (k : Kernel) (image : List ℕ) (read : List (List ℕ)) (u : Entry) → (unit_step A s k image read u).stopped ≡ k.stopped
-unit_goes A s k image read (entries.Zero q) = refl
-unit_goes A s k image read (entries.Copy q) = refl
-unit_goes A s k image read (entries.Get q lo n) = refl
-unit_goes A s k image read (entries.Reclaim q) = refl
-unit_goes A s k image read (entries.Hands n) = refl
-unit_goes A s k image read (entries.Put q n) = refl
-unit_goes A s k image read entries.Done = refl
-unit_goes A s k image read (entries.SwapOut pid) = refl
-unit_goes A s k image read (entries.SwapIn pid) = refl
 unit_goes A s k image read (entries.Ran pid n) = by_goes k (process_of s.point.flat pid) (step_at A s.point pid).writes
 unit_goes A s k image read (entries.Grew pid n) = step_goes A s k pid (entries.Grew pid n)
 unit_goes A s k image read (entries.Call pid n c r0 r1) = step_goes A s k pid (entries.Call pid n c r0 r1)
 unit_goes A s k image read (entries.Sleeps pid) = step_goes A s k pid (entries.Sleeps pid)
 unit_goes A s k image read (entries.Ended pid n) = step_goes A s k pid (entries.Ended pid n)
-unit_goes A s k image read (entries.Out pid bytes) = refl
-unit_goes A s k image read (entries.Refused pid) = refl
-unit_goes A s k image read (entries.Event line) = refl
-unit_goes A s k image read (entries.Turn pid) = refl
-unit_goes A s k image read (entries.Owners a b c d) = refl
+unit_goes A s k image read _ = refl

@@ -21,7 +21,7 @@ use Rattle.page_laws.proofs.Swapper.PuttingOut.{unit_case}
 use Rattle.page_laws.proofs.Moves.Units.{unit_is}
 use Rattle.flat_model.specs.Instruction.{instruction_in}
 use Rattle.flat_model.specs.declared.calls.Reply.{Reply}
-use Rattle.flat_model.specs.declared.calls.Reply.TheVariants.{Fails, Does, Writes, Waits, Exits}
+use Rattle.flat_model.specs.declared.calls.Reply.TheVariants.{Writes}
 use Rattle.flat_model.specs.declared.calls.SystemCall.{SystemCall}
 use Rattle.flat_model.specs.Calls.{call_of}
 use Rattle.flat_model.specs.Step.{replied_step, reply_behind, called_step, step_behind, step_of, step_holding, step_if, flat_step}
@@ -49,12 +49,9 @@ use Rattle.run_laws.proofs.Running.{run_on}
 
 replied_units : (images : List NamedImage) (F : FlatState) (p : Process) (call : SystemCall) (effect : Effect) (reply : Reply)
     → AllUnits (replied_step images F p call effect reply).entries
-replied_units images F p call effect (Fails error) = (tt, tt)
-replied_units images F p call effect (Does regs change) = (tt, tt)
 replied_units images F p call effect (Writes []) = (tt, tt)
 replied_units images F p call effect (Writes (byte ∷ bytes)) = (tt, (tt, tt))
-replied_units images F p call effect Waits = (tt, tt)
-replied_units images F p call effect (Exits status) = (tt, tt)
+replied_units images F p call effect _ = (tt, tt)
 
 called_units : (images : List NamedImage) (F : FlatState) (p : Process) (s : Space) (refused : Bool) (effect : Effect) (o : Option SystemCall)
     → AllUnits (called_step images F p s refused effect o).entries

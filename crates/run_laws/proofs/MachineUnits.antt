@@ -160,23 +160,7 @@ page_is A s k image read _ n y = absurd cc
 image_is : (k : Kernel) (image : List ℕ) (u : Entry) → Stays u → page_image k image u ≡ unit_image k image u
 image_is k image (entries.SwapOut p) y = absurd y
 image_is k image (entries.SwapIn p) y = absurd y
-image_is k image (entries.Event line) y = refl
-image_is k image (entries.Turn p) y = refl
-image_is k image (entries.Ran p n) y = refl
-image_is k image (entries.Out p bytes) y = refl
-image_is k image (entries.Grew p n) y = refl
-image_is k image (entries.Call p n c r0 r1) y = refl
-image_is k image (entries.Refused p) y = refl
-image_is k image (entries.Sleeps p) y = refl
-image_is k image (entries.Ended p n) y = refl
-image_is k image (entries.Zero q) y = refl
-image_is k image (entries.Get q lo n) y = refl
-image_is k image (entries.Copy q) y = refl
-image_is k image (entries.Reclaim q) y = refl
-image_is k image (entries.Hands n) y = refl
-image_is k image (entries.Put q n) y = refl
-image_is k image entries.Done y = refl
-image_is k image (entries.Owners a b c d) y = refl
+image_is k image _ y = refl
 
 record Lands (k l : Kernel) (locked : List Page) (at : ℕ) (u : Entry) : Type 0 where
   pub place : l.place ≡ place_entry locked at k.place u
@@ -447,47 +431,13 @@ reach_behind A s u l image room st outs x =
 given_read : (A : Inputs) (s : State) (k : Kernel) (image : List ℕ) (read : List (List ℕ)) (u : Entry) → IsGiven A s k image read u
     → (u ≡ entries.Done → ⊥) ⊎ ((u ≡ entries.Done) × AreRead (beside_kernel k A.images image s.point.flat) k.place.transfers read)
 given_read A s k image read entries.Done g = inr (refl, g)
-given_read A s k image read (entries.Event line) g = inl (λ e. cc)
-given_read A s k image read (entries.Turn p) g = inl (λ e. cc)
-given_read A s k image read (entries.Ran p n) g = inl (λ e. cc)
-given_read A s k image read (entries.Out p bytes) g = inl (λ e. cc)
-given_read A s k image read (entries.Grew p n) g = inl (λ e. cc)
-given_read A s k image read (entries.Call p n c r0 r1) g = inl (λ e. cc)
-given_read A s k image read (entries.Refused p) g = inl (λ e. cc)
-given_read A s k image read (entries.Sleeps p) g = inl (λ e. cc)
-given_read A s k image read (entries.Ended p n) g = inl (λ e. cc)
-given_read A s k image read (entries.Zero q) g = inl (λ e. cc)
-given_read A s k image read (entries.Get q lo n) g = inl (λ e. cc)
-given_read A s k image read (entries.Copy q) g = inl (λ e. cc)
-given_read A s k image read (entries.Reclaim q) g = inl (λ e. cc)
-given_read A s k image read (entries.Hands n) g = inl (λ e. cc)
-given_read A s k image read (entries.Put q n) g = inl (λ e. cc)
-given_read A s k image read (entries.SwapOut p) g = inl (λ e. cc)
-given_read A s k image read (entries.SwapIn p) g = inl (λ e. cc)
-given_read A s k image read (entries.Owners a b c d) g = inl (λ e. cc)
+given_read A s k image read _ g = inl (λ e. cc)
 
 -- what was read stands nowhere but at `Done`
 read_unused : (A : Inputs) (s : State) (k : Kernel) (read other : List (List ℕ)) (u : Entry) → (u ≡ entries.Done → ⊥)
     → page_step k (locked A s) other u ≡ page_step k (locked A s) read u
 read_unused A s k read other entries.Done n = absurd (n refl)
-read_unused A s k read other (entries.Event line) n = refl
-read_unused A s k read other (entries.Turn p) n = refl
-read_unused A s k read other (entries.Ran p m) n = refl
-read_unused A s k read other (entries.Out p bytes) n = refl
-read_unused A s k read other (entries.Grew p m) n = refl
-read_unused A s k read other (entries.Call p m c r0 r1) n = refl
-read_unused A s k read other (entries.Refused p) n = refl
-read_unused A s k read other (entries.Sleeps p) n = refl
-read_unused A s k read other (entries.Ended p m) n = refl
-read_unused A s k read other (entries.Zero q) n = refl
-read_unused A s k read other (entries.Get q lo m) n = refl
-read_unused A s k read other (entries.Copy q) n = refl
-read_unused A s k read other (entries.Reclaim q) n = refl
-read_unused A s k read other (entries.Hands m) n = refl
-read_unused A s k read other (entries.Put q m) n = refl
-read_unused A s k read other (entries.SwapOut p) n = refl
-read_unused A s k read other (entries.SwapIn p) n = refl
-read_unused A s k read other (entries.Owners a b c d) n = refl
+read_unused A s k read other _ n = refl
 
 pub unit_stands : (A : Inputs) (s : State) (k : Kernel) (image : List ℕ) (read : List (List ℕ)) (u : Entry) → ImagesFit A.images → ExecsFit A
     → IsRun A s → StandsAt A s k image → next_unit A s ≡ Some u → IsGiven A s k image read u

@@ -39,11 +39,7 @@ pub free_stands : (s : State) (m : Mark) → IsFree m → MarkStands s m
 free_stands s marks.Over f = tt
 free_stands s (marks.Dispatch pid count since) f = tt
 free_stands s (marks.Turn pid since) f = tt
-free_stands s marks.Interrupt f = absurd f
-free_stands s (marks.Hands count) f = absurd f
-free_stands s (marks.BringIn pid) f = absurd f
-free_stands s (marks.PutOut pid) f = absurd f
-free_stands s marks.Audit f = absurd f
+free_stands s _ f = absurd f
 
 -- a unit that begins no mark
 abbrev pub NoMark : Entry → Type 0
@@ -108,14 +104,12 @@ free_kept A s u m e k f = go u k (subst IsFree (sym e) f)
 
 -- where something is due, the mark is free
 pub due_free : (s : State) (d : Due) (ds : List Due) → s.place.due ≡ d ∷ ds → (m : Mark) → MarkStands s m → IsFree m
-due_free s d ds e marks.Over k = tt
-due_free s d ds e (marks.Dispatch pid count since) k = tt
-due_free s d ds e (marks.Turn pid since) k = tt
 due_free s d ds e marks.Interrupt k = absurd (let z : d ∷ ds ≡ [] = sym e ∙ k.0 in cc)
 due_free s d ds e (marks.Hands count) k = absurd (let z : d ∷ ds ≡ [] = sym e ∙ k in cc)
 due_free s d ds e (marks.BringIn pid) k = absurd (let z : d ∷ ds ≡ [] = sym e ∙ k.0 in cc)
 due_free s d ds e (marks.PutOut pid) k = absurd (let z : d ∷ ds ≡ [] = sym e ∙ k.0 in cc)
 due_free s d ds e marks.Audit k = absurd (let z : d ∷ ds ≡ [] = sym e ∙ k in cc)
+due_free s d ds e _ k = tt
 
 pub on_free : (A : Inputs) (s : State) (m : Mark) (pid : ℕ) (now : Bool) → GoesOn A s m pid now → IsFree m
 on_free A s (marks.Dispatch p count since) pid false g = tt

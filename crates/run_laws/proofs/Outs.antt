@@ -6,7 +6,7 @@ use Rattle.flat_state.specs.Space.{Space}
 use Rattle.flat_state.specs.Flat.{Holding, Holds, Lends, Zombie, Process, FlatState, NamedImage, image_numbered, process_of}
 use Rattle.vm_facts.specs.declared.regs.Regs.{Regs}
 use Rattle.flat_state.specs.declared.change.Change.{Change}
-use Rattle.flat_state.specs.declared.change.Change.TheVariants.{Keep, Resize, Fork, Lend, Exec, Reap, Sleep, End}
+use Rattle.flat_state.specs.declared.change.Change.TheVariants.{Resize, Fork, Lend, Exec, End}
 use Rattle.flat_state.specs.Change.{apply_change, apply_writes, NamesChild}
 use Rattle.page_model.specs.Placement.{Placement, Residence}
 use Rattle.page_model.specs.Place.{place_change, enter_image, give_up_unless, facts_numbered}
@@ -30,7 +30,6 @@ entered_residents p next image (Some facts) = refl
 -- nobody goes out by a change of a process
 pub change_out : (images : List Image) (p : Placement) (pid sid : ℕ) (b : Bool) (next at : ℕ) (change : Change) (n : ℕ)
     → is_out (place_change images p pid sid b next at change) n ≡ true → is_out p n ≡ true
-change_out images p pid sid b next at Keep n e = e
 change_out images p pid sid b next at (Resize d s) n e = let sh : Shaped p (drop_all p (dropped_pages p sid d s)) = drop_all_shaped (dropped_pages p sid d s) p in ap (λ (rs : List Residence). (residence_of rs n).out) (sym sh.residents) ∙ e
 change_out images p pid sid b next at (Fork child) n e = sym (out_begun p.residents child at n) ∙ e
 change_out images p pid sid b next at (Lend child) n e = sym (out_begun p.residents child at n) ∙ e
@@ -38,14 +37,13 @@ change_out images p pid sid b next at (Exec image top) n e =
     let p1 : Placement = enter_image p next image (facts_numbered images image) in
     let g : Gone p1 (give_up_unless b p1 sid) b sid = gone_unless b p1 sid in
     ap (λ (rs : List Residence). (residence_of rs n).out) (sym (g.residents ∙ entered_residents p next image (facts_numbered images image))) ∙ e
-change_out images p pid sid b next at (Reap child) n e = e
-change_out images p pid sid b next at Sleep n e = e
 change_out images p pid sid b next at (End status) n e =
     let g : Gone p (give_up_unless b p sid) b sid = gone_unless b p sid in
     elim (cases_eq n pid) [
       | inl i ↦ absurd (let z : false ≡ true = sym (out_gone (give_up_unless b p sid).residents pid) ∙ ap (is_out (place_change images p pid sid b next at (End status))) (sym i) ∙ e in cc)
       | inr d ↦ ap (λ (rs : List Residence). (residence_of rs n).out) (sym g.residents) ∙ sym (out_ended (give_up_unless b p sid).residents pid n d) ∙ e
     ]
+change_out images p pid sid b next at _ n e = e
 
 -- who is out holds a space
 pub out_holder : (p : Placement) (flat : FlatState) (n : ℕ) → OutHold p flat → is_out p n ≡ true

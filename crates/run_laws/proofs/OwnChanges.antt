@@ -115,16 +115,10 @@ pub own_kept : (A : Inputs) (k : Kernel) (flat : FlatState) (pid : ℕ) (regs : 
     → IsNumbered flat → process_of flat pid ≡ Some q
     → q.holding ≡ Holds s → SameTables k flat → NamesChild flat change
     → Sound A.swap_blocks (change_step (facts_of A.images) k pid regs e change) → Numbered (change_step (facts_of A.images) k pid regs e change) → Kept A (next_of (facts_of A.images) k pid regs e change)
-own_kept A k flat pid regs e q s Keep nums f h t m so n = record { sound = so; numbered = n }
-own_kept A k flat pid regs e q s (Resize d r) nums f h t m so n = record { sound = so; numbered = n }
-own_kept A k flat pid regs e q s (Fork child) nums f h t m so n = record { sound = so; numbered = n }
 own_kept A k flat pid regs e q s (Lend child) nums f h t m so n =
     let l = subst (λ (c : ℕ). (lives (change_step (facts_of A.images) k pid regs e (Lend c)).processes pid ≡ true) × (lives (change_step (facts_of A.images) k pid regs e (Lend c)).processes c ≡ true)) (sym m) (lend_lives A.images k flat pid regs e q s nums f h t) in
     record { sound = pass_sound A.swap_blocks (change_step (facts_of A.images) k pid regs e (Lend child)) pid child l.0 l.1 so; numbered = pass_numbered (change_step (facts_of A.images) k pid regs e (Lend child)) pid child l.0 l.1 n }
-own_kept A k flat pid regs e q s (Exec image top) nums f h t m so n = record { sound = so; numbered = n }
-own_kept A k flat pid regs e q s (Reap child) nums f h t m so n = record { sound = so; numbered = n }
-own_kept A k flat pid regs e q s Sleep nums f h t m so n = record { sound = so; numbered = n }
-own_kept A k flat pid regs e q s (End status) nums f h t m so n = record { sound = so; numbered = n }
+own_kept A k flat pid regs e q s _ nums f h t m so n = record { sound = so; numbered = n }
 
 -- the placement and the holdings after it
 pub record Lands (A : Inputs) (k : Kernel) (pid sid : ℕ) (e : Entry) (change : Change) (l : Kernel) : Type 0 where
@@ -135,14 +129,8 @@ pub record Lands (A : Inputs) (k : Kernel) (pid sid : ℕ) (e : Entry) (change :
 pub next_lands : (A : Inputs) (k : Kernel) (pid sid : ℕ) (regs : Regs) (e : Entry) (change : Change)
     → Lands A k pid sid e change (change_step (facts_of A.images) k pid regs e change)
     → Lands A k pid sid e change (next_of (facts_of A.images) k pid regs e change)
-next_lands A k pid sid regs e Keep l = l
-next_lands A k pid sid regs e (Resize d r) l = l
-next_lands A k pid sid regs e (Fork child) l = l
 next_lands A k pid sid regs e (Lend child) l = record { place = l.place; holdings = l.holdings; journal = l.journal }
-next_lands A k pid sid regs e (Exec image top) l = l
-next_lands A k pid sid regs e (Reap child) l = l
-next_lands A k pid sid regs e Sleep l = l
-next_lands A k pid sid regs e (End status) l = l
+next_lands A k pid sid regs e _ l = l
 
 pub own_lands : (A : Inputs) (k : Kernel) (flat : FlatState) (pid : ℕ) (regs : Regs) (e : Entry) (q : Process) (s : Space) (change : Change)
     → process_of flat pid ≡ Some q → q.holding ≡ Holds s

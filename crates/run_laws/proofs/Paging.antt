@@ -56,16 +56,7 @@ entry_sizes locked at p (entries.Put q n) = of_shape p (put_step p q (pages_from
 entry_sizes locked at p entries.Done = of_shape p (done p) (done_shaped p)
 entry_sizes locked at p (entries.SwapOut pid) = record { spaces = λ sid. refl; texts = λ i. refl }
 entry_sizes locked at p (entries.SwapIn pid) = record { spaces = λ sid. refl; texts = λ i. refl }
-entry_sizes locked at p (entries.Event line) = of_shape p p (shaped_self p)
-entry_sizes locked at p (entries.Turn pid) = of_shape p p (shaped_self p)
-entry_sizes locked at p (entries.Ran pid n) = of_shape p p (shaped_self p)
-entry_sizes locked at p (entries.Out pid bytes) = of_shape p p (shaped_self p)
-entry_sizes locked at p (entries.Grew pid pages) = of_shape p p (shaped_self p)
-entry_sizes locked at p (entries.Call pid number carry r0 r1) = of_shape p p (shaped_self p)
-entry_sizes locked at p (entries.Refused pid) = of_shape p p (shaped_self p)
-entry_sizes locked at p (entries.Sleeps pid) = of_shape p p (shaped_self p)
-entry_sizes locked at p (entries.Ended pid status) = of_shape p p (shaped_self p)
-entry_sizes locked at p (entries.Owners a b m h) = of_shape p p (shaped_self p)
+entry_sizes locked at p _ = of_shape p p (shaped_self p)
 
 -- who is out after a move of a residence was out before, or goes out by it
 moved_or : (b : Bool) (rs : List Residence) (pid at n : ℕ)
@@ -112,16 +103,7 @@ entry_out locked at p (entries.SwapIn pid) n h = elim (moved_or false p.resident
   | inl x ↦ inl x
   | inr x ↦ absurd (let z = x.1 in cc)
 ]
-entry_out locked at p (entries.Event line) n h = inl h
-entry_out locked at p (entries.Turn pid) n h = inl h
-entry_out locked at p (entries.Ran pid m) n h = inl h
-entry_out locked at p (entries.Out pid bytes) n h = inl h
-entry_out locked at p (entries.Grew pid pages) n h = inl h
-entry_out locked at p (entries.Call pid number carry r0 r1) n h = inl h
-entry_out locked at p (entries.Refused pid) n h = inl h
-entry_out locked at p (entries.Sleeps pid) n h = inl h
-entry_out locked at p (entries.Ended pid status) n h = inl h
-entry_out locked at p (entries.Owners a b m k) n h = inl h
+entry_out locked at p _ n h = inl h
 
 -- What is due.
 
@@ -144,18 +126,7 @@ entry_once locked at p (entries.Reclaim q) o h = as_before p (reclaim p q) (recl
 entry_once locked at p (entries.Hands n) o h = as_before p (hand_moves p locked n) (moves_due n p locked) h
 entry_once locked at p (entries.Put q n) o h = let s : Steady p (put_step p q (pages_from q (number_of q) n)) = put_steady p q (pages_from q (number_of q) n) in as_before p (put_step p q (pages_from q (number_of q) n)) s.due h
 entry_once locked at p entries.Done o h = let s : Steady p (done p) = done_steady p o in as_before p (done p) s.due h
-entry_once locked at p (entries.SwapOut pid) o h = h
-entry_once locked at p (entries.SwapIn pid) o h = h
-entry_once locked at p (entries.Event line) o h = h
-entry_once locked at p (entries.Turn pid) o h = h
-entry_once locked at p (entries.Ran pid m) o h = h
-entry_once locked at p (entries.Out pid bytes) o h = h
-entry_once locked at p (entries.Grew pid pages) o h = h
-entry_once locked at p (entries.Call pid number carry r0 r1) o h = h
-entry_once locked at p (entries.Refused pid) o h = h
-entry_once locked at p (entries.Sleeps pid) o h = h
-entry_once locked at p (entries.Ended pid status) o h = h
-entry_once locked at p (entries.Owners a b m k) o h = h
+entry_once locked at p _ o h = h
 
 -- All of it.
 

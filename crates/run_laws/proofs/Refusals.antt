@@ -1,7 +1,7 @@
 -- A step whose pieces are refused has an entry, where pieces were asked; and an entry of a step that is there.
 use Rattle.std.proofs.Common.{◌≡◌, ℕ, Bool, true, false, List, [], ◌∷◌, Option, Some, None, Result, Ok, Err, ℤ, refl}
 use Rattle.flat_state.specs.Space.{Space}
-use Rattle.flat_state.specs.Flat.{Holding, Holds, Lends, Zombie, Process, FlatState, NamedImage, Inputs, process_of, can_step}
+use Rattle.flat_state.specs.Flat.{Holding, Holds, Process, FlatState, NamedImage, Inputs, process_of, can_step}
 use Rattle.vm_facts.specs.declared.regs.Regs.{Regs}
 use Rattle.vm_facts.specs.declared.entry.Entry.{Entry}
 use Rattle.user_vax.specs.Effects.{Effect}
@@ -10,7 +10,7 @@ use Rattle.user_vax.specs.declared.refused.Refused.TheVariants.{Miss, Below, Sig
 use Rattle.flat_state.specs.declared.change.Change.{Change}
 use Rattle.flat_model.specs.Instruction.{instruction_in}
 use Rattle.flat_model.specs.declared.calls.Reply.{Reply}
-use Rattle.flat_model.specs.declared.calls.Reply.TheVariants.{Fails, Does, Writes, Waits, Exits}
+use Rattle.flat_model.specs.declared.calls.Reply.TheVariants.{Does, Writes}
 use Rattle.flat_model.specs.declared.calls.SystemCall.{SystemCall}
 use Rattle.flat_model.specs.Calls.{call_of, unless_refused, wants_space, refused_reply}
 use Rattle.flat_model.specs.Step.{replied_step, reply_behind, called_step, step_behind, step_of, step_holding, step_if, flat_step}
@@ -27,12 +27,10 @@ does_entry images F p call effect false regs change = tt
 
 replied_entry : (images : List NamedImage) (F : FlatState) (p : Process) (call : SystemCall) (effect : Effect) (reply : Reply)
     → HasEntry (replied_step images F p call effect (refused_reply true reply)).entries
-replied_entry images F p call effect (Fails error) = tt
 replied_entry images F p call effect (Does regs change) = does_entry images F p call effect (wants_space change) regs change
 replied_entry images F p call effect (Writes []) = tt
 replied_entry images F p call effect (Writes (byte ∷ bytes)) = tt
-replied_entry images F p call effect Waits = tt
-replied_entry images F p call effect (Exits status) = tt
+replied_entry images F p call effect _ = tt
 
 called_entry : (images : List NamedImage) (F : FlatState) (p : Process) (s : Space) (effect : Effect) (o : Option SystemCall)
     → HasEntry (called_step images F p s true effect o).entries
@@ -54,8 +52,7 @@ of_entry images F p s (Err (Signal number)) n = tt
 holding_entry : (images : List NamedImage) (F : FlatState) (p : Process) (h : Holding)
     → (wanted_in images F (step_holding images F p false h).change h ≡ [] → ⊥) → HasEntry (step_holding images F p true h).entries
 holding_entry images F p (Holds s) n = of_entry images F p s (instruction_in s p.regs) n
-holding_entry images F p (Lends sid child) n = absurd (n refl)
-holding_entry images F p (Zombie status) n = absurd (n refl)
+holding_entry images F p _ n = absurd (n refl)
 
 if_entry : (images : List NamedImage) (F : FlatState) (o : Option Process) → (wanted_if images F (step_if images F false o).change o ≡ [] → ⊥)
     → HasEntry (step_if images F true o).entries

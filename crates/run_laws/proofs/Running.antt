@@ -110,44 +110,12 @@ step_kept A s u images execs h k = subst (FlatKept A) (sym (stepped_flat A s u h
 paging_no_mark : (u : Entry) → IsPaging u → NoMark u
 paging_no_mark (entries.Event line) k = k
 paging_no_mark (entries.Turn p) k = k
-paging_no_mark (entries.Ran p n) k = tt
-paging_no_mark (entries.Out p bytes) k = tt
-paging_no_mark (entries.Grew p n) k = tt
-paging_no_mark (entries.Call p n c r0 r1) k = tt
-paging_no_mark (entries.Refused p) k = tt
-paging_no_mark (entries.Sleeps p) k = tt
-paging_no_mark (entries.Ended p n) k = tt
-paging_no_mark (entries.Zero q) k = tt
-paging_no_mark (entries.Get q lo n) k = tt
-paging_no_mark (entries.Copy q) k = tt
-paging_no_mark (entries.Reclaim q) k = tt
-paging_no_mark (entries.Hands n) k = tt
-paging_no_mark (entries.Put q n) k = tt
-paging_no_mark entries.Done k = tt
-paging_no_mark (entries.SwapOut p) k = tt
-paging_no_mark (entries.SwapIn p) k = tt
-paging_no_mark (entries.Owners a b c d) k = tt
+paging_no_mark _ k = tt
 
 flat_no_mark : (u : Entry) (pid : ℕ) → process_of_entry u ≡ Some pid → NoMark u
 flat_no_mark (entries.Event line) pid e = absurd cc
 flat_no_mark (entries.Turn p) pid e = absurd cc
-flat_no_mark (entries.Ran p n) pid e = tt
-flat_no_mark (entries.Out p bytes) pid e = tt
-flat_no_mark (entries.Grew p n) pid e = tt
-flat_no_mark (entries.Call p n c r0 r1) pid e = tt
-flat_no_mark (entries.Refused p) pid e = tt
-flat_no_mark (entries.Sleeps p) pid e = tt
-flat_no_mark (entries.Ended p n) pid e = tt
-flat_no_mark (entries.Zero q) pid e = tt
-flat_no_mark (entries.Get q lo n) pid e = tt
-flat_no_mark (entries.Copy q) pid e = tt
-flat_no_mark (entries.Reclaim q) pid e = tt
-flat_no_mark (entries.Hands n) pid e = tt
-flat_no_mark (entries.Put q n) pid e = tt
-flat_no_mark entries.Done pid e = tt
-flat_no_mark (entries.SwapOut p) pid e = tt
-flat_no_mark (entries.SwapIn p) pid e = tt
-flat_no_mark (entries.Owners a b c d) pid e = tt
+flat_no_mark _ pid e = tt
 
 mark_on : (A : Inputs) (s : State) (u : Entry) → Rattle.page_model.specs.Ownership.OwnsFrames s.place → IsNumbered s.point.flat → MarkStands s s.mark
     → Kind A s u → MarkStands (after A s u) (after A s u).mark

@@ -172,11 +172,8 @@ writes_sized F pid ws h = go (process_of F pid) refl
 -- Replies.
 
 abbrev ReplySized : FlatState → Reply → Type 0
-ReplySized F (Fails error) = Unit {0}
 ReplySized F (Does regs change) = ChangeSized F change
-ReplySized F (Writes bytes) = Unit {0}
-ReplySized F Waits = Unit {0}
-ReplySized F (Exits status) = Unit {0}
+ReplySized F _ = Unit {0}
 
 child_sized : (F : FlatState) (b : Bool) (regs : Regs) (child : ℕ) → nat_lt (length F.processes) process_limit ≡ b
     → ReplySized F (child_by b regs child (Fork child)) × ReplySized F (child_by b regs child (Lend child))
@@ -260,8 +257,6 @@ refused_sized F true (Exits status) h = tt
 
 below_or : {B : Type 0} (memory : Answers) (p : Program B) (a : ℕ) → run memory p ≡ Err (Below a)
     → (memory.read a ≡ bytes.Below) ⊎ (memory.may_write a ≡ tests.Below)
-below_or memory (Gives x) a e = absurd cc
-below_or memory (Refuses signal) a e = absurd cc
 below_or memory (Reads b next) a e = go (λ byte k. below_or memory (next byte) a k) (memory.read b) refl e
   where
     go : ((byte : ℕ) → run memory (next byte) ≡ Err (Below a) → (memory.read a ≡ bytes.Below) ⊎ (memory.may_write a ≡ tests.Below)) → (x : ByteRead) → memory.read b ≡ x → after_read x b (λ byte. run memory (next byte)) ≡ Err (Below a) → (memory.read a ≡ bytes.Below) ⊎ (memory.may_write a ≡ tests.Below)
@@ -277,6 +272,7 @@ below_or memory (Tests b next) a e = go (below_or memory next a) (memory.may_wri
     go later tests.Below i k = inr (let same : a ≡ b = cc in ap memory.may_write same ∙ i)
     go later tests.Text i k = absurd cc
     go later tests.Outside i k = absurd cc
+below_or memory _ a e = absurd cc
 
 spot_below : (s : Space) (a : ℕ) → address_in s a ≡ spots.Below → (stack_top - stack_reach ≤ a) × (a < stack_top)
 unfolding spot_at
@@ -295,18 +291,12 @@ spot_below s a e = both (nat_le (stack_top - stack_reach) a) (nat_lt a stack_top
     both false y i j k = absurd cc
 
 read_below : (s : Space) (x : Spot) → byte_at s x ≡ bytes.Below → x ≡ spots.Below
-read_below s (spots.Text i) e = absurd cc
-read_below s (spots.Data i) e = absurd cc
-read_below s (spots.Stack i) e = absurd cc
 read_below s spots.Below e = refl
-read_below s spots.Outside e = absurd cc
+read_below s _ e = absurd cc
 
 test_below : (x : Spot) → may_write_at x ≡ tests.Below → x ≡ spots.Below
-test_below (spots.Text i) e = absurd cc
-test_below (spots.Data i) e = absurd cc
-test_below (spots.Stack i) e = absurd cc
 test_below spots.Below e = refl
-test_below spots.Outside e = absurd cc
+test_below _ e = absurd cc
 
 reach_few : (a : ℕ) → 0x7fffec00 - 0x80000 ≤ a → a < 0x7fffec00 → (0x7fffec00 - 1 - a) / 1024 + 1 ≤ 512
 reach_few a l m = omega arith
@@ -328,11 +318,10 @@ with_step A F pid ws regs change sz fit x c h = change_sized A (apply_writes F p
 
 replied_sized : (A : Inputs) (F : FlatState) (p : Process) (call : SystemCall) (effect : Effect) (reply : Reply) → InputsSized A → ImagesFit A.images
     → EntersImage A.images (replied_step A.images F p call effect reply).change → ReplySized (apply_writes F p.pid effect.writes) reply → FlatSized F → FlatSized (replied_step A.images F p call effect reply).after
-replied_sized A F p call effect (Fails error) sz fit x c h = with_step A F p.pid effect.writes _ Keep sz fit tt tt h
 replied_sized A F p call effect (Does regs change) sz fit x c h = with_step A F p.pid effect.writes regs change sz fit x c h
-replied_sized A F p call effect (Writes bytes) sz fit x c h = with_step A F p.pid effect.writes _ Keep sz fit tt tt h
 replied_sized A F p call effect Waits sz fit x c h = with_step A F p.pid effect.writes p.regs Sleep sz fit tt tt h
 replied_sized A F p call effect (Exits status) sz fit x c h = with_step A F p.pid effect.writes p.regs (End status) sz fit tt tt h
+replied_sized A F p call effect _ sz fit x c h = with_step A F p.pid effect.writes _ Keep sz fit tt tt h
 
 called_sized : (A : Inputs) (F : FlatState) (p : Process) (s : Space) (refused : Bool) (effect : Effect) (o : Option SystemCall) → InputsSized A
     → ImagesFit A.images → SpaceSized s
@@ -402,9 +391,8 @@ start_sized A sz fit = record { spaces = started_sized A 1 A.first sz fit; count
 -- Runs.
 
 behind_point : (point : Point) (after : FlatState) (es : List Entry) → FlatSized point.flat → FlatSized after → FlatSized (behind point after es).flat
-behind_point point after [] h k = h
 behind_point point after (e ∷ []) h k = k
-behind_point point after (e ∷ f ∷ es) h k = h
+behind_point point after _ h k = h
 
 where_sized : (b : Bool) (p q : Point) → where_so b p ≡ Some q → FlatSized p.flat → FlatSized q.flat
 where_sized true p q e h = let same : p ≡ q = cc in subst (λ (x : Point). FlatSized x.flat) same h

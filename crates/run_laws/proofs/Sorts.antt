@@ -39,25 +39,9 @@ pub data Sort (A : Inputs) (s : State) (u : Entry) : Type 0 where
   Makes : (h : Stepped A s u) → wanted A s ≡ None → Sort A s u
 
 paging_keeps : (u : Entry) → IsPaging u → Stays u
-paging_keeps (entries.Zero q) k = tt
-paging_keeps (entries.Get q lo n) k = tt
-paging_keeps (entries.Copy q) k = tt
-paging_keeps (entries.Reclaim q) k = tt
-paging_keeps (entries.Hands n) k = tt
-paging_keeps (entries.Put q n) k = tt
-paging_keeps entries.Done k = tt
-paging_keeps (entries.Owners a b c d) k = tt
-paging_keeps (entries.Ran p n) k = tt
-paging_keeps (entries.Out p bytes) k = tt
-paging_keeps (entries.Grew p n) k = tt
-paging_keeps (entries.Call p n c r0 r1) k = tt
-paging_keeps (entries.Refused p) k = tt
-paging_keeps (entries.Sleeps p) k = tt
-paging_keeps (entries.Ended p n) k = tt
-paging_keeps (entries.Event line) k = tt
-paging_keeps (entries.Turn p) k = tt
 paging_keeps (entries.SwapOut p) k = absurd k
 paging_keeps (entries.SwapIn p) k = absurd k
+paging_keeps _ k = tt
 
 pages : (A : Inputs) (s : State) (u e : Entry) → u ≡ e → IsPaging e → Sort A s u
 pages A s u e i k = subst (Sort A s) (sym i) (Pages (paging_plain e k) (paging_keeps e k))

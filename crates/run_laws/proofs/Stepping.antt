@@ -96,17 +96,13 @@ own_written false after s z hs a i = ap₂ (λ (n m : ℕ). without_text (is_sha
 pub given_written : (F G after : FlatState) (pid : ℕ) (s z : Space) (change : Change) (hs : Holdings) → z.sid ≡ s.sid → z.image ≡ s.image
     → is_borrower G.processes pid ≡ is_borrower F.processes pid
     → given_up G after pid z change hs ≡ given_up F after pid s change hs
-given_written F G after pid s z Keep hs a i b = refl
 given_written F G after pid s z (Resize d t) hs a i b = ap (λ (n : ℕ). with_pages (owners.Stack n) t (with_pages (owners.Data n) d hs)) a
-given_written F G after pid s z (Fork child) hs a i b = refl
-given_written F G after pid s z (Lend child) hs a i b = refl
 given_written F G after pid s z (Exec image top) hs a i b = ap (λ (x : Bool). without_own x after z hs) b ∙ own_written (is_borrower F.processes pid) after s z hs a i
-given_written F G after pid s z (Reap child) hs a i b = refl
-given_written F G after pid s z Sleep hs a i b = refl
 given_written F G after pid s z (End status) hs a i b = ap (λ (x : Bool). without_own x after z us) b ∙ own_written (is_borrower F.processes pid) after s z us a i
   where
     us : Holdings
     us = without_owner (owners.U pid) hs
+given_written F G after pid s z _ hs a i b = refl
 
 -- Touched pages.
 

@@ -152,28 +152,11 @@ plain_same : (A : Inputs) (s : State) (k : Kernel) (image : List ℕ) (u : Entry
     → unit_image k image u ≡ image_behind A s u image
 plain_same A s k image entries.Done n o = absurd (n refl)
 plain_same A s k image (entries.SwapOut p) n o = absurd (o p refl)
-plain_same A s k image (entries.Event line) n o = refl
-plain_same A s k image (entries.Turn p) n o = refl
-plain_same A s k image (entries.Ran p m) n o = refl
-plain_same A s k image (entries.Out p bytes) n o = refl
-plain_same A s k image (entries.Grew p m) n o = refl
-plain_same A s k image (entries.Call p m c r0 r1) n o = refl
-plain_same A s k image (entries.Refused p) n o = refl
-plain_same A s k image (entries.Sleeps p) n o = refl
-plain_same A s k image (entries.Ended p m) n o = refl
-plain_same A s k image (entries.Zero q) n o = refl
-plain_same A s k image (entries.Get q lo m) n o = refl
-plain_same A s k image (entries.Copy q) n o = refl
-plain_same A s k image (entries.Reclaim q) n o = refl
-plain_same A s k image (entries.Hands m) n o = refl
-plain_same A s k image (entries.Put q m) n o = refl
-plain_same A s k image (entries.SwapIn p) n o = refl
-plain_same A s k image (entries.Owners a b c d) n o = refl
+plain_same A s k image _ n o = refl
 
 done_or : (u : Entry) → (u ≡ entries.Done) ⊎ (((pid : ℕ) × (u ≡ entries.SwapOut pid)) ⊎ ((u ≡ entries.Done → ⊥) × ((pid : ℕ) → u ≡ entries.SwapOut pid → ⊥)))
 done_or entries.Done = inl refl
 done_or (entries.SwapOut p) = inr (inl (p, refl))
-done_or (entries.Event line) = inr (inr ((λ e. cc), (λ p e. cc)))
 done_or (entries.Turn p) = inr (inr ((λ e. cc), (λ p e. cc)))
 done_or (entries.Ran p m) = inr (inr ((λ e. cc), (λ p e. cc)))
 done_or (entries.Out p bytes) = inr (inr ((λ e. cc), (λ p e. cc)))
@@ -182,14 +165,8 @@ done_or (entries.Call p m c r0 r1) = inr (inr ((λ e. cc), (λ p e. cc)))
 done_or (entries.Refused p) = inr (inr ((λ e. cc), (λ p e. cc)))
 done_or (entries.Sleeps p) = inr (inr ((λ e. cc), (λ p e. cc)))
 done_or (entries.Ended p m) = inr (inr ((λ e. cc), (λ p e. cc)))
-done_or (entries.Zero q) = inr (inr ((λ e. cc), (λ p e. cc)))
-done_or (entries.Get q lo m) = inr (inr ((λ e. cc), (λ p e. cc)))
-done_or (entries.Copy q) = inr (inr ((λ e. cc), (λ p e. cc)))
-done_or (entries.Reclaim q) = inr (inr ((λ e. cc), (λ p e. cc)))
-done_or (entries.Hands m) = inr (inr ((λ e. cc), (λ p e. cc)))
-done_or (entries.Put q m) = inr (inr ((λ e. cc), (λ p e. cc)))
 done_or (entries.SwapIn p) = inr (inr ((λ e. cc), (λ p e. cc)))
-done_or (entries.Owners a b c d) = inr (inr ((λ e. cc), (λ p e. cc)))
+done_or _ = inr (inr ((λ e. cc), (λ p e. cc)))
 
 -- who goes out is in, and holds a space
 pub goes_off : (A : Inputs) (s : State) (k : Kernel) (image : List ℕ) (u : Entry) (pid : ℕ) → Next A s k image u → u ≡ entries.SwapOut pid
@@ -248,23 +225,7 @@ given_at A s k image (entries.SwapOut pid) x f = λ p e.
     let y : SameOut A s k image pid = goes_off A s k image (entries.SwapOut pid) pid x refl in
     let z : Leaves k s.point.flat pid = y.there in
     subst AreRegs (sym y.regs ∙ ap (λ (r : Proc). r.regs) (same_Some z.proc p (sym z.kept ∙ e))) (f z.process z.here)
-given_at A s k image (entries.Event line) x f = tt
-given_at A s k image (entries.Turn p) x f = tt
-given_at A s k image (entries.Ran p m) x f = tt
-given_at A s k image (entries.Out p bytes) x f = tt
-given_at A s k image (entries.Grew p m) x f = tt
-given_at A s k image (entries.Call p m c r0 r1) x f = tt
-given_at A s k image (entries.Refused p) x f = tt
-given_at A s k image (entries.Sleeps p) x f = tt
-given_at A s k image (entries.Ended p m) x f = tt
-given_at A s k image (entries.Zero q) x f = tt
-given_at A s k image (entries.Get q lo m) x f = tt
-given_at A s k image (entries.Copy q) x f = tt
-given_at A s k image (entries.Reclaim q) x f = tt
-given_at A s k image (entries.Hands m) x f = tt
-given_at A s k image (entries.Put q m) x f = tt
-given_at A s k image (entries.SwapIn p) x f = tt
-given_at A s k image (entries.Owners a b c d) x f = tt
+given_at A s k image _ x f = tt
 
 pub made : (A : Inputs) (us : List Entry) (s t : State) (k : Kernel) (image : List ℕ) → ImagesFit A.images → IsRun A s → StandsAt A s k image
     → Follows A s us t → OutsFit A s us → Made A s k image us t

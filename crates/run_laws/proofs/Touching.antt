@@ -8,7 +8,7 @@ use Rattle.vm_facts.specs.declared.page.Page.TheVariants as pages
 use Rattle.user_vax.specs.Program.{Access, ReadOf, TestOf}
 use Rattle.swap_book.specs.Holdings.{Holdings}
 use Rattle.flat_state.specs.declared.spot.Spot.{Spot}
-use Rattle.flat_state.specs.declared.spot.Spot.TheVariants.{Text, Data, Stack, Below, Outside}
+use Rattle.flat_state.specs.declared.spot.Spot.TheVariants.{Text, Data, Stack}
 use Rattle.flat_state.specs.Writes.{IsWithin}
 use Rattle.page_model.specs.Pages.{SpacePages, numbered}
 use Rattle.flat_state.specs.PageNames.{same_page}
@@ -94,15 +94,12 @@ page_present images p s x e z t fits (Stack i) w q h = subst (Present p) (let k 
   there = let l = z.stack_size in let k = ap (λ (o : Option SpacePages). length (Rattle.page_model.specs.Pages.stack_in o)) e in omega (arith, w);
   shared = tt;
 })
-page_present images p s x e z t fits Below w q h = absurd cc
-page_present images p s x e z t fits Outside w q h = absurd cc
+page_present images p s x e z t fits _ w q h = absurd cc
 
 pub tested_read : (s : Space) (spot : Spot) (q : Page) → page_tested s spot ≡ Some q → page_read s spot ≡ Some q
-tested_read s (Text i) q h = absurd cc
 tested_read s (Data i) q h = h
 tested_read s (Stack i) q h = h
-tested_read s Below q h = absurd cc
-tested_read s Outside q h = absurd cc
+tested_read s _ q h = absurd cc
 
 -- all that a process touches
 pub touched_present : (A : Inputs) (flat : FlatState) (p : Placement) (hs : Holdings) (pid : ℕ) → IsNumbered flat → TextsHeld A.images flat

@@ -114,11 +114,7 @@ is_flying _ = false
 
 flying_not_valid : (s : PageState) → is_flying s ≡ true → is_valid s ≡ true → ⊥
 flying_not_valid (Coming f) e h = absurd cc
-flying_not_valid (Going f) e h = absurd cc
-flying_not_valid (Valid f) e h = absurd cc
-flying_not_valid (Invalid f) e h = absurd cc
-flying_not_valid Unfilled e h = absurd cc
-flying_not_valid OnSwap e h = absurd cc
+flying_not_valid _ e h = absurd cc
 
 flying_in : (p : Placement) (q : Page) → OwnsFrames p → is_flying (state_of p q) ≡ true → p.transfers ≡ [] → ⊥
 flying_in p q o e t = go (state_of p q) refl e
@@ -184,19 +180,12 @@ flying_served b (e ∷ es) p r locked q now o there n h =
 
 frameless_not_valid : (s : PageState) → frame_of s ≡ None → is_valid s ≡ true → ⊥
 frameless_not_valid (Valid f) e h = Rattle.page_laws.proofs.Lists.Local.none_some f (sym e)
-frameless_not_valid (Coming f) e h = absurd cc
-frameless_not_valid (Going f) e h = absurd cc
-frameless_not_valid (Invalid f) e h = absurd cc
-frameless_not_valid Unfilled e h = absurd cc
-frameless_not_valid OnSwap e h = absurd cc
+frameless_not_valid _ e h = absurd cc
 
 coming_flies : (s : PageState) → is_coming s ≡ true → is_flying s ≡ true
 coming_flies (Coming f) e = refl
 coming_flies (Going f) e = refl
-coming_flies (Valid f) e = absurd cc
-coming_flies (Invalid f) e = absurd cc
-coming_flies Unfilled e = absurd cc
-coming_flies OnSwap e = absurd cc
+coming_flies _ e = absurd cc
 
 fill_valid : (p : Placement) (q : Page) (f : ℕ) (fs : List ℕ) → IsThere p q → p.free ≡ f ∷ fs → is_valid (state_of (fill p q) q) ≡ true
 fill_valid p q f fs there e = ap (λ (fr : List ℕ). is_valid (state_of (fill_at p q fr) q)) e

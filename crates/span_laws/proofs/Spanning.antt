@@ -50,45 +50,11 @@ ran_joins q n (entries.Ran p m) = by (p == q)
     by : (b : Bool) → Joined (entries.Ran p m ∷ []) (join_by b p m q n) (entries.Ran q n)
     by true = record { long = omega arith; ends = refl; some = omega arith }
     by false = record { long = omega arith; ends = refl; some = omega arith }
-ran_joins q n (entries.Hands m) = two (entries.Hands m) (entries.Ran q n) refl
-ran_joins q n (entries.Event a) = two (entries.Event a) (entries.Ran q n) refl
-ran_joins q n (entries.Turn a) = two (entries.Turn a) (entries.Ran q n) refl
-ran_joins q n (entries.Out a b) = two (entries.Out a b) (entries.Ran q n) refl
-ran_joins q n (entries.Grew a b) = two (entries.Grew a b) (entries.Ran q n) refl
-ran_joins q n (entries.Call a b c d e) = two (entries.Call a b c d e) (entries.Ran q n) refl
-ran_joins q n (entries.Refused a) = two (entries.Refused a) (entries.Ran q n) refl
-ran_joins q n (entries.Sleeps a) = two (entries.Sleeps a) (entries.Ran q n) refl
-ran_joins q n (entries.Ended a b) = two (entries.Ended a b) (entries.Ran q n) refl
-ran_joins q n (entries.Zero a) = two (entries.Zero a) (entries.Ran q n) refl
-ran_joins q n (entries.Get a b c) = two (entries.Get a b c) (entries.Ran q n) refl
-ran_joins q n (entries.Copy a) = two (entries.Copy a) (entries.Ran q n) refl
-ran_joins q n (entries.Reclaim a) = two (entries.Reclaim a) (entries.Ran q n) refl
-ran_joins q n (entries.Put a b) = two (entries.Put a b) (entries.Ran q n) refl
-ran_joins q n entries.Done = two entries.Done (entries.Ran q n) refl
-ran_joins q n (entries.SwapOut a) = two (entries.SwapOut a) (entries.Ran q n) refl
-ran_joins q n (entries.SwapIn a) = two (entries.SwapIn a) (entries.Ran q n) refl
-ran_joins q n (entries.Owners a b c d) = two (entries.Owners a b c d) (entries.Ran q n) refl
+ran_joins q n x = two x (entries.Ran q n) refl
 
 hands_joins : (n : ℕ) → JoinsLast (entries.Hands n)
 hands_joins n (entries.Hands m) = record { long = omega arith; ends = refl; some = omega arith }
-hands_joins n (entries.Ran p m) = two (entries.Ran p m) (entries.Hands n) refl
-hands_joins n (entries.Event a) = two (entries.Event a) (entries.Hands n) refl
-hands_joins n (entries.Turn a) = two (entries.Turn a) (entries.Hands n) refl
-hands_joins n (entries.Out a b) = two (entries.Out a b) (entries.Hands n) refl
-hands_joins n (entries.Grew a b) = two (entries.Grew a b) (entries.Hands n) refl
-hands_joins n (entries.Call a b c d e) = two (entries.Call a b c d e) (entries.Hands n) refl
-hands_joins n (entries.Refused a) = two (entries.Refused a) (entries.Hands n) refl
-hands_joins n (entries.Sleeps a) = two (entries.Sleeps a) (entries.Hands n) refl
-hands_joins n (entries.Ended a b) = two (entries.Ended a b) (entries.Hands n) refl
-hands_joins n (entries.Zero a) = two (entries.Zero a) (entries.Hands n) refl
-hands_joins n (entries.Get a b c) = two (entries.Get a b c) (entries.Hands n) refl
-hands_joins n (entries.Copy a) = two (entries.Copy a) (entries.Hands n) refl
-hands_joins n (entries.Reclaim a) = two (entries.Reclaim a) (entries.Hands n) refl
-hands_joins n (entries.Put a b) = two (entries.Put a b) (entries.Hands n) refl
-hands_joins n entries.Done = two entries.Done (entries.Hands n) refl
-hands_joins n (entries.SwapOut a) = two (entries.SwapOut a) (entries.Hands n) refl
-hands_joins n (entries.SwapIn a) = two (entries.SwapIn a) (entries.Hands n) refl
-hands_joins n (entries.Owners a b c d) = two (entries.Owners a b c d) (entries.Hands n) refl
+hands_joins n x = two x (entries.Hands n) refl
 
 last_joined : (u : Entry) → JoinsLast u → adds false u ≡ 1 → (j : List Entry) → Joined j (append_joined j u) u
 last_joined u h n [] = record { long = omega (arith, n); ends = refl; some = omega arith }
@@ -120,23 +86,7 @@ adds_one false u h = refl
 pub unit_joined : (j : List Entry) (u : Entry) → Joined j (append j u) u
 unit_joined j (entries.Ran q n) = last_joined (entries.Ran q n) (ran_joins q n) refl j
 unit_joined j (entries.Hands n) = last_joined (entries.Hands n) (hands_joins n) refl j
-unit_joined j (entries.Event a) = plain_joined j (entries.Event a) tt (adds_one (ends_moving j) (entries.Event a) refl)
-unit_joined j (entries.Turn a) = plain_joined j (entries.Turn a) tt (adds_one (ends_moving j) (entries.Turn a) refl)
-unit_joined j (entries.Out a b) = plain_joined j (entries.Out a b) tt (adds_one (ends_moving j) (entries.Out a b) refl)
-unit_joined j (entries.Grew a b) = plain_joined j (entries.Grew a b) tt (adds_one (ends_moving j) (entries.Grew a b) refl)
-unit_joined j (entries.Call a b c d e) = plain_joined j (entries.Call a b c d e) tt (adds_one (ends_moving j) (entries.Call a b c d e) refl)
-unit_joined j (entries.Refused a) = plain_joined j (entries.Refused a) tt (adds_one (ends_moving j) (entries.Refused a) refl)
-unit_joined j (entries.Sleeps a) = plain_joined j (entries.Sleeps a) tt (adds_one (ends_moving j) (entries.Sleeps a) refl)
-unit_joined j (entries.Ended a b) = plain_joined j (entries.Ended a b) tt (adds_one (ends_moving j) (entries.Ended a b) refl)
-unit_joined j (entries.Zero a) = plain_joined j (entries.Zero a) tt (adds_one (ends_moving j) (entries.Zero a) refl)
-unit_joined j (entries.Get a b c) = plain_joined j (entries.Get a b c) tt (adds_one (ends_moving j) (entries.Get a b c) refl)
-unit_joined j (entries.Copy a) = plain_joined j (entries.Copy a) tt (adds_one (ends_moving j) (entries.Copy a) refl)
-unit_joined j (entries.Reclaim a) = plain_joined j (entries.Reclaim a) tt (adds_one (ends_moving j) (entries.Reclaim a) refl)
-unit_joined j (entries.Put a b) = plain_joined j (entries.Put a b) tt (adds_one (ends_moving j) (entries.Put a b) refl)
-unit_joined j entries.Done = plain_joined j entries.Done tt (adds_one (ends_moving j) entries.Done refl)
-unit_joined j (entries.SwapOut a) = plain_joined j (entries.SwapOut a) tt (adds_one (ends_moving j) (entries.SwapOut a) refl)
-unit_joined j (entries.SwapIn a) = plain_joined j (entries.SwapIn a) tt (adds_one (ends_moving j) (entries.SwapIn a) refl)
-unit_joined j (entries.Owners a b c d) = plain_joined j (entries.Owners a b c d) tt (adds_one (ends_moving j) (entries.Owners a b c d) refl)
+unit_joined j x = plain_joined j x tt (adds_one (ends_moving j) x refl)
 
 pub units_added : (j us : List Entry) → length (appended j us) ≤ length j + added (ends_moving j) us
 units_added j [] = omega arith

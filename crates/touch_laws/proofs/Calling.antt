@@ -115,10 +115,7 @@ pub reply_covered : (memory : Answers) (base : ℕ) (images : List NamedImage) (
     → Covered memory base 11 (reply_of images F p s call regs)
 unfolding reply_of
 reply_covered memory base images F p s calls.Exit regs = covered_more memory base 1 11 _ (omega arith) (exit_covered memory base regs)
-reply_covered memory base images F p s calls.Fork regs = covered_gives memory base 11 _
 reply_covered memory base images F p s calls.Write regs = covered_more memory base 2 11 _ (omega arith) (write_covered memory base regs)
 reply_covered memory base images F p s calls.Break regs = covered_more memory base 1 11 _ (omega arith) (break_covered memory base s regs)
-reply_covered memory base images F p s calls.Getpid regs = covered_gives memory base 11 _
 reply_covered memory base images F p s calls.Execve regs = execve_covered memory base images regs
-reply_covered memory base images F p s calls.Vfork regs = covered_gives memory base 11 _
-reply_covered memory base images F p s calls.Wait regs = covered_gives memory base 11 _
+reply_covered memory base images F p s _ regs = covered_gives memory base 11 _

@@ -60,29 +60,11 @@ call_modest start least before counted ap target l h none = record {
 
 pub computation_modest : (name : Name) (regs : Regs) (a b c : Evaluated) → is_chmk name ≡ false → IsModest (computation name regs a b c)
 unfolding computation
-computation_modest names.Nop regs a b c other = given _ (plain_light _)
 computation_modest names.Ret regs a b c other = record { covered = λ memory base. return_covered memory base regs; light = return_light regs }
 computation_modest names.Rsb regs a b c other = record { covered = λ memory base. covered_more memory base 1 2 _ (omega arith) (subroutine_covered memory base regs); light = subroutine_light regs }
 computation_modest names.Bsbb regs a b c other = given _ (entry_light regs a.value)
 computation_modest names.Bsbw regs a b c other = given _ (entry_light regs a.value)
 computation_modest names.Jsb regs a b c other = given _ (entry_light regs a.value)
-computation_modest names.Brb regs a b c other = given _ (plain_light _)
-computation_modest names.Brw regs a b c other = given _ (plain_light _)
-computation_modest names.Jmp regs a b c other = given _ (plain_light _)
-computation_modest names.Bneq regs a b c other = given _ (plain_light _)
-computation_modest names.Beql regs a b c other = given _ (plain_light _)
-computation_modest names.Bgtr regs a b c other = given _ (plain_light _)
-computation_modest names.Bleq regs a b c other = given _ (plain_light _)
-computation_modest names.Bgeq regs a b c other = given _ (plain_light _)
-computation_modest names.Blss regs a b c other = given _ (plain_light _)
-computation_modest names.Bgtru regs a b c other = given _ (plain_light _)
-computation_modest names.Blequ regs a b c other = given _ (plain_light _)
-computation_modest names.Bvc regs a b c other = given _ (plain_light _)
-computation_modest names.Bvs regs a b c other = given _ (plain_light _)
-computation_modest names.Bcc regs a b c other = given _ (plain_light _)
-computation_modest names.Bcs regs a b c other = given _ (plain_light _)
-computation_modest names.Blbs regs a b c other = given _ (plain_light _)
-computation_modest names.Blbc regs a b c other = given _ (plain_light _)
 computation_modest names.Aoblss regs a b c other = given _ (count_light regs b.place (sum_of b.value 1) _ _)
 computation_modest names.Aobleq regs a b c other = given _ (count_light regs b.place (sum_of b.value 1) _ _)
 computation_modest names.Sobgeq regs a b c other = given _ (count_light regs a.place (difference_of a.value 1) _ _)
@@ -105,12 +87,6 @@ computation_modest names.Bicl2 regs a b c other = given _ (store_light _ 4 _ _ (
 computation_modest names.Bicl3 regs a b c other = given _ (store_light _ 4 _ _ (omega arith))
 computation_modest names.Xorl2 regs a b c other = given _ (store_light _ 4 _ _ (omega arith))
 computation_modest names.Xorl3 regs a b c other = given _ (store_light _ 4 _ _ (omega arith))
-computation_modest names.Bitl regs a b c other = given _ (plain_light _)
-computation_modest names.Cmpb regs a b c other = given _ (plain_light _)
-computation_modest names.Cmpw regs a b c other = given _ (plain_light _)
-computation_modest names.Cmpl regs a b c other = given _ (plain_light _)
-computation_modest names.Tstb regs a b c other = given _ (plain_light _)
-computation_modest names.Tstl regs a b c other = given _ (plain_light _)
 computation_modest names.Cvtbl regs a b c other = given _ (store_light _ 4 _ _ (omega arith))
 computation_modest names.Cvtlb regs a b c other = given _ (store_light _ 1 _ _ (omega arith))
 computation_modest names.Addl2 regs a b c other = given _ (store_light _ 4 _ _ (omega arith))
@@ -130,3 +106,4 @@ computation_modest names.Mnegl regs a b c other = given _ (store_light _ 4 _ _ (
 computation_modest names.Chmk regs a b c other = absurd cc
 computation_modest names.Callg regs a b c other = call_modest (back (sp regs) 200) 200 (registers_only regs) false a.value b.value (omega arith) (may_push regs) refl
 computation_modest names.Calls regs a b c other = call_modest (back (sp regs) 200) 196 (push_effect regs a.value) true (register (push_effect regs a.value).regs 14) b.value (omega arith) (may_push_again regs a.value) (push_light regs a.value).call
+computation_modest _ regs a b c other = given _ (plain_light _)

@@ -38,10 +38,9 @@ yields_bind Q R (Reads address next) f h k = λ byte. yields_bind Q R (next byte
 yields_bind Q R (Tests address next) f h k = yields_bind Q R next f h k
 
 pub yields_any : {A : Type 0} (p : Program A) → Yields (λ _. Unit {0}) p
-yields_any (Gives x) = tt
-yields_any (Refuses signal) = tt
 yields_any (Reads address next) = λ byte. yields_any (next byte)
 yields_any (Tests address next) = yields_any next
+yields_any _ = tt
 
 pub yields_ok : {A : Type 0} (memory : Answers) (Q : A → Type 0) (p : Program A) (x : A) → Yields Q p → run memory p ≡ Ok x → Q x
 yields_ok memory Q (Gives y) x h e = let same : y ≡ x = cc in subst Q same h
@@ -76,8 +75,6 @@ accesses_then memory (Err refused) f = []
 
 accesses_bind : {A B : Type 0} (memory : Answers) (p : Program A) (f : A → Program B)
     → accesses memory (p >>= f) ≡ accesses memory p ++ accesses_then memory (run memory p) f
-accesses_bind memory (Gives x) f = refl
-accesses_bind memory (Refuses signal) f = refl
 accesses_bind memory (Reads address next) f = ap (λ (list : List Access). ReadOf address ∷ list) (go (λ byte. accesses_bind memory (next byte) f) (memory.read address))
   where
     go : ((byte : ℕ) → accesses memory (next byte >>= f) ≡ accesses memory (next byte) ++ accesses_then memory (run memory (next byte)) f) → (answer : ByteRead) → rest_of_read answer (λ byte. accesses memory (next byte >>= f)) ≡ rest_of_read answer (λ byte. accesses memory (next byte)) ++ accesses_then memory (after_read answer address (λ byte. run memory (next byte))) f
@@ -93,6 +90,7 @@ accesses_bind memory (Tests address next) f = ap (λ (list : List Access). TestO
     go later tests.Below = refl
     go later tests.Text = refl
     go later tests.Outside = refl
+accesses_bind memory _ f = refl
 
 abbrev pub address_of_access : Access → ℕ
 address_of_access (ReadOf address) = address
@@ -119,8 +117,6 @@ pub record Covered {A : Type 0} (memory : Answers) (base most : ℕ) (p : Progra
 
 within_accesses : {A : Type 0} (memory : Answers) (start : ℕ) (more : List ℕ) (Q : A → Type 0) (p : Program A) → Within start Q p
     → AreNear (start ∷ more) (accesses memory p)
-within_accesses memory start more Q (Gives x) h = tt
-within_accesses memory start more Q (Refuses signal) h = tt
 within_accesses memory start more Q (Reads address next) h = (inl h.0, go (λ byte. within_accesses memory start more Q (next byte) (h.1 byte)) (memory.read address))
   where
     go : ((byte : ℕ) → AreNear (start ∷ more) (accesses memory (next byte))) → (answer : ByteRead) → AreNear (start ∷ more) (rest_of_read answer (λ byte. accesses memory (next byte)))
@@ -136,6 +132,7 @@ within_accesses memory start more Q (Tests address next) h = (inl h.0, go (withi
     go later tests.Below = tt
     go later tests.Text = tt
     go later tests.Outside = tt
+within_accesses memory start more Q _ h = tt
 
 -- near the base alone
 pub within_base : {A : Type 0} (memory : Answers) (base : ℕ) (Q : A → Type 0) (p : Program A) → Within base Q p → Covered memory base 0 p

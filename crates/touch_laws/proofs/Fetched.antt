@@ -1,5 +1,5 @@
 -- Fetching and operands: where they read.
-use Rattle.std.proofs.Common.{◌≡◌, ℕ, zero, suc, ◌+◌, ◌*◌, ◌≤◌, true, false, List, [], ◌∷◌, ◌++◌, length, refl, sym, subst, arith, length-append}
+use Rattle.std.proofs.Common.{◌≡◌, ℕ, zero, suc, ◌+◌, ◌*◌, ◌≤◌, true, List, [], ◌∷◌, ◌++◌, length, refl, sym, subst, arith, length-append}
 use Rattle.vm_facts.specs.Answers.{Answers}
 use Rattle.vm_facts.specs.declared.regs.Regs.{Regs}
 use Rattle.vax_code.specs.declared.instr.Instr.{Instr}
@@ -75,15 +75,11 @@ size_small slot kind e = subst (λ (s : Slot). s.size ≤ 1024) (sym e) (go kind
 
 address_covered : (memory : Answers) (base : ℕ) (regs : Regs) (size : ℕ) (b : Base) → Covered memory base 1 (address_of regs size b)
 unfolding address_of
-address_covered memory base regs size (bases.Deferred reg) = covered_gives memory base 1 _
-address_covered memory base regs size (bases.AutoDec reg) = covered_gives memory base 1 _
-address_covered memory base regs size (bases.AutoInc reg) = covered_gives memory base 1 _
 address_covered memory base regs size (bases.AutoIncDef reg) =
     covered_bind memory base 1 0 (number_at 4 (register regs reg)) _ (number_covered memory base 4 (register regs reg) (omega arith)) (λ address e. covered_gives memory base 0 _)
-address_covered memory base regs size (bases.Absolute address) = covered_gives memory base 1 _
-address_covered memory base regs size (bases.Disp reg by false) = covered_gives memory base 1 _
 address_covered memory base regs size (bases.Disp reg by true) =
     covered_bind memory base 1 0 (number_at 4 _) _ (number_covered memory base 4 _ (omega arith)) (λ address e. covered_gives memory base 0 _)
+address_covered memory base regs size _ = covered_gives memory base 1 _
 
 evaluated_covered : (memory : Answers) (base : ℕ) (slot : Slot) (regs : Regs) (address : ℕ) → slot.size ≤ 1024
     → Covered memory base 1 (evaluation_at slot regs address)
@@ -107,10 +103,6 @@ through_covered memory base slot regs b l =
 operand_covered : (memory : Answers) (base : ℕ) (slot : Slot) (regs : Regs) (operand : Operand) → slot.size ≤ 1024
     → Covered memory base 2 (evaluation slot regs operand)
 unfolding evaluation
-operand_covered memory base slot regs (operands.Literal value) l = covered_gives memory base 2 _
-operand_covered memory base slot regs (operands.Immediate value) l = covered_gives memory base 2 _
-operand_covered memory base slot regs (operands.Register reg) l = covered_gives memory base 2 _
-operand_covered memory base slot regs (operands.Branch by) l = covered_gives memory base 2 _
 operand_covered memory base slot regs (operands.Deferred reg) l = through_covered memory base slot regs (bases.Deferred reg) l
 operand_covered memory base slot regs (operands.AutoDec reg) l = through_covered memory base slot regs (bases.AutoDec reg) l
 operand_covered memory base slot regs (operands.AutoInc reg) l = through_covered memory base slot regs (bases.AutoInc reg) l
@@ -119,6 +111,7 @@ operand_covered memory base slot regs (operands.Absolute address) l = through_co
 operand_covered memory base slot regs (operands.Disp reg by deferred) l = through_covered memory base slot regs (bases.Disp reg by deferred) l
 operand_covered memory base slot regs (operands.Indexed index b) l =
     covered_bind memory base 1 1 (address_of regs slot.size b) _ (address_covered memory base regs slot.size b) (λ found e. evaluated_covered memory base slot found.0 (past found.1 (slot.size * register found.0 index)) l)
+operand_covered memory base slot regs _ l = covered_gives memory base 2 _
 
 literal_covered : (memory : Answers) (base : ℕ) (slot : Slot) (regs : Regs) (operand : Operand) → operand ≡ operands.Literal 0
     → Covered memory base 0 (evaluation slot regs operand)

@@ -79,7 +79,6 @@ sized_found (q ∷ qs) pid p h e = go (λ k. sized_found qs pid p h.1 k) (q.pid 
 -- Spaces.
 
 put_at_sized : (s : Space) (spot : Spot) (byte : ℕ) → IsSized s → IsSized (put_at s spot byte)
-put_at_sized s (spots.Text i) byte h = h
 put_at_sized s (spots.Data i) byte h = record {
   text = h.text;
   text_fits = h.text_fits;
@@ -87,8 +86,7 @@ put_at_sized s (spots.Data i) byte h = record {
   data_fits = (let n = length-set s.data_bytes i byte in let k = h.data_fits in omega arith);
 }
 put_at_sized s (spots.Stack i) byte h = record { text = h.text; text_fits = h.text_fits; «data» = h.data; data_fits = h.data_fits }
-put_at_sized s spots.Below byte h = h
-put_at_sized s spots.Outside byte h = h
+put_at_sized s _ byte h = h
 
 puts_sized : (s : Space) (ws : List ByteWrite) → IsSized s → IsSized (puts s ws)
 puts_sized s [] h = h
@@ -245,11 +243,10 @@ after_sized images F p ws regs change w may h = change_sized images (apply_write
 replied_sized : (images : List NamedImage) (F : FlatState) (p : Process) (call : SystemCall) (effect : Effect) (reply : Reply) → ImagesWhole images
     → ReplyResizes reply → AllSized F.processes
     → AllSized (replied_step images F p call effect reply).after.processes
-replied_sized images F p call effect (replies.Fails error) w fits h = after_sized images F p effect.writes _ Keep w tt h
 replied_sized images F p call effect (replies.Does regs change) w fits h = after_sized images F p effect.writes regs change w fits h
-replied_sized images F p call effect (replies.Writes bytes) w fits h = after_sized images F p effect.writes _ Keep w tt h
 replied_sized images F p call effect replies.Waits w fits h = after_sized images F p effect.writes p.regs Sleep w tt h
 replied_sized images F p call effect (replies.Exits status) w fits h = after_sized images F p effect.writes p.regs (End status) w tt h
+replied_sized images F p call effect _ w fits h = after_sized images F p effect.writes _ Keep w tt h
 
 called_sized : (images : List NamedImage) (F : FlatState) (p : Process) (t : Space) (refused : Bool) (effect : Effect) (call : Option SystemCall)
     → ImagesWhole images → AllSized F.processes
@@ -311,9 +308,8 @@ started_sized images (number ∷ more) n w = go (image_numbered images number) r
 
 behind_stays : (point : Point) (after : FlatState) (es : List Entry) → AllSized point.flat.processes → AllSized after.processes
     → AllSized (behind point after es).flat.processes
-behind_stays point after [] h k = h
 behind_stays point after (e ∷ []) h k = k
-behind_stays point after (e ∷ f ∷ es) h k = h
+behind_stays point after _ h k = h
 
 where_sized : (b : Bool) (p q : Point) → where_so b p ≡ Some q → AllSized p.flat.processes → AllSized q.flat.processes
 where_sized true p q e h = let same : p ≡ q = cc in subst (λ (x : Point). AllSized x.flat.processes) same h

@@ -202,9 +202,8 @@ plain_light regs = record { start = 0; near = tt; call = refl }
 
 pub store_light : (regs : Regs) (size : ℕ) (place : Place) (value : ℕ) → size ≤ 1024 → IsLight (store_effect regs size place value)
 unfolding store_effect
-store_light regs size places.Nowhere value l = record { start = 0; near = tt; call = refl }
-store_light regs size (places.Register reg) value l = record { start = 0; near = tt; call = refl }
 store_light regs size (places.Memory address) value l = record { start = address; near = bytes_written size address 0 address value (at_self address) (omega arith); call = refl }
+store_light regs size _ value l = record { start = 0; near = tt; call = refl }
 
 pub push_light : (regs : Regs) (value : ℕ) → IsLight (push_effect regs value)
 unfolding push_onto

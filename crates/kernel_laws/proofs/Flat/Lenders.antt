@@ -169,9 +169,8 @@ lends_lent ps q p c s e h k new hc l = record { right = right; one = one }
 -- A space that goes back.
 
 lender_is : (pid : ℕ) (h : Holding) → lends_to pid h ≡ true → (sid : ℕ) × (h ≡ Lends sid pid)
-lender_is pid (Holds s) e = absurd cc
 lender_is pid (Lends sid child) e = (sid, ap (Lends sid) (eqb-true child pid e))
-lender_is pid (Zombie status) e = absurd cc
+lender_is pid _ e = absurd cc
 
 lends_true : (pid sid : ℕ) (h : Holding) → h ≡ Lends sid pid → lends_to pid h ≡ true
 lends_true pid sid h e = ap (lends_to pid) e ∙ eq_self pid
@@ -260,9 +259,8 @@ back_lent ps q p s d e h none l = elim (returned_cases r0 p.pid s distinct) [
 
 -- who has a space is no zombie
 has_alive : (sid : ℕ) (h : Holding) → HasOrLent sid h → is_zombie h ≡ false
-has_alive sid (Holds s) e = refl
-has_alive sid (Lends t child) e = refl
 has_alive sid (Zombie status) e = absurd e
+has_alive sid _ e = refl
 
 -- what was with a process that isn't this one is there still
 left_found : (b : Bool) (ps : List Process) (pid parent sid child : ℕ) → AllDistinct (map pid_of ps) → child ≢ pid

@@ -231,9 +231,8 @@ returned_either (q ∷ ps) pid s d = elim (cases_Bool (lends_to pid q.holding)) 
 ]
 
 lender_holds : (pid : ℕ) (h : Holding) → lends_to pid h ≡ true → space_held h ≡ []
-lender_holds pid (Holds s) e = absurd cc
 lender_holds pid (Lends sid child) e = refl
-lender_holds pid (Zombie status) e = absurd cc
+lender_holds pid _ e = absurd cc
 
 pub returned_tidy : (ps : List Process) (pid : ℕ) (s : Space) (next ns : ℕ) → Tidy ps next ns → IsAbsent s.sid (map sid_of (held ps)) → s.sid < ns
     → Tidy (returned pid s ps) next ns

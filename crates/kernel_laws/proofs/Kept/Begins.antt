@@ -1,5 +1,5 @@
 -- First processes begin one by one: each machine at the start is made from the one with a first process less.
-use Rattle.std.proofs.Common.{◌≡◌, ◌⊎◌, inl, inr, ℕ, suc, ◌+◌, ◌*◌, ◌<◌, ◌==◌, Bool, true, false, cond, List, [], ◌∷◌, ◌++◌, length, map, Option, Some, Result, Ok, refl, sym, ap, ◌∙◌, subst, append_assoc, length-append, arith}
+use Rattle.std.proofs.Common.{◌≡◌, inl, inr, ℕ, suc, ◌+◌, ◌*◌, ◌<◌, ◌==◌, Bool, true, false, cond, List, [], ◌∷◌, ◌++◌, length, map, Option, Some, Result, Ok, refl, sym, ap, ◌∙◌, subst, append_assoc, length-append, arith}
 use Rattle.std.proofs.lemmas.List.{append-nil, map-append}
 use Rattle.vm_facts.specs.declared.page.Page.{Page}
 use Rattle.vm_facts.specs.declared.page.Page.TheVariants.{Data, Stack, Text}
@@ -15,7 +15,7 @@ use Rattle.swap_book.proofs.GrowthLaws.{place_all-append}
 use Rattle.flat_state.specs.Flat.{Process, FlatState, NamedImage, Inputs, image_numbered, start_if, start_process, start_processes, start_state, spaces_of}
 use Rattle.page_model.specs.Pages.{SpacePages, TextPages, numbered, data_in, stack_in, text_in}
 use Rattle.vm_facts.specs.Lists.{times}
-use Rattle.page_model.specs.Placement.{Placement, Residence, Due, Start, CopyOf, Starting, IsThere, due_at, image_number, space_number, slots_of, slot_of, state_of, filling_of, sharers, sharers_in, new_pages, spaces_from, residents_from, due_from, start_placement}
+use Rattle.page_model.specs.Placement.{Placement, Residence, Due, Start, CopyOf, Starting, IsThere, image_number, space_number, slots_of, slot_of, state_of, filling_of, sharers, sharers_in, new_pages, spaces_from, residents_from, due_from, start_placement}
 use Rattle.page_model.specs.Place.{enter_space, facts_of}
 use Rattle.page_model.specs.Conditions.{IsNew}
 use Rattle.page_model.specs.Dues.{HasSource, IsDue, DueStand}
@@ -24,7 +24,7 @@ use Rattle.kernel_model.specs.Asks.{text_asked, start_asks, begin_asks}
 use Rattle.kernel_model.specs.Numbers.{Numbered}
 use Rattle.kernel_model.specs.Start.{kept_of, start_of, start_kernel, AreStarting, starting_in, with_first, new_kernel, begin_place, begin_step}
 use Rattle.page_laws.proofs.Ownership.Changes.{enter_alike}
-use Rattle.page_laws.proofs.Due.Spaces.{enter_due}
+use Rattle.page_laws.proofs.Due.Spaces.{enter_due, due_either}
 use Rattle.kernel_laws.proofs.Flat.Lists.{held, held-append}
 use Rattle.kernel_laws.proofs.Pieces.Sizes.{first_or_none}
 use Rattle.kernel_laws.proofs.Sound.Allowed.{new_number}
@@ -57,7 +57,7 @@ processes_last images n (x ∷ numbers) number named e =
 
 -- The machine with one first process more.
 
-starting_count : (images : List NamedImage) (numbers : List ℕ) (first : List Starting) → AreStarting images numbers first → length first ≡ length numbers
+pub starting_count : (images : List NamedImage) (numbers : List ℕ) (first : List Starting) → AreStarting images numbers first → length first ≡ length numbers
 starting_count images [] [] a = refl
 starting_count images [] (x ∷ first) a = absurd a
 starting_count images (n ∷ numbers) [] a = absurd a
@@ -190,14 +190,6 @@ start_finds size images first a frames hs e =
     whole t d s u = sym (append_assoc t (d ++ s) u ∙ ap (λ (l : List Wanted). t ++ l) (append_assoc d s u))
 
 -- What is due.
-
-due_either : (ds es : List Due) (w : Page) (d : Due) → due_at (ds ++ es) w ≡ Some d → (due_at ds w ≡ Some d) ⊎ (due_at es w ≡ Some d)
-due_either [] es w d e = inr e
-due_either (c ∷ ds) es w d e = go (Rattle.flat_state.specs.PageNames.same_page (Rattle.page_model.specs.Placement.due_page c) w) e (due_either ds es w d)
-  where
-    go : (b : Bool) → cond b (Some c) (due_at (ds ++ es) w) ≡ Some d → (due_at (ds ++ es) w ≡ Some d → (due_at ds w ≡ Some d) ⊎ (due_at es w ≡ Some d)) → (cond b (Some c) (due_at ds w) ≡ Some d) ⊎ (due_at es w ≡ Some d)
-    go true k later = inl k
-    go false k later = later k
 
 -- a page that is there has the slots that it had
 there_same : (p : Placement) (x : SpacePages) (due : List Due) (w : Page) → IsThere p w

@@ -1,6 +1,6 @@
 -- Who lent a space to whom, in the machine as in the flat state.
 use Rattle.std.proofs.Common.{◌≡◌, ◌≢◌, ℕ, ◌||◌, Bool, true, false, cond, List, [], ◌∷◌, map, Some, refl, sym, ap, ap₂, ◌∙◌, subst}
-use Rattle.flat_state.specs.Flat.{Holding, Holds, Lends, Zombie, Process, FlatState}
+use Rattle.flat_state.specs.Flat.{Holding, Holds, Process, FlatState}
 use Rattle.flat_state.specs.Change.{lends_to, is_borrower}
 use Rattle.flat_state.specs.Numbers.{IsAbsent, AllDistinct, IsNumbered}
 use Rattle.flat_state.specs.Lenders.{IsLender}
@@ -17,8 +17,7 @@ use Rattle.vm_facts.proofs.Tests.{eq_self}
 
 lends_is : (pid : ℕ) (h : Holding) → lends_life pid (life_of h) ≡ lends_to pid h
 lends_is pid (Holds s) = refl
-lends_is pid (Lends sid child) = refl
-lends_is pid (Zombie status) = refl
+lends_is pid _ = refl
 
 -- Whether.
 

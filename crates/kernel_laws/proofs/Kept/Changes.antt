@@ -95,24 +95,15 @@ ends_own true status o = absurd o
 ends_own false status o = refl
 
 settles : (p : Placement) (sid : ℕ) (b : Bool) (change : Change) → KeepsSpace b change → ReadySpace p sid b change → SettlesFor p sid change
-settles p sid b Keep o r = tt
 settles p sid b (Resize d s) o r = r.1
-settles p sid b (Fork child) o r = tt
-settles p sid b (Lend child) o r = tt
 settles p sid b (Exec image top) o r = (r (enters_own b image top o)).1
-settles p sid b (Reap child) o r = tt
-settles p sid b Sleep o r = tt
 settles p sid b (End status) o r = (r (ends_own b status o)).1
+settles p sid b _ o r = tt
 
 pub takes_next : (k : Kernel) (flat : FlatState) (change : Change) → SameTables k flat → NamesChild flat change → TakesNext k change
-takes_next k flat Keep t m = tt
-takes_next k flat (Resize d s) t m = tt
 takes_next k flat (Fork child) t m = m ∙ sym t.next_pid
 takes_next k flat (Lend child) t m = m ∙ sym t.next_pid
-takes_next k flat (Exec image top) t m = tt
-takes_next k flat (Reap child) t m = tt
-takes_next k flat Sleep t m = tt
-takes_next k flat (End status) t m = tt
+takes_next k flat _ t m = tt
 
 pub may_reap : (k : Kernel) (flat : FlatState) (change : Change) → SameTables k flat → NamesChild flat change → MayReap k.processes change
 may_reap k flat Keep t m = tt
@@ -126,14 +117,8 @@ may_reap k flat (End status) t m = tt
 
 -- a new space isn't the one that goes
 apart_from : (p : Placement) (ps : List Proc) (sid : ℕ) (b : Bool) (next : ℕ) (change : Change) → MayAsk p ps sid b next change → ApartFrom sid b next change
-apart_from p ps sid b next Keep m = tt
-apart_from p ps sid b next (Resize d s) m = tt
-apart_from p ps sid b next (Fork child) m = tt
-apart_from p ps sid b next (Lend child) m = tt
 apart_from p ps sid b next (Exec image top) m = m
-apart_from p ps sid b next (Reap child) m = tt
-apart_from p ps sid b next Sleep m = tt
-apart_from p ps sid b next (End status) m = tt
+apart_from p ps sid b next _ m = tt
 
 none_found : (size : ℕ) (hs found : Holdings) → place_all size hs [] ≡ Ok found → hs ≡ found
 unfolding place_all
@@ -246,9 +231,6 @@ own_passed : (size : ℕ) (images : List NamedImage) (k : Kernel) (flat : FlatSt
     → IsNumbered flat
     → process_of flat pid ≡ Some q → q.holding ≡ Holds s → SameTables k flat → NamesChild flat change
     → Passed size images k pid s.sid false e change (change_step (facts_of images) k pid regs e change) → Passed size images k pid s.sid false e change (keeps_step (facts_of images) k pid regs e change)
-own_passed size images k flat pid regs e q s Keep nums f h t m x = x
-own_passed size images k flat pid regs e q s (Resize d r) nums f h t m x = x
-own_passed size images k flat pid regs e q s (Fork child) nums f h t m x = x
 own_passed size images k flat pid regs e q s (Lend child) nums f h t m x =
     let l = subst (λ (c : ℕ). (lives (change_step (facts_of images) k pid regs e (Lend c)).processes pid ≡ true) × (lives (change_step (facts_of images) k pid regs e (Lend c)).processes c ≡ true)) (sym m) (lend_lives images k flat pid regs e q s nums f h t) in
     let at : LandsAt images k pid s.sid false e (Lend child) (change_step (facts_of images) k pid regs e (Lend child)) = x.lands in
@@ -257,10 +239,7 @@ own_passed size images k flat pid regs e q s (Lend child) nums f h t m x =
       numbered = pass_numbered (change_step (facts_of images) k pid regs e (Lend child)) pid child l.0 l.1 x.numbered;
       lands = record { place = at.place };
     }
-own_passed size images k flat pid regs e q s (Exec image top) nums f h t m x = x
-own_passed size images k flat pid regs e q s (Reap child) nums f h t m x = x
-own_passed size images k flat pid regs e q s Sleep nums f h t m x = x
-own_passed size images k flat pid regs e q s (End status) nums f h t m x = x
+own_passed size images k flat pid regs e q s _ nums f h t m x = x
 
 own_lands : (images : List NamedImage) (k : Kernel) (flat : FlatState) (pid : ℕ) (regs : Regs) (e : Entry) (q : Process) (s : Space) (change : Change)
     → Stepping k flat pid q s

@@ -57,15 +57,13 @@ parts_kept size images m locked at e i c b = entry_parts locked at m.kernel.plac
 
 -- a page that is filled with zeros is one of data or stack
 pub zeros_writable : (p : Placement) (q : Page) → filling_of p q ≡ Zeros → IsWritable q
-zeros_writable p (Data sid v) e = tt
-zeros_writable p (Stack sid v) e = tt
 zeros_writable p (Text image v) e = absurd cc
+zeros_writable p _ e = tt
 
 -- and takes a frame wherever it is
 pub writable_shared : (p : Placement) (q : Page) → IsWritable q → IsShared p q
-writable_shared p (Data sid v) w = tt
-writable_shared p (Stack sid v) w = tt
 writable_shared p (Text image v) w = absurd w
+writable_shared p _ w = tt
 
 pub zero_kept : (size : ℕ) (images : List NamedImage) (m : KernelState) (q : Page) → Invariant size images m → MayZero m.kernel.place q
     → Invariant size images (state_after images m (ZeroUnit q))

@@ -1,5 +1,5 @@
 -- The invariant at the start of a run.
-use Rattle.std.proofs.Common.{◌≡◌, ℕ, suc, ◌+◌, ◌==◌, Bool, true, false, cond, List, [], ◌∷◌, ◌++◌, length, map, Option, Some, None, refl, sym, ap, ◌∙◌, subst, arith}
+use Rattle.std.proofs.Common.{◌≡◌, ℕ, ◌+◌, ◌==◌, Bool, true, false, cond, List, [], ◌∷◌, ◌++◌, length, map, Option, Some, None, refl, sym, ap, ◌∙◌, subst, arith}
 use Rattle.std.proofs.lemmas.List.{length-replicate}
 use Rattle.aout_image.specs.declared.Image.{Image}
 use Rattle.swap_book.specs.Holdings.{Holdings}
@@ -21,6 +21,7 @@ use Rattle.kernel_laws.proofs.Sound.Allowed.{start_numbers}
 use Rattle.kernel_laws.proofs.Machine.Starts.{start_coupled_all}
 use Rattle.kernel_laws.proofs.Stands.Starts.{start_numbered, start_lent, start_beside}
 use Rattle.kernel_laws.proofs.Kept.Changes.{no_pieces}
+use Rattle.kernel_laws.proofs.Kept.Begins.{starting_count}
 
 -- the first processes live, and no others
 starts_live : (images : List NamedImage) (ns : List ℕ) (first : List Starting) (pid n : ℕ) → AreStarting images ns first
@@ -40,12 +41,6 @@ pub kept_pids : (ps : List Process) → map (λ (p : Proc). p.pid) (map kept_of 
 kept_pids [] = refl
 kept_pids (p ∷ ps) = ap (λ (l : List ℕ). p.pid ∷ l) (kept_pids ps)
 
-starts_count : (images : List NamedImage) (ns : List ℕ) (first : List Starting) → AreStarting images ns first → length first ≡ length ns
-starts_count images [] [] a = refl
-starts_count images [] (x ∷ first) a = absurd a
-starts_count images (n ∷ ns) [] a = absurd a
-starts_count images (n ∷ ns) (x ∷ first) (named, e, i, f, more) = ap suc (starts_count images ns first more)
-
 pub start_kept : (A : Inputs) (first : List Starting) (hs : Holdings) (frames : List (List ℕ)) (image : List ℕ) → CanStart A first hs frames image
     → Invariant A.swap_blocks A.images (started A first hs frames image)
 start_kept A first hs frames image c = record {
@@ -57,7 +52,7 @@ start_kept A first hs frames image c = record {
   };
   numbered = record {
     spaces_differ = (start_numbers facts first A.frames).0;
-    spaces_below = subst (λ (m : ℕ). AllBelow m (map space_number p.spaces)) (let e = starts_count A.images A.first first c.starting in let z : 1 + length first ≡ length A.first + 1 = omega arith in z) (start_numbers facts first A.frames).1;
+    spaces_below = subst (λ (m : ℕ). AllBelow m (map space_number p.spaces)) (let e = starting_count A.images A.first first c.starting in let z : 1 + length first ≡ length A.first + 1 = omega arith in z) (start_numbers facts first A.frames).1;
     pids_differ = subst AllDistinct (sym (kept_pids (start_state A).processes)) n.pids;
     pids_below = subst (AllBelow (start_state A).next_pid) (sym (kept_pids (start_state A).processes)) n.pids_below;
     residents = λ m a. started_in 1 m first (sym (starts_live A.images A.first first 1 m c.starting) ∙ a);

@@ -10,7 +10,7 @@ use Rattle.swap_book.specs.Placing.{Wanted, wanted, place_all}
 use Rattle.flat_state.specs.Flat.{NamedImage}
 use Rattle.flat_state.specs.PageNames.{number_of}
 use Rattle.flat_state.specs.declared.change.Change.{Change}
-use Rattle.flat_state.specs.declared.change.Change.TheVariants.{Keep, Resize, Fork, Lend, Exec, Reap, Sleep, End}
+use Rattle.flat_state.specs.declared.change.Change.TheVariants.{Resize, Fork, Exec}
 use Rattle.page_model.specs.Placement.{Placement, Transfer, Part, Errand, Writes, Reads}
 use Rattle.page_model.specs.Moves.{done}
 use Rattle.page_model.specs.Ownership.{OneOwner, block_of, owner_of}
@@ -72,19 +72,15 @@ waits_image size images m i = go k.place.transfers refl
 
 asks_steady : (images : List Image) (p q : Placement) (sid next : ℕ) (change : Change) → Steady p q
     → change_asks images q sid next change ≡ change_asks images p sid next change
-asks_steady images p q sid next Keep s = refl
 asks_steady images p q sid next (Resize d t) s = ap₂ (λ (a b : ℕ). further (owners.Data sid) a d ++ further (owners.Stack sid) b t) (s.sizes (Data sid 0)) (s.sizes (Stack sid 0))
 asks_steady images p q sid next (Fork child) s =
     ap₂ (λ (a b : ℕ). wanted (owners.Data next) (pieces (2 * a)) ++ (wanted (owners.Stack next) (pieces (2 * b)) ++ wanted (owners.U child) (u_pieces 2))) (s.sizes (Data sid 0)) (s.sizes (Stack sid 0))
-asks_steady images p q sid next (Lend child) s = refl
 asks_steady images p q sid next (Exec image top) s = by (facts_numbered images image)
   where
     by : (o : Option Image) → image_asked q next image o ≡ image_asked p next image o
     by None = refl
     by (Some facts) = ap₂ (λ (a b : ℕ). text_asked a image (2 * b) ++ (wanted (owners.Data next) (pieces (2 * data_pages_of facts)) ++ wanted (owners.Stack next) (pieces 2))) (s.sharing image) (s.sizes (Text image 0))
-asks_steady images p q sid next (Reap child) s = refl
-asks_steady images p q sid next Sleep s = refl
-asks_steady images p q sid next (End status) s = refl
+asks_steady images p q sid next _ s = refl
 
 -- the end of a transfer changes nothing of what a change asks
 done_asks : (size : ℕ) (images : List NamedImage) (k : Kernel) (read : List (List ℕ)) (pid : ℕ) (change : Change) → Sound size k

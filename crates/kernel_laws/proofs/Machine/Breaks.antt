@@ -109,8 +109,7 @@ resized_image p sid d t n =
 
 resized_file : (images : List NamedImage) (p : Placement) (sid d t : ℕ) (w : Page) → file_of images (resize p sid d t) w ≡ file_of images p w
 resized_file images p sid d t (Data n v) = ap (λ (i : ℕ). page_at v (data_of (image_numbered images i))) (resized_image p sid d t n)
-resized_file images p sid d t (Stack n v) = refl
-resized_file images p sid d t (Text i v) = refl
+resized_file images p sid d t _ = refl
 
 -- a space of another number has as many pages
 resized_sizes : (p : Placement) (sid d t n : ℕ) → n ≢ sid

@@ -65,10 +65,8 @@ memory_length k images flat (Text image v) t x there = page_length v (length (sl
 going_needs : (q : Page) (f : ℕ) (m : Bool) → needs_blocks_by q (Going f) m ≡ true
 going_needs (Data sid v) f true = refl
 going_needs (Data sid v) f false = refl
-going_needs (Stack sid v) f true = refl
-going_needs (Stack sid v) f false = refl
-going_needs (Text image v) f true = refl
-going_needs (Text image v) f false = refl
+going_needs _ f true = refl
+going_needs _ f false = refl
 
 pub some_of : {A : Type 0} (o : Option A) → IsSome o → (x : A) × (o ≡ Some x)
 some_of None e = absurd cc

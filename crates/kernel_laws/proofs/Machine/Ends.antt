@@ -2,7 +2,7 @@
 use Rattle.std.proofs.Common.{◌≡◌, ◌≢◌, ◌⊎◌, inl, inr, ℕ, ◌==◌, ◌&&◌, Bool, true, false, cond, not, List, [], ◌∷◌, ◌++◌, map, filter, Option, Some, None, refl, sym, ap, ◌∙◌, subst}
 use Rattle.std.proofs.lemmas.Bool.{cases_eq, cases_Bool, eqb-true, ne_eqb}
 use Rattle.flat_state.specs.Space.{Space}
-use Rattle.flat_state.specs.Flat.{Holding, Holds, Lends, Zombie, Process, FlatState, NamedImage, process_of, image_numbered, spaces_of, space_held}
+use Rattle.flat_state.specs.Flat.{Holding, Holds, Zombie, Process, FlatState, NamedImage, process_of, image_numbered, spaces_of, space_held}
 use Rattle.vm_facts.specs.declared.page.Page.{Page}
 use Rattle.vm_facts.specs.declared.page.Page.TheVariants.{Data, Stack, Text}
 use Rattle.vm_facts.specs.declared.regs.Regs.{Regs}
@@ -56,8 +56,7 @@ stays pid q = not ((q.parent == pid) && is_ended q.life)
 
 ended_same : (h : Holding) → is_ended (life_of h) ≡ is_zombie h
 ended_same (Holds s) = refl
-ended_same (Lends sid child) = refl
-ended_same (Zombie status) = refl
+ended_same _ = refl
 
 -- in both tables the same children go, and the others have no parent
 pub orphaned_outlines : (ks : List Proc) (fs : List Process) (pid : ℕ) → map outline_kept ks ≡ map outline_of fs
@@ -274,8 +273,7 @@ held_map g h (p ∷ ps) = ap (λ (x : Holding). space_held x ++ held (map g ps))
 
 zombie_held : (h : Holding) → is_zombie h ≡ true → space_held h ≡ []
 zombie_held (Holds s) e = absurd cc
-zombie_held (Lends sid child) e = refl
-zombie_held (Zombie status) e = refl
+zombie_held _ e = refl
 
 pub orphans_held : (ps : List Process) (pid : ℕ) → AllDistinct (map pid_of ps) → held (orphans pid ps) ≡ held ps
 orphans_held ps pid d = held_map (without_parent pid) (λ x. refl) (filter (λ (q : Process). not (is_zombie_child pid q)) ps)

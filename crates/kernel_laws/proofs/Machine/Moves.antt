@@ -105,8 +105,7 @@ forgot_coupled p v f b c e s k = changed_coupled p p b c k one (λ i n. s.file (
 -- the files' pages, where each space has the image that it had
 pub file_same : (images : List NamedImage) (p q : Placement) → Shaped p q → (w : Page) → file_of images q w ≡ file_of images p w
 file_same images p q s (Data sid v) = ap (λ (i : ℕ). page_at v (data_of (image_numbered images i))) (image_kept p q s sid)
-file_same images p q s (Stack sid v) = refl
-file_same images p q s (Text image v) = refl
+file_same images p q s _ = refl
 
 -- Tables and registers.
 

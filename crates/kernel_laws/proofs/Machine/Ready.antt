@@ -3,7 +3,7 @@ use Rattle.std.proofs.Common.{◌≡◌, ℕ, false, Option, Some, None, refl, s
 use Rattle.flat_state.specs.Space.{Space}
 use Rattle.flat_state.specs.Flat.{Holds, Zombie, Process, FlatState, process_of, spaces_of}
 use Rattle.flat_state.specs.declared.change.Change.{Change}
-use Rattle.flat_state.specs.declared.change.Change.TheVariants.{Keep, Resize, Fork, Lend, Exec, Reap, Sleep, End}
+use Rattle.flat_state.specs.declared.change.Change.TheVariants.{Resize, Fork, Exec, End}
 use Rattle.page_model.specs.Pages.{SpacePages, numbered}
 use Rattle.page_model.specs.Placement.{Placement, space_number}
 use Rattle.kernel_model.specs.Kernel.{Life, HoldsSpace, Kernel, Proc, life_of}
@@ -28,14 +28,11 @@ space_there k flat pid q s t st h e = go (numbered (λ (x : Space). x.sid) s.sid
     go (Some y) (Some x) f z w = absurd cc
 
 ready_space : (p : Placement) (sid : ℕ) (change : Change) → HasSpace p sid → SettlesFor p sid change → ReadySpace p sid false change
-ready_space p sid Keep h w = tt
 ready_space p sid (Resize d s) h w = (h, w)
 ready_space p sid (Fork child) h w = h
-ready_space p sid (Lend child) h w = tt
 ready_space p sid (Exec image top) h w = λ e. (h, w)
-ready_space p sid (Reap child) h w = tt
-ready_space p sid Sleep h w = tt
 ready_space p sid (End status) h w = λ e. (h, w)
+ready_space p sid _ h w = tt
 
 pub coupled_ready : (k : Kernel) (flat : FlatState) (pid : ℕ) (q : Process) (s : Space) (change : Change) → SameTables k flat
     → process_of flat pid ≡ Some q → q.holding ≡ Holds s

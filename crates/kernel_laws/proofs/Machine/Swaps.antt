@@ -82,7 +82,7 @@ regs_outlines pid regs (p ∷ ps) = ap (λ (x : Outline). x ∷ map outline_kept
     go true = refl
     go false = refl
 
-with_regs_pid : (pid : ℕ) (regs : Regs) (p : Proc) → (with_regs pid regs p).pid ≡ p.pid
+pub with_regs_pid : (pid : ℕ) (regs : Regs) (p : Proc) → (with_regs pid regs p).pid ≡ p.pid
 with_regs_pid pid regs p = go (p.pid == pid)
   where
     go : (b : Bool) → (cond b (record p { regs = regs }) p).pid ≡ p.pid

@@ -1,7 +1,7 @@
 -- The tables and the registers of a coupled machine, one space and one process at a time.
 use Rattle.std.proofs.Common.{◌≡◌, ℕ, Bool, List, length, map, Option, Some, None, true, false, refl, sym, ap, ◌∙◌, subst}
 use Rattle.flat_state.specs.Space.{Space}
-use Rattle.flat_state.specs.Flat.{Holding, Holds, Lends, Zombie, Process, FlatState, NamedImage}
+use Rattle.flat_state.specs.Flat.{Holding, Holds, Process, FlatState, NamedImage}
 use Rattle.vm_facts.specs.declared.page.Page.TheVariants.{Data, Stack}
 use Rattle.vm_facts.specs.declared.regs.Regs.{Regs}
 use Rattle.page_model.specs.Pages.{SpacePages, numbered}
@@ -41,8 +41,7 @@ outline_at ks fs e n p q a b = same_Some (outline_kept p) (outline_of q) (ap (im
 
 pub space_same : (h : Holding) → space_of_life (life_of h) ≡ space_of_holding h
 space_same (Holds s) = refl
-space_same (Lends sid child) = refl
-space_same (Zombie status) = refl
+space_same _ = refl
 
 -- a process of the flat state is in the machine
 pub kept_at : (ks : List Proc) (fs : List Process) → map outline_kept ks ≡ map outline_of fs → (n : ℕ) (q : Process) → numbered pid_of n fs ≡ Some q

@@ -16,7 +16,7 @@ use Rattle.swap_book.specs.Book.{IsPiece, IsApart}
 use Rattle.swap_book.proofs.KeptLaws.{lengths-kept, of_owner-kept_other}
 use Rattle.vm_facts.specs.declared.page.Page.TheVariants.{Data, Stack, Text}
 use Rattle.flat_state.specs.declared.change.Change.{Change}
-use Rattle.flat_state.specs.declared.change.Change.TheVariants.{Keep, Resize, Fork, Lend, Exec, Reap, Sleep, End}
+use Rattle.flat_state.specs.declared.change.Change.TheVariants.{Resize, Exec, End}
 use Rattle.page_model.specs.Placement.{Placement, slots_of, sharers, image_of}
 use Rattle.page_model.specs.Ownership.{OwnsBlocks, text_pieces_while, u_blocks}
 use Rattle.kernel_model.specs.ChangeStep.{text_given_back, space_given_back, given_back_unless, holdings_after}
@@ -80,15 +80,11 @@ unless_apart size hs false sid image left a = go left
 
 pub after_apart : (size : ℕ) (hs : Holdings) (p q : Placement) (pid sid : ℕ) (borrowed : Bool) (change : Change) → AreApart size hs
     → AreApart size (holdings_after hs p q pid sid borrowed change)
-after_apart size hs p q pid sid borrowed Keep a = a
 after_apart size hs p q pid sid borrowed (Resize d s) a = kept_apart size (owners.Stack sid) (length (pieces (2 * s))) (kept (owners.Data sid) (length (pieces (2 * d))) hs) (kept_apart size (owners.Data sid) (length (pieces (2 * d))) hs a)
-after_apart size hs p q pid sid borrowed (Fork child) a = a
-after_apart size hs p q pid sid borrowed (Lend child) a = a
 after_apart size hs p q pid sid borrowed (Exec image top) a = unless_apart size hs borrowed sid (image_of p sid) (sharers q (image_of p sid)) a
-after_apart size hs p q pid sid borrowed (Reap child) a = a
-after_apart size hs p q pid sid borrowed Sleep a = a
 after_apart size hs p q pid sid borrowed (End status) a =
     kept_apart size (owners.U pid) 0 (given_back_unless borrowed hs sid (image_of p sid) (sharers q (image_of p sid))) (unless_apart size hs borrowed sid (image_of p sid) (sharers q (image_of p sid)) a)
+after_apart size hs p q pid sid borrowed _ a = a
 
 -- Lengths.
 

@@ -4,7 +4,7 @@ use Rattle.std.proofs.lemmas.Bool.{cases_eq}
 use Rattle.vm_facts.specs.declared.page.Page.TheVariants.{Data, Stack, Text}
 use Rattle.swap_book.specs.Holdings.{Holdings}
 use Rattle.flat_state.specs.declared.change.Change.{Change}
-use Rattle.flat_state.specs.declared.change.Change.TheVariants.{Keep, Resize, Fork, Lend, Exec, Reap, Sleep, End}
+use Rattle.flat_state.specs.declared.change.Change.TheVariants.{Resize, Fork, Lend, Exec, End}
 use Rattle.page_model.specs.Pages.{SpacePages, numbered, changed, data_in, stack_in}
 use Rattle.page_model.specs.Placement.{Placement, Due, space_number, slots_of, sharers, sharers_in, image_of, image_in, new_pages}
 use Rattle.page_model.specs.Moves.{drop_all}
@@ -215,7 +215,6 @@ pub change_fits : (images : List Image) (p : Placement) (pid sid : ℕ) (borrowe
     → CanChange p sid borrowed next change → MayForget images p sid borrowed next change
     → FitsBoth p (place_change images p pid sid borrowed next at change) hs
     → Fits (place_change images p pid sid borrowed next at change) (holdings_after hs p (place_change images p pid sid borrowed next at change) pid sid borrowed change)
-change_fits images p pid sid borrowed next at Keep hs c m f = grows_fits p p hs (grows_self p) f
 change_fits images p pid sid borrowed next at (Resize d s) hs c m f = resizes_fits sid d s p (resize p sid d s) hs (resize_sizes p sid d s) f
 change_fits images p pid sid borrowed next at (Fork child) hs c m f =
     let g = fork_grows p sid next in
@@ -226,13 +225,12 @@ change_fits images p pid sid borrowed next at (Lend child) hs c m f =
 change_fits images p pid sid borrowed next at (Exec image top) hs c m f = unless_fits borrowed p (enter_image p next image (facts_numbered images image)) sid hs
     (exec_grows borrowed p (enter_image p next image (facts_numbered images image)) sid (enter_grows p next image (facts_numbered images image)))
     (exec_lost borrowed p next image sid (facts_numbered images image) c.0 m) f
-change_fits images p pid sid borrowed next at (Reap child) hs c m f = grows_fits p p hs (grows_self p) f
-change_fits images p pid sid borrowed next at Sleep hs c m f = grows_fits p p hs (grows_self p) f
 change_fits images p pid sid borrowed next at (End status) hs c m f =
     let r : Placement = give_up_unless borrowed p sid in
     let k = unless_fits borrowed p p sid hs (exec_grows borrowed p p sid (grows_self p)) (end_lost borrowed p sid m) (record { of_data = f.of_data; of_stack = f.of_stack; of_text = f.of_text }) in
     let u = less_u r (given_back_unless borrowed hs sid (image_of p sid) (sharers r (image_of p sid))) pid k in
     record { of_data = u.of_data; of_stack = u.of_stack; of_text = u.of_text }
+change_fits images p pid sid borrowed next at _ hs c m f = grows_fits p p hs (grows_self p) f
 
 -- no change makes a text longer or shorter
 pub unless_texts : (borrowed : Bool) (p : Placement) (sid i : ℕ) → length (slots_of (give_up_unless borrowed p sid) (Text i 0)) ≡ length (slots_of p (Text i 0))
@@ -246,11 +244,7 @@ enter_texts p sid image (Some facts) i = refl
 
 pub change_texts : (images : List Image) (p : Placement) (pid sid : ℕ) (borrowed : Bool) (next at : ℕ) (change : Change) (i : ℕ)
     → length (slots_of (place_change images p pid sid borrowed next at change) (Text i 0)) ≡ length (slots_of p (Text i 0))
-change_texts images p pid sid borrowed next at Keep i = refl
 change_texts images p pid sid borrowed next at (Resize d s) i = drop_all_length (dropped_pages p sid d s) p (Text i 0)
-change_texts images p pid sid borrowed next at (Fork child) i = refl
-change_texts images p pid sid borrowed next at (Lend child) i = refl
 change_texts images p pid sid borrowed next at (Exec image top) i = unless_texts borrowed (enter_image p next image (facts_numbered images image)) sid i ∙ enter_texts p next image (facts_numbered images image) i
-change_texts images p pid sid borrowed next at (Reap child) i = refl
-change_texts images p pid sid borrowed next at Sleep i = refl
 change_texts images p pid sid borrowed next at (End status) i = unless_texts borrowed p sid i
+change_texts images p pid sid borrowed next at _ i = refl

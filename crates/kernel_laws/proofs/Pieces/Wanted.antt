@@ -182,8 +182,6 @@ IsChild change n = ⊥
 pub after_back : (ps : List Proc) (x : Proc) (next n : ℕ) (change : Change) → lives ps x.pid ≡ true
     → ((status : ℕ) → change ≡ End status → OneEach ps) → (IsChild change n → ⊥)
     → lives (procs_after ps x next change) n ≡ true → lives ps n ≡ true
-after_back ps x next n Keep a m c e = with_back x ps n a e
-after_back ps x next n (Resize d s) a m c e = with_back x ps n a e
 after_back ps x next n (Fork child) a m c e = with_back x ps n a (append_back (with_proc ps x) (child_proc x child (HoldsSpace next)) n c e)
 after_back ps x next n (Lend child) a m c e = with_back x ps n a (append_back (with_proc ps x) (child_proc x child New) n c e)
 after_back ps x next n (Exec image top) a m c e = with_back (record x { life = HoldsSpace next }) ps n a e
@@ -193,6 +191,7 @@ after_back ps x next n (Reap child) a m c e = elim (cases_eq n x.pid) [
 ]
 after_back ps x next n Sleep a m c e = with_back (record x { asleep = true }) ps n a e
 after_back ps x next n (End status) a m c e = orphan_back ps x.pid n (m status refl) (left_back (x.parent == 0) (orphaned_procs ps x.pid) x status n e)
+after_back ps x next n _ a m c e = with_back x ps n a e
 
 -- a child with an unused number lives
 unused_with : (ps : List Proc) (p : Proc) (n : ℕ) → IsUnused ps n → IsUnused (with_proc ps p) n
@@ -348,10 +347,6 @@ sharers_added p x due i h l = go (x.image == i) refl (let e = sharers-append i p
     go : (b : Bool) → (x.image == i) ≡ b → 0 < sharers p i + (cond b 1 0 + 0) → 0 < sharers p i
     go true e m = h (eqb-true x.image i e)
     go false e m = omega arith
-
-none_count : (size : Option SpacePages → ℕ) (sid : ℕ) (ss : List SpacePages) → size None ≡ 0 → numbered space_number sid ss ≡ None
-    → size (numbered space_number sid ss) ≡ 0
-none_count size sid ss z e = ap size e ∙ z
 
 fork_asks : (k next : Kernel) (sid child_sid child : ℕ) → IsNew k.place child_sid → HasSpace k.place sid
     → next.place.spaces ≡ (fork_space k.place sid child_sid).spaces → next.place.texts ≡ k.place.texts

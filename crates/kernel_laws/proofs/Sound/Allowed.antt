@@ -8,7 +8,7 @@ use Rattle.aout_image.specs.declared.Image.{Image}
 use Rattle.swap_book.specs.Holdings.{Holdings}
 use Rattle.swap_book.specs.Placing.{place_all}
 use Rattle.flat_state.specs.declared.change.Change.{Change}
-use Rattle.flat_state.specs.declared.change.Change.TheVariants.{Keep, Resize, Fork, Lend, Exec, Reap, Sleep, End}
+use Rattle.flat_state.specs.declared.change.Change.TheVariants.{Resize, Fork, Lend, Exec, End}
 use Rattle.page_model.specs.Pages.{SpacePages, numbered}
 use Rattle.page_model.specs.Placement.{Placement, Starting, space_number, spaces_from, state_of, sharers, sharers_in, image_of, image_in, parts_of, new_pages, start_placement}
 use Rattle.page_model.specs.Place.{enter_space, enter_image, facts_numbered}
@@ -136,41 +136,31 @@ next_apart k sid n h e = h (subst (IsNew k.place) e (new_number k n))
 
 can_by : (k : Kernel) (sid : ℕ) (borrowed : Bool) (change : Change) → OwnsFrames k.place → Numbered k → ReadySpace k.place sid borrowed change
     → CanChange k.place sid borrowed k.next_sid change
-can_by k sid borrowed Keep o n r = tt
 can_by k sid borrowed (Resize d s) o n r = λ l. settled_rests k.place sid o (r.1 l)
 can_by k sid borrowed (Fork child) o n r = new_number k n
-can_by k sid borrowed (Lend child) o n r = tt
 can_by k sid borrowed (Exec image top) o n r = (new_number k n, λ e. settled_rests k.place sid o (r e).1)
-can_by k sid borrowed (Reap child) o n r = tt
-can_by k sid borrowed Sleep o n r = tt
 can_by k sid borrowed (End status) o n r = λ e. settled_rests k.place sid o (r e).1
+can_by k sid borrowed _ o n r = tt
 
 forget_by : (images : List Image) (k : Kernel) (sid : ℕ) (borrowed : Bool) (change : Change) → OwnsFrames k.place → Numbered k
     → ReadySpace k.place sid borrowed change → MayForget images k.place sid borrowed k.next_sid change
-forget_by images k sid borrowed Keep o n r = tt
-forget_by images k sid borrowed (Resize d s) o n r = tt
-forget_by images k sid borrowed (Fork child) o n r = tt
-forget_by images k sid borrowed (Lend child) o n r = tt
 forget_by images k sid borrowed (Exec image top) o n r = λ e.
     let f : Fine (k.next_sid + 1) (map space_number (enter_image k.place k.next_sid image (facts_numbered images image)).spaces) = enter_fine k.next_sid k.place image (facts_numbered images image) (fine_spaces k n) in
     exec_forgets k.place k.next_sid image sid (facts_numbered images image) o n.spaces_differ f.differ (r e).0 (next_apart k sid n (r e).0) (r e).1
-forget_by images k sid borrowed (Reap child) o n r = tt
-forget_by images k sid borrowed Sleep o n r = tt
 forget_by images k sid borrowed (End status) o n r = λ e. forgets k.place sid o n.spaces_differ (r e).0 (r e).1
+forget_by images k sid borrowed _ o n r = tt
 
 unused : (k : Kernel) (child : ℕ) → Numbered k → child ≡ k.next_pid → IsUnused k.processes child
 unused k child n e = subst (IsUnused k.processes) (sym e) (absent_none (λ (p : Proc). p.pid) k.next_pid k.processes (below_absent k.next_pid (map (λ (p : Proc). p.pid) k.processes) n.pids_below))
 
 ask_by : (k : Kernel) (sid : ℕ) (borrowed : Bool) (change : Change) → Numbered k → TakesNext k change → ReadySpace k.place sid borrowed change
     → MayAsk k.place k.processes sid borrowed k.next_sid change
-ask_by k sid borrowed Keep n t r = tt
 ask_by k sid borrowed (Resize d s) n t r = r.0
 ask_by k sid borrowed (Fork child) n t r = (r, unused k child n t)
 ask_by k sid borrowed (Lend child) n t r = unused k child n t
 ask_by k sid borrowed (Exec image top) n t r = λ e. next_apart k sid n (r e).0
-ask_by k sid borrowed (Reap child) n t r = tt
-ask_by k sid borrowed Sleep n t r = tt
 ask_by k sid borrowed (End status) n t r = one_each k.processes n.pids_differ
+ask_by k sid borrowed _ n t r = tt
 
 pub may_change : (images : List Image) (k : Kernel) (pid : ℕ) (change : Change) → OwnsFrames k.place → Numbered k → ReadyFor k pid change
     → MayChange images k pid change

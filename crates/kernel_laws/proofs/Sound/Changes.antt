@@ -14,7 +14,7 @@ use Rattle.swap_book.specs.Owners.{u_pieces}
 use Rattle.swap_dmap.specs.Chunks.{pieces}
 use Rattle.swap_book.specs.Holdings.{Holdings, lengths, kept}
 use Rattle.flat_state.specs.declared.change.Change.{Change}
-use Rattle.flat_state.specs.declared.change.Change.TheVariants.{Keep, Resize, Fork, Lend, Exec, Reap, Sleep, End}
+use Rattle.flat_state.specs.declared.change.Change.TheVariants.{Resize, Fork, Lend, Exec, Reap, Sleep, End}
 use Rattle.page_model.specs.Pages.{numbered, frame_of}
 use Rattle.page_model.specs.Placement.{Placement, Transfer, slots_of, state_of, sharers, image_of}
 use Rattle.page_model.specs.Moves.{drop_at, drop_page, drop_all, leave_by, leave_page, leave_all, listed}
@@ -152,14 +152,13 @@ reaped_apart ps child n d e k = absurd (let z : true ≡ false = sym e ∙ ap (l
 
 pub after_alive : (ps : List Proc) (p : Proc) (next n : ℕ) (change : Change) → (p.pid ≡ n → has_life p.life ≡ true) → MayReap ps change
     → Lasts p change n → lives ps n ≡ true → lives (procs_after ps p next change) n ≡ true
-after_alive ps p next n Keep h r l e = with_alive p ps n h e
-after_alive ps p next n (Resize d s) h r l e = with_alive p ps n h e
 after_alive ps p next n (Fork child) h r l e = append_alive (with_proc ps p) (child_proc p child (HoldsSpace next) ∷ []) n (with_alive p ps n h e)
 after_alive ps p next n (Lend child) h r l e = append_alive (with_proc ps p) (child_proc p child New ∷ []) n (with_alive p ps n h e)
 after_alive ps p next n (Exec image top) h r l e = with_alive (record p { life = HoldsSpace next }) ps n (λ k. refl) e
 after_alive ps p next n (Reap child) h r l e = with_alive p (without_proc ps child) n h (without_alive ps child n (reaped_apart ps child n r e) e)
 after_alive ps p next n Sleep h r l e = with_alive (record p { asleep = true }) ps n h e
 after_alive ps p next n (End status) h r l e = left_alive (p.parent == 0) (orphaned_procs ps p.pid) p status n l (orphan_alive ps p.pid n e)
+after_alive ps p next n _ h r l e = with_alive p ps n h e
 
 -- u pages
 
@@ -172,14 +171,9 @@ u_after : (ps : List Proc) (x : Proc) (next : ℕ) (hs : Holdings) (p q : Placem
     → ((n : ℕ) → x.pid ≡ n → lives ps n ≡ true → has_life x.life ≡ true) → MayReap ps change
     → ((n : ℕ) → lengths (owners.U n) hs ≡ u_pieces (u_blocks (lives ps n || lives (procs_after ps x next change) n)))
     → (n : ℕ) → lengths (owners.U n) (holdings_after hs p q x.pid sid borrowed change) ≡ u_pieces (u_blocks (lives (procs_after ps x next change) n))
-u_after ps x next hs p q sid borrowed Keep h r u n = u_kept ps x next hs Keep n (h n) r tt (u n)
 u_after ps x next hs p q sid borrowed (Resize d s) h r u n = other_left (owners.Stack sid) (owners.U n) (length (pieces (2 * s))) (kept (owners.Data sid) (length (pieces (2 * d))) hs) refl
     ∙ other_left (owners.Data sid) (owners.U n) (length (pieces (2 * d))) hs refl ∙ u_kept ps x next hs (Resize d s) n (h n) r tt (u n)
-u_after ps x next hs p q sid borrowed (Fork child) h r u n = u_kept ps x next hs (Fork child) n (h n) r tt (u n)
-u_after ps x next hs p q sid borrowed (Lend child) h r u n = u_kept ps x next hs (Lend child) n (h n) r tt (u n)
 u_after ps x next hs p q sid borrowed (Exec image top) h r u n = unless_u hs borrowed sid (image_of p sid) (sharers q (image_of p sid)) n ∙ u_kept ps x next hs (Exec image top) n (h n) r tt (u n)
-u_after ps x next hs p q sid borrowed (Reap child) h r u n = u_kept ps x next hs (Reap child) n (h n) r tt (u n)
-u_after ps x next hs p q sid borrowed Sleep h r u n = u_kept ps x next hs Sleep n (h n) r tt (u n)
 u_after ps x next hs p q sid borrowed (End status) h r u n = elim (cases_eq n x.pid) [
   | inl e ↦ subst (λ (m : ℕ). lengths (owners.U m) (kept (owners.U x.pid) 0 rest) ≡ u_pieces (u_blocks (lives (procs_after ps x next (End status)) m))) (sym e)
       (own_left (owners.U x.pid) rest ∙ ap (λ (b : Bool). u_pieces (u_blocks b)) (sym (left_dead (x.parent == 0) (orphaned_procs ps x.pid) x status)))
@@ -188,6 +182,7 @@ u_after ps x next hs p q sid borrowed (End status) h r u n = elim (cases_eq n x.
   where
     rest : Holdings
     rest = given_back_unless borrowed hs sid (image_of p sid) (sharers q (image_of p sid))
+u_after ps x next hs p q sid borrowed y h r u n = u_kept ps x next hs y n (h n) r tt (u n)
 
 -- Hands and transfers.
 
@@ -259,18 +254,16 @@ enter_unhanded p sid image (Some facts) = record { hands = record { front = refl
 
 pub change_unhanded : (images : List Image) (p : Placement) (pid sid : ℕ) (borrowed : Bool) (next at : ℕ) (change : Change)
     → Unhanded p (place_change images p pid sid borrowed next at change)
-change_unhanded images p pid sid borrowed next at Keep = unhanded_self p
 change_unhanded images p pid sid borrowed next at (Resize d s) = resize_unhanded p sid d s
 change_unhanded images p pid sid borrowed next at (Fork child) = record { hands = record { front = refl; back = refl; frames = refl }; transfers = refl }
 change_unhanded images p pid sid borrowed next at (Lend child) = record { hands = record { front = refl; back = refl; frames = refl }; transfers = refl }
 change_unhanded images p pid sid borrowed next at (Exec image top) = unhanded_both p (enter_image p next image (facts_numbered images image)) (place_change images p pid sid borrowed next at (Exec image top))
     (enter_unhanded p next image (facts_numbered images image)) (unless_unhanded borrowed (enter_image p next image (facts_numbered images image)) sid)
-change_unhanded images p pid sid borrowed next at (Reap child) = unhanded_self p
-change_unhanded images p pid sid borrowed next at Sleep = unhanded_self p
 change_unhanded images p pid sid borrowed next at (End status) =
     let u : Unhanded p (give_up_unless borrowed p sid) = unless_unhanded borrowed p sid in
     let h : SameHands p (give_up_unless borrowed p sid) = u.hands in
     record { hands = record { front = h.front; back = h.back; frames = h.frames }; transfers = u.transfers }
+change_unhanded images p pid sid borrowed next at _ = unhanded_self p
 
 -- The whole.
 

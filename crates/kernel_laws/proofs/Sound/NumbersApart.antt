@@ -13,7 +13,7 @@ use Rattle.vm_facts.specs.declared.entry.Entry.TheVariants as entries
 use Rattle.aout_image.specs.declared.Image.{Image}
 use Rattle.swap_book.specs.Holdings.{Holdings}
 use Rattle.flat_state.specs.declared.change.Change.{Change}
-use Rattle.flat_state.specs.declared.change.Change.TheVariants.{Keep, Resize, Fork, Lend, Exec, Reap, Sleep, End}
+use Rattle.flat_state.specs.declared.change.Change.TheVariants.{Resize, Fork, Lend, Exec, Reap, Sleep, End}
 use Rattle.flat_state.specs.Flat.{cleared, start_regs}
 use Rattle.page_model.specs.Pages.{SpacePages, changed, with_data, with_stack}
 use Rattle.page_model.specs.Placement.{Placement, Transfer, Part, Errand, Writes, Reads, Source, Due, space_number, state_of, mark_of, is_dirty, page_of, put, spaces_with, sharers, image_of, new_pages}
@@ -34,6 +34,7 @@ use Rattle.kernel_laws.proofs.Sound.Steps.{pass_lives, proc_number}
 use Rattle.kernel_laws.proofs.Sound.Changes.{find, with_number}
 use Rattle.kernel_laws.proofs.Pieces.Wanted.{append_back}
 use Rattle.kernel_laws.proofs.Sound.Residing.{begun, resides, each_resides, entry_resides, regs_live, change_reside}
+use Rattle.kernel_laws.proofs.Machine.Swaps.{with_regs_pid}
 
 -- The numbers of spaces stay as pages move.
 
@@ -73,14 +74,6 @@ distinct_last n (m ∷ ms) b d = (absent_last m n ms (λ e. absurd (let l = b.0 
 below_last : (n : ℕ) (ms : List ℕ) → AllBelow n ms → AllBelow (n + 1) (ms ++ n ∷ [])
 below_last n [] b = (omega arith, tt)
 below_last n (m ∷ ms) b = ((let l = b.0 in omega arith), below_last n ms b.1)
-
-absent_filter : {A : Type 0} (number : A → ℕ) (test : A → Bool) (n : ℕ) (xs : List A) → IsAbsent n (map number xs) → IsAbsent n (map number (filter test xs))
-absent_filter number test n [] a = tt
-absent_filter {A} number test n (x ∷ xs) a = go (test x) (absent_filter number test n xs a.1)
-  where
-    go : (b : Bool) → IsAbsent n (map number (filter test xs)) → IsAbsent n (map number (cond b (x ∷ filter test xs) (filter test xs)))
-    go true r = (a.0, r)
-    go false r = r
 
 below_filter : {A : Type 0} (number : A → ℕ) (test : A → Bool) (n : ℕ) (xs : List A) → AllBelow n (map number xs) → AllBelow n (map number (filter test xs))
 below_filter number test n [] b = b
@@ -147,7 +140,6 @@ enter_fine n p image (Some facts) f = add_fine n p (new_pages n image facts) ref
 
 pub change_fine : (images : List Image) (p : Placement) (pid sid : ℕ) (borrowed : Bool) (n at : ℕ) (change : Change) → FineSpaces n p
     → FineSpaces (Rattle.kernel_model.specs.ChangeStep.sid_after n change) (place_change images p pid sid borrowed n at change)
-change_fine images p pid sid borrowed n at Keep f = f
 change_fine images p pid sid borrowed n at (Resize d s) f = same_fine n p (resize p sid d s) (resize_numbers p sid d s) f
 change_fine images p pid sid borrowed n at (Fork child) f = add_fine n p (record {
   sid = n;
@@ -155,11 +147,9 @@ change_fine images p pid sid borrowed n at (Fork child) f = add_fine n p (record
   data_pages = map Rattle.page_model.specs.Place.child_slot (Rattle.page_model.specs.Placement.slots_of p (Data sid 0));
   stack_pages = map Rattle.page_model.specs.Place.child_slot (Rattle.page_model.specs.Placement.slots_of p (Stack sid 0));
 }) refl f
-change_fine images p pid sid borrowed n at (Lend child) f = f
 change_fine images p pid sid borrowed n at (Exec image top) f = unless_fine borrowed (n + 1) (enter_image p n image (facts_numbered images image)) sid (enter_fine n p image (facts_numbered images image) f)
-change_fine images p pid sid borrowed n at (Reap child) f = f
-change_fine images p pid sid borrowed n at Sleep f = f
 change_fine images p pid sid borrowed n at (End status) f = unless_fine borrowed n p sid f
+change_fine images p pid sid borrowed n at _ f = f
 
 -- Processes.
 
@@ -192,14 +182,13 @@ left_fine n false ps p status f = map_fine n (λ (q : Proc). record q { asleep =
 
 procs_fine : (n : ℕ) (ps : List Proc) (x : Proc) (next : ℕ) (k : Kernel) (change : Change) → k.next_pid ≡ n → TakesNext k change → Fine n (pids ps)
     → Fine (Rattle.kernel_model.specs.ChangeStep.pid_after n change) (pids (procs_after ps x next change))
-procs_fine n ps x next k Keep e t f = with_fine n ps x f
-procs_fine n ps x next k (Resize d s) e t f = with_fine n ps x f
 procs_fine n ps x next k (Fork child) e t f = child_fine n (with_proc ps x) (child_proc x child (HoldsSpace next)) (t ∙ e) (with_fine n ps x f)
 procs_fine n ps x next k (Lend child) e t f = child_fine n (with_proc ps x) (child_proc x child New) (t ∙ e) (with_fine n ps x f)
 procs_fine n ps x next k (Exec image top) e t f = with_fine n ps record x { life = HoldsSpace next } f
 procs_fine n ps x next k (Reap child) e t f = with_fine n (without_proc ps child) x (without_fine n ps child f)
 procs_fine n ps x next k Sleep e t f = with_fine n ps record x { asleep = true } f
 procs_fine n ps x next k (End status) e t f = left_fine n (x.parent == 0) (orphaned_procs ps x.pid) x status (orphan_fine n ps x.pid f)
+procs_fine n ps x next k _ e t f = with_fine n ps x f
 
 -- Steps of the whole machine.
 
@@ -242,17 +231,10 @@ write_numbered k q f at byte n = numbered_from (write_step k q f at byte) (same_
 pub note_numbered : (k : Kernel) (e : Entry) → Numbered k → Numbered (note_step k e)
 note_numbered k e n = numbered_from (note_step k e) (fine_spaces k n) (fine_pids k n) n.residents
 
-regs_number : (pid : ℕ) (regs : Regs) (q : Proc) → (with_regs pid regs q).pid ≡ q.pid
-regs_number pid regs q = go (q.pid == pid)
-  where
-    go : (b : Bool) → (cond b (record q { regs = regs }) q).pid ≡ q.pid
-    go true = refl
-    go false = refl
-
 -- other registers of a process
 regs_numbered : (k : Kernel) (pid : ℕ) (regs : Regs) → Numbered k → Numbered (record k { processes = map (with_regs pid regs) k.processes })
 regs_numbered k pid regs n = let l : Kernel = record k { processes = map (with_regs pid regs) k.processes } in
-    numbered_from l (fine_spaces k n) (map_fine k.next_pid (with_regs pid regs) k.processes (regs_number pid regs) (fine_pids k n))
+    numbered_from l (fine_spaces k n) (map_fine k.next_pid (with_regs pid regs) k.processes (with_regs_pid pid regs) (fine_pids k n))
     (each_resides k l (λ m a. sym (regs_live pid regs k.processes m) ∙ a) (λ m h. h) n.residents)
 
 pub out_numbered : (k : Kernel) (pid : ℕ) → Numbered k → Numbered (out_step k pid)

@@ -6,7 +6,7 @@ use Rattle.vm_facts.specs.declared.regs.Regs.{Regs}
 use Rattle.vm_facts.specs.declared.entry.Entry.{Entry}
 use Rattle.vm_facts.specs.declared.entry.Entry.TheVariants as entries
 use Rattle.flat_state.specs.declared.change.Change.{Change}
-use Rattle.flat_state.specs.declared.change.Change.TheVariants.{Keep, Resize, Fork, Lend, Exec, Reap, Sleep, End}
+use Rattle.flat_state.specs.declared.change.Change.TheVariants.{Resize, Fork, Lend, Exec, End}
 use Rattle.flat_state.specs.Journal.{append}
 use Rattle.flat_state.specs.Numbers.{AllDistinct}
 use Rattle.flat_state.specs.PageNames.{pages_from, number_of}
@@ -66,16 +66,7 @@ entry_resides lk at p (entries.Put q m) n h = let x : Shaped p (place_entry lk a
 entry_resides lk at p entries.Done n h = let x : Shaped p (place_entry lk at p entries.Done) = done_shaped p in resides p.residents (place_entry lk at p entries.Done).residents n x.residents h
 entry_resides lk at p (entries.SwapOut pid) n h = λ z. h (moved_none pid n true at p.residents z)
 entry_resides lk at p (entries.SwapIn pid) n h = λ z. h (moved_none pid n false at p.residents z)
-entry_resides lk at p (entries.Event line) n h = h
-entry_resides lk at p (entries.Turn pid) n h = h
-entry_resides lk at p (entries.Ran pid m) n h = h
-entry_resides lk at p (entries.Out pid bytes) n h = h
-entry_resides lk at p (entries.Grew pid pages) n h = h
-entry_resides lk at p (entries.Call pid number carry r0 r1) n h = h
-entry_resides lk at p (entries.Refused pid) n h = h
-entry_resides lk at p (entries.Sleeps pid) n h = h
-entry_resides lk at p (entries.Ended pid status) n h = h
-entry_resides lk at p (entries.Owners a b c d) n h = h
+entry_resides lk at p _ n h = h
 
 -- other registers change nobody's life
 pub regs_live : (pid : ℕ) (regs : Regs) (ps : List Proc) (n : ℕ) → lives (map (with_regs pid regs) ps) n ≡ lives ps n
@@ -129,15 +120,11 @@ Lasting change pid n = Unit {0}
 change_resides : (images : List Image) (p : Placement) (pid sid : ℕ) (b : Bool) (next at : ℕ) (change : Change) (n : ℕ)
     → IsChild change n ⊎ (IsResident p n × Lasting change pid n)
     → IsResident (place_change images p pid sid b next at change) n
-change_resides images p pid sid b next at Keep n (inl c) = absurd c
-change_resides images p pid sid b next at Keep n (inr h) = h.0
-change_resides images p pid sid b next at (Resize d s) n (inl c) = absurd c
 change_resides images p pid sid b next at (Resize d s) n (inr h) = let sh : Shaped p (drop_all p (dropped_pages p sid d s)) = drop_all_shaped (dropped_pages p sid d s) p in resides p.residents (place_change images p pid sid b next at (Resize d s)).residents n sh.residents h.0
 change_resides images p pid sid b next at (Fork child) n (inl c) = begun p.residents child at n (inl c)
 change_resides images p pid sid b next at (Fork child) n (inr h) = begun p.residents child at n (inr h.0)
 change_resides images p pid sid b next at (Lend child) n (inl c) = begun p.residents child at n (inl c)
 change_resides images p pid sid b next at (Lend child) n (inr h) = begun p.residents child at n (inr h.0)
-change_resides images p pid sid b next at (Exec image top) n (inl c) = absurd c
 change_resides images p pid sid b next at (Exec image top) n (inr h) =
     let p1 : Placement = enter_image p next image (facts_numbered images image) in
     let g : Gone p1 (give_up_unless b p1 sid) b sid = gone_unless b p1 sid in
@@ -146,14 +133,11 @@ change_resides images p pid sid b next at (Exec image top) n (inr h) =
     entered : (o : Option Image) → (enter_image p next image o).residents ≡ p.residents
     entered None = refl
     entered (Some facts) = refl
-change_resides images p pid sid b next at (Reap child) n (inl c) = absurd c
-change_resides images p pid sid b next at (Reap child) n (inr h) = h.0
-change_resides images p pid sid b next at Sleep n (inl c) = absurd c
-change_resides images p pid sid b next at Sleep n (inr h) = h.0
-change_resides images p pid sid b next at (End status) n (inl c) = absurd c
+change_resides images p pid sid b next at _ n (inl c) = absurd c
 change_resides images p pid sid b next at (End status) n (inr h) =
     let g : Gone p (give_up_unless b p sid) b sid = gone_unless b p sid in
     λ z. h.0 (ap (numbered here n) (sym g.residents) ∙ ended_none (give_up_unless b p sid).residents pid n h.1 z)
+change_resides images p pid sid b next at _ n (inr h) = h.0
 
 pub one_each : (ps : List Proc) → AllDistinct (map (λ (p : Proc). p.pid) ps) → OneEach ps
 one_each [] d = tt
@@ -162,22 +146,11 @@ one_each (p ∷ ps) d = (absent_none (λ (q : Proc). q.pid) p.pid ps d.0, one_ea
 child_or : (change : Change) (n : ℕ) → IsChild change n ⊎ (IsChild change n → ⊥)
 child_or (Fork child) n = cases_eq n child
 child_or (Lend child) n = cases_eq n child
-child_or Keep n = inr (λ z. z)
-child_or (Resize d s) n = inr (λ z. z)
-child_or (Exec image top) n = inr (λ z. z)
-child_or (Reap child) n = inr (λ z. z)
-child_or Sleep n = inr (λ z. z)
-child_or (End status) n = inr (λ z. z)
+child_or _ n = inr (λ z. z)
 
 lasting : (ps : List Proc) (x : Proc) (next n : ℕ) (change : Change) → lives (procs_after ps x next change) n ≡ true → Lasting change x.pid n
-lasting ps x next n Keep e = tt
-lasting ps x next n (Resize d s) e = tt
-lasting ps x next n (Fork child) e = tt
-lasting ps x next n (Lend child) e = tt
-lasting ps x next n (Exec image top) e = tt
-lasting ps x next n (Reap child) e = tt
-lasting ps x next n Sleep e = tt
 lasting ps x next n (End status) e = λ h. absurd (let z : true ≡ false = sym e ∙ ap (lives (left_procs (x.parent == 0) (orphaned_procs ps x.pid) x status)) h ∙ left_dead (x.parent == 0) (orphaned_procs ps x.pid) x status in cc)
+lasting ps x next n _ e = tt
 
 -- who lives after a change is a child, or lived before and lasts
 lived : (ps : List Proc) (x : Proc) (next n : ℕ) (change : Change) → lives ps x.pid ≡ true → OneEach ps

@@ -213,8 +213,7 @@ held_returned (q ∷ ps) pid s n h = elim (cases_eq q.pid n) [
 
 no_zombie : (h : Holding) → holds_space h ≡ true → is_zombie h ≡ false
 no_zombie (Holds s) e = refl
-no_zombie (Lends sid child) e = absurd cc
-no_zombie (Zombie status) e = absurd cc
+no_zombie _ e = absurd cc
 
 held_orphans : (ps : List Process) (pid n : ℕ) → Held ps n → Held (orphans pid ps) n
 held_orphans [] pid n h = h

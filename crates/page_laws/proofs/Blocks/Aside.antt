@@ -3,7 +3,7 @@ use Rattle.std.proofs.Common.{◌≡◌, ◌⊎◌, inl, inr, ℕ, zero, suc, �
 use Rattle.vm_facts.specs.declared.page.Page.{Page}
 use Rattle.vm_facts.specs.declared.page.Page.TheVariants.{Data, Stack, Text}
 use Rattle.vm_facts.specs.declared.page.PageState.{PageState}
-use Rattle.vm_facts.specs.declared.page.PageState.TheVariants.{Unfilled, Valid, Invalid, Coming, Going, OnSwap}
+use Rattle.vm_facts.specs.declared.page.PageState.TheVariants.{Unfilled, Invalid}
 use Rattle.page_model.specs.Chunks.{pieces}
 use Rattle.page_model.specs.Owner.TheVariants as owners
 use Rattle.page_model.specs.Holdings.{Holdings}
@@ -40,11 +40,8 @@ local_aside p q v f o l sh a here image n z = elim (page_cases (Text image n) v)
 -- a page that is in use, in a transfer, or on swap isn't text that nobody shares
 abbrev pub IsBusy : Placement → PageState → Type 0
 IsBusy p Unfilled = ⊥
-IsBusy p (Valid f) = Unit {0}
 IsBusy p (Invalid f) = times f p.free ≡ 0
-IsBusy p (Coming f) = Unit {0}
-IsBusy p (Going f) = Unit {0}
-IsBusy p OnSwap = Unit {0}
+IsBusy p _ = Unit {0}
 
 invalid_busy : (p : Placement) (s : PageState) (f : ℕ) → s ≡ Invalid f → IsBusy p s → times f p.free ≡ 0
 invalid_busy p s f e b = subst (IsBusy p) e b
@@ -130,12 +127,11 @@ aside_needs p image v a = elim a.rests [
 ]
 
 needs_shared : (p : Placement) (q : Page) → TextAside p → needs_blocks p q ≡ true → IsShared p q
-needs_shared p (Data sid v) a e = tt
-needs_shared p (Stack sid v) a e = tt
 needs_shared p (Text image v) a e = elim (unshared_or (sharers p image)) [
   | inl z ↦ absurd (let j : true ≡ false = sym e ∙ aside_needs p image v (a image v z) in cc)
   | inr k ↦ (let h = k.1 in omega arith)
 ]
+needs_shared p _ a e = tt
 
 found_own : (size : ℕ) (hs : Holdings) (q : Page) → IsBook size hs → IsSome (block_of hs q) → HasBlocks size hs q
 found_own size hs q book some = go (block_of hs q) refl some

@@ -7,7 +7,7 @@ use Rattle.vm_facts.specs.declared.page.Page.TheVariants.{Data, Stack, Text}
 use Rattle.vm_facts.specs.declared.page.PageState.{PageState}
 use Rattle.vm_facts.specs.declared.page.PageState.TheVariants.{Unfilled, Valid, Invalid, Coming, Going, OnSwap}
 use Rattle.flat_state.specs.declared.change.Change.{Change}
-use Rattle.flat_state.specs.declared.change.Change.TheVariants.{Keep, Resize, Fork, Lend, Exec, Reap, Sleep, End}
+use Rattle.flat_state.specs.declared.change.Change.TheVariants.{Resize, Fork, Lend, Exec, End}
 use Rattle.page_model.specs.Pages.{Slot, no_slot, SpacePages, changed, with_data, with_stack, frame_of}
 use Rattle.flat_state.specs.PageNames.{number_of, pages_from}
 use Rattle.vm_facts.specs.Lists.{times, without}
@@ -355,7 +355,6 @@ enter_image_aside p sid image (Some facts) a = add_aside p (new_pages sid image 
 pub place_change_aside : (images : List Image) (p : Placement) (pid sid : ℕ) (borrowed : Bool) (next_sid at : ℕ) (change : Change) → TextAside p
     → MayForget images p sid borrowed next_sid change
     → TextAside (place_change images p pid sid borrowed next_sid at change)
-place_change_aside images p pid sid borrowed next_sid at Keep a c = a
 place_change_aside images p pid sid borrowed next_sid at (Resize d s) a c = resize_aside p sid d s a
 place_change_aside images p pid sid borrowed next_sid at (Fork child) a c = λ i n z. let k = add_aside p (record {
   sid = next_sid;
@@ -365,9 +364,8 @@ place_change_aside images p pid sid borrowed next_sid at (Fork child) a c = λ i
 }) (fork_space p sid next_sid).due a i n z in record { unsaved = k.unsaved; rests = k.rests }
 place_change_aside images p pid sid borrowed next_sid at (Lend child) a c = λ i n z. let k = a i n z in record { unsaved = k.unsaved; rests = k.rests }
 place_change_aside images p pid sid borrowed next_sid at (Exec image top) a c = give_up_unless_aside borrowed (enter_image p next_sid image (facts_numbered images image)) sid (enter_image_aside p next_sid image (facts_numbered images image) a) c
-place_change_aside images p pid sid borrowed next_sid at (Reap child) a c = a
-place_change_aside images p pid sid borrowed next_sid at Sleep a c = a
 place_change_aside images p pid sid borrowed next_sid at (End status) a c = λ i n z. let k = give_up_unless_aside borrowed p sid a c i n z in record { unsaved = k.unsaved; rests = k.rests }
+place_change_aside images p pid sid borrowed next_sid at _ a c = a
 
 pub leave_text_length : (p : Placement) (image : ℕ) (w : Page) → length (slots_of (leave_text p image) w) ≡ length (slots_of p w)
 leave_text_length p image w = go (sharers p image)

@@ -18,12 +18,9 @@ same_owners : (q r : Page) → owner_of q ≡ owner_of r → number_of q ≡ num
 same_owners (Data a v) (Data b w) e n = cc
 same_owners (Stack a v) (Stack b w) e n = cc
 same_owners (Text a v) (Text b w) e n = cc
-same_owners (Data a v) (Stack b w) e n = absurd cc
-same_owners (Data a v) (Text b w) e n = absurd cc
-same_owners (Stack a v) (Data b w) e n = absurd cc
-same_owners (Stack a v) (Text b w) e n = absurd cc
-same_owners (Text a v) (Data b w) e n = absurd cc
-same_owners (Text a v) (Stack b w) e n = absurd cc
+same_owners _ (Text b w) e n = absurd cc
+same_owners _ (Data b w) e n = absurd cc
+same_owners _ (Stack b w) e n = absurd cc
 
 pub pages_apart : (size : ℕ) (hs : Holdings) (q r : Page) (x y : ℕ) → IsBook size hs → q ≢ r → block_of hs q ≡ Some x → block_of hs r ≡ Some y
     → (x + 2 ≤ y) ⊎ (y + 2 ≤ x)

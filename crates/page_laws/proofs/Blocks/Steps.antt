@@ -54,9 +54,8 @@ get_sharers p e v image = go p.free
     go (f ∷ rest) = put_sharers (evict p f) v (Coming f) (mark_of p v) image ∙ evict_sharers p f image
 
 pub shared_as : (p q : Placement) (v : Page) → ((image : ℕ) → sharers q image ≡ sharers p image) → IsShared p v → IsShared q v
-shared_as p q (Data sid n) h s = tt
-shared_as p q (Stack sid n) h s = tt
 shared_as p q (Text image n) h s = subst (λ (k : ℕ). 0 < k) (sym (h image)) s
+shared_as p q _ h s = tt
 
 get_all_aside : (qs : List Page) (p : Placement) (source : Source) (demanded : Page) → OwnsFrames p → EachPage (CanEnter p) qs → AllApart qs
     → IsOpen p.transfers (Reads source demanded) → TextAside p
@@ -108,7 +107,7 @@ expire_aside p locked o a = go (page_of p p.front)
     go None = a
     go (Some v) = at v (is_among v locked)
 
-seat_busy : (p : Placement) (v : Page) (f : ℕ) → IsSeated p v f → IsBusy p (state_of p v)
+pub seat_busy : (p : Placement) (v : Page) (f : ℕ) → IsSeated p v f → IsBusy p (state_of p v)
 seat_busy p v f c = elim c.state [
   | inl e ↦ subst (IsBusy p) (sym e) tt
   | inr e ↦ subst (IsBusy p) (sym e.0) e.1
@@ -218,10 +217,9 @@ done_aside p o a = go p.transfers refl
 
 -- Entries.
 
-beside_shared : (p : Placement) (q : Page) (w : ℕ) → IsShared p q → IsShared p (beside q w)
-beside_shared p (Data sid n) w s = tt
-beside_shared p (Stack sid n) w s = tt
+pub beside_shared : (p : Placement) (q : Page) (w : ℕ) → IsShared p q → IsShared p (beside q w)
 beside_shared p (Text image n) w s = s
+beside_shared p _ w s = tt
 
 entry_aside : (locked : List Page) (at : ℕ) (p : Placement) (e : Entry) → OwnsFrames p → CanPlace p e → EntryShared p e → TextAside p
     → TextAside (place_entry locked at p e)
@@ -234,16 +232,7 @@ entry_aside locked at p (entries.Put q n) o c s a = put_step_aside p q (pages_fr
 entry_aside locked at p entries.Done o c s a = done_aside p o a
 entry_aside locked at p (entries.SwapOut pid) o c s a = λ i n z. let k = a i n z in record { unsaved = k.unsaved; rests = k.rests }
 entry_aside locked at p (entries.SwapIn pid) o c s a = λ i n z. let k = a i n z in record { unsaved = k.unsaved; rests = k.rests }
-entry_aside locked at p (entries.Event line) o c s a = a
-entry_aside locked at p (entries.Turn pid) o c s a = a
-entry_aside locked at p (entries.Ran pid n) o c s a = a
-entry_aside locked at p (entries.Out pid bytes) o c s a = a
-entry_aside locked at p (entries.Grew pid pages) o c s a = a
-entry_aside locked at p (entries.Call pid number carry r0 r1) o c s a = a
-entry_aside locked at p (entries.Refused pid) o c s a = a
-entry_aside locked at p (entries.Sleeps pid) o c s a = a
-entry_aside locked at p (entries.Ended pid status) o c s a = a
-entry_aside locked at p (entries.Owners x y m h) o c s a = a
+entry_aside locked at p _ o c s a = a
 
 -- the same spaces and texts, of the same sizes
 pub record SameShape (p q : Placement) : Type 0 where

@@ -75,21 +75,15 @@ sized_new (suc n) (suc w) [] l m = sized_new n w [] (omega arith) (omega arith)
 sized_new (suc n) zero (x ∷ xs) l m = absurd (omega arith)
 sized_new (suc n) (suc w) (x ∷ xs) l m = sized_new n w xs (omega arith) (omega arith)
 
--- a segment is as it was, or has another size
-abbrev Sizes : List Slot → List Slot → ℕ → Type 0
-Sizes new old w = (new ≡ old) ⊎ ((n : ℕ) × (new ≡ sized n old))
-
 abbrev pub cut : ℕ → ℕ → SpacePages → SpacePages
 cut d s x = record x { data_pages = sized d x.data_pages; stack_pages = sized s x.stack_pages }
 
 -- a new page, of zeros
 pub zero_keeps : (q : Placement) (c : Bytes) (w : Page) → slot_of q w ≡ unfilled Zeros → ((image v : ℕ) → w ≢ Text image v) → due_at q.due w ≡ None
     → zeros ≡ c.memory w → Keeps q c w
-zero_keeps q c (Data sid v) e n d z = subst (KeepsBy q c (Data sid v)) (sym (ap (λ (x : Slot). x.state) e))
-    (subst (λ (f : Filling). Rattle.page_model.specs.PageBytes.KeepsUnfilled c (Data sid v) (due_at q.due (Data sid v)) f) (sym (ap (λ (x : Slot). x.filling) e)) (subst (λ (o : Option Due). Rattle.page_model.specs.PageBytes.KeepsUnfilled c (Data sid v) o Zeros) (sym d) z), tt)
-zero_keeps q c (Stack sid v) e n d z = subst (KeepsBy q c (Stack sid v)) (sym (ap (λ (x : Slot). x.state) e))
-    (subst (λ (f : Filling). Rattle.page_model.specs.PageBytes.KeepsUnfilled c (Stack sid v) (due_at q.due (Stack sid v)) f) (sym (ap (λ (x : Slot). x.filling) e)) (subst (λ (o : Option Due). Rattle.page_model.specs.PageBytes.KeepsUnfilled c (Stack sid v) o Zeros) (sym d) z), tt)
 zero_keeps q c (Text image v) e n d z = absurd (n image v refl)
+zero_keeps q c y e n d z = subst (KeepsBy q c y) (sym (ap (λ (x : Slot). x.state) e))
+    (subst (λ (f : Filling). Rattle.page_model.specs.PageBytes.KeepsUnfilled c y (due_at q.due y) f) (sym (ap (λ (x : Slot). x.filling) e)) (subst (λ (o : Option Due). Rattle.page_model.specs.PageBytes.KeepsUnfilled c y o Zeros) (sym d) z), tt)
 
 -- What a new size does to a page that is there afterwards.
 abbrev Resized : Placement → Placement → Page → Type 0

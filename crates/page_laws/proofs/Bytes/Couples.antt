@@ -1,11 +1,11 @@
 -- A step that changes one page and one frame keeps the flat memory, where it does so at that page.
 use Rattle.std.proofs.Common.{◌≡◌, ◌≢◌, ◌⊎◌, inl, inr, ℕ, Bool, List, [], Option, Some, None, refl, sym, ap, ◌∙◌, subst, arith}
 use Rattle.vm_facts.specs.declared.page.Page.{Page}
-use Rattle.vm_facts.specs.declared.page.Page.TheVariants.{Data, Stack, Text}
+use Rattle.vm_facts.specs.declared.page.Page.TheVariants.{Text}
 use Rattle.vm_facts.specs.declared.page.PageState.{PageState}
 use Rattle.vm_facts.specs.declared.page.PageState.TheVariants.{Unfilled, Valid, Invalid, Coming, Going, OnSwap}
 use Rattle.page_model.specs.Pages.{Slot, Filling, Zeros, OfImage, frame_of, is_dirty_by}
-use Rattle.page_model.specs.Placement.{Placement, Errand, Writes, Reads, FromSwap, FromFile, Due, Start, CopyOf, filling_by, slot_of, state_of, mark_of, is_dirty, filling_of, page_of, errand_at, due_at, parts_of, IsThere}
+use Rattle.page_model.specs.Placement.{Placement, Errand, Reads, FromSwap, FromFile, Due, Start, CopyOf, filling_by, slot_of, state_of, mark_of, is_dirty, filling_of, page_of, errand_at, due_at, parts_of, IsThere}
 use Rattle.page_model.specs.Ownership.{OwnsFrames}
 use Rattle.page_model.specs.PageBytes.{Bytes, bytes_in, IsInFrame, KeepsUnfilled, IsUnsaved, KeepsComing, IfSaved, KeepsBy, Keeps, CouplesPages}
 use Rattle.page_laws.proofs.Lists.Pages.{page_cases}
@@ -41,10 +41,9 @@ unfilled_same b c w (Some (CopyOf r parent)) x fi st me (inr h) k = absurd h
 
 coming_same : (b c : Bytes) (w : Page) (m : Bool) (e : Option Errand) → c.file w ≡ b.file w → c.swap w ≡ b.swap w → c.memory w ≡ b.memory w
     → KeepsComing b w m e → KeepsComing c w m e
-coming_same b c w m None fi sw me k = k
-coming_same b c w m (Some Writes) fi sw me k = k
 coming_same b c w m (Some (Reads FromSwap d)) fi sw me k = sw ∙ k ∙ sym me
 coming_same b c w m (Some (Reads FromFile d)) fi sw me k = (fi ∙ k.0 ∙ sym me, k.1)
+coming_same b c w m _ fi sw me k = k
 
 -- what a page was, and what stands beside it, it still is
 pub record Unmoved (p q : Placement) (b c : Bytes) (w : Page) : Type 0 where
@@ -69,9 +68,8 @@ in_frame_same : (p q : Placement) (b c : Bytes) (w : Page) (f : ℕ) → Unmoved
 in_frame_same p q b c w f u e k = record { here = (u.frames f e).0 ∙ k.here ∙ sym u.memory; there = λ h. u.swap ∙ k.there (sym (ap (is_dirty_by w) (mark_same p q b c w u)) ∙ h) ∙ sym u.memory }
 
 saved_same : (b c : Bytes) (w : Page) (m : Bool) → c.swap w ≡ b.swap w → c.memory w ≡ b.memory w → IfSaved b w m → IfSaved c w m
-saved_same b c (Data sid v) m s e k = tt
-saved_same b c (Stack sid v) m s e k = tt
 saved_same b c (Text image v) m s e k = λ h. s ∙ k h ∙ sym e
+saved_same b c _ m s e k = tt
 
 keeps_same : (p q : Placement) (b c : Bytes) (w : Page) (s : PageState) → state_of p w ≡ s → Unmoved p q b c w → KeepsBy p b w s → KeepsBy q c w s
 keeps_same p q b c w Unfilled e u k = (

@@ -84,9 +84,8 @@ left_keeps p b f (Text image n) false e c (inl h) d k = (subst (λ (x : Option D
 left_keeps p b f (Text image n) false e c (inr h) d k = absurd (h image n refl)
 
 text_or : (p : Placement) (b : Bytes) (v : Page) → CouplesPages p b → b.file v ≡ b.memory v ⊎ ((image n : ℕ) → v ≢ Text image n)
-text_or p b (Data sid n) k = inr (λ i m h. absurd cc)
-text_or p b (Stack sid n) k = inr (λ i m h. absurd cc)
 text_or p b (Text image n) k = inl (k.text image n)
+text_or p b _ k = inr (λ i m h. absurd cc)
 
 pub evict_coupled : (p : Placement) (f : ℕ) (b : Bytes) → OwnsFrames p → 0 < times f p.free → CouplesPages p b → CouplesPages (evict p f) b
 evict_coupled p f b o l k = go (page_of p f) refl
@@ -127,9 +126,8 @@ due_text (d ∷ ds) v w e = go (same_page (due_page d) v) (same_page (due_page d
     go true false h = sym (ap (λ (z : Bool). cond z (Some d) (due_at ds w)) h) ∙ e
 
 writable_dirty : (v : Page) → IsWritable v → is_dirty_by v true ≡ true
-writable_dirty (Data sid n) w = refl
-writable_dirty (Stack sid n) w = refl
 writable_dirty (Text image n) w = absurd w
+writable_dirty _ w = refl
 
 -- The page takes the first free frame, which now has its bytes, and is no longer due.
 pub filled_coupled : (p : Placement) (v : Page) (f : ℕ) (rest : List ℕ) (b : Bytes) (bytes : List ℕ) → OwnsFrames p → CanEnter p v → p.free ≡ f ∷ rest
@@ -174,9 +172,8 @@ filled_coupled p v f rest b bytes o c fr tokens w is k = subst (λ (q : Placemen
     }
 
 from_file : (v : Page) (m : Bool) (demanded : Page) → IsUnsaved v m → (IsWritable v → v ≡ demanded) → IsFromFile v m demanded
-from_file (Data sid n) m demanded u h = h tt
-from_file (Stack sid n) m demanded u h = h tt
 from_file (Text image n) m demanded u h = u
+from_file _ m demanded u h = h tt
 
 coming_keeps : (p : Placement) (b : Bytes) (source : Source) (demanded v : Page) → CouplesPages p b → IsThere p v → ReadsFrom p source demanded v
     → KeepsComing b v (mark_of p v) (Some (Reads source demanded))
@@ -263,9 +260,8 @@ seated_there p v f c = elim c.state [
 ]
 
 saved_there : (b : Bytes) (v : Page) (m : Bool) → (is_dirty_by v m ≡ false → b.swap v ≡ b.memory v) → IfSaved b v m
-saved_there b (Data sid n) m h = tt
-saved_there b (Stack sid n) m h = tt
 saved_there b (Text image n) m h = λ e. h (ap not e)
+saved_there b _ m h = tt
 
 pub launch_coupled : (p : Placement) (v : Page) (f : ℕ) (b : Bytes) → OwnsFrames p → IsSeated p v f → IsOpen p.transfers Writes → CouplesPages p b
     → CouplesPages (launch p v) b

@@ -167,20 +167,12 @@ copies_later child parent num v w (x ∷ xs) l = go x.state (copies_later child 
 -- a page of the parent that was never filled isn't copied; each other is
 abbrev pub DueOf : Page → Page → PageState → Option Due
 DueOf child parent Unfilled = None
-DueOf child parent (Valid f) = Some (CopyOf child parent)
-DueOf child parent (Invalid f) = Some (CopyOf child parent)
-DueOf child parent (Coming f) = Some (CopyOf child parent)
-DueOf child parent (Going f) = Some (CopyOf child parent)
-DueOf child parent OnSwap = Some (CopyOf child parent)
+DueOf child parent _ = Some (CopyOf child parent)
 
 copies_here : (child parent : ℕ → Page) (s : PageState) (v : ℕ) (rest : List Due) → due_at rest (child v) ≡ None
     → due_at (copy_due (child v) (parent v) s ++ rest) (child v) ≡ DueOf (child v) (parent v) s
 copies_here child parent Unfilled v rest e = e
-copies_here child parent (Valid f) v rest e = ap (λ (b : Bool). cond b (Some (CopyOf (child v) (parent v))) (due_at rest (child v))) (same_page_self (child v))
-copies_here child parent (Invalid f) v rest e = ap (λ (b : Bool). cond b (Some (CopyOf (child v) (parent v))) (due_at rest (child v))) (same_page_self (child v))
-copies_here child parent (Coming f) v rest e = ap (λ (b : Bool). cond b (Some (CopyOf (child v) (parent v))) (due_at rest (child v))) (same_page_self (child v))
-copies_here child parent (Going f) v rest e = ap (λ (b : Bool). cond b (Some (CopyOf (child v) (parent v))) (due_at rest (child v))) (same_page_self (child v))
-copies_here child parent OnSwap v rest e = ap (λ (b : Bool). cond b (Some (CopyOf (child v) (parent v))) (due_at rest (child v))) (same_page_self (child v))
+copies_here child parent _ v rest e = ap (λ (b : Bool). cond b (Some (CopyOf (child v) (parent v))) (due_at rest (child v))) (same_page_self (child v))
 
 copies_skip : (child parent : ℕ → Page) → Numbers child → (s : PageState) (v w : ℕ) (rest : List Due) → w ≢ v
     → due_at (copy_due (child v) (parent v) s ++ rest) (child w) ≡ due_at rest (child w)
@@ -253,19 +245,11 @@ child_keeps : (b c : Bytes) (child parent : Page) (x : Slot) (s : PageState) →
     → (s ≡ Unfilled → KeepsUnfilled b parent None x.filling)
     → KeepsUnfilled c child (DueOf child parent s) (child_slot_by x s).filling
 child_keeps b c child parent x Unfilled e m k = child_unfilled b c child parent x.filling e (k refl)
-child_keeps b c child parent x (Valid f) e m k = m ∙ sym e.memory
-child_keeps b c child parent x (Invalid f) e m k = m ∙ sym e.memory
-child_keeps b c child parent x (Coming f) e m k = m ∙ sym e.memory
-child_keeps b c child parent x (Going f) e m k = m ∙ sym e.memory
-child_keeps b c child parent x OnSwap e m k = m ∙ sym e.memory
+child_keeps b c child parent x _ e m k = m ∙ sym e.memory
 
 child_state : (x : Slot) (s : PageState) → (child_slot_by x s).state ≡ Unfilled
 child_state x Unfilled = refl
-child_state x (Valid f) = refl
-child_state x (Invalid f) = refl
-child_state x (Coming f) = refl
-child_state x (Going f) = refl
-child_state x OnSwap = refl
+child_state x _ = refl
 
 data_numbers : (sid : ℕ) → Numbers (Data sid)
 data_numbers sid a b e = ap number_of e

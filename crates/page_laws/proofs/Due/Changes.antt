@@ -3,7 +3,7 @@ use Rattle.std.proofs.Common.{◌≡◌, ◌≢◌, ℕ, zero, suc, ◌<◌, Boo
 use Rattle.vm_facts.specs.declared.page.Page.{Page}
 use Rattle.vm_facts.specs.declared.page.Page.TheVariants.{Data, Stack, Text}
 use Rattle.flat_state.specs.declared.change.Change.{Change}
-use Rattle.flat_state.specs.declared.change.Change.TheVariants.{Keep, Resize, Fork, Lend, Exec, Reap, Sleep, End}
+use Rattle.flat_state.specs.declared.change.Change.TheVariants.{Resize, Fork, Lend, Exec, End}
 use Rattle.page_model.specs.Pages.{Slot, no_slot, data_in, stack_in}
 use Rattle.flat_state.specs.PageNames.{number_of, same_page}
 use Rattle.page_model.specs.Placement.{Placement, Due, Start, CopyOf, due_at, filling_by, slots_of, slot_of, sharers, image_of}
@@ -142,11 +142,9 @@ exec_due false p next image sid (Some facts) e new a = given_due (enter_space p 
 pub change_due : (images : List Image) (p : Placement) (pid sid : ℕ) (borrowed : Bool) (next at : ℕ) (change : Change) → p.due ≡ []
     → CanChange p sid borrowed next change
     → ApartFrom sid borrowed next change → DueStand (place_change images p pid sid borrowed next at change)
-change_due images p pid sid borrowed next at Keep e c a = none_due p e
 change_due images p pid sid borrowed next at (Resize d s) e c a = none_due (place_change images p pid sid borrowed next at (Resize d s)) ((drop_all_rest (dropped_pages p sid d s) p).1 ∙ e)
 change_due images p pid sid borrowed next at (Fork child) e c a = resident_due (fork_space p sid next) (place_change images p pid sid borrowed next at (Fork child)).residents (fork_due p sid next c)
 change_due images p pid sid borrowed next at (Lend child) e c a = none_due (place_change images p pid sid borrowed next at (Lend child)) e
 change_due images p pid sid borrowed next at (Exec image top) e c a = exec_due borrowed p next image sid (facts_numbered images image) e c.0 a
-change_due images p pid sid borrowed next at (Reap child) e c a = none_due p e
-change_due images p pid sid borrowed next at Sleep e c a = none_due p e
 change_due images p pid sid borrowed next at (End status) e c a = none_due (place_change images p pid sid borrowed next at (End status)) (unless_due borrowed p sid ∙ e)
+change_due images p pid sid borrowed next at _ e c a = none_due p e

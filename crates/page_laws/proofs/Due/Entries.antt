@@ -76,9 +76,8 @@ stays_fills D p q s = record {
 }
 
 left_filled : (v : Page) (m : Bool) → IsWritable v → left_state v m ≡ Unfilled → ⊥
-left_filled (Data sid n) m i e = absurd cc
-left_filled (Stack sid n) m i e = absurd cc
 left_filled (Text image n) m i e = absurd i
+left_filled _ m i e = absurd cc
 
 evict_fills : (D : Page → Type 0) (p : Placement) (f : ℕ) → OwnsFrames p → KeepsFills D p (evict p f)
 evict_fills D p f o = record {
@@ -218,16 +217,8 @@ entry_due locked at p (entries.Put q n) o c l s = stays_due p (put_step p q (pag
 entry_due locked at p entries.Done o c n s = stays_due p (done p) (steady_stays p (done p) (done_steady p o)) s
 entry_due locked at p (entries.SwapOut pid) o c n s = resident_due p (place_entry locked at p (entries.SwapOut pid)).residents s
 entry_due locked at p (entries.SwapIn pid) o c n s = resident_due p (place_entry locked at p (entries.SwapIn pid)).residents s
-entry_due locked at p (entries.Event line) o c n s = s
-entry_due locked at p (entries.Turn pid) o c n s = s
 entry_due locked at p (entries.Ran pid n) o c l s = s
-entry_due locked at p (entries.Out pid bytes) o c n s = s
-entry_due locked at p (entries.Grew pid pages) o c n s = s
-entry_due locked at p (entries.Call pid number carry r0 r1) o c n s = s
-entry_due locked at p (entries.Refused pid) o c n s = s
-entry_due locked at p (entries.Sleeps pid) o c n s = s
-entry_due locked at p (entries.Ended pid status) o c n s = s
-entry_due locked at p (entries.Owners x y m h) o c n s = s
+entry_due locked at p _ o c n s = s
 
 pub force_due : (p : Placement) (locked : List Page) → OwnsFrames p → DueStand p → DueStand (force p locked)
 force_due p locked o s = stays_due p (force p locked) (force_stays p locked o) s

@@ -56,7 +56,7 @@ copies_found child parent (x ∷ xs) v w d e = go x.state refl e (λ k. copies_a
     go (Going f) h k later = one (same_page (child v) w) refl (λ z. let y : Going f ≡ Unfilled = sym h ∙ z in absurd cc) k later
     go OnSwap h k later = one (same_page (child v) w) refl (λ z. let y : OnSwap ≡ Unfilled = sym h ∙ z in absurd cc) k later
 
-due_either : (ds es : List Due) (w : Page) (d : Due) → due_at (ds ++ es) w ≡ Some d → (due_at ds w ≡ Some d) ⊎ (due_at es w ≡ Some d)
+pub due_either : (ds es : List Due) (w : Page) (d : Due) → due_at (ds ++ es) w ≡ Some d → (due_at ds w ≡ Some d) ⊎ (due_at es w ≡ Some d)
 due_either [] es w d e = inr e
 due_either (c ∷ ds) es w d e = go (same_page (due_page c) w) e (due_either ds es w d)
   where
@@ -66,11 +66,7 @@ due_either (c ∷ ds) es w d e = go (same_page (due_page c) w) e (due_either ds 
 
 child_zeros : (x : Slot) (s : PageState) → s ≢ Unfilled → child_slot_by x s ≡ unfilled Zeros
 child_zeros x Unfilled n = absurd (n refl)
-child_zeros x (Valid f) n = refl
-child_zeros x (Invalid f) n = refl
-child_zeros x (Coming f) n = refl
-child_zeros x (Going f) n = refl
-child_zeros x OnSwap n = refl
+child_zeros x _ n = refl
 
 -- The pages that a fork makes due.
 pub fork_due : (p : Placement) (parent child : ℕ) → IsNew p child → DueStand (fork_space p parent child)

@@ -30,12 +30,9 @@ pub record Full (p : Placement) (f : ℕ) : Type 0 where
   pub state : (state_of p page ≡ Valid f) ⊎ (state_of p page ≡ Invalid f)
 
 seats_one : (s : PageState) (f : ℕ) → seats 0 s ≡ 1 → frame_of s ≡ Some f → (s ≡ Valid f) ⊎ (s ≡ Invalid f)
-seats_one Unfilled f e h = absurd (omega arith)
 seats_one (Valid g) f e h = inl (ap (λ (x : ℕ). Valid x) (same_Some g f h))
 seats_one (Invalid g) f e h = inr (ap (λ (x : ℕ). Invalid x) (same_Some g f h))
-seats_one (Coming g) f e h = absurd (omega arith)
-seats_one (Going g) f e h = absurd (omega arith)
-seats_one OnSwap f e h = absurd (omega arith)
+seats_one _ f e h = absurd (omega arith)
 
 pub full_at : (p : Placement) (f : ℕ) → OwnsFrames p → p.free ≡ [] → p.transfers ≡ [] → IsFrame p f → Full p f
 full_at p f o e t l = go (page_of p f) refl

@@ -13,7 +13,7 @@ use Rattle.page_model.specs.Pages.{Slot, Filling, Zeros, OfImage, frame_of, is_v
 use Rattle.flat_state.specs.PageNames.{number_of, beside, pages_from, is_among, same_page}
 use Rattle.vm_facts.specs.Lists.{times, without}
 use Rattle.page_model.specs.Placement.{Placement, Transfer, Part, Errand, Writes, Reads, Source, filling_by, slot_of, state_of, mark_of, filling_of, page_of, IsThere, parts_of, flying, put}
-use Rattle.page_model.specs.Moves.{launch, launch_to, launch_all, evict, evict_at, enter, fill, fill_at, begin, get_one, get_at, get_all, land, land_read, land_all, done, done_of, reclaim_to, arrived_mark}
+use Rattle.page_model.specs.Moves.{evict, evict_at, enter, fill, fill_at, begin, get_one, get_at, get_all, land, land_read, land_all, done, done_of, reclaim_to, arrived_mark}
 use Rattle.page_model.specs.Runs.{Run, pages_of_run, passing_above, run_both, run_up, run_alone, run_in, run_in_by, comes_from_swap, comes_from_file, spare_frames}
 use Rattle.page_model.specs.Hands.{expire}
 use Rattle.page_model.specs.Serve.{force, force_by, read_step, read_errand, source_for, read_if, feed_by, serve_by, serve_step, is_full}
@@ -24,7 +24,7 @@ use Rattle.page_laws.proofs.Lists.Frames.{without_head, some_free}
 use Rattle.vm_facts.proofs.Lists.{times_head}
 use Rattle.page_laws.proofs.Lists.Pages.{page_cases, put_state, put_length, beside_self}
 use Rattle.flat_state.proofs.PageNames.{same_page_self}
-use Rattle.page_laws.proofs.Lists.Parts.{IsOpen, begin_open, join_open, length_join}
+use Rattle.page_laws.proofs.Lists.Parts.{IsOpen, begin_open, length_join}
 use Rattle.page_laws.proofs.Lists.Local.{none_some}
 use Rattle.page_laws.proofs.Moves.Steps.{once_at, put_other_state, EvictRest, evict_rest}
 use Rattle.page_laws.proofs.Ownership.Pages.{get_owner}
@@ -124,11 +124,7 @@ is_coming _ = false
 
 coming_frame : (s : PageState) → is_coming s ≡ true → frame_of s ≡ None → ⊥
 coming_frame (Coming f) e h = none_some f (sym h)
-coming_frame Unfilled e h = absurd cc
-coming_frame (Valid f) e h = absurd cc
-coming_frame (Invalid f) e h = absurd cc
-coming_frame (Going f) e h = absurd cc
-coming_frame OnSwap e h = absurd cc
+coming_frame _ e h = absurd cc
 
 not_coming : (s : PageState) (f : ℕ) → s ≡ Invalid f → is_coming s ≡ true → ⊥
 not_coming s f e h = absurd (let k : true ≡ false = sym h ∙ ap is_coming e in cc)
@@ -227,24 +223,13 @@ min_within k spare a b = (omega arith, omega arith)
 run_in_fits : (p : Placement) (q : Page) (s : PageState) (spare : ℕ) → 0 < spare → Fits q spare (run_in_by p q s spare)
 run_in_fits p (Text image v) OnSwap spare l = let m = min_within 2 spare (omega arith) l in up_fits (comes_from_swap p (Text image v)) (Text image v) (min 2 spare) spare m.0 m.1
 run_in_fits p (Text image v) Unfilled spare l = let m = min_within 2 spare (omega arith) l in up_fits (comes_from_file p (Text image v)) (Text image v) (min 2 spare) spare m.0 m.1
-run_in_fits p (Text image v) (Valid f) spare l = alone_fits (Text image v) spare l
-run_in_fits p (Text image v) (Invalid f) spare l = alone_fits (Text image v) spare l
-run_in_fits p (Text image v) (Coming f) spare l = alone_fits (Text image v) spare l
-run_in_fits p (Text image v) (Going f) spare l = alone_fits (Text image v) spare l
+run_in_fits p (Text image v) _ spare l = alone_fits (Text image v) spare l
 run_in_fits p (Data sid v) OnSwap spare l = let m = min_within 4 spare (omega arith) l in both_fits (comes_from_swap p (Data sid v)) (Data sid v) (min 4 spare) spare m.0 m.1
-run_in_fits p (Data sid v) Unfilled spare l = alone_fits (Data sid v) spare l
-run_in_fits p (Data sid v) (Valid f) spare l = alone_fits (Data sid v) spare l
-run_in_fits p (Data sid v) (Invalid f) spare l = alone_fits (Data sid v) spare l
-run_in_fits p (Data sid v) (Coming f) spare l = alone_fits (Data sid v) spare l
-run_in_fits p (Data sid v) (Going f) spare l = alone_fits (Data sid v) spare l
+run_in_fits p (Data sid v) _ spare l = alone_fits (Data sid v) spare l
 run_in_fits p (Stack sid v) OnSwap spare l = let m = min_within 4 spare (omega arith) l in both_fits (comes_from_swap p (Stack sid v)) (Stack sid v) (min 4 spare) spare m.0 m.1
-run_in_fits p (Stack sid v) Unfilled spare l = alone_fits (Stack sid v) spare l
-run_in_fits p (Stack sid v) (Valid f) spare l = alone_fits (Stack sid v) spare l
-run_in_fits p (Stack sid v) (Invalid f) spare l = alone_fits (Stack sid v) spare l
-run_in_fits p (Stack sid v) (Coming f) spare l = alone_fits (Stack sid v) spare l
-run_in_fits p (Stack sid v) (Going f) spare l = alone_fits (Stack sid v) spare l
+run_in_fits p (Stack sid v) _ spare l = alone_fits (Stack sid v) spare l
 
-pages_length : (q : Page) (lo n : ℕ) → length (pages_from q lo n) ≡ n
+pub pages_length : (q : Page) (lo n : ℕ) → length (pages_from q lo n) ≡ n
 pages_length q lo zero = refl
 pages_length q lo (suc n) = ap suc (pages_length q (lo + 1) n)
 
@@ -270,22 +255,6 @@ read_length p q = get_all_length (pages_of_run q (run_in p q)) (begin p (read_er
 
 -- Serving.
 
-launch_length : (p : Placement) (v : Page) → IsOpen p.transfers Writes
-    → (IsOpen (launch p v).transfers Writes) × (length (launch p v).transfers ≡ length p.transfers)
-launch_length p v latest = go (state_of p v)
-  where
-    go : (s : PageState) → (IsOpen (launch_to p v s).transfers Writes) × (length (launch_to p v s).transfers ≡ length p.transfers)
-    go (Valid f) = (join_open p.transfers Writes (record { page = v; frame = f }) latest, length_join p.transfers Writes (record { page = v; frame = f }) latest)
-    go (Invalid f) = (join_open p.transfers Writes (record { page = v; frame = f }) latest, length_join p.transfers Writes (record { page = v; frame = f }) latest)
-    go Unfilled = (latest, refl)
-    go (Coming f) = (latest, refl)
-    go (Going f) = (latest, refl)
-    go OnSwap = (latest, refl)
-
-launch_all_length : (qs : List Page) (p : Placement) → IsOpen p.transfers Writes → length (launch_all p qs).transfers ≡ length p.transfers
-launch_all_length [] p latest = refl
-launch_all_length (v ∷ qs) p latest = let k = launch_length p v latest in launch_all_length qs (launch p v) k.0 ∙ k.1
-
 pub done_rest : (p : Placement) (t : Transfer) (ts : List Transfer) → p.transfers ≡ t ∷ ts → (done p).transfers ≡ ts
 done_rest p t ts e = ap (λ (us : List Transfer). (done_of p us).transfers) e ∙ land_all_rest t.parts p t.errand ts
 
@@ -300,18 +269,12 @@ force_length p locked = go p.transfers refl
 abbrev pub Landed : PageState → Type 0
 Landed (Valid f) = Unit {0}
 Landed (Invalid f) = Unit {0}
-Landed Unfilled = ⊥
-Landed (Coming f) = ⊥
-Landed (Going f) = ⊥
-Landed OnSwap = ⊥
+Landed _ = ⊥
 
 landed_rank : (p : Placement) (locked : List Page) (x : Filling) (s : PageState) → Landed s → rank_by p locked x s ≤ 1
 landed_rank p locked x (Valid f) l = omega arith
 landed_rank p locked x (Invalid f) l = omega arith
-landed_rank p locked x Unfilled l = absurd l
-landed_rank p locked x (Coming f) l = absurd l
-landed_rank p locked x (Going f) l = absurd l
-landed_rank p locked x OnSwap l = absurd l
+landed_rank p locked x _ l = absurd l
 
 put_lands : (p : Placement) (v : Page) (s : PageState) (m : Bool) (q : Page) (was : PageState) → Landed s → IsThere p q
     → ((state_of p q ≡ was) ⊎ Landed (state_of p q)) → (state_of (put p v s m) q ≡ was) ⊎ Landed (state_of (put p v s m) q)
@@ -385,11 +348,7 @@ full_some p e = at_least (length p.transfers) e
 
 coming_rank : (p : Placement) (locked : List Page) (x : Filling) (s : PageState) → is_coming s ≡ true → rank_by p locked x s ≡ 2 + length p.transfers
 coming_rank p locked x (Coming f) e = refl
-coming_rank p locked x Unfilled e = absurd cc
-coming_rank p locked x (Valid f) e = absurd cc
-coming_rank p locked x (Invalid f) e = absurd cc
-coming_rank p locked x (Going f) e = absurd cc
-coming_rank p locked x OnSwap e = absurd cc
+coming_rank p locked x _ e = absurd cc
 
 -- what stays keeps its state and filling
 still_rank : (p r : Placement) (locked : List Page) (q : Page) → slot_of r q ≡ slot_of p q → rank r locked q ≡ rank_by r locked (filling_of p q) (state_of p q)

@@ -8,7 +8,7 @@ use Rattle.vm_facts.specs.declared.page.Page.TheVariants.{Data, Stack, Text}
 use Rattle.vm_facts.specs.declared.page.PageState.{PageState}
 use Rattle.vm_facts.specs.declared.page.PageState.TheVariants.{Unfilled, Valid, Invalid, Coming, Going, OnSwap}
 use Rattle.flat_state.specs.declared.change.Change.{Change}
-use Rattle.flat_state.specs.declared.change.Change.TheVariants.{Keep, Resize, Fork, Lend, Exec, Reap, Sleep, End}
+use Rattle.flat_state.specs.declared.change.Change.TheVariants.{Resize, Fork, Exec, End}
 use Rattle.page_model.specs.Pages.{Slot, no_slot, SpacePages, frame_of, numbered, changed, data_in, stack_in}
 use Rattle.page_model.specs.Placement.{Placement, space_number, slots_of, slot_of, state_of, image_of, sharers, put}
 use Rattle.page_model.specs.Moves.{drop_all, touch, touch_all, turn, listed, leave_by, leave_page, leave_all}
@@ -225,7 +225,6 @@ enter_frame p sid image (Some facts) w n = ap frame_of (enter_alike p sid image 
 
 pub change_frame : (images : List Image) (p : Placement) (pid sid : ℕ) (borrowed : Bool) (next_sid at : ℕ) (change : Change) (w : Page) → IsNew p next_sid
     → StaysOrGoes p (place_change images p pid sid borrowed next_sid at change) w (IsGivenUp sid borrowed change w)
-change_frame images p pid sid borrowed next_sid at Keep w n = inl refl
 change_frame images p pid sid borrowed next_sid at (Resize d s) w n = resize_frame p sid d s w
 change_frame images p pid sid borrowed next_sid at (Fork child) w n = inl (ap frame_of (add_alike p (record {
   sid = next_sid;
@@ -233,13 +232,11 @@ change_frame images p pid sid borrowed next_sid at (Fork child) w n = inl (ap fr
   data_pages = map child_slot (slots_of p (Data sid 0));
   stack_pages = map child_slot (slots_of p (Stack sid 0));
 }) (fork_space p sid next_sid).due n (child_blank (slots_of p (Data sid 0))) (child_blank (slots_of p (Stack sid 0))) w).0)
-change_frame images p pid sid borrowed next_sid at (Lend child) w n = inl refl
 change_frame images p pid sid borrowed next_sid at (Exec image top) w n =
     let e : page_frame (enter_image p next_sid image (facts_numbered images image)) w ≡ page_frame p w = enter_frame p next_sid image (facts_numbered images image) w n in
     elim (unless_frame borrowed (enter_image p next_sid image (facts_numbered images image)) sid w) [
       | inl h ↦ inl (h ∙ e)
       | inr h ↦ inr h
     ]
-change_frame images p pid sid borrowed next_sid at (Reap child) w n = inl refl
-change_frame images p pid sid borrowed next_sid at Sleep w n = inl refl
 change_frame images p pid sid borrowed next_sid at (End status) w n = unless_frame borrowed p sid w
+change_frame images p pid sid borrowed next_sid at _ w n = inl refl

@@ -6,7 +6,7 @@ use Rattle.vm_facts.specs.declared.page.Page.TheVariants.{Data, Stack, Text}
 use Rattle.vm_facts.specs.declared.page.PageState.{PageState}
 use Rattle.vm_facts.specs.declared.page.PageState.TheVariants.{Unfilled, Valid, Invalid, Coming, Going, OnSwap}
 use Rattle.flat_state.specs.declared.change.Change.{Change}
-use Rattle.flat_state.specs.declared.change.Change.TheVariants.{Keep, Resize, Fork, Lend, Exec, Reap, Sleep, End}
+use Rattle.flat_state.specs.declared.change.Change.TheVariants.{Resize, Fork, Lend, Exec, End}
 use Rattle.page_model.specs.Pages.{Slot, frame_of}
 use Rattle.page_model.specs.Placement.{Placement, slots_of, slot_of, state_of, mark_of, image_of}
 use Rattle.page_model.specs.Moves.{drop_all, touch, touch_to, touch_all}
@@ -101,7 +101,6 @@ enter_dirty p sid image (Some facts) w f n h = alike_dirty p (enter_image p sid 
 pub change_dirty : (images : List Image) (p : Placement) (pid sid : ℕ) (borrowed : Bool) (next_sid at : ℕ) (change : Change) (w : Page) (f : ℕ)
     → IsNew p next_sid → IsDirtyIn p w f
     → IsDirtyIn (place_change images p pid sid borrowed next_sid at change) w f ⊎ IsGivenUp sid borrowed change w
-change_dirty images p pid sid borrowed next_sid at Keep w f n h = inl h
 change_dirty images p pid sid borrowed next_sid at (Resize d s) w f n h = resize_dirty p sid d s w f h
 change_dirty images p pid sid borrowed next_sid at (Fork child) w f n h =
     let k = alike_dirty p (fork_space p sid next_sid) w f (add_alike p (record {
@@ -114,9 +113,8 @@ change_dirty images p pid sid borrowed next_sid at (Fork child) w f n h =
 change_dirty images p pid sid borrowed next_sid at (Lend child) w f n h = inl (record { frame = h.frame; dirty = h.dirty })
 change_dirty images p pid sid borrowed next_sid at (Exec image top) w f n h =
     unless_dirty borrowed (enter_image p next_sid image (facts_numbered images image)) sid w f (enter_dirty p next_sid image (facts_numbered images image) w f n h)
-change_dirty images p pid sid borrowed next_sid at (Reap child) w f n h = inl h
-change_dirty images p pid sid borrowed next_sid at Sleep w f n h = inl h
 change_dirty images p pid sid borrowed next_sid at (End status) w f n h = elim (unless_dirty borrowed p sid w f h) [
   | inl k ↦ inl (record { frame = k.frame; dirty = k.dirty })
   | inr k ↦ inr k
 ]
+change_dirty images p pid sid borrowed next_sid at _ w f n h = inl h

@@ -213,15 +213,4 @@ entry_frame locked at p (entries.Reclaim q) w f o c e = let s : Steady p (reclai
 entry_frame locked at p (entries.Hands n) w f o c e = inl (moves_frame n p locked w ∙ e)
 entry_frame locked at p (entries.Put q n) w f o c e = let s : Steady p (put_step p q (pages_from q (number_of q) n)) = put_steady p q (pages_from q (number_of q) n) in inl (s.frames w ∙ e)
 entry_frame locked at p entries.Done w f o c e = let s : Steady p (done p) = done_steady p o in inl (s.frames w ∙ e)
-entry_frame locked at p (entries.SwapOut pid) w f o c e = inl e
-entry_frame locked at p (entries.SwapIn pid) w f o c e = inl e
-entry_frame locked at p (entries.Event line) w f o c e = inl e
-entry_frame locked at p (entries.Turn pid) w f o c e = inl e
-entry_frame locked at p (entries.Ran pid n) w f o c e = inl e
-entry_frame locked at p (entries.Out pid bytes) w f o c e = inl e
-entry_frame locked at p (entries.Grew pid pages) w f o c e = inl e
-entry_frame locked at p (entries.Call pid number carry r0 r1) w f o c e = inl e
-entry_frame locked at p (entries.Refused pid) w f o c e = inl e
-entry_frame locked at p (entries.Sleeps pid) w f o c e = inl e
-entry_frame locked at p (entries.Ended pid status) w f o c e = inl e
-entry_frame locked at p (entries.Owners free used moving held) w f o c e = inl e
+entry_frame locked at p _ w f o c e = inl e

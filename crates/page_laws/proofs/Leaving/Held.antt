@@ -2,7 +2,7 @@
 use Rattle.std.proofs.Common.{◌≡◌, ◌≢◌, ◌⊎◌, inl, inr, ℕ, zero, suc, ◌<◌, Bool, true, false, List, [], ◌∷◌, ◌++◌, Option, Some, None, refl, sym, ap, ◌∙◌, subst, arith}
 use Rattle.std.proofs.lemmas.Bool.{cases_eq}
 use Rattle.vm_facts.specs.declared.page.Page.{Page}
-use Rattle.vm_facts.specs.declared.page.Page.TheVariants.{Data, Stack, Text}
+use Rattle.vm_facts.specs.declared.page.Page.TheVariants.{Data}
 use Rattle.vm_facts.specs.declared.page.PageState.{PageState}
 use Rattle.vm_facts.specs.declared.page.PageState.TheVariants.{Unfilled, Valid, Invalid, Coming, Going, OnSwap}
 use Rattle.vm_facts.specs.declared.entry.Entry.{Entry}
@@ -281,8 +281,7 @@ record IsClean (p : Placement) (w : Page) (f : ℕ) : Type 0 where
 
 pub written_clean : (v : Page) → is_dirty_by v (written_mark v) ≡ false
 written_clean (Data sid v) = refl
-written_clean (Stack sid v) = refl
-written_clean (Text image v) = refl
+written_clean _ = refl
 
 land_other : (p : Placement) (e : Errand) (x : Part) (rest : List Transfer) (w : Page) → w ≢ x.page → slot_of (land p e x rest) w ≡ slot_of p w
 land_other p Writes x rest w n = put_other p x.page (Invalid x.frame) (written_mark x.page) w n
@@ -398,13 +397,4 @@ entry_held locked at p entries.Done w f o c u = elim (done_held p w f o u) [
 ]
 entry_held locked at p (entries.SwapOut pid) w f o c u = inl (record { dirty = u.dirty; held = u.held })
 entry_held locked at p (entries.SwapIn pid) w f o c u = inl (record { dirty = u.dirty; held = u.held })
-entry_held locked at p (entries.Event line) w f o c u = inl u
-entry_held locked at p (entries.Turn pid) w f o c u = inl u
-entry_held locked at p (entries.Ran pid n) w f o c u = inl u
-entry_held locked at p (entries.Out pid bytes) w f o c u = inl u
-entry_held locked at p (entries.Grew pid pages) w f o c u = inl u
-entry_held locked at p (entries.Call pid number carry r0 r1) w f o c u = inl u
-entry_held locked at p (entries.Refused pid) w f o c u = inl u
-entry_held locked at p (entries.Sleeps pid) w f o c u = inl u
-entry_held locked at p (entries.Ended pid status) w f o c u = inl u
-entry_held locked at p (entries.Owners free used moving held) w f o c u = inl u
+entry_held locked at p _ w f o c u = inl u

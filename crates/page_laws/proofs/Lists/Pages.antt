@@ -30,12 +30,9 @@ pub page_cases : (q r : Page) → (q ≡ r) ⊎ (q ≢ r)
 page_cases (Data a v) (Data b w) = both_cases Data (λ k x. refl) (λ k x. refl) a b v w
 page_cases (Stack a v) (Stack b w) = both_cases Stack (λ k x. refl) (λ k x. refl) a b v w
 page_cases (Text a v) (Text b w) = both_cases Text (λ k x. refl) (λ k x. refl) a b v w
-page_cases (Data a v) (Stack b w) = inr (λ h. absurd cc)
-page_cases (Data a v) (Text b w) = inr (λ h. absurd cc)
-page_cases (Stack a v) (Data b w) = inr (λ h. absurd cc)
-page_cases (Stack a v) (Text b w) = inr (λ h. absurd cc)
-page_cases (Text a v) (Data b w) = inr (λ h. absurd cc)
-page_cases (Text a v) (Stack b w) = inr (λ h. absurd cc)
+page_cases _ (Text b w) = inr (λ h. absurd cc)
+page_cases _ (Data b w) = inr (λ h. absurd cc)
+page_cases _ (Stack b w) = inr (λ h. absurd cc)
 
 -- Slots of a segment.
 
@@ -164,8 +161,7 @@ put_at_text p image v s m (Text t w) = elim (cases_eq t image) [
   )
   | inr n ↦ inl (ap text_in (changed_other image_number image t (with_text v s m) (λ x. refl) n p.texts))
 ]
-put_at_text p image v s m (Data t w) = inl refl
-put_at_text p image v s m (Stack t w) = inl refl
+put_at_text p image v s m _ = inl refl
 
 pub put_at : (p : Placement) (q : Page) (s : PageState) (m : Bool) (r : Page) → PutAt (slots_of (put p q s m) r) (slots_of p r) q r s m
 put_at p (Data sid v) s m r = put_at_data p sid v s m r
@@ -174,8 +170,7 @@ put_at p (Text image v) s m r = put_at_text p image v s m r
 
 pub beside_self : (q : Page) → beside q (number_of q) ≡ q
 beside_self (Data a v) = refl
-beside_self (Stack a v) = refl
-beside_self (Text a v) = refl
+beside_self _ = refl
 
 slots_put : (p : Placement) (q : Page) (s : PageState) (m : Bool) → slots_of (put p q s m) q ≡ change_slot (slots_of p q) (number_of q) s m
 slots_put p (Data sid v) s m = ap data_in (changed_same space_number sid (with_data v s m) (λ x. refl) p.spaces) ∙ data_with_data v s m (numbered space_number sid p.spaces)

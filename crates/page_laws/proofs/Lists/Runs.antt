@@ -3,7 +3,7 @@ use Rattle.std.proofs.Common.{◌≡◌, ◌≢◌, ◌⊎◌, inl, inr, ℕ, ze
 use Rattle.std.proofs.lemmas.Bool.{cases_eq}
 use Rattle.page_laws.proofs.Lists.Pages.{beside_self}
 use Rattle.vm_facts.specs.declared.page.Page.{Page}
-use Rattle.vm_facts.specs.declared.page.Page.TheVariants.{Data, Stack, Text}
+use Rattle.vm_facts.specs.declared.page.Page.TheVariants.{Data}
 use Rattle.flat_state.specs.PageNames.{number_of, beside, pages_from}
 use Rattle.page_model.specs.Runs.{Run, pages_of_run, passing_above, passing_below, run_both, run_up, run_alone}
 use Rattle.page_model.specs.Conditions.{EachPage, AllApart}
@@ -26,8 +26,7 @@ pages_from_each P q lo (suc n) h = (h lo (omega arith) (omega arith), pages_from
 
 pub number_beside : (q : Page) (w : ℕ) → number_of (beside q w) ≡ w
 number_beside (Data sid v) w = refl
-number_beside (Stack sid v) w = refl
-number_beside (Text image v) w = refl
+number_beside _ w = refl
 
 pub pages_from_apart : (q : Page) (lo n : ℕ) → AllApart (pages_from q lo n)
 pages_from_apart q lo zero = tt

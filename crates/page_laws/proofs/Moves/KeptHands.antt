@@ -52,13 +52,4 @@ entry_keep locked at p (entries.Put q n) o = steady_keep p (put_step p q (pages_
 entry_keep locked at p entries.Done o = keeps_same p (done p) (done_hands p)
 entry_keep locked at p (entries.SwapOut pid) o = keeps_same p (place_entry locked at p (entries.SwapOut pid)) (record { front = refl; back = refl; frames = refl })
 entry_keep locked at p (entries.SwapIn pid) o = keeps_same p (place_entry locked at p (entries.SwapIn pid)) (record { front = refl; back = refl; frames = refl })
-entry_keep locked at p (entries.Event line) o = keep_self p
-entry_keep locked at p (entries.Turn pid) o = keep_self p
-entry_keep locked at p (entries.Ran pid n) o = keep_self p
-entry_keep locked at p (entries.Out pid bytes) o = keep_self p
-entry_keep locked at p (entries.Grew pid pages) o = keep_self p
-entry_keep locked at p (entries.Call pid number carry r0 r1) o = keep_self p
-entry_keep locked at p (entries.Refused pid) o = keep_self p
-entry_keep locked at p (entries.Sleeps pid) o = keep_self p
-entry_keep locked at p (entries.Ended pid status) o = keep_self p
-entry_keep locked at p (entries.Owners x y m h) o = keep_self p
+entry_keep locked at p _ o = keep_self p

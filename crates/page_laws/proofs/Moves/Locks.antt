@@ -42,12 +42,8 @@ put_invalid : (p : Placement) (v : Page) (s : PageState) (m : Bool) (locked : Li
 put_invalid p v s m locked e = put_spares p v s m locked (λ i. not_valid (state_of p v) e)
 
 frameless_not : (s : PageState) → frame_of s ≡ None → is_valid s ≡ false
-frameless_not Unfilled e = refl
 frameless_not (Valid f) e = none_some f (sym e)
-frameless_not (Invalid f) e = refl
-frameless_not (Coming f) e = refl
-frameless_not (Going f) e = refl
-frameless_not OnSwap e = refl
+frameless_not _ e = refl
 
 -- Taking a frame.
 
@@ -154,12 +150,8 @@ launch_all_spares (v ∷ qs) p locked n a = spares_both p (launch p v) (launch_a
     (launch_all_spares qs (launch p v) locked (each_page_both (λ q. is_valid (state_of p q) ≡ false) (λ r. r ≢ v) (λ q. is_valid (state_of (launch p v) q) ≡ false) qs n.1 a.0 (λ w e d. ap is_valid (launch_still p v w d) ∙ e)) a.1)
 
 idle_not : (p : Placement) (s : PageState) → is_idle_by p s ≡ true → is_valid s ≡ false
-idle_not p Unfilled e = refl
 idle_not p (Valid f) e = absurd cc
-idle_not p (Invalid f) e = refl
-idle_not p (Coming f) e = refl
-idle_not p (Going f) e = refl
-idle_not p OnSwap e = refl
+idle_not p _ e = refl
 
 pub sweep_spares : (p : Placement) (locked : List Page) → Spares p (sweep p locked) locked
 sweep_spares p locked = go (page_of p p.back)

@@ -170,18 +170,7 @@ entry_parts locked at p (entries.Reclaim q) o c b h = reclaim_parts p q h
 entry_parts locked at p (entries.Hands n) o c b h = moves_parts n p locked o h
 entry_parts locked at p (entries.Put q n) o c b h = put_parts p q n b c.1 h
 entry_parts locked at p entries.Done o c b h = done_parts p h
-entry_parts locked at p (entries.SwapOut pid) o c b h = h
-entry_parts locked at p (entries.SwapIn pid) o c b h = h
-entry_parts locked at p (entries.Event line) o c b h = h
-entry_parts locked at p (entries.Turn pid) o c b h = h
-entry_parts locked at p (entries.Ran pid n) o c b h = h
-entry_parts locked at p (entries.Out pid bytes) o c b h = h
-entry_parts locked at p (entries.Grew pid pages) o c b h = h
-entry_parts locked at p (entries.Call pid number carry r0 r1) o c b h = h
-entry_parts locked at p (entries.Refused pid) o c b h = h
-entry_parts locked at p (entries.Sleeps pid) o c b h = h
-entry_parts locked at p (entries.Ended pid status) o c b h = h
-entry_parts locked at p (entries.Owners x y m k) o c b h = h
+entry_parts locked at p _ o c b h = h
 
 force_parts : (p : Placement) (locked : List Page) → OwnsFrames p → HaveParts p.transfers → HaveParts (force p locked).transfers
 force_parts p locked o h = go p.transfers
@@ -192,23 +181,11 @@ force_parts p locked o h = go p.transfers
 
 pub run_some : (p : Placement) (q : Page) (s : PageState) (spare : ℕ) → 0 < (run_in_by p q s spare).n
 run_some p (Text image v) OnSwap spare = omega arith
-run_some p (Text image v) Unfilled spare = omega arith
-run_some p (Text image v) (Valid f) spare = omega arith
-run_some p (Text image v) (Invalid f) spare = omega arith
-run_some p (Text image v) (Coming f) spare = omega arith
-run_some p (Text image v) (Going f) spare = omega arith
+run_some p (Text image v) _ spare = omega arith
 run_some p (Data sid v) OnSwap spare = omega arith
-run_some p (Data sid v) Unfilled spare = omega arith
-run_some p (Data sid v) (Valid f) spare = omega arith
-run_some p (Data sid v) (Invalid f) spare = omega arith
-run_some p (Data sid v) (Coming f) spare = omega arith
-run_some p (Data sid v) (Going f) spare = omega arith
+run_some p (Data sid v) _ spare = omega arith
 run_some p (Stack sid v) OnSwap spare = omega arith
-run_some p (Stack sid v) Unfilled spare = omega arith
-run_some p (Stack sid v) (Valid f) spare = omega arith
-run_some p (Stack sid v) (Invalid f) spare = omega arith
-run_some p (Stack sid v) (Coming f) spare = omega arith
-run_some p (Stack sid v) (Going f) spare = omega arith
+run_some p (Stack sid v) _ spare = omega arith
 
 pub serve_parts : (p : Placement) (locked : List Page) (q : Page) → OwnsFrames p → HaveParts p.transfers → HaveParts (serve_step p locked q).transfers
 serve_parts p locked q o h = go (state_of p q)

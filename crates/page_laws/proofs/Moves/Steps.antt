@@ -30,7 +30,7 @@ page_in p v f e = elim (le_or (number_of v) (length (slots_of p v))) [
     le_or : (a b : ℕ) → (a < b) ⊎ (b ≤ a)
     le_or a b = grind arith
 
-frame_there : (xs : List (Option Page)) (f : ℕ) (v : Page) → at_frame xs f None ≡ Some v → (0 < f) × (f ≤ length xs)
+pub frame_there : (xs : List (Option Page)) (f : ℕ) (v : Page) → at_frame xs f None ≡ Some v → (0 < f) × (f ≤ length xs)
 frame_there xs zero v e = none_some v e
 frame_there xs (suc n) v e = elim (le_or n (length xs)) [
   | inl l ↦ (omega arith, omega arith)
@@ -77,12 +77,9 @@ frame_of_moving Writes f = refl
 frame_of_moving (Reads source demanded) f = refl
 
 pub frameless_rest : (s : PageState) → frame_of s ≡ None → AtRest s
-frameless_rest Unfilled e = tt
-frameless_rest (Valid f) e = tt
-frameless_rest (Invalid f) e = tt
 frameless_rest (Coming f) e = none_some f (sym e)
 frameless_rest (Going f) e = none_some f (sym e)
-frameless_rest OnSwap e = tt
+frameless_rest _ e = tt
 
 -- transfers keep where a page changes that none has
 pub moves_kept : (p q : Placement) (v : Page) (ms : List Moving) → AtRest (state_of p v) → ((w : Page) → w ≢ v → state_of q w ≡ state_of p w)
@@ -297,17 +294,15 @@ drop_local p v f o e = record {
 }
 
 pub not_flying : (n k : ℕ) (s : PageState) (f : ℕ) → AtRest s → frame_of s ≡ Some f → n + k + seats n s ≡ 1 → k ≡ 0
-not_flying n k Unfilled f r e h = none_some f e
 not_flying n k (Valid g) f r e h = omega arith
 not_flying n k (Invalid g) f r e h = omega arith
 not_flying n k (Coming g) f r e h = absurd r
 not_flying n k (Going g) f r e h = absurd r
-not_flying n k OnSwap f r e h = none_some f e
+not_flying n k _ f r e h = none_some f e
 
 pub marked_false : (v : Page) → is_marked_dirty v false ≡ false
 marked_false (Data sid n) = refl
-marked_false (Stack sid n) = refl
-marked_false (Text image n) = refl
+marked_false _ = refl
 
 drop_here : (p : Placement) (v : Page) (f : ℕ) → OwnsFrames p → AtRest (state_of p v) → frame_of (state_of p v) ≡ Some f → Here (drop_at p v (Some f)) v f
 drop_here p v f o r e = record {

@@ -145,18 +145,7 @@ entry_count locked at p (entries.Reclaim q) = let k = reclaim_count p q in omega
 entry_count locked at p (entries.Hands n) = moves_count n p locked
 entry_count locked at p (entries.Put q n) = put_count p q (pages_from q (number_of q) n)
 entry_count locked at p entries.Done = let k = done_count p in omega arith
-entry_count locked at p (entries.SwapOut pid) = omega arith
-entry_count locked at p (entries.SwapIn pid) = omega arith
-entry_count locked at p (entries.Event line) = omega arith
-entry_count locked at p (entries.Turn pid) = omega arith
-entry_count locked at p (entries.Ran pid n) = omega arith
-entry_count locked at p (entries.Out pid bytes) = omega arith
-entry_count locked at p (entries.Grew pid pages) = omega arith
-entry_count locked at p (entries.Call pid number carry r0 r1) = omega arith
-entry_count locked at p (entries.Refused pid) = omega arith
-entry_count locked at p (entries.Sleeps pid) = omega arith
-entry_count locked at p (entries.Ended pid status) = omega arith
-entry_count locked at p (entries.Owners x y m h) = omega arith
+entry_count locked at p _ = omega arith
 
 -- Forcing begins a transfer only where none is in flight.
 pub force_few : (p : Placement) (locked : List Page) → length p.transfers ≤ most_in_flight → length (force p locked).transfers ≤ most_in_flight

@@ -6,7 +6,7 @@ use Rattle.vm_facts.specs.declared.entry.Entry.{Entry}
 use Rattle.vm_facts.specs.declared.entry.Entry.TheVariants as entries
 use Rattle.flat_state.specs.Flat.{FlatState, process_of}
 use Rattle.flat_state.specs.declared.change.Change.{Change}
-use Rattle.flat_state.specs.declared.change.Change.TheVariants.{Keep, Resize, Fork, Lend, Exec, Reap, Sleep, End}
+use Rattle.flat_state.specs.declared.change.Change.TheVariants.{Resize, Fork, Lend, Exec, End}
 use Rattle.flat_state.specs.PageNames.{number_of, pages_from}
 use Rattle.page_model.specs.Placement.{Placement, state_of}
 use Rattle.page_model.specs.Moves.{fill, touch_all}
@@ -35,16 +35,7 @@ place_entry_owner locked at p (entries.Put q n) o c = put_step_owner p q (pages_
 place_entry_owner locked at p entries.Done o c = done_owner p o
 place_entry_owner locked at p (entries.SwapOut pid) o c = alike_owner p (moved p pid true at) o refl refl refl (λ w. (refl, refl))
 place_entry_owner locked at p (entries.SwapIn pid) o c = alike_owner p (moved p pid false at) o refl refl refl (λ w. (refl, refl))
-place_entry_owner locked at p (entries.Event line) o c = o
-place_entry_owner locked at p (entries.Turn pid) o c = o
-place_entry_owner locked at p (entries.Ran pid n) o c = o
-place_entry_owner locked at p (entries.Out pid bytes) o c = o
-place_entry_owner locked at p (entries.Grew pid pages) o c = o
-place_entry_owner locked at p (entries.Call pid number carry r0 r1) o c = o
-place_entry_owner locked at p (entries.Refused pid) o c = o
-place_entry_owner locked at p (entries.Sleeps pid) o c = o
-place_entry_owner locked at p (entries.Ended pid status) o c = o
-place_entry_owner locked at p (entries.Owners a b m h) o c = o
+place_entry_owner locked at p _ o c = o
 
 -- all pages of a settled space rest
 pub settled_from : (p : Placement) (sid : ℕ) → IsSettled p sid → (d dn s sn : ℕ) → AllAtRest p (data_from sid d dn ++ stack_from sid s sn)
@@ -80,16 +71,14 @@ enter_settled p next_sid image sid (Some facts) o n k = record {
 pub place_change_owner : (images : List Image) (p : Placement) (pid sid : ℕ) (borrowed : Bool) (next_sid at : ℕ) (change : Change) → OwnsFrames p
     → CanChange p sid borrowed next_sid change
     → OwnsFrames (place_change images p pid sid borrowed next_sid at change)
-place_change_owner images p pid sid borrowed next_sid at Keep o c = o
 place_change_owner images p pid sid borrowed next_sid at (Resize d s) o c = resize_owner p sid d s o (lost_from p sid d s c)
 place_change_owner images p pid sid borrowed next_sid at (Fork child) o c = begin_residence_owner (fork_space p sid next_sid) child at (fork_owner p sid next_sid o c)
 place_change_owner images p pid sid borrowed next_sid at (Lend child) o c = begin_residence_owner p child at o
 place_change_owner images p pid sid borrowed next_sid at (Exec image top) o c =
     give_up_unless_owner borrowed (enter_image p next_sid image (facts_numbered images image)) sid (enter_image_owner p next_sid image (facts_numbered images image) o c.0)
     (λ e. enter_settled p next_sid image sid (facts_numbered images image) o c.0 (c.1 e))
-place_change_owner images p pid sid borrowed next_sid at (Reap child) o c = o
-place_change_owner images p pid sid borrowed next_sid at Sleep o c = o
 place_change_owner images p pid sid borrowed next_sid at (End status) o c = end_residence_owner (give_up_unless borrowed p sid) pid (give_up_unless_owner borrowed p sid o c)
+place_change_owner images p pid sid borrowed next_sid at _ o c = o
 
 pub place_step_owner : (images : List Image) (flat : FlatState) (pid at : ℕ) (written : List Page) (change : Change) (p : Placement) → OwnsFrames p
     → CanChange (touch_all p written) (space_of_process (process_of flat pid)) (is_borrower flat.processes pid) flat.next_sid change

@@ -174,7 +174,7 @@ expire_owner p locked o = go (page_of p p.front)
     go None = o
     go (Some v) = at v (Rattle.flat_state.specs.PageNames.is_among v locked)
 
-seated_frame : (p : Placement) (v : Page) (f : ℕ) → IsSeated p v f → frame_of (state_of p v) ≡ Some f
+pub seated_frame : (p : Placement) (v : Page) (f : ℕ) → IsSeated p v f → frame_of (state_of p v) ≡ Some f
 seated_frame p v f c = elim c.state [
   | inl e ↦ ap frame_of e
   | inr e ↦ ap frame_of e.0

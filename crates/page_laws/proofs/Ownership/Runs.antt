@@ -2,7 +2,7 @@
 use Rattle.std.proofs.Common.{◌≡◌, ◌≢◌, inl, inr, ℕ, ◌+◌, ◌==◌, Bool, true, false, List, [], ◌∷◌, ◌++◌, Some, refl, sym, ap, ◌∙◌, subst, arith}
 use Rattle.std.proofs.lemmas.Bool.Decides.{nat_tests}
 use Rattle.vm_facts.specs.declared.page.Page.{Page}
-use Rattle.vm_facts.specs.declared.page.Page.TheVariants.{Data, Stack, Text}
+use Rattle.vm_facts.specs.declared.page.Page.TheVariants.{Data, Text}
 use Rattle.vm_facts.specs.declared.page.PageState.{PageState}
 use Rattle.vm_facts.specs.declared.page.PageState.TheVariants.{Unfilled, Valid, Invalid, Coming, Going, OnSwap}
 use Rattle.page_model.specs.Pages.{Slot, frame_of, written_mark, is_dirty_by}
@@ -139,9 +139,8 @@ seated_seat p v e = go (state_of p v) refl e
     go OnSwap h k = absurd cc
 
 pub clean_unmarked : (v : Page) (m : Bool) → is_dirty_by v m ≡ false → is_marked_dirty v m ≡ false
-clean_unmarked (Data sid n) m e = e
-clean_unmarked (Stack sid n) m e = e
 clean_unmarked (Text image n) m e = refl
+clean_unmarked _ m e = e
 
 -- `Put`
 pub put_step_owner : (p : Placement) (v : Page) (qs : List Page) → OwnsFrames p → HasSeat p v → EachPage (HasSeat p) qs → AllApart qs
@@ -217,8 +216,7 @@ valid_turns p e x rest m o l = record {
 
 pub written_clean : (v : Page) → is_marked_dirty v (written_mark v) ≡ false
 written_clean (Data sid n) = refl
-written_clean (Stack sid n) = refl
-written_clean (Text image n) = refl
+written_clean _ = refl
 
 -- a page that is being read isn't dirty
 pub coming_clean : (p : Placement) (v : Page) (f : ℕ) → OwnsFrames p → state_of p v ≡ Coming f → is_marked_dirty v (mark_of p v) ≡ false

@@ -40,19 +40,11 @@ on_swap_enters p q e = record { there = state_there p q (λ h. let k : OnSwap �
 
 pub on_swap_is : (s : PageState) → is_on_swap s ≡ true → s ≡ OnSwap
 on_swap_is OnSwap e = refl
-on_swap_is Unfilled e = absurd cc
-on_swap_is (Valid f) e = absurd cc
-on_swap_is (Invalid f) e = absurd cc
-on_swap_is (Coming f) e = absurd cc
-on_swap_is (Going f) e = absurd cc
+on_swap_is _ e = absurd cc
 
 pub unfilled_is : (s : PageState) → is_unfilled s ≡ true → s ≡ Unfilled
 unfilled_is Unfilled e = refl
-unfilled_is OnSwap e = absurd cc
-unfilled_is (Valid f) e = absurd cc
-unfilled_is (Invalid f) e = absurd cc
-unfilled_is (Coming f) e = absurd cc
-unfilled_is (Going f) e = absurd cc
+unfilled_is _ e = absurd cc
 
 swap_enters : (p : Placement) (q : Page) (w : ℕ) → comes_from_swap p q w ≡ true → CanEnter p (beside q w)
 swap_enters p q w e = on_swap_enters p (beside q w) (on_swap_is (state_of p (beside q w)) (and_parts (is_on_swap (state_of p (beside q w))) (is_near q w) e).0)

@@ -115,8 +115,7 @@ file_in p image v e = subst (λ (s : PageState). IsLongestRun (IsUnfilledBeside 
 
 pub alone_in : (p : Placement) (q : Page) → IsWritable q → state_of p q ≡ Unfilled → run_in p q ≡ run_alone q
 alone_in p (Text image v) w e = absurd w
-alone_in p (Data sid v) w e = ap (λ (s : PageState). run_in_by p (Data sid v) s (spare_frames p)) e
-alone_in p (Stack sid v) w e = ap (λ (s : PageState). run_in_by p (Stack sid v) s (spare_frames p)) e
+alone_in p x w e = ap (λ (s : PageState). run_in_by p x s (spare_frames p)) e
 
 pub widest_out : (p : Placement) (locked : List Page) (q : Page) → IsWidestRun (IsIdleBeside p locked q) (λ n. n ≤ 16) (number_of q) (run_out p locked q)
 widest_out p locked q = widest (λ w. goes_along p locked (beside q w) && is_near q w) (IsIdleBeside p locked q) (λ n. n ≤ 16) (number_of q) 16 (omega arith)

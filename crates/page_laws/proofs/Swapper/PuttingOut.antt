@@ -56,12 +56,10 @@ still_zero : (a b : ℕ) → a ≤ b → (b == 0) ≡ true → (a == 0) ≡ true
 still_zero a b l e = grind (arith, nat_tests)
 
 active_less : (p q : Placement) → Frees p q.free → (s : PageState) → is_active_by q s ≡ true → is_active_by p s ≡ true
-active_less p q l Unfilled e = e
 active_less p q l (Valid f) e = refl
 active_less p q l (Invalid f) e = still_zero (times f p.free) (times f q.free) (l f) e
 active_less p q l (Coming f) e = refl
-active_less p q l (Going f) e = e
-active_less p q l OnSwap e = e
+active_less p q l _ e = e
 
 -- where a page is active after it was put into a state, that is an active state
 put_active : (p : Placement) (v : Page) (s : PageState) (m : Bool) (free : List ℕ) (ts : List Transfer) → is_active (turn p v s m free ts) v ≡ true
@@ -224,12 +222,8 @@ count_le p q (v ∷ qs) c = go (is_active q v) (is_active p v) (c v) (count_le p
     go false false h l = omega arith
 
 seated_active : (p : Placement) (s : PageState) → is_seated_by p s ≡ true → is_active_by p s ≡ true
-seated_active p Unfilled e = e
-seated_active p (Valid f) e = e
-seated_active p (Invalid f) e = e
 seated_active p (Coming f) e = refl
-seated_active p (Going f) e = e
-seated_active p OnSwap e = e
+seated_active p _ e = e
 
 pub seated_first : (p : Placement) (qs : List Page) (v : Page) → first_seated p qs ≡ Some v → is_seated p v ≡ true
 seated_first p [] v e = none_some v e
@@ -416,11 +410,7 @@ unit_few locked at p pid sid l = unit_case (λ (u : Entry). length (place_entry 
 
 seated_same : (p : Placement) (rs : List Residence) (s : PageState) → is_seated_by (record p { residents = rs }) s ≡ is_seated_by p s
 seated_same p rs Unfilled = refl
-seated_same p rs (Valid f) = refl
-seated_same p rs (Invalid f) = refl
-seated_same p rs (Coming f) = refl
-seated_same p rs (Going f) = refl
-seated_same p rs OnSwap = refl
+seated_same p rs _ = refl
 
 first_same : (p : Placement) (rs : List Residence) (qs : List Page) → first_seated (record p { residents = rs }) qs ≡ first_seated p qs
 first_same p rs [] = refl

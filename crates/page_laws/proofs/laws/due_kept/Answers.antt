@@ -3,26 +3,14 @@ use Rattle.page_laws.proofs.Due.Spaces.{fork_due, enter_due}
 use Rattle.page_laws.proofs.Due.Changes.{touch_due, change_due}
 use Rattle.page_laws.proofs.laws.due_kept.Goals as goal
 
-pub returns-clause-entry : goal.returns-clause-entry
-returns-clause-entry c = entry_due
-
-pub returns-clause-force : goal.returns-clause-force
-returns-clause-force c = force_due
-
-pub returns-clause-serve : goal.returns-clause-serve
-returns-clause-serve c = serve_due
-
-pub returns-clause-start : goal.returns-clause-start
-returns-clause-start c = start_due
-
-pub returns-clause-fork : goal.returns-clause-fork
-returns-clause-fork c = fork_due
-
-pub returns-clause-enter : goal.returns-clause-enter
-returns-clause-enter c = enter_due
-
-pub returns-clause-write : goal.returns-clause-write
-returns-clause-write c = touch_due
-
-pub returns-clause-changes : goal.returns-clause-changes
-returns-clause-changes c = change_due
+pub returns : goal.returns
+returns c = record {
+  entry = entry_due;
+  force = force_due;
+  serve = serve_due;
+  start = start_due;
+  fork = fork_due;
+  enter = enter_due;
+  write = touch_due;
+  changes = change_due;
+}
