@@ -28,7 +28,7 @@ or_else_twice : {A : Type 0} (a b c : Option A) → or_else a (or_else b c) ≡ 
 or_else_twice (Some x) b c = refl
 or_else_twice None b c = refl
 
-or_else_none : {A : Type 0} (o : Option A) → or_else o None ≡ o
+pub or_else_none : {A : Type 0} (o : Option A) → or_else o None ≡ o
 or_else_none (Some x) = refl
 or_else_none None = refl
 

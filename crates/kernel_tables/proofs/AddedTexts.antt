@@ -51,13 +51,6 @@ some_from f (x ∷ xs) a (suc n) l = some_from f xs (a + 1) n (omega arith)
 pub some_next : {A : Type 0} (f : ℕ → A) (xs : List A) (n : ℕ) → n < length xs → IsSome (slice_get (so_far f xs n) n)
 some_next f xs n l = some_from f xs 0 n l
 
-all_from : {A : Type 0} (f : ℕ → A) (xs : List A) (a : ℕ) → map f (range_with_len a (length xs)) ++ drop (length xs) xs ≡ map f (range_with_len a (length xs))
-all_from f [] a = refl
-all_from {A = A} f (x ∷ xs) a = ap (λ (ys : List A). f a ∷ ys) (all_from f xs (a + 1))
-
-pub all_done : {A : Type 0} (f : ℕ → A) (xs : List A) (n : ℕ) → n ≡ length xs → so_far f xs n ≡ map f (range_with_len 0 n)
-all_done f xs n e = subst (λ (k : ℕ). so_far f xs k ≡ map f (range_with_len 0 k)) (sym e) (all_from f xs 0)
-
 -- a page of a new space's text, of which those before it have their places
 pub some_placed : (s n : Places) (f : ℕ → Place) (image v : ℕ) → n ≡ record s { text = so_far f s.text v } → image ≡ s.image → v < length s.text
     → IsSome (place_in n (Text image v))

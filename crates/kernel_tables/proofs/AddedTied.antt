@@ -208,10 +208,9 @@ added_shared t s fills tied new i v l m =
 -- The marks of frames.
 
 fresh_changed : (pages v : ℕ) (x : Place) → IsFresh pages v x → changed_named (Some x) ≡ false
-fresh_changed pages v places.Zero h = refl
-fresh_changed pages v (places.Image w) h = refl
 fresh_changed pages v places.Swap h = absurd h
 fresh_changed pages v (places.Frame f valid changed) h = absurd h
+fresh_changed pages v _ h = refl
 
 changed_still : (o n : Option Place) → changed_named n ≡ false → changed_named (or_else o n) ≡ changed_named o
 changed_still (Some x) n e = refl
@@ -272,10 +271,9 @@ added_tied t s fills tied table new whole once =
 
 fresh_blank : (slots : List Token) (pages v : ℕ) (x : Place) → IsFresh pages v x
     → (let y : Slot = slot_shown slots x in (y.state ≡ Rattle.vm_facts.specs.declared.page.PageState.TheVariants.Unfilled) × (y.mark ≡ false))
-fresh_blank slots pages v places.Zero h = (refl, refl)
-fresh_blank slots pages v (places.Image w) h = (refl, refl)
 fresh_blank slots pages v places.Swap h = absurd h
 fresh_blank slots pages v (places.Frame f valid changed) h = absurd h
+fresh_blank slots pages v _ h = (refl, refl)
 
 all_fresh : (slots : List Token) (pages : ℕ) (n : ℕ) (xs : List Place) → ((v : ℕ) (x : Place) → slice_get xs v ≡ Some x → IsFresh pages (n + v) x)
     → AllBlank (map (slot_shown slots) xs)
@@ -297,10 +295,6 @@ pub new_stack_blank : (t : Lists) (s : Places) → IsNewSpace t s → AllBlank (
 new_stack_blank t s new = zeros_blank t.slots s.stack new.fresh_stack
 
 -- Numbers.
-
-pub below_absent_in : (n : ℕ) (ns : List ℕ) → AllBelow n ns → IsAbsent n ns
-below_absent_in n [] h = tt
-below_absent_in n (m ∷ ns) h = ((λ e. absurd (let l = h.0 in omega (arith, e))), below_absent_in n ns h.1)
 
 absent_last : (m n : ℕ) (ns : List ℕ) → IsAbsent m ns → n ≢ m → IsAbsent m (ns ++ n ∷ [])
 absent_last m n [] h d = (d, tt)

@@ -1,5 +1,5 @@
 -- A page takes its place with one frame.
-use Rattle.std.proofs.Common.{◌≡◌, ◌≢◌, inl, inr, ℕ, zero, suc, ◌<◌, ◌≤◌, List, [], ◌∷◌, length, map, Option, Some, None, IsSome, slice_get, refl, sym, ap, ◌∙◌, subst, arith}
+use Rattle.std.proofs.Common.{◌≡◌, ◌≢◌, inl, inr, ℕ, zero, suc, ◌<◌, ◌≤◌, List, [], ◌∷◌, length, map, Option, Some, IsSome, slice_get, refl, sym, ap, ◌∙◌, subst, arith}
 use Rattle.std.proofs.lemmas.Bool.{cases_eq}
 use Rattle.vm_facts.specs.declared.page.Page.{Page}
 use Rattle.vm_facts.specs.declared.page.Page.TheVariants.{Data, Stack, Text}
@@ -17,12 +17,12 @@ use Rattle.kernel_tables.specs.Rising.{sids_of}
 use Rattle.kernel_tables.specs.View.{Lists, pages_in, text_place_by, placement_of}
 use Rattle.kernel_tables.proofs.Entries.{data_hit, data_miss, stack_hit, stack_miss, entry_same, entry_other, placed_heads}
 use Rattle.kernel_tables.proofs.Shows.{slot_or, data_shown, stack_shown, hit, miss, length_map, Moved, text_at, text_within, head_sids}
+use Rattle.kernel_laws.proofs.Machine.Done.{some_of}
 
 -- what a place shows of a page
 abbrev pub page_shown : Lists → Page → Place → Slot
-page_shown t (Data n v) place = slot_shown t.slots place
-page_shown t (Stack n v) place = slot_shown t.slots place
 page_shown t (Text i v) place = text_shown t.slots (is_saved (text_of t.texts i) v) place
+page_shown t _ place = slot_shown t.slots place
 
 -- the page, and beside it at most the frame's token, is all that changes
 pub record Arrives (t u : Lists) (q : Page) (f : ℕ) (place : Place) : Type 0 where
@@ -48,10 +48,6 @@ arrives_moved t u q f place a = record {
   facts = a.facts;
 }
 
-some_of : {A : Type 0} (o : Option A) → IsSome o → (x : A) × (o ≡ Some x)
-some_of None h = absurd cc
-some_of (Some x) h = (x, refl)
-
 pub arrived : (t u : Lists) (q : Page) (f : ℕ) (place : Place) → Arrives t u q f place → slot_of (placement_of u) q ≡ page_shown u q place
 arrived t u q f place a = go q a.there (some_of (entry_in t.spaces q) a.entry).0 (some_of (entry_in t.spaces q) a.entry).1 a.spaces
   where
@@ -66,7 +62,7 @@ arrived t u q f place a = go q a.there (some_of (entry_in t.spaces q) a.entry).0
         ∙ ap (λ (o : Option Place). text_shown u.slots (is_saved (text_of u.texts i) v) (text_place_by o u.slots (Text i v) v)) (ap (λ (ss : List Places). entry_in ss (Text i v)) s ∙ entry_same t.spaces (Text i v) place was e)
 
 -- a data or stack page that is there has an entry
-get_within : {A : Type 0} (xs : List A) (v : ℕ) → v < length xs → (x : A) × (slice_get xs v ≡ Some x)
+pub get_within : {A : Type 0} (xs : List A) (v : ℕ) → v < length xs → (x : A) × (slice_get xs v ≡ Some x)
 get_within [] v l = absurd (omega arith)
 get_within (x ∷ xs) zero l = (x, refl)
 get_within (x ∷ xs) (suc v) l = get_within xs v (omega arith)

@@ -67,16 +67,13 @@ come_arrives t page rest token q ts known k sh there = record {
 come_shown : (t n : Lists) (q : Page) (f : ℕ) → Known t → n.texts ≡ t.texts → slot_at n.slots f ≡ tokens.Away → IsThere (placement_of t) q
     → frame_of (state_of (placement_of t) q) ≡ None
     → page_shown n q (places.Frame f false false) ≡ record { state = Coming f; mark = mark_of (placement_of t) q; filling = Zeros }
-come_shown t n (Data sid v) f k e a there fr =
-    ap (λ (s : Token). let z : Slot = record { state = idle_state f (is_away s) false; mark = false; filling = Zeros } in z) a
-    ∙ ap (λ (b : Bool). let z : Slot = record { state = Coming f; mark = b; filling = Zeros } in z) (sym (frameless_clean (placement_of t) (Data sid v) k.owns fr))
-come_shown t n (Stack sid v) f k e a there fr =
-    ap (λ (s : Token). let z : Slot = record { state = idle_state f (is_away s) false; mark = false; filling = Zeros } in z) a
-    ∙ ap (λ (b : Bool). let z : Slot = record { state = Coming f; mark = b; filling = Zeros } in z) (sym (frameless_clean (placement_of t) (Stack sid v) k.owns fr))
 come_shown t n (Text i v) f k e a there fr =
     ap (λ (s : Token). let z : Slot = record { state = idle_state f (is_away s) false; mark = is_saved (text_of n.texts i) v; filling = Zeros } in z) a
     ∙ ap (λ (b : Bool). let z : Slot = record { state = Coming f; mark = b; filling = Zeros } in z)
     (ap (λ (x : List Rattle.text_table.specs.Texts.Text). is_saved (text_of x i) v) e ∙ sym (ap (λ (y : Slot). y.mark) (text_at t i v (text_within t i v there))))
+come_shown t n x f k e a there fr =
+    ap (λ (s : Token). let z : Slot = record { state = idle_state f (is_away s) false; mark = false; filling = Zeros } in z) a
+    ∙ ap (λ (b : Bool). let z : Slot = record { state = Coming f; mark = b; filling = Zeros } in z) (sym (frameless_clean (placement_of t) x k.owns fr))
 
 pub come_is : (t : Lists) (page : Option Page) (rest : List ℕ) (token was : Frame) (q : Page) (e : Errand) → Known t
     → Head t token.number was page rest → IsShared (placement_of t) q → CanEnter (placement_of t) q

@@ -79,12 +79,9 @@ with_other s (Text image v) (Text t w) place was h n = elim (cases_eq t s.image)
   ]
   | inr m ↦ text_miss (with_place s (Text image v) place) t w m ∙ sym (text_miss s t w m)
 ]
-with_other s (Data sid v) (Stack t w) place was h n = refl
-with_other s (Data sid v) (Text t w) place was h n = refl
-with_other s (Stack sid v) (Data t w) place was h n = refl
-with_other s (Stack sid v) (Text t w) place was h n = refl
-with_other s (Text image v) (Data t w) place was h n = refl
-with_other s (Text image v) (Stack t w) place was h n = refl
+with_other s _ (Text t w) place was h n = refl
+with_other s _ (Data t w) place was h n = refl
+with_other s _ (Stack t w) place was h n = refl
 
 pub placed_same : (s : Places) (q : Page) (place was : Place) → place_in s q ≡ Some was → place_in (placed q place s) q ≡ Some place
 placed_same s q place was h = ap (λ (o : Option Place). place_in (placed_by o q place s) q) h ∙ with_same s q place was h

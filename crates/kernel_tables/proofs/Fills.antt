@@ -73,7 +73,7 @@ took_there t u f q k there =
     let r : EvictRest (placement_of t) (evict (placement_of t) f) = evict_rest (placement_of t) f in
     subst (λ (p : Placement). IsThere p q) (sym k.place) (let s = r.sizes q in omega arith)
 
-entry_there : (u : Lists) (q : Page) → IsWritable q → IsThere (placement_of u) q → IsSome (entry_in u.spaces q)
+pub entry_there : (u : Lists) (q : Page) → IsWritable q → IsThere (placement_of u) q → IsSome (entry_in u.spaces q)
 entry_there u (Data n v) w there = data_there u.slots u.spaces n v there
 entry_there u (Stack n v) w there = stack_there u.slots u.spaces n v there
 entry_there u (Text i v) w there = absurd w
@@ -94,9 +94,8 @@ seat_arrives t u token q dirty k w there = record {
 
 seat_shown : (u : Lists) (q : Page) (f : ℕ) (dirty : Bool) → IsWritable q
     → page_shown u q (places.Frame f true dirty) ≡ record { state = Valid f; mark = dirty; filling = Rattle.page_model.specs.Pages.Zeros }
-seat_shown u (Data n v) f dirty w = refl
-seat_shown u (Stack n v) f dirty w = refl
 seat_shown u (Text i v) f dirty w = absurd w
+seat_shown u _ f dirty w = refl
 
 -- The page is in the frame: that is `enter`.
 pub seat_is : (t u : Lists) (token : Frame) (q : Page) (dirty : Bool) → Took t u token.number → IsWritable q → IsThere (placement_of t) q

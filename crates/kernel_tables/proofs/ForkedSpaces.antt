@@ -105,26 +105,20 @@ module _ (t : Lists) (parent : ℕ) (s : Places) (known : Known t) (found : numb
 
   -- the child's entries wait for a fill, as the parent's did where they were never filled
   data_fresh : (v : ℕ) (x : Place) → slice_get s.data v ≡ Some x → IsFresh (data_pages_of s.facts) v (forked x)
-  data_fresh v places.Zero e = tt
   data_fresh v (places.Image w) e = filled.entries (Data s.sid v) w (data_hit s s.sid v refl ∙ e)
-  data_fresh v places.Swap e = tt
-  data_fresh v (places.Frame f valid changed) e = tt
+  data_fresh v _ e = tt
 
   stack_fresh : (v : ℕ) (x : Place) → slice_get s.stack v ≡ Some x → forked x ≡ places.Zero
-  stack_fresh v places.Zero e = refl
   stack_fresh v (places.Image w) e = absurd (filled.entries (Stack s.sid v) w (stack_hit s s.sid v refl ∙ e))
-  stack_fresh v places.Swap e = refl
-  stack_fresh v (places.Frame f valid changed) e = refl
+  stack_fresh v _ e = refl
 
   pub data_in_range : AreInRange s.data
-  data_in_range v places.Zero e = tt
   data_in_range v (places.Image w) e =
       let is = data_fresh v (places.Image w) e in
       let l = get_below s.data v (places.Image w) e in
       let m = few.0 in
       omega (arith, is.0)
-  data_in_range v places.Swap e = tt
-  data_in_range v (places.Frame f valid changed) e = tt
+  data_in_range v _ e = tt
 
   pub stack_in_range : AreInRange s.stack
   stack_in_range v x e = subst IsInRange (sym (stack_fresh v x e)) tt

@@ -149,12 +149,9 @@ idle_child f true false x = refl
 idle_child f true true x = refl
 
 entry_forked : (slots : List Token) (x : Place) → child_slot (slot_shown slots x) ≡ slot_shown slots (forked x)
-entry_forked slots places.Zero = refl
-entry_forked slots (places.Image w) = refl
-entry_forked slots places.Swap = refl
-entry_forked slots (places.Frame f true changed) = refl
 entry_forked slots (places.Frame f false changed) =
     idle_child f (is_away (slot_at slots f)) changed (slot_shown slots (places.Frame f false changed))
+entry_forked slots _ = refl
 
 pub entries_forked : (slots : List Token) (xs : List Place) → map (slot_shown slots) (map forked xs) ≡ map child_slot (map (slot_shown slots) xs)
 entries_forked slots [] = refl
@@ -168,11 +165,8 @@ idle_due f true false child parent = refl
 idle_due f true true child parent = refl
 
 fill_shown : (slots : List Token) (child parent : Page) (x : Place) → map due_shown (copy_fill child parent x) ≡ copy_due child parent (state_shown slots x)
-fill_shown slots child parent places.Zero = refl
-fill_shown slots child parent (places.Image w) = refl
-fill_shown slots child parent places.Swap = refl
-fill_shown slots child parent (places.Frame f true changed) = refl
 fill_shown slots child parent (places.Frame f false changed) = sym (idle_due f (is_away (slot_at slots f)) changed child parent)
+fill_shown slots child parent _ = refl
 
 fills_shown : (slots : List Token) (child parent : ℕ → Page) (v : ℕ) (xs : List Place)
     → map due_shown (copy_fills child parent v xs) ≡ copies_from child parent v (map (slot_shown slots) xs)

@@ -200,10 +200,8 @@ pub may_lives : (t : Tables) (from to : ℕ) (g b : Record) → AreRecords t.pro
 may_lives t from to g b h gave took m = subst (λ (l : Life). MayPass l (life_shown b.state) from) (life_shown_at t from g h gave) (subst (λ (l : Life). MayPass (life_at t from) l from) (life_shown_at t to b h took) m)
 
 pub giver_holds : (l : RecordLife) (taker : Life) (from : ℕ) → ((x : ℕ) → l ≡ lives.Holds x → ⊥) → MayPass (life_shown l) taker from → ⊥
-giver_holds lives.New taker from n m = m
 giver_holds (lives.Holds sid) taker from n m = n sid refl
-giver_holds (lives.Lends sid child) taker from n m = m
-giver_holds (lives.Zombie status) taker from n m = m
+giver_holds _ taker from n m = m
 
 pub taker_has : (l r : RecordLife) (sid from : ℕ) → l ≡ lives.Holds sid → ((x : ℕ) × (r ≡ lives.Holds x)) ⊎ ((x : ℕ) × (r ≡ lives.Zombie x))
     → MayPass (life_shown l) (life_shown r) from → ⊥

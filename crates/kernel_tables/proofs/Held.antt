@@ -50,10 +50,10 @@ below_length slots f n = elim (within f (length slots)) [
 
 -- In flight.
 
-flown_hit : (x : Flown) (xs : List Flown) (f : ℕ) → flown_number x ≡ f → flown_at (x ∷ xs) f ≡ Some x
+pub flown_hit : (x : Flown) (xs : List Flown) (f : ℕ) → flown_number x ≡ f → flown_at (x ∷ xs) f ≡ Some x
 flown_hit x xs f e = grind (arith, nat_tests)
 
-flown_miss : (x : Flown) (xs : List Flown) (f : ℕ) → flown_number x ≢ f → flown_at (x ∷ xs) f ≡ flown_at xs f
+pub flown_miss : (x : Flown) (xs : List Flown) (f : ℕ) → flown_number x ≢ f → flown_at (x ∷ xs) f ≡ flown_at xs f
 flown_miss x xs f n = grind (arith, nat_tests)
 
 count_hit : (n f : ℕ) (ns : List ℕ) → n ≡ f → times f (n ∷ ns) ≡ 1 + times f ns

@@ -1,8 +1,8 @@
 -- The kernel of a machine, from the calls of its tables.
-use Rattle.std.proofs.Common.{◌≡◌, ℕ, Bool, true, List, [], ◌∷◌, ◌++◌, set, refl, sym, ap, ◌∙◌, subst, Option, None, IsSome}
+use Rattle.std.proofs.Common.{◌≡◌, ℕ, Bool, true, List, [], ◌∷◌, ◌++◌, set, refl, sym, ap, ◌∙◌, subst, Option, None}
 use Rattle.std.proofs.lemmas.List.{length-set, get_or-set_other}
 use Rattle.vm_facts.specs.declared.page.Page.{Page}
-use Rattle.vm_facts.specs.declared.page.Page.TheVariants.{Data, Stack, Text}
+use Rattle.vm_facts.specs.declared.page.Page.TheVariants.{Text}
 use Rattle.vm_facts.specs.declared.entry.Entry.{Entry}
 use Rattle.vm_facts.specs.declared.entry.Entry.TheVariants as entries
 use Rattle.frame_state.specs.Frame.{Frame}
@@ -26,8 +26,7 @@ use Rattle.kernel_tables.proofs.Likes.{placed_alike, evicted_alike, placed_fille
 use Rattle.kernel_tables.proofs.Kept.{Ties, still_there, evicted_there, evicted_heads, whole_rest, once_rest}
 use Rattle.kernel_tables.proofs.Marks.{marks_entered, marks_here, dirty_place, set_resident, resident_page, resident_mark}
 use Rattle.kernel_tables.specs.Known.{Known}
-use Rattle.kernel_tables.proofs.Arrives.{data_there, stack_there}
-use Rattle.kernel_tables.specs.Shown.{entry_in}
+use Rattle.kernel_tables.proofs.Fills.{entry_there}
 
 pub kernel_ext : (a b : Kernel) → a.place ≡ b.place → a.holdings ≡ b.holdings → a.processes ≡ b.processes → a.next_pid ≡ b.next_pid
     → a.next_sid ≡ b.next_sid → a.starts ≡ b.starts
@@ -76,14 +75,8 @@ zero_kernel t u v w token filling q journal stopped z =
     refl
 
 pub writable_shared : (p : Placement) (q : Page) → IsWritable q → IsShared p q
-writable_shared p (Data n v) w = tt
-writable_shared p (Stack n v) w = tt
 writable_shared p (Text i v) w = absurd w
-
-writable_entry : (t : Lists) (q : Page) → IsWritable q → IsThere (placement_of t) q → IsSome (entry_in t.spaces q)
-writable_entry t (Data n v) w there = data_there t.slots t.spaces n v there
-writable_entry t (Stack n v) w there = stack_there t.slots t.spaces n v there
-writable_entry t (Text i v) w there = absurd w
+writable_shared p _ w = tt
 
 pub zeroed_ties : (t : Lists) (f : ℕ) (page : Option Page) (rest : List ℕ) (filling : Frame) (q : Page) → Known t
     → token_page (slot_at t.slots f) ≡ page → IsWritable q → IsThere (placement_of t) q
@@ -99,7 +92,7 @@ zeroed_ties t f page rest filling q k e w there none = record {
   marked = marks_entered t f filling.number page rest q (Rattle.vax_pte.specs.declared.Place.TheVariants.Frame filling.number true true) (zeroed t f page rest filling q) k e none
       (λ h d. get_or-set_other (set t.slots f tokens.Away) filling.number h (tokens.Resident filling q true) tokens.Away d) refl refl
       (λ token r mark h. let x = set_resident (set t.slots f tokens.Away) filling.number (tokens.Resident filling q true) token r mark h in
-      marks_here (evicted t.texts page t.spaces) t.texts (Rattle.vax_pte.specs.declared.Place.TheVariants.Frame filling.number true true) q r mark (evicted_there t.texts page t.spaces q (writable_entry t q w there))
+      marks_here (evicted t.texts page t.spaces) t.texts (Rattle.vax_pte.specs.declared.Place.TheVariants.Frame filling.number true true) q r mark (evicted_there t.texts page t.spaces q (entry_there t q w there))
       (resident_page filling token q r true mark x) (resident_mark filling token q r true mark x ∙ sym (dirty_place t.texts filling.number q w)));
   whole = whole_rest t.fills;
   once = once_rest t.fills;

@@ -103,10 +103,8 @@ module _ (old new : List Record) (next pid : ℕ) (h : AreRecords old next) (aft
   itself k q e = record { lends = λ n. refl; borrowed = refl; holds = h.holds k q e }
 
   comes_life : (k : ℕ) (q : Record) (l : RecordLife) → find k old ≡ Some q → q.state ≡ l → Comes (left_life q l) q
-  comes_life k q lives.New e s = stays k q e
-  comes_life k q (lives.Holds sid) e s = stays k q e
-  comes_life k q (lives.Lends sid child) e s = stays k q e
   comes_life k q (lives.Zombie status) e s = zombie_alone old next k q status h e s
+  comes_life k q _ e s = stays k q e
 
   comes_by : (k : ℕ) (q : Record) (b : Bool) → find k old ≡ Some q → Comes (left_by b q) q
   comes_by k q true e = comes_life k q q.state e refl

@@ -22,9 +22,8 @@ pub holds_not_away : (s : Token) (q : Page) → token_page s ≡ Some q → s �
 holds_not_away s q e n = none_some q (sym (ap token_page n) ∙ e)
 
 pub page_is_held : (s : Token) (q : Page) (o : Option Rattle.kernel_tables.specs.View.Flown) → token_page s ≡ Some q → page_by s o ≡ Some q
-page_is_held (tokens.Free token page) q o e = e
-page_is_held (tokens.Resident token page dirty) q o e = e
 page_is_held tokens.Away q o e = none_some q e
+page_is_held _ q o e = e
 
 pub held_named : (t : Lists) (f : ℕ) (q : Page) → Known t → token_page (slot_at t.slots f) ≡ Some q → frame_of (state_of (placement_of t) q) ≡ Some f
 held_named t f q k e =

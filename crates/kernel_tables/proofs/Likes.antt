@@ -42,17 +42,15 @@ evicted_alike texts (Some q) ss h = placed_alike ss q (left_place texts q) h
 
 -- a place that says that the page is in the file, of text alone
 abbrev pub IsTextNumber : Page → ℕ → Type 0
-IsTextNumber (Data sid v) w = ⊥
-IsTextNumber (Stack sid v) w = ⊥
 IsTextNumber (Text image v) w = w ≡ v
+IsTextNumber _ w = ⊥
 
 abbrev pub FitsPage : Page → Place → Type 0
 FitsPage q place = (w : ℕ) → place ≡ places.Image w → IsTextNumber q w
 
 filled_text : (s : Places) (q : Page) (w : ℕ) → IsTextNumber q w → IsFilledAt s q w
-filled_text s (Data sid v) w h = absurd h
-filled_text s (Stack sid v) w h = absurd h
 filled_text s (Text i v) w h = h
+filled_text s _ w h = absurd h
 
 same_facts : (s : Places) (q r : Page) (place : Place) (w : ℕ) → IsFilledAt s r w → IsFilledAt (placed q place s) r w
 same_facts s q r place w h = go (place_in s q) q r h
@@ -99,13 +97,12 @@ pub frame_fits : (q : Page) (f : ℕ) (valid changed : Bool) → FitsPage q (pla
 frame_fits q f valid changed w e = absurd cc
 
 left_fits : (texts : List SharedText) (q : Page) → FitsPage q (left_place texts q)
-left_fits texts (Data n v) w e = absurd cc
-left_fits texts (Stack n v) w e = absurd cc
 left_fits texts (Text i v) w e = go (is_saved (text_of texts i) v) e
   where
     go : (b : Bool) → left_text b v ≡ places.Image w → w ≡ v
     go true k = absurd cc
     go false k = cc
+left_fits texts _ w e = absurd cc
 
 pub evicted_filled : (facts : List Image) (texts : List SharedText) (page : Option Page) (ss : List Places) → EachSpace (IsFilled facts) ss
     → EachSpace (IsFilled facts) (evicted texts page ss)

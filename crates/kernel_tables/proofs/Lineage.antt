@@ -57,10 +57,9 @@ pub life_shown_at : (t : Tables) (pid : ℕ) (was : Record) → AreRecords t.pro
 life_shown_at t pid was h f = ap life_of_proc (process_is t.processes t.next_pid pid h ∙ ap proc_of f)
 
 lends_none : (n : ℕ) (l : RecordLife) → HoldsOrNew (life_shown l) → lends_to_by n l ≡ false
-lends_none n lives.New h = refl
-lends_none n (lives.Holds sid) h = refl
 lends_none n (lives.Lends sid child) h = absurd h
 lends_none n (lives.Zombie status) h = absurd h
+lends_none n _ h = refl
 
 pub fresh_alone : (p : Record) → HoldsOrNew (life_shown p.state) → p.borrowed ≡ false → IsAlone p
 fresh_alone p h b = record { lends = λ n. lends_none n p.state h; borrows = b }
@@ -71,22 +70,17 @@ alone_of t pid was h f l e = fresh_alone was (subst HoldsOrNew (life_shown_at t 
 
 pub fresh_residence : (p : Record) (l : RecordLife) → HoldsOrNew (life_shown l)
     → residence_by p l ≡ Some (let r : Residence = record { pid = p.pid; out = p.out; since = p.since } in r)
-fresh_residence p lives.New h = refl
-fresh_residence p (lives.Holds sid) h = refl
 fresh_residence p (lives.Lends sid child) h = absurd h
 fresh_residence p (lives.Zombie status) h = absurd h
+fresh_residence p _ h = refl
 
 pub residence_asleep : (p : Record) (b : Bool) (l : RecordLife) → residence_by (record p { asleep = b }) l ≡ residence_by p l
 residence_asleep p b lives.New = refl
-residence_asleep p b (lives.Holds sid) = refl
-residence_asleep p b (lives.Lends sid child) = refl
-residence_asleep p b (lives.Zombie status) = refl
+residence_asleep p b _ = refl
 
 residence_orphan : (p : Record) (l : RecordLife) → residence_by (record p { parent = 0 }) l ≡ residence_by p l
 residence_orphan p lives.New = refl
-residence_orphan p (lives.Holds sid) = refl
-residence_orphan p (lives.Lends sid child) = refl
-residence_orphan p (lives.Zombie status) = refl
+residence_orphan p _ = refl
 
 -- One more.
 
@@ -129,10 +123,8 @@ has_gone t u pid was h f c s e a = has_processes t u _ _ e
     (changed_records t.processes u.processes t.next_pid pid was None s f c a h)
 
 ended_state : (l : RecordLife) → has_life (life_shown l) ≡ false → (status : ℕ) × (l ≡ lives.Zombie status)
-ended_state lives.New e = absurd cc
-ended_state (lives.Holds sid) e = absurd cc
-ended_state (lives.Lends sid child) e = absurd cc
 ended_state (lives.Zombie status) e = (status, refl)
+ended_state _ e = absurd cc
 
 -- who isn't there, or has ended
 pub has_reaped : (t u : Tables) (pid : ℕ) → AreRecords t.processes t.next_pid → are_alive (processes_in t) pid ≡ false
@@ -223,9 +215,7 @@ orphan pid q = record q { parent = cond (q.parent == pid) 0 q.parent }
 
 orphan_life : (q : Record) (l : RecordLife) → proc_of (left_life q l) ≡ kept_by (not (true && is_ended (life_shown l))) (record (proc_shown q) { parent = 0 })
 orphan_life q lives.New = refl
-orphan_life q (lives.Holds sid) = refl
-orphan_life q (lives.Lends sid child) = refl
-orphan_life q (lives.Zombie status) = refl
+orphan_life q _ = refl
 
 orphan_by : (q : Record) (b : Bool)
     → proc_of (left_by b q) ≡ kept_by (not (b && is_ended (life_shown q.state))) (record (proc_shown q) { parent = cond b 0 q.parent })
@@ -237,10 +227,8 @@ orphan_in pid None = refl
 orphan_in pid (Some q) = orphan_by q (q.parent == pid)
 
 orphan_stays : (q : Record) (l : RecordLife) → q.state ≡ l → residence_of (left_life q l) ≡ residence_by q q.state
-orphan_stays q lives.New e = residence_orphan q q.state
-orphan_stays q (lives.Holds sid) e = residence_orphan q q.state
-orphan_stays q (lives.Lends sid child) e = residence_orphan q q.state
 orphan_stays q (lives.Zombie status) e = sym (ap (residence_by q) e)
+orphan_stays q _ e = residence_orphan q q.state
 
 orphan_resides : (q : Record) (b : Bool) → residence_of (left_by b q) ≡ residence_by q q.state
 orphan_resides q true = orphan_stays q q.state refl

@@ -158,9 +158,7 @@ process_is ps next pid h = go (find pid ps) (numbered pid_of pid (processes_of p
 
 lends_shown : (pid : ℕ) (l : RecordLife) → lends_life pid (life_shown l) ≡ lends_to_by pid l
 lends_shown pid lives.New = refl
-lends_shown pid (lives.Holds sid) = refl
-lends_shown pid (lives.Lends sid child) = refl
-lends_shown pid (lives.Zombie status) = refl
+lends_shown pid _ = refl
 
 or_so : (a b : Bool) → b ≡ true → (a || b) ≡ true
 or_so true b e = refl

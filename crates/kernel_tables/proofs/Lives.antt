@@ -55,10 +55,8 @@ pub record_of : (ps : List Record) (next pid : ℕ) (q : Proc) → numbered pid_
 record_of ps next pid q e = record_over (range_with_len 1 (next - 1)) ps pid q e
 
 life_space : (l : RecordLife) (sid : ℕ) → life_shown l ≡ HoldsSpace sid → space_by l ≡ Some sid
-life_space lives.New sid e = absurd cc
 life_space (lives.Holds n) sid e = let same : n ≡ sid = cc in ap (λ (m : ℕ). Some m) same
-life_space (lives.Lends n child) sid e = absurd cc
-life_space (lives.Zombie status) sid e = absurd cc
+life_space _ sid e = absurd cc
 
 -- a process that holds a space has it in its record
 pub holds_space : (ps : List Record) (next pid sid : ℕ) → life_of_proc (numbered pid_of pid (processes_of ps next)) ≡ HoldsSpace sid

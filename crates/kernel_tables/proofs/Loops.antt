@@ -12,7 +12,3 @@ still_at f [] zero d = refl
 still_at f [] (suc i) d = refl
 still_at f (x ∷ xs) zero d = refl
 still_at f (x ∷ xs) (suc i) d = still_at f xs i d
-
-pub all_changed : {A : Type 0} (f : A → A) (xs : List A) → map f (take (length xs) xs) ++ drop (length xs) xs ≡ map f xs
-all_changed f [] = refl
-all_changed f (x ∷ xs) = ap (λ zs. f x ∷ zs) (all_changed f xs)

@@ -4,7 +4,7 @@ use Rattle.std.proofs.lemmas.Bool.{cases_eq}
 use Rattle.std.proofs.lemmas.List.{length-set, get_or-set_same, get_or-set_other, get_or_past}
 use Rattle.std.proofs.lemmas.Option.{same_Some}
 use Rattle.vm_facts.specs.declared.page.Page.{Page}
-use Rattle.vm_facts.specs.declared.page.Page.TheVariants.{Data, Stack, Text}
+use Rattle.vm_facts.specs.declared.page.Page.TheVariants.{Text}
 use Rattle.vax_pte.specs.declared.Place.{Place}
 use Rattle.vax_pte.specs.declared.Place.TheVariants as places
 use Rattle.frame_state.specs.Frame.{Frame}
@@ -24,12 +24,12 @@ use Rattle.kernel_tables.specs.View.{Lists, placement_of}
 use Rattle.kernel_tables.specs.Known.{Known}
 use Rattle.kernel_tables.proofs.Entries.{entry_same, entry_other}
 use Rattle.kernel_tables.proofs.Knows.{held_named, texts_here}
+use Rattle.kernel_laws.proofs.Machine.Done.{some_of}
 
 same_dirty : (ss rs : List Places) (ts us : List SharedText) (w : Page) → entry_in rs w ≡ entry_in ss w
     → ((i v : ℕ) → w ≡ Text i v → is_saved (text_of us i) v ≡ is_saved (text_of ts i) v) → dirty_shown rs us w ≡ dirty_shown ss ts w
-same_dirty ss rs ts us (Data n v) e h = ap changed_named e
-same_dirty ss rs ts us (Stack n v) e h = ap changed_named e
 same_dirty ss rs ts us (Text i v) e h = ap not (h i v refl)
+same_dirty ss rs ts us _ e h = ap changed_named e
 
 pub marks_kept : (t u : Lists) (f : ℕ) → ((g : ℕ) → g ≢ f → slot_at u.slots g ≡ slot_at t.slots g)
     → ((g : ℕ) (w : Page) → g ≢ f → token_page (slot_at t.slots g) ≡ Some w → dirty_shown u.spaces u.texts w ≡ dirty_shown t.spaces t.texts w)
@@ -57,25 +57,18 @@ marks_placed t u q f place low slots spaces saved alone here = marks_kept t u f 
 
 -- what the place of a page says of its mark, and the text table
 abbrev pub placed_mark : List SharedText → Place → Page → Bool
-placed_mark ts place (Data n v) = changed_named (Some place)
-placed_mark ts place (Stack n v) = changed_named (Some place)
 placed_mark ts place (Text i v) = not (is_saved (text_of ts i) v)
-
-some_of : {A : Type 0} (o : Option A) → IsSome o → (x : A) × (o ≡ Some x)
-some_of None h = absurd cc
-some_of (Some x) h = (x, refl)
+placed_mark ts place _ = changed_named (Some place)
 
 pub placed_dirty : (ss : List Places) (ts : List SharedText) (place : Place) (q : Page) → IsSome (entry_in ss q)
     → dirty_shown (map (placed q place) ss) ts q ≡ placed_mark ts place q
-placed_dirty ss ts place (Data n v) h = let x = some_of (entry_in ss (Data n v)) h in ap changed_named (entry_same ss (Data n v) place x.0 x.1)
-placed_dirty ss ts place (Stack n v) h = let x = some_of (entry_in ss (Stack n v)) h in ap changed_named (entry_same ss (Stack n v) place x.0 x.1)
 placed_dirty ss ts place (Text i v) h = refl
+placed_dirty ss ts place y h = let x = some_of (entry_in ss y) h in ap changed_named (entry_same ss y place x.0 x.1)
 
 -- a page of data or stack that was changed
 pub dirty_place : (ts : List SharedText) (f : ℕ) (q : Page) → IsWritable q → placed_mark ts (places.Frame f true true) q ≡ true
-dirty_place ts f (Data n v) w = refl
-dirty_place ts f (Stack n v) w = refl
 dirty_place ts f (Text i v) w = absurd w
+dirty_place ts f _ w = refl
 
 pub entry_is : (o : Option Place) (x : Place) → o ≡ Some x → IsSome o
 entry_is None x e = absurd cc
@@ -86,7 +79,7 @@ pub marks_here : (ss : List Places) (ts : List SharedText) (place : Place) (q r 
     → mark ≡ placed_mark ts place q → mark ≡ dirty_shown (map (placed q place) ss) ts r
 marks_here ss ts place q r mark h e m = m ∙ sym (placed_dirty ss ts place q h) ∙ sym (ap (dirty_shown (map (placed q place) ss) ts) e)
 
-within : (a b : ℕ) → (a < b) ⊎ (b ≤ a)
+pub within : (a b : ℕ) → (a < b) ⊎ (b ≤ a)
 within a b = grind arith
 
 pub set_resident : (slots : List Token) (f : ℕ) (x : Token) (token : Frame) (r : Page) (mark : Bool)

@@ -73,16 +73,12 @@ changed_miss pid f r rs e = grind (arith, nat_tests)
 
 residence_is : (p : Record) (life : RecordLife) → Lasts life
     → residence_by p life ≡ Some (let r : Residence = record { pid = p.pid; out = p.out; since = p.since } in r)
-residence_is p lives.New l = refl
-residence_is p (lives.Holds sid) l = refl
-residence_is p (lives.Lends sid child) l = refl
 residence_is p (lives.Zombie status) l = absurd l
+residence_is p _ l = refl
 
 residence_pid : (p : Record) (life : RecordLife) (r : Residence) → residence_by p life ≡ Some r → r.pid ≡ p.pid
-residence_pid p lives.New r e = ap pid_in (sym (same_Some (let x : Residence = record { pid = p.pid; out = p.out; since = p.since } in x) r e))
-residence_pid p (lives.Holds sid) r e = ap pid_in (sym (same_Some (let x : Residence = record { pid = p.pid; out = p.out; since = p.since } in x) r e))
-residence_pid p (lives.Lends sid child) r e = ap pid_in (sym (same_Some (let x : Residence = record { pid = p.pid; out = p.out; since = p.since } in x) r e))
 residence_pid p (lives.Zombie status) r e = none_some r e
+residence_pid p _ r e = ap pid_in (sym (same_Some (let x : Residence = record { pid = p.pid; out = p.out; since = p.since } in x) r e))
 
 -- a residence is that of the pid under which it was found
 pub found_residence : (n : ℕ) (ps : List Record) (r : Residence) → residence_of (find n ps) ≡ Some r → r.pid ≡ n
@@ -153,10 +149,8 @@ out_miss : (n : ℕ) (r : Residence) (rs : List Residence) → r.pid ≢ n → s
 out_miss n r rs e = grind (arith, nat_tests)
 
 lasting : (p : Record) (life : RecordLife) (r : Residence) → residence_by p life ≡ Some r → Lasts life
-lasting p lives.New r e = tt
-lasting p (lives.Holds sid) r e = tt
-lasting p (lives.Lends sid child) r e = tt
 lasting p (lives.Zombie status) r e = none_some r e
+lasting p _ r e = tt
 
 out_over : (ns : List ℕ) (ps : List Record) (pid : ℕ) → (swapper.residence_of (filter_map (λ n. residence_of (find n ps)) ns) pid).out ≡ true
     → IsOutThere ps pid (filter_map (λ n. proc_of (find n ps)) ns)

@@ -5,7 +5,7 @@ use Rattle.std.proofs.lemmas.Bool.Decides.{nat_tests}
 use Rattle.vm_facts.specs.declared.page.Page.{Page}
 use Rattle.vm_facts.specs.declared.page.Page.TheVariants.{Data, Stack, Text}
 use Rattle.vm_facts.specs.declared.page.PageState.{PageState}
-use Rattle.vm_facts.specs.declared.page.PageState.TheVariants.{Unfilled, Valid, Invalid, Coming, Going, OnSwap}
+use Rattle.vm_facts.specs.declared.page.PageState.TheVariants.{Unfilled}
 use Rattle.vax_pte.specs.declared.Place.{Place}
 use Rattle.vax_pte.specs.declared.Place.TheVariants as places
 use Rattle.aout_image.specs.Image.{text_pages_of, IsSound as IsSoundImage}
@@ -186,11 +186,7 @@ none_some (Some s) e h = cc
 
 blank_filled : (s : PageState) → is_blank s OfImage ≡ false
 blank_filled Unfilled = refl
-blank_filled (Valid f) = refl
-blank_filled (Invalid f) = refl
-blank_filled (Coming f) = refl
-blank_filled (Going f) = refl
-blank_filled OnSwap = refl
+blank_filled _ = refl
 
 blank_idle : (f : ℕ) (away changed : Bool) → is_blank (idle_state f away changed) Zeros ≡ false
 blank_idle f false changed = refl
@@ -198,11 +194,8 @@ blank_idle f true true = refl
 blank_idle f true false = refl
 
 blank_shown : (slots : List Token) (x : Place) → is_blank (state_shown slots x) (filling_shown x) ≡ is_zero_place (Some x)
-blank_shown slots places.Zero = refl
-blank_shown slots (places.Image v) = refl
-blank_shown slots places.Swap = refl
-blank_shown slots (places.Frame f true changed) = refl
 blank_shown slots (places.Frame f false changed) = blank_idle f (is_away (slot_at slots f)) changed
+blank_shown slots _ = refl
 
 blank_entry : (slots : List Token) (o : Option Place) → IsSome o
     → is_blank (Slot.state (slot_or (slot_shown slots) o)) (Slot.filling (slot_or (slot_shown slots) o)) ≡ is_zero_place o

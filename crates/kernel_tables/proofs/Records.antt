@@ -113,9 +113,7 @@ regs_are old new pid regs was next e c = changed_over proc_of refl (λ q. cond (
 
 residence_regs : (p : Record) (regs : Regs) (l : Life) → residence_by (record p { regs = regs }) l ≡ residence_by p l
 residence_regs p regs lives.New = refl
-residence_regs p regs (lives.Holds sid) = refl
-residence_regs p regs (lives.Lends sid child) = refl
-residence_regs p regs (lives.Zombie status) = refl
+residence_regs p regs _ = refl
 
 -- and the residents stay
 pub residents_are : (old new : List Record) (pid : ℕ) (regs : Regs) (was : Record) (next : ℕ) → find pid old ≡ Some was
@@ -150,11 +148,3 @@ pub both_or_neither : (a b : Bool) → (a ≡ true → b ≡ true) → (b ≡ tr
 both_or_neither true b f g = sym (f refl)
 both_or_neither false true f g = g refl
 both_or_neither false false f g = refl
-
--- the same lend as before
-pub any_same : (f : Record → Bool) (old new : List Record) → ArePidsApart old → ArePidsApart new
-    → ((n : ℕ) (p : Record) → find n old ≡ Some p → (q : Record) × (find n new ≡ Some q) × (f q ≡ f p))
-    → ((n : ℕ) (p : Record) → find n new ≡ Some p → (q : Record) × (find n old ≡ Some q) × (f q ≡ f p)) → list_any f new ≡ list_any f old
-any_same f old new a b there back = both_or_neither (list_any f new) (list_any f old)
-    (λ h. let x = any_found f new b h in let y = back x.0.pid x.0 x.1 in found_any f old x.0.pid y.0 y.1 (y.2 ∙ x.2))
-    (λ h. let x = any_found f old a h in let y = there x.0.pid x.0 x.1 in found_any f new x.0.pid y.0 y.1 (y.2 ∙ x.2))

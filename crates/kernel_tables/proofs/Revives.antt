@@ -16,8 +16,7 @@ use Rattle.kernel_tables.proofs.Held.{below_length}
 
 free_is : (s : Token) (q : Page) (c : Bool) → IsTrue (is_free s) → tokens.Resident (token_of s) q c ≡ revived s q c
 free_is (tokens.Free token page) q c h = refl
-free_is (tokens.Resident token page dirty) q c h = absurd cc
-free_is tokens.Away q c h = absurd cc
+free_is _ q c h = absurd cc
 
 pub below_held : (slots : List Token) (f : ℕ) (q : Page) → page_of (slot_at slots f) ≡ Some q → f < length slots
 below_held slots f q e = below_length slots f (λ n. none_some q (sym (ap page_of n) ∙ e))

@@ -1,5 +1,5 @@
 -- Spaces that stand by rising numbers: where one of them stands, and that no other has its number.
-use Rattle.std.proofs.Common.{◌≡◌, ◌≢◌, Bool, true, false, cond, ◌==◌, option_map, ℕ, zero, suc, ◌<◌, ◌≤◌, ◌⊎◌, List, [], ◌∷◌, length, map, set, drop, get_or, Option, Some, None, Result, Ok, Err, IfSome, IfNone, slice_get, refl, sym, ap, ◌∙◌, inl, inr, arith}
+use Rattle.std.proofs.Common.{◌≡◌, ◌≢◌, Bool, true, false, cond, ◌==◌, option_map, ℕ, zero, suc, ◌<◌, ◌≤◌, List, [], ◌∷◌, length, map, set, get_or, Option, Some, None, Result, Ok, Err, IfSome, IfNone, slice_get, refl, sym, ap, ◌∙◌, inl, inr, arith}
 use Rattle.std.specs.List.Sorted.{IsSearchInRange, IsBinarySearchResult, IsNonDecreasingBy}
 use Rattle.std.specs.Result.{result_ok}
 use Rattle.std.specs.Ordering.{nat_cmp, ordering_index}
@@ -12,22 +12,19 @@ use Rattle.vm_facts.specs.declared.page.Page.TheVariants.{Data, Stack, Text}
 use Rattle.vax_pte.specs.declared.Place.{Place}
 use Rattle.space_map.specs.Space.{Places, place_in}
 use Rattle.page_model.specs.Pages.{numbered}
-use Rattle.flat_state.specs.Numbers.{IsAbsent, AllDistinct}
+use Rattle.flat_state.specs.Numbers.{IsAbsent}
 use Rattle.kernel_tables.specs.Rising.{sids_of, IsBelowAll, AreRising, StandsAt, space_named}
 use Rattle.kernel_tables.specs.Settled.{image_found}
 use Rattle.kernel_tables.specs.Shown.{or_else, entry_in, placed}
 use Rattle.kernel_tables.proofs.Entries.{data_miss, stack_miss, placed_none, entry_none, placed_heads}
 use Rattle.kernel_tables.proofs.Shows.{head_sids}
+use Rattle.kernel_tables.proofs.Marks.{within}
 
 -- Numbers.
 
 pub above_none : (n m : ℕ) (ns : List ℕ) → m ≤ n → IsBelowAll n ns → IsAbsent m ns
 above_none n m [] l h = tt
 above_none n m (k ∷ ns) l h = let above = h.0 in ((λ e. absurd (omega arith)), above_none n m ns l h.1)
-
-pub rising_differ : (ns : List ℕ) → AreRising ns → AllDistinct ns
-rising_differ [] h = tt
-rising_differ (n ∷ ns) h = (above_none n n ns (omega arith) h.0, rising_differ ns h.1)
 
 pub below_at : (n m i : ℕ) (ns : List ℕ) → IsBelowAll n ns → slice_get ns i ≡ Some m → n < m
 below_at n m i [] h e = absurd cc
@@ -39,9 +36,6 @@ pub placed_sids : (ss : List Places) (q : Page) (place : Place) → sids_of (map
 placed_sids ss q place = head_sids (map (placed q place) ss) ss (placed_heads ss q place)
 
 -- What a search by number finds.
-
-below_or_from : (i n : ℕ) → (i < n) ⊎ (n ≤ i)
-below_or_from i n = grind arith
 
 rises : (ss : List Places) (d : Places) (i j : ℕ) → AreRising (sids_of ss) → i < j → j < length ss → (get_or ss i d).sid < (get_or ss j d).sid
 rises [] d i j h l k = absurd (omega arith)
@@ -77,7 +71,7 @@ module _ (ss : List Places) (rising : AreRising (sids_of ss)) (sid : ℕ) where
   searched_by d (Ok at) in_range equal = record { found = record { in_range = in_range; number = at_place ss d at sid in_range (ranked _ sid _ (sym (equal d))) }; absent = tt }
   searched_by d (Err at) in_range parted = record {
     found = tt;
-    absent = absent_by ss d sid (λ i l e. elim (below_or_from i at) [
+    absent = absent_by ss d sid (λ i l e. elim (within i at) [
       | inl b ↦ let h : (get_or ss i d).sid < sid = ranked _ sid _ (sym ((parted (comparisons_rise d)).0 i d (omega arith) b)) in absurd (omega arith)
       | inr b ↦ let h : sid < (get_or ss i d).sid = ranked _ sid _ (sym ((parted (comparisons_rise d)).1 i d b l)) in absurd (omega arith)
     ]);
@@ -177,18 +171,3 @@ found_image (x ∷ xs) sid = go (x.sid == sid) (found_image xs sid)
     go false e = e
 
 -- The first space that has a page.
-
-pub entry_past : (ss : List Places) (i : ℕ) (d : Places) (q : Page) → i < length ss
-    → entry_in (drop i ss) q ≡ or_else (place_in (get_or ss i d) q) (entry_in (drop (suc i) ss) q)
-entry_past [] i d q l = absurd (omega arith)
-entry_past (s ∷ ss) zero d q l = refl
-entry_past (s ∷ ss) (suc i) d q l = entry_past ss i d q (omega arith)
-
-past_none : (ss : List Places) (i : ℕ) (q : Page) → length ss ≤ i → entry_in (drop i ss) q ≡ None
-past_none [] i q l = go i
-  where
-    go : (n : ℕ) → entry_in (drop n []) q ≡ None
-    go zero = refl
-    go (suc n) = refl
-past_none (s ∷ ss) zero q l = absurd (omega arith)
-past_none (s ∷ ss) (suc i) q l = past_none ss i q (omega arith)

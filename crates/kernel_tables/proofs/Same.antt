@@ -1,5 +1,5 @@
 -- Two placements whose pages are the same, one by one, have the same lists.
-use Rattle.std.proofs.Common.{◌≡◌, ◌≢◌, inl, inr, ℕ, suc, ◌+◌, List, [], ◌∷◌, length, map, get_or, Some, None, refl, sym, ap, ◌∙◌, subst, arith}
+use Rattle.std.proofs.Common.{◌≡◌, ◌≢◌, inl, inr, ℕ, suc, List, [], ◌∷◌, length, map, get_or, Some, None, refl, sym, ap, ◌∙◌, subst, arith}
 use Rattle.std.proofs.lemmas.Bool.{cases_eq}
 use Rattle.std.proofs.lemmas.Bool.Decides.{nat_tests}
 use Rattle.vm_facts.specs.Lists.{times}
@@ -27,9 +27,6 @@ hit n x xs e = grind (arith, nat_tests)
 
 miss : (n : ℕ) (x : SpacePages) (xs : List SpacePages) → x.sid ≢ n → numbered space_number n (x ∷ xs) ≡ numbered space_number n xs
 miss n x xs e = grind (arith, nat_tests)
-
-pub times_hit : (n m : ℕ) (xs : List ℕ) → m ≡ n → times n (m ∷ xs) ≡ 1 + times n xs
-times_hit n m xs e = grind (arith, nat_tests)
 
 pub times_miss : (n m : ℕ) (xs : List ℕ) → m ≢ n → times n (m ∷ xs) ≡ times n xs
 times_miss n m xs e = grind (arith, nat_tests)
@@ -83,10 +80,10 @@ spaces_ext (x ∷ xs) (y ∷ ys) e d h =
 
 -- Texts.
 
-text_hit : (n : ℕ) (x : TextPages) (xs : List TextPages) → x.image ≡ n → numbered image_number n (x ∷ xs) ≡ Some x
+pub text_hit : (n : ℕ) (x : TextPages) (xs : List TextPages) → x.image ≡ n → numbered image_number n (x ∷ xs) ≡ Some x
 text_hit n x xs e = grind (arith, nat_tests)
 
-text_miss : (n : ℕ) (x : TextPages) (xs : List TextPages) → x.image ≢ n → numbered image_number n (x ∷ xs) ≡ numbered image_number n xs
+pub text_miss : (n : ℕ) (x : TextPages) (xs : List TextPages) → x.image ≢ n → numbered image_number n (x ∷ xs) ≡ numbered image_number n xs
 text_miss n x xs e = grind (arith, nat_tests)
 
 text_absent : (n : ℕ) (xs : List TextPages) → IsAbsent n (map image_number xs) → numbered image_number n xs ≡ None

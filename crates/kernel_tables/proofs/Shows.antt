@@ -27,7 +27,8 @@ use Rattle.kernel_tables.specs.Found.{cached_by, frame_holding}
 use Rattle.kernel_tables.specs.Rising.{sids_of}
 use Rattle.kernel_tables.specs.View.{Lists, pages_in, text_place_by, text_place, text_slot, text_slots, texts_of, placement_of}
 use Rattle.kernel_tables.proofs.Entries.{Head, head_of, data_hit, data_miss, stack_hit, stack_miss}
-use Rattle.kernel_tables.proofs.Same.{Named, name_of, slots_ext, spaces_ext, texts_ext}
+use Rattle.kernel_tables.proofs.Same.{Named, name_of, slots_ext, spaces_ext, texts_ext, text_miss, text_hit}
+use Rattle.kernel_tables.proofs.AddedPlace.{or_else_none}
 
 -- Segments.
 
@@ -43,10 +44,6 @@ get_map g (x ∷ xs) (suc v) = get_map g xs v
 pub sids_shown : (slots : List Token) (ss : List Places) → map space_number (map (space_shown slots) ss) ≡ sids_of ss
 sids_shown slots [] = refl
 sids_shown slots (s ∷ ss) = ap (λ (ns : List ℕ). s.sid ∷ ns) (sids_shown slots ss)
-
-or_none : {A : Type 0} (o : Option A) → or_else o None ≡ o
-or_none None = refl
-or_none (Some x) = refl
 
 pub hit : (n : ℕ) (x : SpacePages) (xs : List SpacePages) → x.sid ≡ n → numbered space_number n (x ∷ xs) ≡ Some x
 hit n x xs e = grind (arith, nat_tests)
@@ -70,7 +67,7 @@ data_shown slots (s ∷ ss) sid v d = elim (cases_eq s.sid sid) [
       let gone : entry_in ss (Data sid v) ≡ None = data_absent ss sid v (subst (λ (n : ℕ). IsAbsent n (sids_of ss)) e d.0) in
       ap (λ (o : Option SpacePages). get_or (data_in o) v no_slot) (hit sid (space_shown slots s) (map (space_shown slots) ss) e)
       ∙ get_map (slot_shown slots) s.data v
-      ∙ ap (slot_or (slot_shown slots)) (sym (ap (λ (o : Option Place). or_else o (entry_in ss (Data sid v))) (data_hit s sid v (sym e)) ∙ ap (or_else (slice_get s.data v)) gone ∙ or_none (slice_get s.data v)))
+      ∙ ap (slot_or (slot_shown slots)) (sym (ap (λ (o : Option Place). or_else o (entry_in ss (Data sid v))) (data_hit s sid v (sym e)) ∙ ap (or_else (slice_get s.data v)) gone ∙ or_else_none (slice_get s.data v)))
   | inr n ↦
       ap (λ (o : Option SpacePages). get_or (data_in o) v no_slot) (miss sid (space_shown slots s) (map (space_shown slots) ss) n)
       ∙ data_shown slots ss sid v d.1
@@ -85,7 +82,7 @@ stack_shown slots (s ∷ ss) sid v d = elim (cases_eq s.sid sid) [
       let gone : entry_in ss (Stack sid v) ≡ None = stack_absent ss sid v (subst (λ (n : ℕ). IsAbsent n (sids_of ss)) e d.0) in
       ap (λ (o : Option SpacePages). get_or (stack_in o) v no_slot) (hit sid (space_shown slots s) (map (space_shown slots) ss) e)
       ∙ get_map (slot_shown slots) s.stack v
-      ∙ ap (slot_or (slot_shown slots)) (sym (ap (λ (o : Option Place). or_else o (entry_in ss (Stack sid v))) (stack_hit s sid v (sym e)) ∙ ap (or_else (slice_get s.stack v)) gone ∙ or_none (slice_get s.stack v)))
+      ∙ ap (slot_or (slot_shown slots)) (sym (ap (λ (o : Option Place). or_else o (entry_in ss (Stack sid v))) (stack_hit s sid v (sym e)) ∙ ap (or_else (slice_get s.stack v)) gone ∙ or_else_none (slice_get s.stack v)))
   | inr n ↦
       ap (λ (o : Option SpacePages). get_or (stack_in o) v no_slot) (miss sid (space_shown slots s) (map (space_shown slots) ss) n)
       ∙ stack_shown slots ss sid v d.1
@@ -93,12 +90,6 @@ stack_shown slots (s ∷ ss) sid v d = elim (cases_eq s.sid sid) [
 ]
 
 -- Text.
-
-text_hit : (n : ℕ) (x : TextPages) (xs : List TextPages) → x.image ≡ n → numbered image_number n (x ∷ xs) ≡ Some x
-text_hit n x xs e = grind (arith, nat_tests)
-
-text_miss : (n : ℕ) (x : TextPages) (xs : List TextPages) → x.image ≢ n → numbered image_number n (x ∷ xs) ≡ numbered image_number n xs
-text_miss n x xs e = grind (arith, nat_tests)
 
 pub pages_hit : (n image : ℕ) (facts : Image) (more : List Image) → n ≡ image → pages_in n image (facts ∷ more) ≡ text_pages_of facts
 pages_hit n image facts more e = grind (arith, nat_tests)
@@ -199,25 +190,18 @@ lengths_same t u h fs (Stack n v) = stack_length u.slots n u.spaces ∙ ap (λ (
 lengths_same t u h fs (Text i v) =
     ap length (texts_shown u 1 i u.facts) ∙ text_length u i (pages_in 1 i u.facts) ∙ ap (pages_in 1 i) fs ∙ sym (text_length t i (pages_in 1 i t.facts)) ∙ sym (ap length (texts_shown t 1 i t.facts))
 
--- an entry shows the same where its frame has the same token
-abbrev idle_slot : ℕ → Bool → Bool → Slot
-idle_slot g changed away = record { state = idle_state g away changed; mark = changed; filling = Zeros }
-
-idle_frame : (g : ℕ) (away changed : Bool) → frame_of (idle_state g away changed) ≡ Some g
+pub idle_frame : (g : ℕ) (away changed : Bool) → frame_of (idle_state g away changed) ≡ Some g
 idle_frame g false changed = refl
 idle_frame g true true = refl
 idle_frame g true false = refl
 
 same_shown : (a b : List Token) (f : ℕ) (x : Place) → ((g : ℕ) → g ≢ f → slot_at b g ≡ slot_at a g) → frame_of (state_shown a x) ≢ Some f
     → state_shown b x ≡ state_shown a x
-same_shown a b f places.Zero s n = refl
-same_shown a b f (places.Image v) s n = refl
-same_shown a b f places.Swap s n = refl
-same_shown a b f (places.Frame g true changed) s n = refl
 same_shown a b f (places.Frame g false changed) s n = elim (cases_eq g f) [
   | inl e ↦ absurd (n (idle_frame g (is_away (slot_at a g)) changed ∙ ap (λ (x : ℕ). Some x) e))
   | inr d ↦ ap (λ (x : Token). idle_state g (is_away x) changed) (s g d)
 ]
+same_shown a b f _ s n = refl
 
 same_slot : (a b : List Token) (f : ℕ) (o : Option Place) → ((g : ℕ) → g ≢ f → slot_at b g ≡ slot_at a g)
     → frame_of (slot_or (slot_shown a) o).state ≢ Some f → slot_or (slot_shown b) o ≡ slot_or (slot_shown a) o
@@ -338,9 +322,8 @@ put_names p (Stack n v) s m = names_changed n (with_stack v s m) (λ x. refl) p.
 put_names p (Text i v) s m = refl
 
 pub put_images : (p : Placement) (q : Page) (s : PageState) (m : Bool) → map image_number (put p q s m).texts ≡ map image_number p.texts
-put_images p (Data n v) s m = refl
-put_images p (Stack n v) s m = refl
 put_images p (Text i v) s m = images_changed i (with_text v s m) (λ x. refl) p.texts
+put_images p _ s m = refl
 
 -- the same pages, one by one, are the same lists
 pub record SameLists (u : Lists) (p : Placement) : Type 0 where

@@ -134,7 +134,3 @@ pub sourced_more : (ns : List ImageNamed) (f : ℕ → ℕ) (hs : Holdings) (siz
     → IsFlightSourced ns f hs size x → AreSourced ns f hs size (ts ++ x ∷ [])
 sourced_more ns f hs size [] x h n = (n, tt)
 sourced_more ns f hs size (t ∷ ts) x h n = (h.0, sourced_more ns f hs size ts x h.1 n)
-
-pub sourced_tail : (ns : List ImageNamed) (f : ℕ → ℕ) (hs : Holdings) (size : ℕ) (ts : List Flight) (x : Flight) → AreSourced ns f hs size (x ∷ ts)
-    → AreSourced ns f hs size ts
-sourced_tail ns f hs size ts x h = h.1

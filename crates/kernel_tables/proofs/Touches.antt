@@ -1,10 +1,10 @@
 -- A user write of one byte.
-use Rattle.std.proofs.Common.{◌≡◌, inl, inr, ℕ, ◌+◌, ◌-◌, ◌<◌, ◌≤◌, Bool, true, List, [], length, map, set, Some, None, IsSome, refl, sym, ap, ◌∙◌, subst, arith}
+use Rattle.std.proofs.Common.{◌≡◌, inl, inr, ℕ, ◌+◌, ◌-◌, ◌<◌, ◌≤◌, Bool, true, List, [], length, map, set, Some, None, refl, sym, ap, ◌∙◌, subst, arith}
 use Rattle.std.specs.List.{range_with_len}
 use Rattle.std.proofs.lemmas.Bool.{cases_eq}
 use Rattle.std.proofs.lemmas.List.{length-set, get_or-set_same, get_or-set_other}
 use Rattle.vm_facts.specs.declared.page.Page.{Page}
-use Rattle.vm_facts.specs.declared.page.Page.TheVariants.{Data, Stack, Text}
+use Rattle.vm_facts.specs.declared.page.Page.TheVariants.{Text}
 use Rattle.vm_facts.specs.declared.page.PageState.{PageState}
 use Rattle.vm_facts.specs.declared.page.PageState.TheVariants.{Valid}
 use Rattle.vax_pte.specs.declared.Place.{Place}
@@ -23,14 +23,15 @@ use Rattle.page_model.specs.PageBytes.{IsWritable}
 use Rattle.kernel_laws.proofs.Local.{none_some}
 use Rattle.std.proofs.lemmas.Option.{same_Some}
 use Rattle.kernel_laws.proofs.PageLawsMovesSteps.{page_in, once_at}
-use Rattle.kernel_tables.specs.Shown.{entry_in, placed}
+use Rattle.kernel_tables.specs.Shown.{placed}
 use Rattle.kernel_tables.specs.View.{Lists, Flown, flown_number, flown_at, page_by, bytes_by, page_held, bytes_held, placement_of, frames_of}
 use Rattle.kernel_tables.specs.Known.{Known}
 use Rattle.kernel_tables.proofs.Shows.{SameLists, segments_are, frames_set}
 use Rattle.kernel_tables.proofs.Finds.{holding_set}
 use Rattle.kernel_tables.proofs.Held.{held_at, bytes_at, below_length, not_flown, placement_ext}
-use Rattle.kernel_tables.proofs.Arrives.{page_shown, Arrives, arrives_moved, arrived, data_there, stack_there}
+use Rattle.kernel_tables.proofs.Arrives.{page_shown, Arrives, arrives_moved, arrived}
 use Rattle.kernel_tables.proofs.Evicts.{frames_same}
+use Rattle.kernel_tables.proofs.Fills.{entry_there}
 
 -- The token of a valid page is resident.
 pub record InFrame (t : Lists) (q : Page) (f : ℕ) : Type 0 where
@@ -72,21 +73,14 @@ in_frame t q f k e = go (slot_at t.slots f) refl
 abbrev pub written : Lists → Page → ℕ → Token → Lists
 written t q f s = record t { slots = set t.slots f s; spaces = map (placed q (places.Frame f true true)) t.spaces }
 
-writable_entry : (t : Lists) (q : Page) → IsWritable q → IsThere (placement_of t) q → IsSome (entry_in t.spaces q)
-writable_entry t (Data n v) w there = data_there t.slots t.spaces n v there
-writable_entry t (Stack n v) w there = stack_there t.slots t.spaces n v there
-writable_entry t (Text i v) w there = absurd w
-
 write_shown : (t : Lists) (q : Page) (f : ℕ) → IsWritable q
     → page_shown t q (places.Frame f true true) ≡ record { state = Valid f; mark = true; filling = Zeros }
-write_shown t (Data n v) f w = refl
-write_shown t (Stack n v) f w = refl
 write_shown t (Text i v) f w = absurd w
+write_shown t _ f w = refl
 
 touch_is : (p : Placement) (q : Page) (f : ℕ) → IsWritable q → touch_to p q (Valid f) ≡ turn p q (Valid f) true p.free p.transfers
-touch_is p (Data n v) f w = refl
-touch_is p (Stack n v) f w = refl
 touch_is p (Text i v) f w = absurd w
+touch_is p _ f w = refl
 
 pub write_place : (t : Lists) (q : Page) (f : ℕ) (token : Frame) → Known t → IsWritable q → (e : state_of (placement_of t) q ≡ Valid f)
     → InFrame t q f → placement_of (written t q f (tokens.Resident token q true)) ≡ touch (placement_of t) q
@@ -106,7 +100,7 @@ write_place t q f token k w e i =
       saved = λ x v d l. refl;
       facts = refl;
       there = there;
-      entry = writable_entry t q w there;
+      entry = entry_there t q w there;
     } in
     let l : SameLists n (put p q (Valid f) true) = segments_are t n q f (Valid f) true (arrives_moved t n q f place a) (record { there = there; slot = arrived t n q f place a ∙ write_shown n q f w }) in
     placement_ext (placement_of n) (turn p q (Valid f) true p.free p.transfers) l.spaces l.texts

@@ -5,7 +5,7 @@ use Rattle.std.proofs.lemmas.List.{get_or_past}
 use Rattle.vm_facts.specs.declared.page.Page.{Page}
 use Rattle.vm_facts.specs.declared.page.Page.TheVariants.{Data, Stack, Text}
 use Rattle.vm_facts.specs.declared.page.PageState.{PageState}
-use Rattle.vm_facts.specs.declared.page.PageState.TheVariants.{Unfilled, Valid, Invalid, Coming, Going, OnSwap}
+use Rattle.vm_facts.specs.declared.page.PageState.TheVariants.{Valid}
 use Rattle.vm_facts.specs.declared.entry.Entry.{Entry}
 use Rattle.vax_pte.specs.declared.Place.{Place}
 use Rattle.vax_pte.specs.declared.Place.TheVariants as places
@@ -34,6 +34,7 @@ use Rattle.kernel_tables.proofs.Shows.{slot_or, data_shown, stack_shown, texts_s
 use Rattle.kernel_tables.proofs.Rising.{found_none, found_here, found_entry, data_of_space, stack_of_space}
 use Rattle.kernel_tables.proofs.Held.{bytes_at, flown_numbers}
 use Rattle.kernel_tables.proofs.Touches.{in_frame}
+use Rattle.kernel_tables.proofs.Marks.{within}
 
 pub known_by : (t : Tables) (j : List Entry) (b : Bool) → IsSound t.core.free t.core.slots → Stands t j b → Known (lists_of t)
 known_by t j b c s = record {
@@ -53,11 +54,8 @@ idle_frame f true true = refl
 idle_frame f true false = refl
 
 place_frame : (slots : List Token) (x : Place) → valid_frame (state_shown slots x) ≡ entry_frame (Some x)
-place_frame slots places.Zero = refl
-place_frame slots (places.Image v) = refl
-place_frame slots places.Swap = refl
-place_frame slots (places.Frame f true c) = refl
 place_frame slots (places.Frame f false c) = idle_frame f (is_away (slot_at slots f)) c
+place_frame slots _ = refl
 
 slot_frame : (slots : List Token) (o : Option Place) → valid_frame (slot_or (slot_shown slots) o).state ≡ entry_frame o
 slot_frame slots None = refl
@@ -107,9 +105,6 @@ get_within [] v l = absurd (omega arith)
 get_within (x ∷ xs) zero l = (x, refl)
 get_within (x ∷ xs) (suc v) l = get_within xs v (omega arith)
 
-below_or_past : (v n : ℕ) → (v < n) ⊎ (n ≤ v)
-below_or_past v n = grind arith
-
 pub map_length : {A B : Type 0} (g : A → B) (xs : List A) → length (map g xs) ≡ length xs
 map_length g [] = refl
 map_length g (x ∷ xs) = ap suc (map_length g xs)
@@ -137,7 +132,7 @@ module _ (t : Lists) (i : ℕ) (s : Places) (k : Known t) (rising : AreRising (s
   gone image v (inr q) n = get_or_past (slots_of (placement_of t) (Text image v)) v no_slot q
 
   text_frame : (image v : ℕ) → image ≡ s.image → length s.text ≡ text_pages_of s.facts → entry_frame (place_in s (Text image v)) ≡ valid_frame (state_of (placement_of t) (Text image v))
-  text_frame image v same whole = elim (below_or_past v (length s.text)) [
+  text_frame image v same whole = elim (within v (length s.text)) [
     | inl l ↦
         let x = get_within s.text v l in
         let entry : place_in s (Text image v) ≡ Some x.0 = text_hit s image v same ∙ x.1 in
@@ -148,7 +143,7 @@ module _ (t : Lists) (i : ℕ) (s : Places) (k : Known t) (rising : AreRising (s
     | inr p ↦
         let pages : pages_in 1 image t.facts ≡ length s.text = ap (λ (n : ℕ). pages_in 1 n t.facts) same ∙ facts_pages 1 s.image t.facts s.facts (at_each (IsFilled t.facts) t.spaces i s k.tied.filled at).facts_are ∙ sym whole in
         ap entry_frame (text_hit s image v same ∙ get_past s.text v p)
-        ∙ sym (ap (λ (y : Slot). valid_frame y.state) (gone image v (below_or_past v (length (slots_of (placement_of t) (Text image v)))) (λ l. absurd (let w : v < pages_in 1 image t.facts = text_within t image v l in omega arith))))
+        ∙ sym (ap (λ (y : Slot). valid_frame y.state) (gone image v (within v (length (slots_of (placement_of t) (Text image v)))) (λ l. absurd (let w : v < pages_in 1 image t.facts = text_within t image v l in omega arith))))
   ]
 
   data_frame : (v : ℕ) → entry_frame (slice_get s.data v) ≡ valid_frame (state_of (placement_of t) (Data s.sid v))
@@ -222,12 +217,8 @@ own_home t i (Text n v) w own = absurd w
 -- Bytes.
 
 held_by : (p : Placement) (q : Page) (s : PageState) → state_of p q ≡ s → IfSome (valid_frame s) (IsHeld p)
-held_by p q Unfilled e = tt
 held_by p q (Valid f) e = record { page = q; valid = e }
-held_by p q (Invalid f) e = tt
-held_by p q (Coming f) e = tt
-held_by p q (Going f) e = tt
-held_by p q OnSwap e = tt
+held_by p q _ e = tt
 
 -- the frame of a valid page is held
 pub held_frame : (p : Placement) (q : Page) (frame : Option ℕ) → frame ≡ valid_frame (state_of p q) → IfSome frame (IsHeld p)

@@ -1,17 +1,15 @@
 -- The call that writes one byte.
-use Rattle.std.proofs.Common.{◌≡◌, ℕ, ◌<◌, Bool, true, false, List, length, map, set, Option, Some, None, refl, sym, ap, ◌∙◌, subst, set-set}
+use Rattle.std.proofs.Common.{◌≡◌, ℕ, ◌<◌, Bool, true, List, length, map, set, refl, sym, ap, ◌∙◌, subst, set-set}
 use Rattle.std.proofs.lemmas.List.{length-set, get_or-set_same, get_or-set_other}
 use Rattle.vm_facts.specs.declared.page.Page.{Page}
-use Rattle.vm_facts.specs.declared.page.Page.TheVariants.{Data, Stack, Text}
 use Rattle.vm_facts.specs.declared.page.PageState.TheVariants.{Valid}
 use Rattle.vm_facts.specs.declared.entry.Entry.{Entry}
-use Rattle.vax_pte.specs.declared.Place.{Place}
 use Rattle.vax_pte.specs.declared.Place.TheVariants as places
 use Rattle.core_map.specs.declared.slot.Slot.{Slot as Token}
 use Rattle.core_map.specs.declared.slot.Slot.TheVariants as tokens
 use Rattle.core_map.specs.Slots.{slot_at, with_byte, with_dirty}
 use Rattle.space_map.specs.Space.{Places}
-use Rattle.page_model.specs.Pages.{Slot, frame_of}
+use Rattle.page_model.specs.Pages.{frame_of}
 use Rattle.page_model.specs.Placement.{state_of}
 use Rattle.page_model.specs.PageBytes.{IsWritable}
 use Rattle.page_model.specs.Dues.{DueStand}
@@ -22,16 +20,14 @@ use Rattle.kernel_laws.proofs.Sound.Steps.{write_sound}
 use Rattle.kernel_laws.proofs.Sound.NumbersApart.{write_numbered}
 use Rattle.kernel_laws.proofs.PageLawsDueChanges.{touch_due}
 use Rattle.kernel_tables.specs.declared.tables.Tables.{Tables}
-use Rattle.kernel_tables.specs.Shown.{slot_shown, entry_in, placed}
-use Rattle.table_view.specs.Shown.{is_away, idle_state, state_shown}
-use Rattle.kernel_tables.specs.View.{Lists, placement_of, frames_of}
+use Rattle.kernel_tables.specs.Shown.{placed}
+use Rattle.kernel_tables.specs.View.{placement_of, frames_of}
 use Rattle.kernel_tables.specs.Known.{Known}
 use Rattle.kernel_tables.specs.Moves.{WroteByte}
 use Rattle.kernel_tables.specs.Machine.{Runs, Stands, lists_of, kernel_by, before_of, images_of, image_at}
 use Rattle.page_model.specs.Holdings.{Holdings}
 use Rattle.kernel_tables.proofs.Stills.{images_heads, sourced_still}
 use Rattle.kernel_tables.proofs.Entries.{head_of, placed_heads}
-use Rattle.kernel_tables.proofs.Shows.{slot_or, data_shown, stack_shown}
 use Rattle.kernel_tables.proofs.Likes.{placed_alike, placed_filled, frame_fits}
 use Rattle.kernel_tables.proofs.Kept.{Ties, tied_still, still_there}
 use Rattle.kernel_tables.proofs.Kernels.{kernel_ext, writable_shared}
@@ -40,28 +36,6 @@ use Rattle.kernel_tables.proofs.Marks.{dirty_place, marks_placed, marks_here, al
 use Rattle.kernel_tables.proofs.Knows.{texts_here}
 use Rattle.kernel_tables.proofs.Comes.{shared_entry}
 use Rattle.kernel_laws.proofs.PageLawsMovesSteps.{page_in}
-
-idle_invalid : (g f : ℕ) (a c : Bool) → idle_state g a c ≡ Valid f → ⊥
-idle_invalid g f false c e = cc
-idle_invalid g f true true e = cc
-idle_invalid g f true false e = cc
-
-valid_is : (slots : List Token) (x : Place) (f : ℕ) → state_shown slots x ≡ Valid f → (c : Bool) × (x ≡ places.Frame f true c)
-valid_is slots places.Zero f e = absurd cc
-valid_is slots (places.Image v) f e = absurd cc
-valid_is slots places.Swap f e = absurd cc
-valid_is slots (places.Frame g true c) f e = let same : g ≡ f = cc in (c, ap (λ (n : ℕ). places.Frame n true c) same)
-valid_is slots (places.Frame g false c) f e = absurd (idle_invalid g f (is_away (slot_at slots g)) c e)
-
-shown_entry : (slots : List Token) (o : Option Place) (f : ℕ) → (slot_or (slot_shown slots) o).state ≡ Valid f → (c : Bool) × (o ≡ Some (places.Frame f true c))
-shown_entry slots None f e = absurd cc
-shown_entry slots (Some x) f e = let d = valid_is slots x f e in (d.0, ap (λ (y : Place). Some y) d.1)
-
-pub valid_entry : (t : Lists) (q : Page) (f : ℕ) → Known t → IsWritable q → state_of (placement_of t) q ≡ Valid f
-    → (c : Bool) × (entry_in t.spaces q ≡ Some (places.Frame f true c))
-valid_entry t (Data n v) f k w e = shown_entry t.slots (entry_in t.spaces (Data n v)) f (sym (ap (λ (y : Slot). y.state) (data_shown t.slots t.spaces n v k.differ)) ∙ e)
-valid_entry t (Stack n v) f k w e = shown_entry t.slots (entry_in t.spaces (Stack n v)) f (sym (ap (λ (y : Slot). y.state) (stack_shown t.slots t.spaces n v k.differ)) ∙ e)
-valid_entry t (Text i v) f k w e = absurd w
 
 pub marked_byte : (old one two : List Token) (f at byte : ℕ) → f < length old → one ≡ set old f (with_byte (slot_at old f) at byte)
     → two ≡ set one f (with_dirty (slot_at one f) true)

@@ -41,10 +41,6 @@ module _ (v u : Tables) (next : ℕ) (ps : List Proc) (rs : List Residence) (h :
   procs_tied : Tied (lists_of v) → Tied (lists_of u)
   procs_tied t = subst Tied (sym procs_lists) (tied_moved (lists_of v) rs t)
 
--- a placement with the residents that it has
-same_residents : (v : Tables) (p : Placement) → place_in v ≡ p → record (place_in v) { residents = residents_in v } ≡ p
-same_residents v p e = e
-
 -- No space comes or goes.
 
 -- a change that leaves spaces and pieces alone

@@ -1,6 +1,6 @@
 -- What a change asks of the calls that make it, and that they make it.
-use Rattle.std.proofs.Common.{◌≡◌, ◌≢◌, ℕ, zero, suc, ◌<◌, ◌≤◌, true, false, List, [], ◌∷◌, length, get_or, Option}
-use Rattle.std.proofs.Common.{Some, None, slice_get, refl, sym, ap, ◌∙◌, subst, arith}
+use Rattle.std.proofs.Common.{◌≡◌, ◌≢◌, ℕ, zero, suc, ◌<◌, ◌≤◌, true, false, List, length, get_or, Option}
+use Rattle.std.proofs.Common.{Some, None, refl, sym, ap, ◌∙◌, subst, arith}
 use Rattle.std.proofs.lemmas.Option.{same_Some}
 use Rattle.aout_image.specs.declared.Image.{Image}
 use Rattle.kernel_tables.specs.Life.{Life as RecordLife}
@@ -32,20 +32,17 @@ use Rattle.kernel_tables.proofs.UserFrames.{map_length}
 use Rattle.table_steps.proofs.ProcessLists.{OnlyOne, only_one, found_number}
 use Rattle.table_steps.proofs.Applied.{entered_place, keep_applied, sleep_applied, reap_applied, lend_applied, resize_applied}
 use Rattle.table_steps.proofs.Applied.{fork_applied, exec_new, exec_held, without_u, end_new, end_held}
+use Rattle.kernel_tables.proofs.Arrives.{get_within}
 
 -- The process and its space.
 
 abbrev life_held : Life → Option ℕ
-life_held New = None
 life_held (HoldsSpace sid) = Some sid
-life_held (LendsSpace sid child) = None
-life_held (Ended status) = None
+life_held _ = None
 
 shown_held : (l : RecordLife) → space_by l ≡ life_held (life_shown l)
 shown_held lives.New = refl
-shown_held (lives.Holds sid) = refl
-shown_held (lives.Lends sid child) = refl
-shown_held (lives.Zombie status) = refl
+shown_held _ = refl
 
 -- the space that the record has is the process's
 space_is : (t : Tables) (pid : ℕ) (p : Proc) → process_in t pid ≡ Some p → space_at t pid ≡ life_held p.life
@@ -54,23 +51,17 @@ space_is t pid p e =
     ap space_held r.there ∙ shown_held r.found.state ∙ ap (λ (q : Proc). life_held q.life) r.shows
 
 held_one : (l : Life) (sid : ℕ) → Some sid ≡ life_held l → l ≡ HoldsSpace sid
-held_one New sid e = absurd cc
 held_one (HoldsSpace n) sid e = ap HoldsSpace (sym (same_Some sid n e))
-held_one (LendsSpace n child) sid e = absurd cc
-held_one (Ended status) sid e = absurd cc
+held_one _ sid e = absurd cc
 
 -- who changes its sizes, or has a child with a copy, has a space
 acts_resize : (l : Life) (d s : ℕ) → MayAct l (Resize d s) → None ≡ life_held l → ⊥
-acts_resize New d s a e = a
 acts_resize (HoldsSpace sid) d s a e = cc
-acts_resize (LendsSpace sid child) d s a e = a
-acts_resize (Ended status) d s a e = a
+acts_resize _ d s a e = a
 
 acts_fork : (l : Life) (child : ℕ) → MayAct l (Fork child) → None ≡ life_held l → ⊥
-acts_fork New child a e = a
 acts_fork (HoldsSpace sid) child a e = cc
-acts_fork (LendsSpace sid c) child a e = a
-acts_fork (Ended status) child a e = a
+acts_fork _ child a e = a
 
 module _ (t : Tables) (pid : ℕ) (change : Change) (m : MayApply t pid change) where
   pub only : OnlyOne m.process (processes_in t)
@@ -164,27 +155,15 @@ there_same t w pid p s e = ap (λ (ps : List Proc). numbered (λ (q : Proc). q.p
 
 -- who makes a new image or ends holds a space, or has none yet
 holds_exec : (l : Life) (image : ℕ) (top : List ℕ) → MayAct l (Exec image top) → HoldsOrNew l
-holds_exec New image top a = tt
-holds_exec (HoldsSpace sid) image top a = tt
 holds_exec (LendsSpace sid child) image top a = a
 holds_exec (Ended status) image top a = a
-
-holds_end : (l : Life) (status : ℕ) → MayAct l (End status) → HoldsOrNew l
-holds_end New status a = tt
-holds_end (HoldsSpace sid) status a = tt
-holds_end (LendsSpace sid child) status a = a
-holds_end (Ended s) status a = a
+holds_exec _ image top a = tt
 
 -- A new image.
 
-there_at : {A : Type 0} (xs : List A) (i : ℕ) → i < length xs → (x : A) × (slice_get xs i ≡ Some x)
-there_at [] i l = absurd (omega arith)
-there_at (x ∷ xs) zero l = (x, refl)
-there_at (x ∷ xs) (suc i) l = there_at xs i (omega arith)
-
 facts_there : (facts : List Image) (image : ℕ) → 0 < image → image ≤ length facts → (x : Image) × (facts_numbered facts image ≡ Some x)
 facts_there facts zero l r = absurd (omega arith)
-facts_there facts (suc place) l r = there_at facts place (omega arith)
+facts_there facts (suc place) l r = get_within facts place (omega arith)
 
 pub image_facts : (t : Tables) (pid image : ℕ) (top : List ℕ) → MayApply t pid (Exec image top)
     → (x : Image) × (facts_numbered (lists_of t).facts image ≡ Some x)
@@ -300,17 +279,8 @@ module _ (t : Tables) (pid status : ℕ) (m : MayApply t pid (End status)) where
         let s : SameRecords t v = left_records t v (space_at t pid) l in
         record { processes = ap (λ (x : Tables). x.processes) same ∙ s.processes; next_pid = ap (λ (x : Tables). x.next_pid) same ∙ s.next_pid }
 
-    pub end_known : AreRecords w.processes w.next_pid
-    end_known = records_same t w end_records m.records
-
     pub end_there : process_in w pid ≡ Some m.process
     end_there = there_same t w pid m.process end_records m.there
-
-    pub end_life : HoldsOrNew (life_at w pid)
-    end_life = subst (λ (o : Option Proc). HoldsOrNew (life_of_proc o)) (sym end_there) (holds_end m.process.life status m.acts)
-
-    pub end_alone : has_lender (processes_in w) pid ≡ false
-    end_alone = ap (λ (ps : List Proc). has_lender ps pid) (procs_same t w end_records) ∙ m.alone refl
 
     pub end_all : (u : Tables) → ((p : Proc) → process_in w pid ≡ Some p → HasEnded w u p status) → (since : ℕ)
         → AppliesAs t u pid since (End status)

@@ -28,8 +28,6 @@ use Rattle.kernel_tables.proofs.Comes.{shared_entry}
 
 -- of text that nobody shares no page is in flight
 pub moving_shared : (p : Placement) (q : Page) (e : Errand) (f : ℕ) → TextAside p → state_of p q ≡ moving_state e f → IsShared p q
-moving_shared p (Data n v) e f a h = tt
-moving_shared p (Stack n v) e f a h = tt
 moving_shared p (Text i v) e f a h = elim (cases_eq (sharers p i) 0) [
   | inl z ↦ absurd (go e (a i v z) h)
   | inr n ↦ omega arith
@@ -44,6 +42,7 @@ moving_shared p (Text i v) e f a h = elim (cases_eq (sharers p i) 0) [
       | inl u ↦ let x : Unfilled ≡ Coming f = sym u ∙ m in cc
       | inr u ↦ let x : Invalid u.0 ≡ Coming f = sym u.1 ∙ m in cc
     ]
+moving_shared p _ e f a h = tt
 
 away_named : (slots : List Token) (x : Place) (e : Errand) (f : ℕ) → state_shown slots x ≡ moving_state e f → is_away (slot_at slots f) ≡ true
 away_named slots places.Zero Writes f h = absurd cc
@@ -65,11 +64,10 @@ away_named slots (places.Frame g false c) e f h = go (is_away (slot_at slots g))
     go true false (Reads s r) k m = let same : g ≡ f = cc in subst (λ (n : ℕ). is_away (slot_at slots n) ≡ true) same k
 
 away_is : (s : Token) → is_away s ≡ true → s ≡ tokens.Away
-away_is (tokens.Free token page) e = absurd cc
-away_is (tokens.Resident token page dirty) e = absurd cc
 away_is tokens.Away e = refl
+away_is _ e = absurd cc
 
-some_of : {A : Type 0} (o : Option A) → IsSome o → (x : A) × (o ≡ Some x)
+pub some_of : {A : Type 0} (o : Option A) → IsSome o → (x : A) × (o ≡ Some x)
 some_of None h = absurd cc
 some_of (Some x) h = (x, refl)
 

@@ -1,5 +1,5 @@
 -- A page of data or stack is forgotten: of the placement, that is `drop_page`.
-use Rattle.std.proofs.Common.{◌≡◌, ◌≢◌, inl, inr, ℕ, zero, suc, ◌+◌, ◌-◌, ◌<◌, ◌≤◌, Bool, true, false, List, [], ◌∷◌, ◌++◌, length, map, set, Option, Some, None, IsSome, refl, sym, ap, ◌∙◌, subst, arith}
+use Rattle.std.proofs.Common.{◌≡◌, ◌≢◌, inl, inr, ℕ, suc, ◌+◌, ◌-◌, ◌<◌, ◌≤◌, Bool, true, false, List, [], ◌∷◌, ◌++◌, length, map, set, Option, Some, None, IsSome, refl, sym, ap, ◌∙◌, subst, arith}
 use Rattle.std.specs.List.{range_with_len}
 use Rattle.std.proofs.lemmas.Bool.{cases_eq}
 use Rattle.std.proofs.lemmas.List.{length-set, get_or-set_same, get_or-set_other}
@@ -22,12 +22,11 @@ use Rattle.page_model.specs.Placement.{Placement, Transfer, slot_of, state_of, I
 use Rattle.page_model.specs.PageBytes.{IsWritable}
 use Rattle.page_model.specs.Moves.{drop_at, drop_page, drop_all}
 use Rattle.flat_state.specs.PageNames.{beside, pages_from}
-use Rattle.page_model.specs.Conditions.{AtRest, IsShared, EachPage}
+use Rattle.page_model.specs.Conditions.{AtRest, EachPage}
 use Rattle.page_model.specs.Ownership.{OwnsFrames, TextAside}
 use Rattle.flat_state.specs.Numbers.{AllDistinct}
 use Rattle.page_laws.proofs.Lists.Local.{none_some}
-use Rattle.page_laws.proofs.Lists.Pages.{page_cases}
-use Rattle.page_laws.proofs.Ownership.Spaces.{drop_other, drop_page_owner, drop_all_blank, drop_all_length}
+use Rattle.page_laws.proofs.Ownership.Spaces.{drop_other, drop_page_owner, drop_all_length, drop_rest}
 use Rattle.page_laws.proofs.Ownership.Changes.{each_at}
 use Rattle.page_laws.proofs.Blocks.Changes.{text_still, drop_all_frees, drop_all_sharers}
 use Rattle.kernel_tables.specs.declared.tables.Tables.{Tables}
@@ -41,7 +40,7 @@ use Rattle.table_steps.specs.Forgotten.{ForgotPage}
 use Rattle.kernel_tables.specs.Changing.{Dropped}
 use Rattle.kernel_tables.proofs.Entries.{head_of, placed_heads}
 use Rattle.kernel_tables.proofs.Likes.{FitsPage, placed_alike, placed_filled}
-use Rattle.kernel_tables.proofs.Shows.{Moved, SameLists, segments_are, frames_set, head_sids}
+use Rattle.kernel_tables.proofs.Shows.{Moved, SameLists, segments_are, frames_set, head_sids, idle_frame}
 use Rattle.kernel_tables.proofs.Finds.{holding_set}
 use Rattle.kernel_tables.proofs.Held.{below_length, placement_ext}
 use Rattle.kernel_tables.proofs.Arrives.{page_shown, Arrives, arrives_moved, arrived}
@@ -49,10 +48,12 @@ use Rattle.kernel_tables.proofs.Evicts.{frames_same}
 use Rattle.kernel_tables.proofs.Kept.{Ties, tied_still, still_there}
 use Rattle.kernel_tables.proofs.Comes.{shared_entry}
 use Rattle.kernel_tables.proofs.Marks.{marks_placed, alone_in, set_resident}
-use Rattle.kernel_tables.proofs.Knows.{held_named, texts_here}
+use Rattle.kernel_tables.proofs.Knows.{held_named, texts_here, holds_not_away}
 use Rattle.table_steps.proofs.Residing.{entry_shown, seat_resides}
 use Rattle.table_steps.proofs.Reclaims.{held_is}
 use Rattle.kernel_tables.proofs.Stills.{images_heads}
+use Rattle.table_steps.proofs.LeftPages.{pages_more}
+use Rattle.kernel_tables.proofs.Kernels.{writable_shared}
 
 abbrev forgotten : Lists → Page → ℕ → Frame → Lists
 forgotten t q f token = record t { slots = set t.slots f (tokens.Free token None); free = f ∷ without f t.free; spaces = map (placed q places.Zero) t.spaces }
@@ -62,37 +63,20 @@ blanked t q = record t { spaces = map (placed q places.Zero) t.spaces }
 
 -- What is known of the page.
 
-some_of : {A : Type 0} (o : Option A) → IsSome o → (x : A) × (o ≡ Some x)
-some_of None h = absurd cc
-some_of (Some x) h = (x, refl)
-
-writable_shared : (p : Placement) (q : Page) → IsWritable q → IsShared p q
-writable_shared p (Data n v) w = tt
-writable_shared p (Stack n v) w = tt
-writable_shared p (Text i v) w = absurd w
-
 zero_fits : (q : Page) → FitsPage q places.Zero
 zero_fits q w e = absurd cc
 
 zero_shown : (t : Lists) (q : Page) → IsWritable q → page_shown t q places.Zero ≡ record { state = Unfilled; mark = false; filling = Zeros }
-zero_shown t (Data n v) w = refl
-zero_shown t (Stack n v) w = refl
 zero_shown t (Text i v) w = absurd w
+zero_shown t _ w = refl
 
 shown_state : (t : Lists) (q : Page) (x : Place) → IsWritable q → (page_shown t q x).state ≡ state_shown t.slots x
-shown_state t (Data n v) x w = refl
-shown_state t (Stack n v) x w = refl
 shown_state t (Text i v) x w = absurd w
+shown_state t _ x w = refl
 
 shown_filling : (t : Lists) (q : Page) (x : Place) → IsWritable q → (page_shown t q x).filling ≡ filling_shown x
-shown_filling t (Data n v) x w = refl
-shown_filling t (Stack n v) x w = refl
 shown_filling t (Text i v) x w = absurd w
-
-idle_frame : (f : ℕ) (away changed : Bool) → frame_of (idle_state f away changed) ≡ Some f
-idle_frame f false changed = refl
-idle_frame f true true = refl
-idle_frame f true false = refl
+shown_filling t _ x w = refl
 
 frame_shown : (slots : List Token) (f : ℕ) (valid changed : Bool) → frame_of (state_shown slots (places.Frame f valid changed)) ≡ Some f
 frame_shown slots f true changed = refl
@@ -138,17 +122,13 @@ held_here t q f valid changed m e =
     go true h = let r = seat_resides t q f m.known (record { state = inl h }) in ap token_page r.slot
     go false h = idle (is_away (slot_at t.slots f)) changed refl h
 
-not_away : (s : Token) (q : Page) → token_page s ≡ Some q → s ≢ tokens.Away
-not_away s q e n = none_some q (sym (ap token_page n) ∙ e)
-
 pub entry_held : (t : Lists) (q : Page) (f : ℕ) (valid changed : Bool) → MayForgetPage t q → entry_in t.spaces q ≡ Some (places.Frame f valid changed)
     → slot_at t.slots f ≢ tokens.Away
-entry_held t q f valid changed m e = not_away (slot_at t.slots f) q (held_here t q f valid changed m e)
+entry_held t q f valid changed m e = holds_not_away (slot_at t.slots f) q (held_here t q f valid changed m e)
 
 token_bytes : (s : Token) (q : Page) (o : Option Flown) → token_page s ≡ Some q → (token_of s).bytes ≡ bytes_by s o
-token_bytes (tokens.Free token page) q o e = refl
-token_bytes (tokens.Resident token page dirty) q o e = refl
 token_bytes tokens.Away q o e = none_some q e
+token_bytes _ q o e = refl
 
 forget_arrives : (t : Lists) (q : Page) (f : ℕ) (token : Frame) → MayForgetPage t q → frame_of (state_of (placement_of t) q) ≡ Some f
     → token_page (slot_at t.slots f) ≡ Some q
@@ -183,7 +163,7 @@ forget_is t q f valid changed token m e =
     let n : Lists = forgotten t q f token in
     let named = in_frame t q f valid changed m e in
     let held = held_here t q f valid changed m e in
-    let below = below_length t.slots f (not_away (slot_at t.slots f) q held) in
+    let below = below_length t.slots f (holds_not_away (slot_at t.slots f) q held) in
     let a = forget_arrives t q f token m named held in
     let b : SameLists n (put p q Unfilled false) = segments_are t n q f Unfilled false (arrives_moved t n q f places.Zero a)
     (record { there = m.there; slot = arrived t n q f places.Zero a ∙ zero_anywhere t n q m.writable ∙ no_filling t q (places.Frame f valid changed) m e refl }) in
@@ -200,7 +180,7 @@ forget_frames t q f valid changed m e =
     let x : Token = tokens.Free (token_of (slot_at t.slots f)) None in
     let n : Lists = forgotten t q f (token_of (slot_at t.slots f)) in
     let held = held_here t q f valid changed m e in
-    let below = below_length t.slots f (not_away (slot_at t.slots f) q held) in
+    let below = below_length t.slots f (holds_not_away (slot_at t.slots f) q held) in
     ap (λ (k : ℕ). map (bytes_held n) (range_with_len 1 (k - 1))) (length-set t.slots f x)
     ∙ frames_same (bytes_held t) (bytes_held n) (range_with_len 1 (length t.slots - 1)) (λ g. elim (cases_eq g f) [
       | inl h ↦ subst (λ (k : ℕ). bytes_held n k ≡ bytes_held t k) (sym h)
@@ -270,10 +250,9 @@ blank_ties t q m e =
 -- A page that wasn't filled yet stays so.
 
 abbrev pub IsUnfilledEntry : Place → Type 0
-IsUnfilledEntry places.Zero = Unit {0}
-IsUnfilledEntry (places.Image v) = Unit {0}
 IsUnfilledEntry places.Swap = ⊥
 IsUnfilledEntry (places.Frame f valid changed) = ⊥
+IsUnfilledEntry _ = Unit {0}
 
 unfilled_shown : (t : Lists) (q : Page) (x : Place) → IsWritable q → IsUnfilledEntry x
     → page_shown t q x ≡ record { state = Unfilled; mark = false; filling = (page_shown t q x).filling }
@@ -396,9 +375,6 @@ drop_all-append : (p : Placement) (qs rs : List Page) → drop_all p (qs ++ rs) 
 drop_all-append p [] rs = refl
 drop_all-append p (q ∷ qs) rs = drop_all-append (drop_page p q) qs rs
 
-pub dropped_none : (t : Tables) → Known (lists_of t) → Dropped t t []
-dropped_none t k = record { shows = record { place = refl; frames = refl; known = k }; images = λ sid. refl; rest = refl }
-
 pub dropped_more : (t u w : Tables) (qs rs : List Page) → Dropped t u qs → Dropped u w rs → Dropped t w (qs ++ rs)
 dropped_more t u w qs rs a b = record {
   shows = record {
@@ -410,22 +386,9 @@ dropped_more t u w qs rs a b = record {
   rest = rest_forgets t u w a.rest b.rest;
 }
 
-pages_from_last : (q : Page) (lo n : ℕ) → pages_from q lo (suc n) ≡ pages_from q lo n ++ beside q (lo + n) ∷ []
-pages_from_last q lo zero = ap (λ (v : ℕ). beside q v ∷ []) (let e : lo ≡ lo + 0 = omega arith in e)
-pages_from_last q lo (suc n) =
-    ap (λ (qs : List Page). beside q lo ∷ qs) (pages_from_last q (lo + 1) n)
-    ∙ ap (λ (v : ℕ). beside q lo ∷ pages_from q (lo + 1) n ++ beside q v ∷ []) (let e : lo + 1 + n ≡ lo + suc n = omega arith in e)
-
--- a page at rest stays so where others are forgotten
-pub dropped_rests : (p : Placement) (v w : Page) → AtRest (state_of p w) → AtRest (state_of (drop_page p v) w)
-dropped_rests p v w r = elim (page_cases w v) [
-  | inl e ↦ subst (λ (x : Page). AtRest (state_of (drop_page p v) x)) (sym e) (let b = drop_all_blank (v ∷ []) p in subst AtRest (sym b.0.state) tt)
-  | inr n ↦ subst AtRest (sym (ap (λ (s : Slot). s.state) (drop_other p v w n))) r
-]
-
 pub all_dropped_rests : (p : Placement) (qs : List Page) (w : Page) → AtRest (state_of p w) → AtRest (state_of (drop_all p qs) w)
 all_dropped_rests p [] w r = r
-all_dropped_rests p (q ∷ qs) w r = all_dropped_rests (drop_page p q) qs w (dropped_rests p q w r)
+all_dropped_rests p (q ∷ qs) w r = all_dropped_rests (drop_page p q) qs w (drop_rest p q w r)
 
 -- a page that may be forgotten still may where others were
 pub still_may : (t u : Tables) (qs : List Page) (w : Page) → Dropped t u qs → IsWritable w → IsThere (placement_of (lists_of t)) w
@@ -441,9 +404,8 @@ still_may t u qs w d k th r =
     }
 
 writable_beside : (q : Page) (v : ℕ) → IsWritable q → IsWritable (beside q v)
-writable_beside (Data n k) v w = tt
-writable_beside (Stack n k) v w = tt
 writable_beside (Text i k) v w = absurd w
+writable_beside _ v w = tt
 
 -- the next page of a segment
 pub next_may : (t u : Tables) (q : Page) (from to v : ℕ) → Dropped t u (pages_from q from (v - from)) → from ≤ v → v < to → IsWritable q
@@ -460,5 +422,5 @@ next_dropped t u w q from v l a b =
     let k : from + (v - from) ≡ v = omega arith in
     let n : suc (v - from) ≡ v + 1 - from = omega arith in
     subst (λ (m : ℕ). Dropped t w (pages_from q from m)) n
-    (subst (Dropped t w) (ap (λ (x : ℕ). pages_from q from (v - from) ++ beside q x ∷ []) (sym k) ∙ sym (pages_from_last q from (v - from)))
+    (subst (Dropped t w) (ap (λ (x : ℕ). pages_from q from (v - from) ++ beside q x ∷ []) (sym k) ∙ sym (pages_more q from (v - from)))
     (dropped_more t u w (pages_from q from (v - from)) (beside q v ∷ []) a b))

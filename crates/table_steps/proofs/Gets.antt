@@ -1,8 +1,8 @@
 -- The step of `Get`, from what the calls of the tables leave.
-use Rattle.std.proofs.Common.{◌≡◌, ℕ, zero, suc, ◌+◌, ◌<◌, ◌≤◌, Bool, List, [], ◌∷◌, ◌++◌, length, map, Option, Some, None, refl, sym, ap, ◌∙◌, subst, arith, append-nil, append_assoc}
+use Rattle.std.proofs.Common.{◌≡◌, ℕ, zero, suc, ◌+◌, ◌<◌, ◌≤◌, Bool, List, [], ◌∷◌, ◌++◌, map, Option, Some, None, refl, sym, ap, ◌∙◌, subst, arith, append-nil, append_assoc}
 use Rattle.std.proofs.lemmas.List.{map-append}
 use Rattle.vm_facts.specs.declared.page.Page.{Page}
-use Rattle.vm_facts.specs.declared.page.Page.TheVariants.{Data, Stack, Text}
+use Rattle.vm_facts.specs.declared.page.Page.TheVariants.{Data, Text}
 use Rattle.vm_facts.specs.declared.page.PageState.TheVariants.{Unfilled, OnSwap}
 use Rattle.vm_facts.specs.declared.entry.Entry.{Entry}
 use Rattle.vm_facts.specs.declared.entry.Entry.TheVariants as entries
@@ -33,22 +33,18 @@ use Rattle.kernel_tables.specs.Tied.{Tied}
 use Rattle.kernel_tables.specs.Conditions.{CanBringIn, KeepsFlat, SameOutside}
 use Rattle.table_steps.proofs.Opens.{opened_place, opened_frames, opened_known}
 use Rattle.kernel_tables.proofs.Kernels.{kernel_ext}
+use Rattle.page_laws.proofs.Ends.Serving.{pages_length}
+use Rattle.page_laws.proofs.Blocks.Steps.{beside_shared}
 
 -- What is asked of the run.
-
-beside_shared : (p : Placement) (q : Page) (v : ℕ) → IsShared p q → IsShared p (beside q v)
-beside_shared p (Data i w) v h = tt
-beside_shared p (Stack i w) v h = tt
-beside_shared p (Text i w) v h = h
 
 run_shared : (p : Placement) (q : Page) (lo n : ℕ) → IsShared p q → EachPage (IsShared p) (pages_from q lo n)
 run_shared p q lo zero h = tt
 run_shared p q lo (suc n) h = (beside_shared p q lo h, run_shared p q (lo + 1) n h)
 
 begun_shared : (p : Placement) (e : Errand) (w : Page) → IsShared p w → IsShared (begin p e) w
-begun_shared p e (Data i v) c = tt
-begun_shared p e (Stack i v) c = tt
 begun_shared p e (Text i v) c = c
+begun_shared p e _ c = tt
 
 pub may_bring : (t : Tables) (s : Source) (q : Page) (lo n : ℕ) → Known (lists_of t) → CanBringIn (placement_of (lists_of t)) q lo n
     → MayBring (opened t [] s q) q lo n
@@ -83,20 +79,15 @@ flight_lists u w x ps s q r e i f =
 -- The pages of a run rise.
 before_next : (q : Page) (lo : ℕ) → IsBefore (beside q lo) (beside q (lo + 1))
 before_next (Data i v) lo = (refl, omega arith)
-before_next (Stack i v) lo = (refl, omega arith)
-before_next (Text i v) lo = (refl, omega arith)
+before_next _ lo = (refl, omega arith)
 
 rising : (q : Page) (lo n : ℕ) → Rise (beside q lo) (pages_from q (lo + 1) n)
 rising q lo zero = tt
 rising q lo (suc n) = (before_next q lo, rising q (lo + 1) n)
 
-run_length : (q : Page) (lo n : ℕ) → length (pages_from q lo n) ≡ n
-run_length q lo zero = refl
-run_length q lo (suc n) = ap suc (run_length q (lo + 1) n)
-
 pub run_rises : (q : Page) (lo n : ℕ) → 0 < n → n ≤ 16 → IsRun (pages_from q lo n)
 run_rises q lo zero s m = absurd (omega arith)
-run_rises q lo (suc n) s m = (omega (arith, run_length q (lo + 1) n), rising q lo n)
+run_rises q lo (suc n) s m = (omega (arith, pages_length q (lo + 1) n), rising q lo n)
 
 -- What a read that begins leaves, of which all pages have their frames.
 pub record Getting (t u w : Tables) (ps : List Inbound) (x : Flight) (b : Bool) (q : Page) (lo n : ℕ) : Type 0 where

@@ -48,7 +48,7 @@ at_within [] i n e = absurd cc
 at_within (m ∷ ns) zero n e = omega arith
 at_within (m ∷ ns) (suc i) n e = let l = at_within ns i n e in omega arith
 
-sids_length : (ss : List Places) → length (sids_of ss) ≡ length ss
+pub sids_length : (ss : List Places) → length (sids_of ss) ≡ length ss
 sids_length [] = refl
 sids_length (s ∷ ss) = ap suc (sids_length ss)
 

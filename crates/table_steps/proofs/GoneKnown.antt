@@ -134,9 +134,6 @@ module _ (l : Lists) (sid : ℕ) (s : Places) (g : Gives l sid s) where
       go (tokens.Resident token page dirty) e = refl
       go tokens.Away e = none_some (Text i v) e
 
-  text_is : (p : Placement) → p ≡ remove_space (placement_of l) sid → (j v : ℕ) → slot_of p (Text j v) ≡ slot_of (placement_of l) (Text j v)
-  text_is p e j v = ap (λ (x : Placement). slot_of x (Text j v)) e
-
   long : (i v : ℕ) → length (slots_of (placement_of l) (Text i v)) ≡ pages_in 1 i l.facts
   long i v = ap length (texts_shown l 1 i l.facts) ∙ text_length l i (pages_in 1 i l.facts)
 

@@ -158,24 +158,19 @@ expired_kept t n locked k is e = record {
 mark_shown : (t : Lists) (q : Page) (f : ℕ) (v c : Bool) (x : Token) (m : Bool) → slot_at t.slots f ≡ x → is_away x ≡ false
     → m ≡ (page_shown t q (places.Frame f v c)).mark
     → page_shown t q (places.Frame f false c) ≡ record { state = Invalid f; mark = m; filling = Zeros }
-mark_shown t (Data n v) f b c x m e a h =
-    ap (λ (s : Token). let z : Slot = record { state = idle_state f (is_away s) c; mark = c; filling = Zeros } in z) e
-    ∙ ap (λ (d : Bool). let z : Slot = record { state = idle_state f d c; mark = c; filling = Zeros } in z) a
-    ∙ ap (λ (d : Bool). let z : Slot = record { state = Invalid f; mark = d; filling = Zeros } in z) (sym h)
-mark_shown t (Stack n v) f b c x m e a h =
-    ap (λ (s : Token). let z : Slot = record { state = idle_state f (is_away s) c; mark = c; filling = Zeros } in z) e
-    ∙ ap (λ (d : Bool). let z : Slot = record { state = idle_state f d c; mark = c; filling = Zeros } in z) a
-    ∙ ap (λ (d : Bool). let z : Slot = record { state = Invalid f; mark = d; filling = Zeros } in z) (sym h)
 mark_shown t (Text i v) f b c x m e a h =
     ap (λ (s : Token). record (page_shown t (Text i v) (places.Frame f false c)) { state = idle_state f (is_away s) c }) e
     ∙ ap (λ (d : Bool). record (page_shown t (Text i v) (places.Frame f false c)) { state = idle_state f d c }) a
     ∙ ap (λ (d : Bool). let z : Slot = record { state = Invalid f; mark = d; filling = Zeros } in z) (sym h)
+mark_shown t _ f b c x m e a h =
+    ap (λ (s : Token). let z : Slot = record { state = idle_state f (is_away s) c; mark = c; filling = Zeros } in z) e
+    ∙ ap (λ (d : Bool). let z : Slot = record { state = idle_state f d c; mark = c; filling = Zeros } in z) a
+    ∙ ap (λ (d : Bool). let z : Slot = record { state = Invalid f; mark = d; filling = Zeros } in z) (sym h)
 
 expired_mark : (ss : List Places) (ts : List SharedText) (f : ℕ) (b c : Bool) (q : Page) → entry_in ss q ≡ Some (places.Frame f b c)
     → dirty_shown ss ts q ≡ placed_mark ts (places.Frame f false c) q
-expired_mark ss ts f b c (Data n v) e = ap changed_named e
-expired_mark ss ts f b c (Stack n v) e = ap changed_named e
 expired_mark ss ts f b c (Text i v) e = refl
+expired_mark ss ts f b c _ e = ap changed_named e
 
 expiring : (t : Lists) (q : Page) (f : ℕ) → Known t → (r : Resides t q f)
     → Turning t (record t { spaces = map (placed q (places.Frame f false r.changed)) t.spaces }) q f (places.Frame f false r.changed) (Invalid f) (mark_of (placement_of t) q)

@@ -11,66 +11,15 @@ use Rattle.table_steps.specs.Joined.{moves_in, instructions_in, last_says}
 -- Moves of the hands.
 join_alone : (e : Entry) → moves_in e ≡ None → join e (entries.Hands 1) ≡ e ∷ entries.Hands 1 ∷ []
 join_alone (entries.Hands count) h = absurd cc
-join_alone (entries.Ran pid count) h = refl
-join_alone (entries.Event line) h = refl
-join_alone (entries.Turn pid) h = refl
-join_alone (entries.Out pid bytes) h = refl
-join_alone (entries.Grew pid pages) h = refl
-join_alone (entries.Call pid number carry r0 r1) h = refl
-join_alone (entries.Refused pid) h = refl
-join_alone (entries.Sleeps pid) h = refl
-join_alone (entries.Ended pid status) h = refl
-join_alone (entries.Zero page) h = refl
-join_alone (entries.Copy page) h = refl
-join_alone (entries.Get page lo n) h = refl
-join_alone (entries.Reclaim page) h = refl
-join_alone (entries.Put lo n) h = refl
-join_alone entries.Done h = refl
-join_alone (entries.SwapOut pid) h = refl
-join_alone (entries.SwapIn pid) h = refl
-join_alone (entries.Owners free used moving held) h = refl
+join_alone _ h = refl
 
 joins_last : (e : Entry) (count : ℕ) → moves_in e ≡ Some count → join e (entries.Hands 1) ≡ entries.Hands (count + 1) ∷ []
 joins_last (entries.Hands m) count h = let same : m ≡ count = cc in ap (λ (k : ℕ). entries.Hands (k + 1) ∷ []) same
-joins_last (entries.Ran pid n) count h = absurd cc
-joins_last (entries.Event line) count h = absurd cc
-joins_last (entries.Turn pid) count h = absurd cc
-joins_last (entries.Out pid bytes) count h = absurd cc
-joins_last (entries.Grew pid pages) count h = absurd cc
-joins_last (entries.Call pid number carry r0 r1) count h = absurd cc
-joins_last (entries.Refused pid) count h = absurd cc
-joins_last (entries.Sleeps pid) count h = absurd cc
-joins_last (entries.Ended pid status) count h = absurd cc
-joins_last (entries.Zero page) count h = absurd cc
-joins_last (entries.Copy page) count h = absurd cc
-joins_last (entries.Get page lo n) count h = absurd cc
-joins_last (entries.Reclaim page) count h = absurd cc
-joins_last (entries.Put lo n) count h = absurd cc
-joins_last entries.Done count h = absurd cc
-joins_last (entries.SwapOut pid) count h = absurd cc
-joins_last (entries.SwapIn pid) count h = absurd cc
-joins_last (entries.Owners free used moving held) count h = absurd cc
+joins_last _ count h = absurd cc
 
 moves_are : (e : Entry) (count : ℕ) → moves_in e ≡ Some count → e ≡ entries.Hands count
 moves_are (entries.Hands m) count h = let same : m ≡ count = cc in ap (λ (k : ℕ). entries.Hands k) same
-moves_are (entries.Ran pid n) count h = absurd cc
-moves_are (entries.Event line) count h = absurd cc
-moves_are (entries.Turn pid) count h = absurd cc
-moves_are (entries.Out pid bytes) count h = absurd cc
-moves_are (entries.Grew pid pages) count h = absurd cc
-moves_are (entries.Call pid number carry r0 r1) count h = absurd cc
-moves_are (entries.Refused pid) count h = absurd cc
-moves_are (entries.Sleeps pid) count h = absurd cc
-moves_are (entries.Ended pid status) count h = absurd cc
-moves_are (entries.Zero page) count h = absurd cc
-moves_are (entries.Copy page) count h = absurd cc
-moves_are (entries.Get page lo n) count h = absurd cc
-moves_are (entries.Reclaim page) count h = absurd cc
-moves_are (entries.Put lo n) count h = absurd cc
-moves_are entries.Done count h = absurd cc
-moves_are (entries.SwapOut pid) count h = absurd cc
-moves_are (entries.SwapIn pid) count h = absurd cc
-moves_are (entries.Owners free used moving held) count h = absurd cc
+moves_are _ count h = absurd cc
 
 -- Instructions of a process.
 run_alone : (q : ℕ) (e : Entry) → instructions_in q e ≡ None → join e (entries.Ran q 1) ≡ e ∷ entries.Ran q 1 ∷ []
@@ -79,24 +28,7 @@ run_alone q (entries.Ran pid count) h = go (pid == q) h
     go : (b : Bool) → cond b (Some count) None ≡ None → join_by b pid count q 1 ≡ entries.Ran pid count ∷ entries.Ran q 1 ∷ []
     go true k = absurd cc
     go false k = refl
-run_alone q (entries.Hands count) h = refl
-run_alone q (entries.Event line) h = refl
-run_alone q (entries.Turn pid) h = refl
-run_alone q (entries.Out pid bytes) h = refl
-run_alone q (entries.Grew pid pages) h = refl
-run_alone q (entries.Call pid number carry r0 r1) h = refl
-run_alone q (entries.Refused pid) h = refl
-run_alone q (entries.Sleeps pid) h = refl
-run_alone q (entries.Ended pid status) h = refl
-run_alone q (entries.Zero page) h = refl
-run_alone q (entries.Copy page) h = refl
-run_alone q (entries.Get page lo n) h = refl
-run_alone q (entries.Reclaim page) h = refl
-run_alone q (entries.Put lo n) h = refl
-run_alone q entries.Done h = refl
-run_alone q (entries.SwapOut pid) h = refl
-run_alone q (entries.SwapIn pid) h = refl
-run_alone q (entries.Owners free used moving held) h = refl
+run_alone q _ h = refl
 
 run_joins : (q : ℕ) (e : Entry) (count : ℕ) → instructions_in q e ≡ Some count → join e (entries.Ran q 1) ≡ entries.Ran q (count + 1) ∷ []
 run_joins q (entries.Ran pid n) count h = go (pid == q) refl h
@@ -104,24 +36,7 @@ run_joins q (entries.Ran pid n) count h = go (pid == q) refl h
     go : (b : Bool) → (pid == q) ≡ b → cond b (Some n) None ≡ Some count → join_by b pid n q 1 ≡ entries.Ran q (count + 1) ∷ []
     go true e k = ap (λ (i : ℕ). entries.Ran i (n + 1) ∷ []) (eqb-true pid q e) ∙ ap (λ (m : ℕ). entries.Ran q (m + 1) ∷ []) (same_Some n count k)
     go false e k = absurd cc
-run_joins q (entries.Hands n) count h = absurd cc
-run_joins q (entries.Event line) count h = absurd cc
-run_joins q (entries.Turn pid) count h = absurd cc
-run_joins q (entries.Out pid bytes) count h = absurd cc
-run_joins q (entries.Grew pid pages) count h = absurd cc
-run_joins q (entries.Call pid number carry r0 r1) count h = absurd cc
-run_joins q (entries.Refused pid) count h = absurd cc
-run_joins q (entries.Sleeps pid) count h = absurd cc
-run_joins q (entries.Ended pid status) count h = absurd cc
-run_joins q (entries.Zero page) count h = absurd cc
-run_joins q (entries.Copy page) count h = absurd cc
-run_joins q (entries.Get page lo n) count h = absurd cc
-run_joins q (entries.Reclaim page) count h = absurd cc
-run_joins q (entries.Put lo n) count h = absurd cc
-run_joins q entries.Done count h = absurd cc
-run_joins q (entries.SwapOut pid) count h = absurd cc
-run_joins q (entries.SwapIn pid) count h = absurd cc
-run_joins q (entries.Owners free used moving held) count h = absurd cc
+run_joins q _ count h = absurd cc
 
 runs_are : (q : ℕ) (e : Entry) (count : ℕ) → instructions_in q e ≡ Some count → e ≡ entries.Ran q count
 runs_are q (entries.Ran pid n) count h = go (pid == q) refl h
@@ -129,24 +44,7 @@ runs_are q (entries.Ran pid n) count h = go (pid == q) refl h
     go : (b : Bool) → (pid == q) ≡ b → cond b (Some n) None ≡ Some count → entries.Ran pid n ≡ entries.Ran q count
     go true e k = ap (λ (i : ℕ). entries.Ran i n) (eqb-true pid q e) ∙ ap (λ (m : ℕ). entries.Ran q m) (same_Some n count k)
     go false e k = absurd cc
-runs_are q (entries.Hands n) count h = absurd cc
-runs_are q (entries.Event line) count h = absurd cc
-runs_are q (entries.Turn pid) count h = absurd cc
-runs_are q (entries.Out pid bytes) count h = absurd cc
-runs_are q (entries.Grew pid pages) count h = absurd cc
-runs_are q (entries.Call pid number carry r0 r1) count h = absurd cc
-runs_are q (entries.Refused pid) count h = absurd cc
-runs_are q (entries.Sleeps pid) count h = absurd cc
-runs_are q (entries.Ended pid status) count h = absurd cc
-runs_are q (entries.Zero page) count h = absurd cc
-runs_are q (entries.Copy page) count h = absurd cc
-runs_are q (entries.Get page lo n) count h = absurd cc
-runs_are q (entries.Reclaim page) count h = absurd cc
-runs_are q (entries.Put lo n) count h = absurd cc
-runs_are q entries.Done count h = absurd cc
-runs_are q (entries.SwapOut pid) count h = absurd cc
-runs_are q (entries.SwapIn pid) count h = absurd cc
-runs_are q (entries.Owners free used moving held) count h = absurd cc
+runs_are q _ count h = absurd cc
 
 -- A kind of units: what an entry says that counts such, and the entry that counts so many.
 pub record IsKind (says : Entry → Option ℕ) (counted : ℕ → Entry) : Type 0 where
@@ -231,14 +129,6 @@ pub last_get : (says : Entry → Option ℕ) (journal : List Entry) (e : Entry) 
 last_get says [] e h = absurd cc
 last_get says (x ∷ []) e h = ap says (same_Some x e h)
 last_get says (x ∷ f ∷ journal) e h = last_get says (f ∷ journal) e (sym (ap (slice_get (x ∷ f ∷ journal)) (before (length journal))) ∙ h)
-  where
-    before : (n : ℕ) → suc (suc n) - 1 ≡ suc (suc n - 1)
-    before n = omega arith
-
-pub last_none : (says : Entry → Option ℕ) (journal : List Entry) → slice_get journal (length journal - 1) ≡ None → last_says says journal ≡ None
-last_none says [] h = refl
-last_none says (x ∷ []) h = absurd cc
-last_none says (x ∷ f ∷ journal) h = last_none says (f ∷ journal) (sym (ap (slice_get (x ∷ f ∷ journal)) (before (length journal))) ∙ h)
   where
     before : (n : ℕ) → suc (suc n) - 1 ≡ suc (suc n - 1)
     before n = omega arith

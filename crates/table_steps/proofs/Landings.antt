@@ -3,7 +3,7 @@ use Rattle.std.proofs.Common.{◌≡◌, ◌≢◌, inl, inr, ℕ, zero, suc, �
 use Rattle.std.proofs.lemmas.Bool.{cases_eq}
 use Rattle.std.proofs.lemmas.List.{length-set, get_or-set_same, get_or-set_other}
 use Rattle.vm_facts.specs.declared.page.Page.{Page}
-use Rattle.vm_facts.specs.declared.page.Page.TheVariants.{Data, Stack, Text}
+use Rattle.vm_facts.specs.declared.page.Page.TheVariants.{Data, Text}
 use Rattle.vm_facts.specs.declared.page.PageState.{PageState}
 use Rattle.vm_facts.specs.declared.page.PageState.TheVariants.{Valid, Invalid}
 use Rattle.vax_pte.specs.declared.Place.{Place}
@@ -63,8 +63,6 @@ save_marked ts i v t l =
 pub save_others : (ts : List SharedText) (q : Page) (j w : ℕ) → ((i v : ℕ) → q ≡ Text i v → IsTable ts)
     → ((i v : ℕ) → q ≡ Text i v → (1 ≤ i) × (i ≤ 16) × (v < 2048)) → 1 ≤ j → Text j w ≢ q
     → is_saved (text_of (saved_texts ts q) j) w ≡ is_saved (text_of ts j) w
-save_others ts (Data n v) j w t l m d = refl
-save_others ts (Stack n v) j w t l m d = refl
 save_others ts (Text i v) j w t l m d = elim (cases_eq j i) [
   | inl e ↦
       let other : w ≢ v = λ h. d (ap (λ (x : ℕ). Text x w) e ∙ ap (λ (x : ℕ). Text i x) h) in
@@ -79,11 +77,10 @@ save_others ts (Text i v) j w t l m d = elim (cases_eq j i) [
       let low = (l i v refl).0 in
       ap (λ (x : SharedText). is_saved x w) (get_or-set_other ts (i - 1) (j - 1) (marked (text_of ts i) v true) unused_text (λ h. n (omega arith)))
 ]
+save_others ts _ j w t l m d = refl
 
 pub save_counts : (ts : List SharedText) (q : Page) → ((i v : ℕ) → q ≡ Text i v → (1 ≤ i) × (i ≤ 16) × (v < 2048)) → (j : ℕ)
     → (text_of (saved_texts ts q) j).sharers ≡ (text_of ts j).sharers
-save_counts ts (Data n v) l j = refl
-save_counts ts (Stack n v) l j = refl
 save_counts ts (Text i v) l j = elim (cases_eq (j - 1) (i - 1)) [
   | inl e ↦ elim (within (i - 1) (length ts)) [
     | inl m ↦ subst (λ (x : ℕ). (get_or (set ts (i - 1) (marked (text_of ts i) v true)) x unused_text).sharers ≡ (get_or ts x unused_text).sharers) (sym e)
@@ -100,35 +97,30 @@ save_counts ts (Text i v) l j = elim (cases_eq (j - 1) (i - 1)) [
     set_past [] k x h = refl
     set_past (y ∷ ys) zero x h = absurd (omega arith)
     set_past (y ∷ ys) (suc k) x h = ap (λ (zs : List SharedText). y ∷ zs) (set_past ys k x (omega arith))
+save_counts ts _ l j = refl
 
 -- What a page that landed shows.
 
 valid_shown : (n : Lists) (q : Page) (f : ℕ) (b m : Bool) → is_marked_dirty q m ≡ false → ((i v : ℕ) → q ≡ Text i v → m ≡ is_saved (text_of n.texts i) v)
     → page_shown n q (places.Frame f true (arrives_dirty n.texts q b)) ≡ record { state = Valid f; mark = arrived_mark (source_by b) q m; filling = Zeros }
-valid_shown n (Data i v) f true m c t = refl
-valid_shown n (Data i v) f false m c t = ap (λ (x : Bool). let z : Slot = record { state = Valid f; mark = x; filling = Zeros } in z) (sym c)
-valid_shown n (Stack i v) f true m c t = refl
-valid_shown n (Stack i v) f false m c t = ap (λ (x : Bool). let z : Slot = record { state = Valid f; mark = x; filling = Zeros } in z) (sym c)
 valid_shown n (Text i v) f true m c t = ap (λ (x : Bool). let z : Slot = record { state = Valid f; mark = x; filling = Zeros } in z) (sym (t i v refl))
+valid_shown n _ f true m c t = refl
 valid_shown n (Text i v) f false m c t = ap (λ (x : Bool). let z : Slot = record { state = Valid f; mark = x; filling = Zeros } in z) (sym (t i v refl))
+valid_shown n _ f false m c t = ap (λ (x : Bool). let z : Slot = record { state = Valid f; mark = x; filling = Zeros } in z) (sym c)
 
 pub rested_shown : (n : Lists) (q : Page) (f : ℕ) (m : Bool) → is_away (slot_at n.slots f) ≡ false → is_marked_dirty q m ≡ false
     → ((i v : ℕ) → q ≡ Text i v → m ≡ is_saved (text_of n.texts i) v)
     → page_shown n q (places.Frame f false false) ≡ record { state = Invalid f; mark = m; filling = Zeros }
-rested_shown n (Data i v) f m a c t =
-    ap (λ (x : Bool). let z : Slot = record { state = idle_state f x false; mark = false; filling = Zeros } in z) a
-    ∙ ap (λ (x : Bool). let z : Slot = record { state = Invalid f; mark = x; filling = Zeros } in z) (sym c)
-rested_shown n (Stack i v) f m a c t =
-    ap (λ (x : Bool). let z : Slot = record { state = idle_state f x false; mark = false; filling = Zeros } in z) a
-    ∙ ap (λ (x : Bool). let z : Slot = record { state = Invalid f; mark = x; filling = Zeros } in z) (sym c)
 rested_shown n (Text i v) f m a c t =
     ap (λ (x : Bool). let z : Slot = record { state = idle_state f x false; mark = is_saved (text_of n.texts i) v; filling = Zeros } in z) a
     ∙ ap (λ (x : Bool). let z : Slot = record { state = Invalid f; mark = x; filling = Zeros } in z) (sym (t i v refl))
+rested_shown n _ f m a c t =
+    ap (λ (x : Bool). let z : Slot = record { state = idle_state f x false; mark = false; filling = Zeros } in z) a
+    ∙ ap (λ (x : Bool). let z : Slot = record { state = Invalid f; mark = x; filling = Zeros } in z) (sym c)
 
 seat_mark : (ts : List SharedText) (f : ℕ) (b : Bool) (q : Page) → arrives_dirty ts q b ≡ placed_mark ts (places.Frame f true (arrives_dirty ts q b)) q
 seat_mark ts f b (Data n v) = refl
-seat_mark ts f b (Stack n v) = refl
-seat_mark ts f b (Text i v) = refl
+seat_mark ts f b _ = refl
 
 -- One page.
 
@@ -320,9 +312,6 @@ write_lands t u xs q token fs low k s core =
     core s.rest (ap (map head_of) s.spaces ∙ placed_heads t.spaces q (places.Frame f false false))
 
 -- The end of it all.
-
-pub closed_tied : (t : Tables) (e : Errand) → Known (closing t e [] []) → Tied (lists_of t)
-closed_tied t e k = record { few_frames = k.tied.few_frames; few_images = k.tied.few_images; few_pages = k.tied.few_pages; sound = k.tied.sound; small_texts = k.tied.small_texts; shared = k.tied.shared; alike = k.tied.alike; filled = k.tied.filled; counted = k.tied.counted; marked = k.tied.marked; whole = k.tied.whole; once = k.tied.once }
 
 -- The first of the parts that are left.
 pub first_taken : {A : Type 0} (xs rest : List A) (x : A) → 0 < length xs → x ≡ get_or xs 0 x → rest ≡ take 0 xs ++ drop 1 xs → xs ≡ x ∷ rest

@@ -1,8 +1,7 @@
 -- A page of the oldest transfer lands.
-use Rattle.std.proofs.Common.{◌≡◌, ◌≢◌, inl, inr, ℕ, ◌-◌, ◌<◌, ◌≤◌, Bool, List, ◌∷◌, length, map, Option, Some, refl, sym, ap, ◌∙◌, subst, arith}
+use Rattle.std.proofs.Common.{◌≡◌, ◌≢◌, inl, inr, ℕ, ◌-◌, ◌<◌, ◌≤◌, Bool, List, ◌∷◌, length, map, Option, Some, refl, sym, ap, ◌∙◌, subst}
 use Rattle.std.specs.List.{range_with_len}
 use Rattle.std.proofs.lemmas.Bool.{cases_eq}
-use Rattle.std.proofs.lemmas.Bool.Decides.{nat_tests}
 use Rattle.std.proofs.lemmas.List.{length-set, get_or-set_same, get_or-set_other}
 use Rattle.vm_facts.specs.declared.page.Page.{Page}
 use Rattle.vm_facts.specs.declared.page.Page.TheVariants.{Text}
@@ -20,13 +19,13 @@ use Rattle.page_model.specs.Conditions.{IsShared}
 use Rattle.page_laws.proofs.Lists.Local.{none_some}
 use Rattle.std.proofs.lemmas.Option.{same_Some}
 use Rattle.page_laws.proofs.Moves.Steps.{page_in}
-use Rattle.kernel_tables.specs.View.{Lists, Flown, flown_number, flown_at, page_by, bytes_by, page_held, bytes_held, placement_of, frames_of}
+use Rattle.kernel_tables.specs.View.{Lists, Flown, flown_at, page_by, bytes_by, page_held, bytes_held, placement_of, frames_of}
 use Rattle.kernel_tables.specs.Known.{Known}
 use Rattle.kernel_tables.specs.Steps.{landed}
 use Rattle.kernel_tables.proofs.Likes.{FitsPage}
 use Rattle.kernel_tables.proofs.Shows.{SameLists, segments_are}
 use Rattle.kernel_tables.proofs.Finds.{holding_set}
-use Rattle.kernel_tables.proofs.Held.{placement_ext}
+use Rattle.kernel_tables.proofs.Held.{placement_ext, flown_miss, flown_hit}
 use Rattle.kernel_tables.proofs.Arrives.{page_shown, Arrives, arrives_moved, arrived}
 use Rattle.kernel_tables.proofs.Evicts.{frames_same}
 use Rattle.kernel_tables.proofs.Comes.{shared_entry}
@@ -51,16 +50,9 @@ pub record Landing (t : Lists) (q : Page) (f : ℕ) (token : Frame) (rest : List
   pub shows : (free : List ℕ) (ts : List Transfer)
       → page_shown (landed t q f x place free texts ts rest) q place ≡ record { state = s; mark = m; filling = Zeros }
 
-hit : (y : Flown) (xs : List Flown) (f : ℕ) → flown_number y ≡ f → flown_at (y ∷ xs) f ≡ Some y
-hit y xs f e = grind (arith, nat_tests)
-
-miss : (y : Flown) (xs : List Flown) (f : ℕ) → flown_number y ≢ f → flown_at (y ∷ xs) f ≡ flown_at xs f
-miss y xs f e = grind (arith, nat_tests)
-
 held_by : (x : Token) (q : Page) (o : Option Flown) → token_page x ≡ Some q → page_by x o ≡ Some q
-held_by (tokens.Free token page) q o e = e
-held_by (tokens.Resident token page dirty) q o e = e
 held_by tokens.Away q o e = none_some q e
+held_by _ q o e = e
 
 pub land_is : (t : Lists) (q : Page) (f : ℕ) (token : Frame) (rest : List Flown) (x : Token) (place : Place) (texts : List SharedText) (s : PageState) (m : Bool) (free : List ℕ) (ts : List Transfer)
     → Landing t q f token rest x place texts s m
@@ -89,9 +81,9 @@ land_is t q f token rest x place texts s m free ts l =
     ∙ frames_same (page_held t) (page_held n) (range_with_len 1 (length t.slots - 1)) (λ g. elim (cases_eq g f) [
       | inl h ↦ subst (λ (k : ℕ). page_held n k ≡ page_held t k) (sym h)
           (ap (λ (z : Token). page_by z (flown_at rest f)) (get_or-set_same t.slots f x tokens.Away l.below) ∙ held_by x q (flown_at rest f) l.holds
-          ∙ sym (ap (λ (z : Token). page_by z (flown_at t.flown f)) l.away ∙ ap Rattle.kernel_tables.specs.View.page_flown (ap (λ (fs : List Flown). flown_at fs f) l.first ∙ hit y rest f l.number)))
+          ∙ sym (ap (λ (z : Token). page_by z (flown_at t.flown f)) l.away ∙ ap Rattle.kernel_tables.specs.View.page_flown (ap (λ (fs : List Flown). flown_at fs f) l.first ∙ flown_hit y rest f l.number)))
       | inr d ↦ ap (λ (z : Token). page_by z (flown_at rest g)) (get_or-set_other t.slots f g x tokens.Away d)
-          ∙ ap (page_by (slot_at t.slots g)) (sym (ap (λ (fs : List Flown). flown_at fs g) l.first ∙ miss y rest g (λ e. d (sym e ∙ l.number))))
+          ∙ ap (page_by (slot_at t.slots g)) (sym (ap (λ (fs : List Flown). flown_at fs g) l.first ∙ flown_miss y rest g (λ e. d (sym e ∙ l.number))))
     ]))
     refl refl refl refl refl refl
 
@@ -106,7 +98,7 @@ land_frames t q f token rest x place texts s m free ts l =
     ∙ frames_same (bytes_held t) (bytes_held n) (range_with_len 1 (length t.slots - 1)) (λ g. elim (cases_eq g f) [
       | inl h ↦ subst (λ (k : ℕ). bytes_held n k ≡ bytes_held t k) (sym h)
           (ap (λ (z : Token). bytes_by z (flown_at rest f)) (get_or-set_same t.slots f x tokens.Away l.below) ∙ l.bytes (flown_at rest f)
-          ∙ sym (ap (λ (z : Token). bytes_by z (flown_at t.flown f)) l.away ∙ ap Rattle.kernel_tables.specs.View.bytes_flown (ap (λ (fs : List Flown). flown_at fs f) l.first ∙ hit y rest f l.number)))
+          ∙ sym (ap (λ (z : Token). bytes_by z (flown_at t.flown f)) l.away ∙ ap Rattle.kernel_tables.specs.View.bytes_flown (ap (λ (fs : List Flown). flown_at fs f) l.first ∙ flown_hit y rest f l.number)))
       | inr d ↦ ap (λ (z : Token). bytes_by z (flown_at rest g)) (get_or-set_other t.slots f g x tokens.Away d)
-          ∙ ap (bytes_by (slot_at t.slots g)) (sym (ap (λ (fs : List Flown). flown_at fs g) l.first ∙ miss y rest g (λ e. d (sym e ∙ l.number))))
+          ∙ ap (bytes_by (slot_at t.slots g)) (sym (ap (λ (fs : List Flown). flown_at fs g) l.first ∙ flown_miss y rest g (λ e. d (sym e ∙ l.number))))
     ])

@@ -3,7 +3,7 @@ use Rattle.std.proofs.Common.{◌≡◌, ◌≢◌, inl, inr, ℕ, suc, ◌+◌,
 use Rattle.std.proofs.lemmas.Bool.{cases_eq}
 use Rattle.std.proofs.lemmas.List.{length-set, get_or-set_same, get_or-set_other, map-append}
 use Rattle.vm_facts.specs.declared.page.Page.{Page}
-use Rattle.vm_facts.specs.declared.page.Page.TheVariants.{Data, Stack, Text}
+use Rattle.vm_facts.specs.declared.page.Page.TheVariants.{Text}
 use Rattle.vm_facts.specs.declared.page.PageState.TheVariants.{Valid, Invalid, Going}
 use Rattle.vax_pte.specs.declared.Place.TheVariants as places
 use Rattle.frame_state.specs.Frame.{Frame}
@@ -31,7 +31,7 @@ use Rattle.page_laws.proofs.Lists.Parts.{IsOpen, parts_join, parts_begin}
 use Rattle.page_laws.proofs.Lists.Runs.{each_page_imp, each_page_both, pages_from_apart}
 use Rattle.page_laws.proofs.Ownership.Pages.{launch_turns, launch_owner, seated_alone}
 use Rattle.page_laws.proofs.Ownership.Runs.{begin_owner, launch_still}
-use Rattle.page_laws.proofs.Blocks.Aside.{IsBusy, turn_aside}
+use Rattle.page_laws.proofs.Blocks.Aside.{turn_aside}
 use Rattle.kernel_tables.specs.declared.tables.Tables.{Tables}
 use Rattle.kernel_tables.specs.Shown.{entry_in, frame_named, placed}
 use Rattle.kernel_tables.specs.TableViewShown.{is_away, idle_state}
@@ -49,6 +49,7 @@ use Rattle.table_steps.proofs.Opens.{open_last, join_snoc}
 use Rattle.kernel_tables.proofs.Stills.{images_heads}
 use Rattle.table_steps.proofs.Residing.{Resides, seat_resides, resides_state, resides_seat}
 use Rattle.table_steps.proofs.Turning.{Turning, turn_is, turn_frames, turn_heads, turn_tied}
+use Rattle.page_laws.proofs.Blocks.Steps.{seat_busy}
 
 -- One page.
 
@@ -64,16 +65,13 @@ launched t q f token ts = record t {
 going_shown : (t n : Lists) (q : Page) (f : ℕ) → n.texts ≡ t.texts → slot_at n.slots f ≡ tokens.Away → IsThere (placement_of t) q
     → is_dirty (placement_of t) q ≡ true
     → page_shown n q (places.Frame f false true) ≡ record { state = Going f; mark = mark_of (placement_of t) q; filling = Zeros }
-going_shown t n (Data sid v) f e a there d =
-    ap (λ (s : Token). let z : Slot = record { state = idle_state f (is_away s) true; mark = true; filling = Zeros } in z) a
-    ∙ ap (λ (b : Bool). let z : Slot = record { state = Going f; mark = b; filling = Zeros } in z) (sym d)
-going_shown t n (Stack sid v) f e a there d =
-    ap (λ (s : Token). let z : Slot = record { state = idle_state f (is_away s) true; mark = true; filling = Zeros } in z) a
-    ∙ ap (λ (b : Bool). let z : Slot = record { state = Going f; mark = b; filling = Zeros } in z) (sym d)
 going_shown t n (Text i v) f e a there d =
     ap (λ (s : Token). let z : Slot = record { state = idle_state f (is_away s) true; mark = is_saved (text_of n.texts i) v; filling = Zeros } in z) a
     ∙ ap (λ (b : Bool). let z : Slot = record { state = Going f; mark = b; filling = Zeros } in z)
     (ap (λ (x : List Rattle.text_table.specs.Texts.Text). is_saved (text_of x i) v) e ∙ sym (ap (λ (y : Slot). y.mark) (text_at t i v (text_within t i v there))))
+going_shown t n _ f e a there d =
+    ap (λ (s : Token). let z : Slot = record { state = idle_state f (is_away s) true; mark = true; filling = Zeros } in z) a
+    ∙ ap (λ (b : Bool). let z : Slot = record { state = Going f; mark = b; filling = Zeros } in z) (sym d)
 
 pub launches : (t : Lists) (q : Page) (f : ℕ) (ts : List Transfer) → Known t → (r : Resides t q f) → is_dirty (placement_of t) q ≡ true
     → Turning t (launched t q f r.token ts) q f (places.Frame f false true) (Going f) (mark_of (placement_of t) q)
@@ -126,12 +124,6 @@ launch_is t q f k r dirty =
     let ts : List Transfer = join_last t.transfers Writes (record { page = q; frame = f }) in
     turn_is t (launched t q f r.token ts) q f (places.Frame f false true) (Going f) (mark_of (placement_of t) q) (launches t q f ts k r dirty)
     ∙ sym (launch_as (placement_of t) q f r.valid (resides_state t q f r))
-
-seat_busy : (p : Placement) (q : Page) (f : ℕ) → IsSeated p q f → IsBusy p (state_of p q)
-seat_busy p q f c = elim c.state [
-  | inl e ↦ subst (IsBusy p) (sym e) tt
-  | inr e ↦ subst (IsBusy p) (sym e.0) e.1
-]
 
 pub launch_known : (t : Lists) (q : Page) (f : ℕ) → Known t → (r : Resides t q f) → is_dirty (placement_of t) q ≡ true → IsOpen t.transfers Writes
     → IsSound t.free (set t.slots f tokens.Away)

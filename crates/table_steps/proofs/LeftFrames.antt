@@ -32,23 +32,19 @@ at_rest tokens.Away = tokens.Away
 
 rest_page : (s : Token) → token_page (at_rest s) ≡ token_page s
 rest_page (tokens.Free token page) = refl
-rest_page (tokens.Resident token page dirty) = refl
-rest_page tokens.Away = refl
+rest_page _ = refl
 
 rest_away : (s : Token) → is_away (at_rest s) ≡ is_away s
 rest_away (tokens.Free token page) = refl
-rest_away (tokens.Resident token page dirty) = refl
-rest_away tokens.Away = refl
+rest_away _ = refl
 
 rest_held : (s : Token) (o : Option Flown) → page_by (at_rest s) o ≡ page_by s o
 rest_held (tokens.Free token page) o = refl
-rest_held (tokens.Resident token page dirty) o = refl
-rest_held tokens.Away o = refl
+rest_held _ o = refl
 
 rest_bytes : (s : Token) (o : Option Flown) → bytes_by (at_rest s) o ≡ bytes_by s o
 rest_bytes (tokens.Free token page) o = refl
-rest_bytes (tokens.Resident token page dirty) o = refl
-rest_bytes tokens.Away o = refl
+rest_bytes _ o = refl
 
 -- Each frame has its token and its page, on the free list or off it.
 pub record SameFrames (a b : List Token) : Type 0 where

@@ -1,16 +1,14 @@
 -- A space whose pages were forgotten goes, and with the last space that shares it its image's text is left: what the
 -- placement is then.
-use Rattle.std.proofs.Common.{◌≡◌, ◌≢◌, inl, inr, ℕ, zero, suc, ◌+◌, ◌-◌, ◌<◌, ◌≤◌, Bool, true, false, List, [], ◌∷◌, length, map, option_map, Option, Some, None, IsSome, refl, sym, ap, ◌∙◌, subst, arith}
+use Rattle.std.proofs.Common.{◌≡◌, ◌≢◌, inl, inr, ℕ, zero, suc, ◌+◌, ◌-◌, ◌<◌, ◌≤◌, Bool, false, List, [], ◌∷◌, length, map, option_map, Option, Some, None, IsSome, refl, sym, ap, ◌∙◌, subst, arith}
 use Rattle.std.specs.List.{range_with_len}
-use Rattle.std.proofs.lemmas.Bool.{cases_eq, cases_lt}
-use Rattle.std.proofs.lemmas.Bool.Decides.{nat_tests}
+use Rattle.std.proofs.lemmas.Bool.{cases_lt}
 use Rattle.std.proofs.lemmas.Option.{same_Some}
 use Rattle.vm_facts.specs.declared.page.Page.TheVariants.{Text}
 use Rattle.vm_facts.specs.declared.page.PageState.{PageState}
 use Rattle.vm_facts.specs.declared.page.PageState.TheVariants.{Unfilled, Valid, Invalid, Coming, Going, OnSwap}
 use Rattle.vax_pte.specs.declared.Place.{Place}
 use Rattle.vax_pte.specs.declared.Place.TheVariants as places
-use Rattle.aout_image.specs.declared.Image.{Image}
 use Rattle.aout_image.specs.Image.{text_pages_of}
 use Rattle.core_map.specs.declared.slot.Slot.{Slot as Token}
 use Rattle.core_map.specs.Slots.{slot_at, page_of as token_page}
@@ -32,23 +30,21 @@ use Rattle.kernel_tables.specs.Alike.{EachSpace, IsFilled, facts_in}
 use Rattle.kernel_tables.specs.Gone.{without_space, sharing, HasWholeText}
 use Rattle.kernel_tables.proofs.Entries.{text_miss}
 use Rattle.kernel_tables.proofs.Same.{slots_ext, texts_ext}
-use Rattle.kernel_tables.proofs.Shows.{text_at, text_past, text_numbers, texts_differ, texts_shown, text_length, put_images, pages_hit, pages_miss}
+use Rattle.kernel_tables.proofs.Shows.{text_at, text_past, text_numbers, texts_differ, texts_shown, text_length, put_images}
 use Rattle.kernel_tables.proofs.Held.{placement_ext}
 use Rattle.kernel_tables.proofs.Evicts.{frames_same}
 use Rattle.table_steps.proofs.Settles.{facts_low}
 use Rattle.table_steps.proofs.LeftFrames.{SameFrames, same_away_at, same_held_at, same_bytes_at, same_found, holding_page}
 use Rattle.table_steps.proofs.LeftPages.{Rests, rest_slot, rest_state}
 use Rattle.kernel_tables.proofs.Removed.{each_rest, rest_shown, rest_entry, rest_like, first_entry, only_space, found_each, sharing_each}
+use Rattle.kernel_tables.proofs.AddedTied.{facts_pages}
 
 -- Each frame has its token and its page as before, on the free list or off it: then an entry shows what it showed.
 
 module _ (a b : List Token) (s : SameFrames a b) where
   same_state : (x : Place) → state_shown b x ≡ state_shown a x
-  same_state places.Zero = refl
-  same_state (places.Image v) = refl
-  same_state places.Swap = refl
-  same_state (places.Frame f true changed) = refl
   same_state (places.Frame f false changed) = ap (λ (away : Bool). idle_state f away changed) (same_away_at a b s f)
+  same_state _ = refl
 
   same_slots : (xs : List Place) → map (slot_shown b) xs ≡ map (slot_shown a) xs
   same_slots [] = refl
@@ -172,19 +168,6 @@ pub record Gives (l : Lists) (sid : ℕ) (s : Places) : Type 0 where
   pub there : numbered (λ (x : Places). x.sid) sid l.spaces ≡ Some s
   pub whole : HasWholeText (without_space sid l.spaces) s.image
   pub rest : sharing (without_space sid l.spaces) s.image ≡ None → (v : ℕ) → v < pages_in 1 s.image l.facts → Rests l (Text s.image v)
-
-facts_pages : (k i : ℕ) (facts : List Image) (x : Image) → facts_in k i facts ≡ Some x → pages_in k i facts ≡ text_pages_of x
-facts_pages k i [] x e = absurd cc
-facts_pages k i (y ∷ more) x e = elim (cases_eq k i) [
-  | inl h ↦ pages_hit k i y more h ∙ ap text_pages_of (let same : y ≡ x = (let z : Some y ≡ Some x = sym (hit h) ∙ e in cc) in same)
-  | inr n ↦ pages_miss k i y more n ∙ facts_pages (k + 1) i more x (sym (miss n) ∙ e)
-]
-  where
-    hit : k ≡ i → facts_in k i (y ∷ more) ≡ Some y
-    hit h = grind (arith, nat_tests)
-
-    miss : k ≢ i → facts_in k i (y ∷ more) ≡ facts_in (k + 1) i more
-    miss n = grind (arith, nat_tests)
 
 pub image_low : (l : Lists) (sid : ℕ) (s : Places) → Known l → numbered (λ (x : Places). x.sid) sid l.spaces ≡ Some s
     → (1 ≤ s.image) × (s.image ≤ 16)

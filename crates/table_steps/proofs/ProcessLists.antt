@@ -6,7 +6,7 @@ use Rattle.std.proofs.lemmas.Option.{same_Some}
 use Rattle.vm_facts.specs.declared.regs.Regs.{Regs}
 use Rattle.flat_state.specs.Numbers.{IsAbsent, AllDistinct}
 use Rattle.flat_state.specs.declared.change.Change.{Change}
-use Rattle.flat_state.specs.declared.change.Change.TheVariants.{Keep, Resize, Fork, Lend, Exec, Reap, Sleep, End}
+use Rattle.flat_state.specs.declared.change.Change.TheVariants.{Fork, Lend, Exec, Reap, Sleep, End}
 use Rattle.page_model.specs.Pages.{numbered}
 use Rattle.kernel_model.specs.Kernel.{Proc, Life, New, HoldsSpace, Ended}
 use Rattle.kernel_model.specs.Sound.{lives, lives_in}
@@ -180,8 +180,6 @@ module _ (ps : List Proc) (p : Proc) (regs : Regs) (o : OnlyOne p ps) where
   -- a change makes the same of the processes
   pub regs_after : (next : ℕ) (change : Change)
       → procs_after (with_proc ps (record p { regs = regs })) (record p { regs = regs }) next change ≡ procs_after ps (record p { regs = regs }) next change
-  regs_after next Keep = twins_with p.pid (record p { regs = regs }) refl (with_proc ps (record p { regs = regs })) ps twins
-  regs_after next (Resize d s) = twins_with p.pid (record p { regs = regs }) refl (with_proc ps (record p { regs = regs })) ps twins
   regs_after next (Fork child) = ap (λ (xs : List Proc). xs ++ child_proc (record p { regs = regs }) child (HoldsSpace next) ∷ []) (twins_with p.pid (record p { regs = regs }) refl (with_proc ps (record p { regs = regs })) ps twins)
   regs_after next (Lend child) = ap (λ (xs : List Proc). xs ++ child_proc (record p { regs = regs }) child New ∷ []) (twins_with p.pid (record p { regs = regs }) refl (with_proc ps (record p { regs = regs })) ps twins)
   regs_after next (Exec image top) = twins_with p.pid (record p { regs = regs; life = HoldsSpace next }) refl (with_proc ps (record p { regs = regs })) ps twins
@@ -197,6 +195,7 @@ module _ (ps : List Proc) (p : Proc) (regs : Regs) (o : OnlyOne p ps) where
           → left_procs b (orphaned_procs (with_proc ps (record p { regs = regs })) p.pid) (record p { regs = regs }) status ≡ left_procs b (orphaned_procs ps p.pid) (record p { regs = regs }) status
       go true = twins_without p.pid (orphaned_procs (with_proc ps (record p { regs = regs })) p.pid) (orphaned_procs ps p.pid) t
       go false = ap (λ (xs : List Proc). woken_procs xs p.parent) (twins_with p.pid (record p { regs = regs; life = Ended status }) refl (orphaned_procs (with_proc ps (record p { regs = regs })) p.pid) (orphaned_procs ps p.pid) t)
+  regs_after next _ = twins_with p.pid (record p { regs = regs }) refl (with_proc ps (record p { regs = regs })) ps twins
 
   pub regs_lender : (n : ℕ) → has_lender (with_proc ps (record p { regs = regs })) n ≡ has_lender ps n
   regs_lender n = twins_lender p.pid n (with_proc ps (record p { regs = regs })) ps twins

@@ -1,5 +1,5 @@
 -- A page that a frame still holds is usable again.
-use Rattle.std.proofs.Common.{◌≡◌, ◌≢◌, inl, inr, ℕ, ◌-◌, ◌<◌, Bool, true, false, List, [], ◌∷◌, ◌++◌, length, map, set, Option, Some, None, IsSome, refl, sym, ap, ◌∙◌, subst}
+use Rattle.std.proofs.Common.{◌≡◌, ◌≢◌, inl, inr, ℕ, ◌-◌, ◌<◌, Bool, true, false, List, [], ◌∷◌, ◌++◌, length, map, set, Option, Some, IsSome, refl, sym, ap, ◌∙◌, subst}
 use Rattle.std.specs.List.{range_with_len}
 use Rattle.std.proofs.lemmas.Bool.{cases_eq}
 use Rattle.std.proofs.lemmas.List.{length-set, get_or-set_same, get_or-set_other}
@@ -45,6 +45,7 @@ use Rattle.kernel_tables.proofs.Comes.{shared_entry}
 use Rattle.kernel_tables.proofs.Kernels.{kernel_ext}
 use Rattle.kernel_tables.proofs.Marks.{placed_mark}
 use Rattle.text_table.specs.Texts.{Text as SharedText}
+use Rattle.table_steps.proofs.Flights.{some_of}
 
 -- The entry of an invalid page.
 
@@ -56,10 +57,6 @@ pub record InvalidEntry (t : Lists) (q : Page) (f : ℕ) : Type 0 where
 
 idle_is : (slots : List Token) (x : Place) (f : ℕ) → state_shown slots x ≡ Invalid f
     → (c : Bool) × (x ≡ places.Frame f false c) × (is_away (slot_at slots f) ≡ false)
-idle_is slots places.Zero f e = absurd cc
-idle_is slots (places.Image v) f e = absurd cc
-idle_is slots places.Swap f e = absurd cc
-idle_is slots (places.Frame g true c) f e = absurd cc
 idle_is slots (places.Frame g false c) f e = go (is_away (slot_at slots g)) c refl e
   where
     go : (a d : Bool) → is_away (slot_at slots g) ≡ a → idle_state g a d ≡ Invalid f → (k : Bool) × (places.Frame g false c ≡ places.Frame f false k) × (is_away (slot_at slots f) ≡ false)
@@ -68,11 +65,11 @@ idle_is slots (places.Frame g false c) f e = go (is_away (slot_at slots g)) c re
         (c, ap (λ (n : ℕ). places.Frame n false c) same, subst (λ (n : ℕ). is_away (slot_at slots n) ≡ false) same h)
     go true true h i = absurd cc
     go true false h i = absurd cc
+idle_is slots _ f e = absurd cc
 
 present : (s : Token) (o : Option Flown) (q : Page) → is_away s ≡ false → page_by s o ≡ Some q → token_page s ≡ Some q
-present (tokens.Free token page) o q a e = e
-present (tokens.Resident token page dirty) o q a e = e
 present tokens.Away o q a e = absurd (let k : true ≡ false = a in cc)
+present _ o q a e = e
 
 not_away : (s : Token) → is_away s ≡ false → s ≢ tokens.Away
 not_away s e n = absurd (let k : true ≡ false = sym (ap is_away n) ∙ e in cc)
@@ -82,10 +79,6 @@ pub held_is : (t : Lists) (q : Page) (f : ℕ) → Known t → state_of (placeme
 held_is t q f k e a =
     let n = not_away (slot_at t.slots f) a in
     present (slot_at t.slots f) (flown_at t.flown f) q a (sym (held_at t f (above_zero t.free t.slots f k.core n) (below_length t.slots f n)) ∙ k.owns.names q f (ap frame_of e))
-
-some_of : {A : Type 0} (o : Option A) → IsSome o → (x : A) × (o ≡ Some x)
-some_of None h = absurd cc
-some_of (Some x) h = (x, refl)
 
 pub invalid_entry : (t : Lists) (q : Page) (f : ℕ) → Known t → IsShared (placement_of t) q → state_of (placement_of t) q ≡ Invalid f → InvalidEntry t q f
 invalid_entry t q f k sh e = go q sh e (page_in (placement_of t) q f (ap frame_of e)) (some_of (entry_in t.spaces q) (shared_entry t q k.tied sh (page_in (placement_of t) q f (ap frame_of e)))).0 (some_of (entry_in t.spaces q) (shared_entry t q k.tied sh (page_in (placement_of t) q f (ap frame_of e)))).1
@@ -134,8 +127,7 @@ revived_held tokens.Away q c o e = none_some q e
 
 revived_bytes : (s : Token) (q : Page) (c : Bool) (o : Option Flown) → bytes_by (revived s q c) o ≡ bytes_by s o
 revived_bytes (tokens.Free token page) q c o = refl
-revived_bytes (tokens.Resident token page dirty) q c o = refl
-revived_bytes tokens.Away q c o = refl
+revived_bytes _ q c o = refl
 
 below : (t : Lists) (f : ℕ) (q : Page) → token_page (slot_at t.slots f) ≡ Some q → f < length t.slots
 below t f q e = below_length t.slots f (λ n. none_some q (sym (ap token_page n) ∙ e))
@@ -221,8 +213,7 @@ reclaim_kernel t u q f journal stopped r =
 pub revived_mark : (ss : List Places) (ts : List SharedText) (f : ℕ) (q : Page)
     → dirty_shown ss ts q ≡ placed_mark ts (places.Frame f true (dirty_shown ss ts q)) q
 revived_mark ss ts f (Data n v) = refl
-revived_mark ss ts f (Stack n v) = refl
-revived_mark ss ts f (Text i v) = refl
+revived_mark ss ts f _ = refl
 
 pub reclaim_keeps : (size : ℕ) (k : Kernel) (q : Page) → Sound size k → KeepsFlat k (reclaim_step k q)
 reclaim_keeps size k q so images image flat c = reclaim_coupled_step size k images image flat q so c

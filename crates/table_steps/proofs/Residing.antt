@@ -1,5 +1,5 @@
 -- A page in a frame off the free list: its frame's token, and its entry.
-use Rattle.std.proofs.Common.{◌≡◌, inl, inr, ℕ, ◌+◌, ◌<◌, ◌≤◌, Bool, true, false, List, length, Option, Some, None, IsSome, refl, sym, ap, ◌∙◌, subst, arith}
+use Rattle.std.proofs.Common.{◌≡◌, inl, inr, ℕ, ◌+◌, ◌<◌, ◌≤◌, Bool, true, false, List, length, Option, Some, None, refl, sym, ap, ◌∙◌, subst, arith}
 use Rattle.std.proofs.lemmas.Bool.{cases_eq}
 use Rattle.vm_facts.specs.declared.page.Page.{Page}
 use Rattle.vm_facts.specs.declared.page.Page.TheVariants.{Data, Stack, Text}
@@ -20,17 +20,18 @@ use Rattle.flat_state.specs.Numbers.{AllDistinct}
 use Rattle.page_laws.proofs.Lists.Local.{none_some}
 use Rattle.std.proofs.lemmas.Option.{same_Some}
 use Rattle.page_laws.proofs.Moves.Steps.{page_in, frame_in}
-use Rattle.page_laws.proofs.Ownership.Pages.{seated_alone}
+use Rattle.page_laws.proofs.Ownership.Pages.{seated_alone, seated_frame}
 use Rattle.kernel_tables.specs.Shown.{slot_shown, text_shown, entry_in}
 use Rattle.kernel_tables.specs.TableViewShown.{is_away, idle_state, state_shown}
 use Rattle.kernel_tables.specs.View.{Lists, text_place_by, flown_at, page_by, page_flown, page_held, placement_of}
 use Rattle.kernel_tables.specs.Known.{Known}
 use Rattle.kernel_tables.specs.Rising.{sids_of}
-use Rattle.kernel_tables.proofs.Shows.{slot_or, data_shown, stack_shown, text_at, text_within}
+use Rattle.kernel_tables.proofs.Shows.{slot_or, data_shown, stack_shown, text_at, text_within, idle_frame}
 use Rattle.kernel_tables.proofs.Held.{held_at, holds_length, not_flown, above_zero, below_length}
 use Rattle.kernel_tables.proofs.Arrives.{page_shown}
 use Rattle.kernel_tables.proofs.Knows.{held_named}
 use Rattle.kernel_tables.proofs.Comes.{shared_entry}
+use Rattle.table_steps.proofs.Flights.{some_of}
 
 -- What an entry shows of its page.
 
@@ -42,26 +43,14 @@ entry_shown t (Text i v) x d th e = text_at t i v (text_within t i v th) ∙ ap 
 
 pub shown_state : (t : Lists) (q : Page) (x : Place) → (page_shown t q x).state ≡ state_shown t.slots x
 shown_state t (Data n v) x = refl
-shown_state t (Stack n v) x = refl
-shown_state t (Text i v) x = refl
-
-idle_frame : (g : ℕ) (away changed : Bool) → frame_of (idle_state g away changed) ≡ Some g
-idle_frame g false changed = refl
-idle_frame g true true = refl
-idle_frame g true false = refl
+shown_state t _ x = refl
 
 -- an entry whose state names a frame names it
 frame_entry : (slots : List Token) (x : Place) (f : ℕ) → frame_of (state_shown slots x) ≡ Some f
     → (valid : Bool) × (changed : Bool) × (x ≡ places.Frame f valid changed)
-frame_entry slots places.Zero f e = none_some f e
-frame_entry slots (places.Image v) f e = none_some f e
-frame_entry slots places.Swap f e = none_some f e
 frame_entry slots (places.Frame g true c) f e = (true, c, ap (λ (n : ℕ). places.Frame n true c) (same_Some g f e))
 frame_entry slots (places.Frame g false c) f e = (false, c, ap (λ (n : ℕ). places.Frame n false c) (same_Some g f (sym (idle_frame g (is_away (slot_at slots g)) c) ∙ e)))
-
-some_of : {A : Type 0} (o : Option A) → IsSome o → (x : A) × (o ≡ Some x)
-some_of None h = absurd cc
-some_of (Some x) h = (x, refl)
+frame_entry slots _ f e = none_some f e
 
 -- The whole.
 
@@ -82,8 +71,6 @@ pub record Resides (t : Lists) (q : Page) (f : ℕ) : Type 0 where
   pub shown : slot_of (placement_of t) q ≡ page_shown t q (places.Frame f valid changed)
 
 resident_shared : (t : Lists) (q : Page) (f : ℕ) → Known t → times f t.free ≡ 0 → frame_of (state_of (placement_of t) q) ≡ Some f → IsShared (placement_of t) q
-resident_shared t (Data n v) f k z e = tt
-resident_shared t (Stack n v) f k z e = tt
 resident_shared t (Text i v) f k z e = elim (cases_eq (sharers (placement_of t) i) 0) [
   | inl h ↦
       let a : IsAside (placement_of t) (Text i v) = k.aside i v h in
@@ -94,6 +81,7 @@ resident_shared t (Text i v) f k z e = elim (cases_eq (sharers (placement_of t) 
       ]
   | inr n ↦ omega arith
 ]
+resident_shared t _ f k z e = tt
 
 pub resides : (t : Lists) (q : Page) (f : ℕ) (token : Frame) (dirty : Bool) → Known t → slot_at t.slots f ≡ tokens.Resident token q dirty → Resides t q f
 resides t q f token dirty k h =
@@ -123,13 +111,6 @@ resides t q f token dirty k h =
       shown = was ∙ ap (page_shown t q) is.2;
     }
 
--- A page that is valid, or invalid in a frame off the free list, resides there.
-seated_named : (p : Placement) (q : Page) (f : ℕ) → IsSeated p q f → frame_of (state_of p q) ≡ Some f
-seated_named p q f s = elim s.state [
-  | inl e ↦ ap frame_of e
-  | inr e ↦ ap frame_of e.0
-]
-
 pub seat_resides : (t : Lists) (q : Page) (f : ℕ) → Known t → IsSeated (placement_of t) q f → Resides t q f
 seat_resides t q f k s = go (slot_at t.slots f) refl
   where
@@ -137,7 +118,7 @@ seat_resides t q f k s = go (slot_at t.slots f) refl
     p = placement_of t
 
     holds : page_of p f ≡ Some q
-    holds = k.owns.names q f (seated_named p q f s)
+    holds = k.owns.names q f (seated_frame p q f s)
 
     within : (0 < f) × (f ≤ length p.holds)
     within = frame_in p q f holds

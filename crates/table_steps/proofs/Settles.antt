@@ -15,7 +15,7 @@ use Rattle.transfer_ring.specs.declared.transfer.Transfer.{Transfer as Flight}
 use Rattle.transfer_ring.specs.declared.transfer.Transfer.TheVariants as flights
 use Rattle.transfer_ring.specs.Naming.{is_page_of, names_page_of, names_space, names_text}
 use Rattle.page_model.specs.Pages.{numbered}
-use Rattle.page_model.specs.Placement.{Placement, Errand, Moving, moving, parts_of, space_number, image_in, image_of, sharers, sharers_in}
+use Rattle.page_model.specs.Placement.{Errand, Moving, moving, parts_of, space_number, image_in, image_of, sharers, sharers_in}
 use Rattle.page_model.specs.Swapper.{names_page, is_settled}
 use Rattle.vm_facts.specs.Pages.{is_of_space, is_of_text}
 use Rattle.kernel_tables.specs.declared.tables.Tables.{Tables}
@@ -152,11 +152,3 @@ settled_text t sid i count k e m c =
     ∙ ap (λ (j : ℕ). not ((sharers (placement_of (lists_of t)) j == 1) && names_page (is_of_text j) (parts_of (map transfer_shown t.ring)))) (found_is t.core.slots t.spaces sid ∙ ap or_zero m)
     ∙ ap (λ (n : ℕ). not ((n == 1) && names_page (is_of_text i) (parts_of (map transfer_shown t.ring)))) (sym (k.counted i r.0 r.1) ∙ sym c)
     ∙ ap (λ (b : Bool). not ((count == 1) && b)) (sym (ring_names (whose.Image i) (is_of_text i) t.ring (λ q. refl)))
-
--- with nothing in flight each space is settled
-pub settled_idle : (p : Placement) (sid : ℕ) → p.transfers ≡ [] → is_settled p sid ≡ true
-settled_idle p sid e = ap (λ (ts : List Rattle.page_model.specs.Placement.Transfer). not (names_page (is_of_space sid) (parts_of ts)) && not ((sharers p (image_of p sid) == 1) && names_page (is_of_text (image_of p sid)) (parts_of ts))) e ∙ go (sharers p (image_of p sid) == 1)
-  where
-    go : (b : Bool) → not (b && false) ≡ true
-    go true = refl
-    go false = refl

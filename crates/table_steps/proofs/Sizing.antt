@@ -54,6 +54,8 @@ use Rattle.kernel_tables.proofs.Knows.{held_named}
 use Rattle.kernel_tables.proofs.Rising.{or_none, IsOfSpace, data_of_space, stack_of_space, absent_entry}
 use Rattle.table_steps.proofs.Forgets.{all_dropped_rests, dropped_more}
 use Rattle.kernel_tables.proofs.ResizedMaps.{sizes_sids}
+use Rattle.table_steps.proofs.GivenUp.{sids_length}
+use Rattle.table_steps.proofs.WholeSpace.{dropped_numbers}
 
 -- A segment.
 
@@ -344,20 +346,9 @@ drop_all_numbers : (qs : List Page) (p : Placement) → map space_number (drop_a
 drop_all_numbers [] p = refl
 drop_all_numbers (q ∷ qs) p = drop_all_numbers qs (drop_page p q) ∙ drop_numbers p q
 
-pub dropped_sids : (t u : Tables) (qs : List Page) → Dropped t u qs → sids_of u.spaces ≡ sids_of t.spaces
-dropped_sids t u qs d =
-    sym (sids_shown u.core.slots u.spaces)
-    ∙ ap (λ (p : Placement). map space_number p.spaces) d.shows.place
-    ∙ drop_all_numbers qs (placement_of (lists_of t))
-    ∙ sids_shown t.core.slots t.spaces
-
-sids_length : (ss : List Places) → length (sids_of ss) ≡ length ss
-sids_length [] = refl
-sids_length (s ∷ ss) = ap suc (sids_length ss)
-
 pub dropped_stands : (t u : Tables) (qs : List Page) (sid index : ℕ) → Dropped t u qs → StandsAt t.spaces sid index → StandsAt u.spaces sid index
 dropped_stands t u qs sid index d h =
-    let e = dropped_sids t u qs d in
+    let e = dropped_numbers t u qs d in
     let a = h.in_range in
     let b = ap length e in
     let c = sids_length u.spaces in

@@ -173,10 +173,8 @@ file_page t demanded (Text i v) k there r =
 swap_needs : (q : Page) (m : Bool) → needs_blocks_by q OnSwap m ≡ true
 swap_needs (Data i v) true = refl
 swap_needs (Data i v) false = refl
-swap_needs (Stack i v) true = refl
-swap_needs (Stack i v) false = refl
-swap_needs (Text i v) true = refl
-swap_needs (Text i v) false = refl
+swap_needs _ true = refl
+swap_needs _ false = refl
 
 -- a page that is on swap has its blocks
 pub swap_block : (size : ℕ) (k : Kernel) (q : Page) → Sound size k → state_of k.place q ≡ OnSwap → IsSome (block_of k.holdings q)
@@ -203,11 +201,8 @@ idle_source f true true = refl
 idle_source f true false = refl
 
 place_source : (slots : List Token) (x : Place) → source_by (not (is_on_swap (Some x))) ≡ source_for (state_shown slots x)
-place_source slots places.Zero = refl
-place_source slots (places.Image v) = refl
-place_source slots places.Swap = refl
-place_source slots (places.Frame f true changed) = refl
 place_source slots (places.Frame f false changed) = idle_source f (is_away (slot_at slots f)) changed
+place_source slots _ = refl
 
 entry_source : (slots : List Token) (o : Option Place) → source_by (not (is_on_swap o)) ≡ source_for (slot_or (slot_shown slots) o).state
 entry_source slots None = refl
@@ -284,8 +279,7 @@ from_still t u b xs s h = record {
 
 file_still : (ns : List ImageNamed) (f g : ℕ → ℕ) (q : Page) → ((sid : ℕ) → g sid ≡ f sid) → IsFilePage ns f q → IsFilePage ns g q
 file_still ns f g (Data sid v) e h = subst (λ (i : ℕ). IsImagePage (named_at ns i) false v) (sym (e sid)) h
-file_still ns f g (Stack sid v) e h = h
-file_still ns f g (Text i v) e h = h
+file_still ns f g _ e h = h
 
 pub has_still : (t u : Tables) (b : Bool) (q : Page) → SameSources t u → HasSource t b q → HasSource u b q
 has_still t u true q s h = subst (λ (ns : List ImageNamed). IsFilePage ns (image_at u) q) (sym s.images) (file_still (images_of t) (image_at t) (image_at u) q s.spaces h)

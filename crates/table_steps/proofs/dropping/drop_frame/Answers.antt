@@ -7,9 +7,8 @@ use Rattle.vm_facts.proofs.Lists.{without_absent}
 use Rattle.table_steps.proofs.dropping.drop_frame.Goals as goal
 
 unlisted : (s : Token) → IsTrue (is_resident s) → listings s ≡ 0
-unlisted (tokens.Free token page) h = absurd cc
 unlisted (tokens.Resident token page dirty) h = refl
-unlisted tokens.Away h = absurd cc
+unlisted _ h = absurd cc
 
 pub returns-in-Resident-clause-free : goal.returns-in-Resident-clause-free
 returns-in-Resident-clause-free c =

@@ -9,33 +9,17 @@ use Rattle.kernel_tables.specs.Moves.{LandedAll, closing_in}
 use Rattle.table_steps.proofs.Landings.{MayLand, first_taken, may_read, reads_step, lands_place, lands_all}
 use Rattle.table_steps.proofs.landing.+land_reads.Goals as goal
 
-pub land_in-requires-clause-away : goal.land_in-requires-clause-away
-land_in-requires-clause-away t c =
+pub land_in-requires : goal.land_in-requires
+land_in-requires t c =
     let some : 0 < length c.args.parts.now.items = omega (arith, c.is_empty.ensures, c.if-is_empty.ensures, c.remove-part.ensures.len) in
     let e : c.args.parts.now.items ≡ c.remove-part.result ∷ c.remove-part.new.self.items = first_taken c.args.parts.now.items c.remove-part.new.self.items c.remove-part.result some c.remove-part.ensures.value c.remove-part.ensures.by_index.2 in
     let m : MayLand c.args.tables.now c.remove-part.result.page c.remove-part.result.token.number = may_read c.args.tables.now c.args.from_file c.args.demanded c.args.parts.now.items c.remove-part.new.self.items c.remove-part.result e c.requires in
-    m.away
-
-pub land_in-requires-clause-not_held : goal.land_in-requires-clause-not_held
-land_in-requires-clause-not_held t c =
-    let some : 0 < length c.args.parts.now.items = omega (arith, c.is_empty.ensures, c.if-is_empty.ensures, c.remove-part.ensures.len) in
-    let e : c.args.parts.now.items ≡ c.remove-part.result ∷ c.remove-part.new.self.items = first_taken c.args.parts.now.items c.remove-part.new.self.items c.remove-part.result some c.remove-part.ensures.value c.remove-part.ensures.by_index.2 in
-    let m : MayLand c.args.tables.now c.remove-part.result.page c.remove-part.result.token.number = may_read c.args.tables.now c.args.from_file c.args.demanded c.args.parts.now.items c.remove-part.new.self.items c.remove-part.result e c.requires in
-    m.not_held
-
-pub land_in-requires-clause-small : goal.land_in-requires-clause-small
-land_in-requires-clause-small t c =
-    let some : 0 < length c.args.parts.now.items = omega (arith, c.is_empty.ensures, c.if-is_empty.ensures, c.remove-part.ensures.len) in
-    let e : c.args.parts.now.items ≡ c.remove-part.result ∷ c.remove-part.new.self.items = first_taken c.args.parts.now.items c.remove-part.new.self.items c.remove-part.result some c.remove-part.ensures.value c.remove-part.ensures.by_index.2 in
-    let m : MayLand c.args.tables.now c.remove-part.result.page c.remove-part.result.token.number = may_read c.args.tables.now c.args.from_file c.args.demanded c.args.parts.now.items c.remove-part.new.self.items c.remove-part.result e c.requires in
-    m.small
-
-pub land_in-requires-clause-texts : goal.land_in-requires-clause-texts
-land_in-requires-clause-texts t c =
-    let some : 0 < length c.args.parts.now.items = omega (arith, c.is_empty.ensures, c.if-is_empty.ensures, c.remove-part.ensures.len) in
-    let e : c.args.parts.now.items ≡ c.remove-part.result ∷ c.remove-part.new.self.items = first_taken c.args.parts.now.items c.remove-part.new.self.items c.remove-part.result some c.remove-part.ensures.value c.remove-part.ensures.by_index.2 in
-    let m : MayLand c.args.tables.now c.remove-part.result.page c.remove-part.result.token.number = may_read c.args.tables.now c.args.from_file c.args.demanded c.args.parts.now.items c.remove-part.new.self.items c.remove-part.result e c.requires in
-    m.texts
+    record {
+      away = m.away;
+      not_held = m.not_held;
+      small = m.small;
+      texts = m.texts;
+    }
 
 pub land_reads-requires : goal.land_reads-requires
 land_reads-requires t c =

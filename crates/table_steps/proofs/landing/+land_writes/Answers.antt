@@ -8,33 +8,17 @@ use Rattle.kernel_tables.specs.Moves.{LandedAll, closing_out}
 use Rattle.table_steps.proofs.Landings.{MayLand, first_taken, may_write, writes_step, lands_place, lands_all}
 use Rattle.table_steps.proofs.landing.+land_writes.Goals as goal
 
-pub land_out-requires-clause-away : goal.land_out-requires-clause-away
-land_out-requires-clause-away t c =
+pub land_out-requires : goal.land_out-requires
+land_out-requires t c =
     let some : 0 < length c.args.parts.now.items = omega (arith, c.is_empty.ensures, c.if-is_empty.ensures, c.remove-part.ensures.len) in
     let e : c.args.parts.now.items ≡ c.remove-part.result ∷ c.remove-part.new.self.items = first_taken c.args.parts.now.items c.remove-part.new.self.items c.remove-part.result some c.remove-part.ensures.value c.remove-part.ensures.by_index.2 in
     let m : MayLand c.args.tables.now c.remove-part.result.page c.remove-part.result.token.number = may_write c.args.tables.now c.args.parts.now.items c.remove-part.new.self.items c.remove-part.result e c.requires in
-    m.away
-
-pub land_out-requires-clause-not_held : goal.land_out-requires-clause-not_held
-land_out-requires-clause-not_held t c =
-    let some : 0 < length c.args.parts.now.items = omega (arith, c.is_empty.ensures, c.if-is_empty.ensures, c.remove-part.ensures.len) in
-    let e : c.args.parts.now.items ≡ c.remove-part.result ∷ c.remove-part.new.self.items = first_taken c.args.parts.now.items c.remove-part.new.self.items c.remove-part.result some c.remove-part.ensures.value c.remove-part.ensures.by_index.2 in
-    let m : MayLand c.args.tables.now c.remove-part.result.page c.remove-part.result.token.number = may_write c.args.tables.now c.args.parts.now.items c.remove-part.new.self.items c.remove-part.result e c.requires in
-    m.not_held
-
-pub land_out-requires-clause-small : goal.land_out-requires-clause-small
-land_out-requires-clause-small t c =
-    let some : 0 < length c.args.parts.now.items = omega (arith, c.is_empty.ensures, c.if-is_empty.ensures, c.remove-part.ensures.len) in
-    let e : c.args.parts.now.items ≡ c.remove-part.result ∷ c.remove-part.new.self.items = first_taken c.args.parts.now.items c.remove-part.new.self.items c.remove-part.result some c.remove-part.ensures.value c.remove-part.ensures.by_index.2 in
-    let m : MayLand c.args.tables.now c.remove-part.result.page c.remove-part.result.token.number = may_write c.args.tables.now c.args.parts.now.items c.remove-part.new.self.items c.remove-part.result e c.requires in
-    m.small
-
-pub land_out-requires-clause-texts : goal.land_out-requires-clause-texts
-land_out-requires-clause-texts t c =
-    let some : 0 < length c.args.parts.now.items = omega (arith, c.is_empty.ensures, c.if-is_empty.ensures, c.remove-part.ensures.len) in
-    let e : c.args.parts.now.items ≡ c.remove-part.result ∷ c.remove-part.new.self.items = first_taken c.args.parts.now.items c.remove-part.new.self.items c.remove-part.result some c.remove-part.ensures.value c.remove-part.ensures.by_index.2 in
-    let m : MayLand c.args.tables.now c.remove-part.result.page c.remove-part.result.token.number = may_write c.args.tables.now c.args.parts.now.items c.remove-part.new.self.items c.remove-part.result e c.requires in
-    m.texts
+    record {
+      away = m.away;
+      not_held = m.not_held;
+      small = m.small;
+      texts = m.texts;
+    }
 
 pub land_writes-requires : goal.land_writes-requires
 land_writes-requires t c =

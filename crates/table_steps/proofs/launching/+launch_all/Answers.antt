@@ -1,4 +1,4 @@
-use Rattle.std.proofs.Common.{◌≡◌, ℕ, suc, ◌+◌, ◌-◌, IsTrue, List, [], ◌∷◌, ◌++◌, IsSome, Option, refl, sym, ap, ◌∙◌, subst, arith, append_assoc}
+use Rattle.std.proofs.Common.{◌≡◌, ℕ, suc, ◌+◌, ◌-◌, IsTrue, List, [], ◌∷◌, ◌++◌, IsSome, Option, refl, sym, ap, ◌∙◌, subst, arith, append_assoc, rules}
 use Rattle.vm_facts.specs.declared.page.Page.{Page}
 use Rattle.vax_pte.specs.declared.Place.{Place}
 use Rattle.core_map.specs.declared.slot.Slot.{Slot as Token}
@@ -58,49 +58,34 @@ launch_all-requires t c =
       ),
     )
 
-pub returns-clause-place : goal.returns-clause-place
-returns-clause-place t c =
+pub returns : goal.returns
+returns t c =
     let m : ℕ = c.args.n - 1 in
     let e : c.args.n ≡ suc m = omega arith in
     let b : Launched c.args.tables.now c.launch-part.new.tables c.args.parts.now.items c.args.page c.launch-part.result c.args.lo m =
     launched_first c.args.tables.now c.launch-part.new.tables c.args.parts.now.items c.args.page c.beside.result c.launch-part.result c.args.lo c.args.n m e c.beside.ensures c.requires.may c.launch-part.ensures c.frames-frames.ensures.sound in
-    c.launch_all.ensures.place
-    ∙ ap (λ (ys : List Outbound). launch_all (placement_of (launching c.launch-part.new.tables ys)) (pages_from c.args.page (c.args.lo + 1) m)) c.push_reserved.ensures.items
-    ∙ ap (λ (p : Placement). launch_all p (pages_from c.args.page (c.args.lo + 1) m)) b.place
-    ∙ ap (λ (k : ℕ). launch_all (placement_of (launching c.args.tables.now c.args.parts.now.items)) (pages_from c.args.page c.args.lo k)) (sym e)
-
-pub returns-clause-frames : goal.returns-clause-frames
-returns-clause-frames t c =
-    let m : ℕ = c.args.n - 1 in
-    let e : c.args.n ≡ suc m = omega arith in
-    let b : Launched c.args.tables.now c.launch-part.new.tables c.args.parts.now.items c.args.page c.launch-part.result c.args.lo m =
-    launched_first c.args.tables.now c.launch-part.new.tables c.args.parts.now.items c.args.page c.beside.result c.launch-part.result c.args.lo c.args.n m e c.beside.ensures c.requires.may c.launch-part.ensures c.frames-frames.ensures.sound in
-    c.launch_all.ensures.frames ∙ ap (λ (ys : List Outbound). frames_of (launching c.launch-part.new.tables ys)) c.push_reserved.ensures.items ∙ b.frames
-
-pub returns-clause-pages : goal.returns-clause-pages
-returns-clause-pages t c =
-    let m : ℕ = c.args.n - 1 in
-    let e : c.args.n ≡ suc m = omega arith in
-    let rest : List Page = pages_from c.args.page (c.args.lo + 1) m in
-    c.launch_all.ensures.pages
-    ∙ ap (λ (ys : List Outbound). outbound_pages ys ++ rest) c.push_reserved.ensures.items
-    ∙ ap (λ (qs : List Page). qs ++ rest) (out_pages_snoc c.args.parts.now.items c.launch-part.result)
-    ∙ append_assoc (outbound_pages c.args.parts.now.items) (c.launch-part.result.page ∷ []) rest
-    ∙ ap (λ (q : Page). outbound_pages c.args.parts.now.items ++ q ∷ rest) (c.launch-part.ensures.page ∙ c.beside.ensures)
-    ∙ ap (λ (k : ℕ). outbound_pages c.args.parts.now.items ++ pages_from c.args.page c.args.lo k) (sym e)
-
-pub returns-clause-blocks : goal.returns-clause-blocks
-returns-clause-blocks t c h =
-    let hs : Holdings = c.args.tables.now.book.holdings in
-    let same : c.launch-part.new.tables.book.holdings ≡ hs = ap (λ (x : Tables). x.book.holdings) c.launch-part.ensures.rest in
-    subst (λ (z : Holdings). HaveOwnBlocks z c.launch_all.new.parts.items) same (c.launch_all.ensures.blocks (subst (λ (z : Holdings). HaveOwnBlocks z c.push_reserved.new.self.items) (sym same)
-    (subst (HaveOwnBlocks hs) (sym c.push_reserved.ensures.items) (blocks_snoc hs c.args.parts.now.items c.launch-part.result h
-    (ap (block_of hs) c.launch-part.ensures.page ∙ c.launch-part.ensures.block)))))
-
-pub returns-clause-images : goal.returns-clause-images
-returns-clause-images t c sid =
-    let m : ℕ = c.args.n - 1 in
-    let e : c.args.n ≡ suc m = omega arith in
-    let b : Launched c.args.tables.now c.launch-part.new.tables c.args.parts.now.items c.args.page c.launch-part.result c.args.lo m =
-    launched_first c.args.tables.now c.launch-part.new.tables c.args.parts.now.items c.args.page c.beside.result c.launch-part.result c.args.lo c.args.n m e c.beside.ensures c.requires.may c.launch-part.ensures c.frames-frames.ensures.sound in
-    c.launch_all.ensures.images sid ∙ b.images sid
+    record {
+      place =
+          c.launch_all.ensures.place
+          ∙ ap (λ (ys : List Outbound). launch_all (placement_of (launching c.launch-part.new.tables ys)) (pages_from c.args.page (c.args.lo + 1) m)) c.push_reserved.ensures.items
+          ∙ ap (λ (p : Placement). launch_all p (pages_from c.args.page (c.args.lo + 1) m)) b.place
+          ∙ ap (λ (k : ℕ). launch_all (placement_of (launching c.args.tables.now c.args.parts.now.items)) (pages_from c.args.page c.args.lo k)) (sym e);
+      frames = c.launch_all.ensures.frames ∙ ap (λ (ys : List Outbound). frames_of (launching c.launch-part.new.tables ys)) c.push_reserved.ensures.items ∙ b.frames;
+      known = search rules;
+      pages =
+          let rest : List Page = pages_from c.args.page (c.args.lo + 1) m in
+          c.launch_all.ensures.pages
+          ∙ ap (λ (ys : List Outbound). outbound_pages ys ++ rest) c.push_reserved.ensures.items
+          ∙ ap (λ (qs : List Page). qs ++ rest) (out_pages_snoc c.args.parts.now.items c.launch-part.result)
+          ∙ append_assoc (outbound_pages c.args.parts.now.items) (c.launch-part.result.page ∷ []) rest
+          ∙ ap (λ (q : Page). outbound_pages c.args.parts.now.items ++ q ∷ rest) (c.launch-part.ensures.page ∙ c.beside.ensures)
+          ∙ ap (λ (k : ℕ). outbound_pages c.args.parts.now.items ++ pages_from c.args.page c.args.lo k) (sym e);
+      blocks = λ h.
+          let hs : Holdings = c.args.tables.now.book.holdings in
+          let same : c.launch-part.new.tables.book.holdings ≡ hs = ap (λ (x : Tables). x.book.holdings) c.launch-part.ensures.rest in
+          subst (λ (z : Holdings). HaveOwnBlocks z c.launch_all.new.parts.items) same (c.launch_all.ensures.blocks (subst (λ (z : Holdings). HaveOwnBlocks z c.push_reserved.new.self.items) (sym same)
+          (subst (HaveOwnBlocks hs) (sym c.push_reserved.ensures.items) (blocks_snoc hs c.args.parts.now.items c.launch-part.result h
+          (ap (block_of hs) c.launch-part.ensures.page ∙ c.launch-part.ensures.block)))));
+      images = λ sid. c.launch_all.ensures.images sid ∙ b.images sid;
+      rest = search rules;
+    }

@@ -1,4 +1,4 @@
-use Rattle.std.proofs.Common.{◌≡◌, ℕ, ◌<◌, length, sym, ap, ◌∙◌, subst}
+use Rattle.std.proofs.Common.{◌≡◌, ℕ, ◌<◌, length, sym, ap, ◌∙◌, subst, rules}
 use Rattle.page_model.specs.Placement.{Placement, page_of}
 use Rattle.page_model.specs.Hands.{write_of, sweep}
 use Rattle.page_laws.proofs.Moves.Stays.{swept_steady}
@@ -9,44 +9,34 @@ use Rattle.kernel_tables.specs.Calls.{IsRunOf}
 use Rattle.table_steps.proofs.Hands.{Ready, ready, hand_within, moved_hands}
 use Rattle.table_steps.proofs.launching.move_hands.Goals as goal
 
-pub sweep-requires-clause-known : goal.sweep-requires-clause-known
-sweep-requires-clause-known c =
+pub sweep-requires : goal.sweep-requires
+sweep-requires c =
     let t : Tables = c.args.tables.now in
     let u : Tables = c.expire.new.tables in
     let r : Ready t u c.args.locked.now = ready t u c.args.locked.now c.requires.known c.expire.ensures.lists c.expire.ensures.rest in
-    r.known
+    record {
+      known = r.known;
+      run = subst (λ (p : Placement). IsRunOf (write_of p c.args.locked.now p.back (page_of p p.back)) c.args.lo c.args.n) (sym r.place) c.requires.run;
+      room = search rules;
+      blocks = r.blocks c.requires.blocks;
+      empty = search rules;
+      capacity = search rules;
+    }
 
-pub sweep-requires-clause-run : goal.sweep-requires-clause-run
-sweep-requires-clause-run c =
-    let t : Tables = c.args.tables.now in
-    let u : Tables = c.expire.new.tables in
-    let r : Ready t u c.args.locked.now = ready t u c.args.locked.now c.requires.known c.expire.ensures.lists c.expire.ensures.rest in
-    subst (λ (p : Placement). IsRunOf (write_of p c.args.locked.now p.back (page_of p p.back)) c.args.lo c.args.n) (sym r.place) c.requires.run
-
-pub sweep-requires-clause-blocks : goal.sweep-requires-clause-blocks
-sweep-requires-clause-blocks c =
-    let t : Tables = c.args.tables.now in
-    let u : Tables = c.expire.new.tables in
-    let r : Ready t u c.args.locked.now = ready t u c.args.locked.now c.requires.known c.expire.ensures.lists c.expire.ensures.rest in
-    r.blocks c.requires.blocks
-
-pub advance-requires-clause-front : goal.advance-requires-clause-front
-advance-requires-clause-front c =
+pub advance-requires : goal.advance-requires
+advance-requires c =
     let t : Tables = c.args.tables.now in
     let u : Tables = c.expire.new.tables in
     let r : Ready t u c.args.locked.now = ready t u c.args.locked.now c.requires.known c.expire.ensures.lists c.expire.ensures.rest in
     let v : Tables = c.sweep.new.tables in
-    let e : v.front ≡ t.front = ap (λ (q : Placement). q.front) (c.sweep.ensures.place ∙ ap (λ (q : Placement). sweep q c.args.locked.now) r.place) ∙ (swept_steady (placement_of (lists_of t)) c.args.locked.now).front in
-    subst (λ (f : ℕ). f < length v.core.slots) (sym e) (hand_within t v t.front (c.sweep.ensures.frames ∙ r.frames) c.requires.front.0 c.requires.front.1)
-
-pub advance-requires-clause-back : goal.advance-requires-clause-back
-advance-requires-clause-back c =
-    let t : Tables = c.args.tables.now in
-    let u : Tables = c.expire.new.tables in
-    let r : Ready t u c.args.locked.now = ready t u c.args.locked.now c.requires.known c.expire.ensures.lists c.expire.ensures.rest in
-    let v : Tables = c.sweep.new.tables in
-    let e : v.back ≡ t.back = ap (λ (q : Placement). q.back) (c.sweep.ensures.place ∙ ap (λ (q : Placement). sweep q c.args.locked.now) r.place) ∙ (swept_steady (placement_of (lists_of t)) c.args.locked.now).back in
-    subst (λ (f : ℕ). f < length v.core.slots) (sym e) (hand_within t v t.back (c.sweep.ensures.frames ∙ r.frames) c.requires.back.0 c.requires.back.1)
+    record {
+      front =
+          let e : v.front ≡ t.front = ap (λ (q : Placement). q.front) (c.sweep.ensures.place ∙ ap (λ (q : Placement). sweep q c.args.locked.now) r.place) ∙ (swept_steady (placement_of (lists_of t)) c.args.locked.now).front in
+          subst (λ (f : ℕ). f < length v.core.slots) (sym e) (hand_within t v t.front (c.sweep.ensures.frames ∙ r.frames) c.requires.front.0 c.requires.front.1);
+      back =
+          let e : v.back ≡ t.back = ap (λ (q : Placement). q.back) (c.sweep.ensures.place ∙ ap (λ (q : Placement). sweep q c.args.locked.now) r.place) ∙ (swept_steady (placement_of (lists_of t)) c.args.locked.now).back in
+          subst (λ (f : ℕ). f < length v.core.slots) (sym e) (hand_within t v t.back (c.sweep.ensures.frames ∙ r.frames) c.requires.back.0 c.requires.back.1);
+    }
 
 pub returns : goal.returns
 returns c =

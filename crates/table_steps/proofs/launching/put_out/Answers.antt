@@ -19,43 +19,23 @@ write_run-requires-clause-blocks c =
     let may : MayWrite (placement_of (lists_of t)) c.args.page c.args.lo c.args.n = may_write (placement_of (lists_of t)) c.args.page c.args.lo c.args.n (omega arith) c.requires.may in
     seats_blocks (lists_of t) t.book.holdings (pages_from c.args.page c.args.lo c.args.n) c.requires.known c.requires.blocks may.seats
 
-pub retire-requires-clause-frame : goal.retire-requires-clause-frame
-retire-requires-clause-frame c =
+pub retire-requires : goal.retire-requires
+retire-requires c =
     let t : Tables = c.args.tables.now in
     let may : MayRetire (placement_of (lists_of t)) c.args.page = may_retire (placement_of (lists_of t)) c.args.page c.args.lo c.args.n (omega arith) c.requires.may in
     let r = seat_named (lists_of t) c.args.page c.requires.known may.seat in
-    subst (λ (o : Option Place). IsTrue (is_frame o)) (sym r.entry) refl
-
-pub retire-requires-clause-resident : goal.retire-requires-clause-resident
-retire-requires-clause-resident c =
-    let t : Tables = c.args.tables.now in
-    let may : MayRetire (placement_of (lists_of t)) c.args.page = may_retire (placement_of (lists_of t)) c.args.page c.args.lo c.args.n (omega arith) c.requires.may in
-    let r = seat_named (lists_of t) c.args.page c.requires.known may.seat in
-    subst (λ (s : Token). IsTrue (is_resident s)) (sym r.slot) refl
-
-pub retire-requires-clause-holds : goal.retire-requires-clause-holds
-retire-requires-clause-holds c =
-    let t : Tables = c.args.tables.now in
-    let may : MayRetire (placement_of (lists_of t)) c.args.page = may_retire (placement_of (lists_of t)) c.args.page c.args.lo c.args.n (omega arith) c.requires.may in
-    let r = seat_named (lists_of t) c.args.page c.requires.known may.seat in
-    ap page_of r.slot
-
-pub retire-requires-clause-above : goal.retire-requires-clause-above
-retire-requires-clause-above c =
-    let t : Tables = c.args.tables.now in
-    let may : MayRetire (placement_of (lists_of t)) c.args.page = may_retire (placement_of (lists_of t)) c.args.page c.args.lo c.args.n (omega arith) c.requires.may in
-    let r = seat_named (lists_of t) c.args.page c.requires.known may.seat in
-    let a = r.above in
-    omega (arith, a)
-
-pub retire-requires-clause-small : goal.retire-requires-clause-small
-retire-requires-clause-small c =
-    let t : Tables = c.args.tables.now in
-    let may : MayRetire (placement_of (lists_of t)) c.args.page = may_retire (placement_of (lists_of t)) c.args.page c.args.lo c.args.n (omega arith) c.requires.may in
-    let r = seat_named (lists_of t) c.args.page c.requires.known may.seat in
-    let a = r.below in
-    let b = c.requires.known.tied.few_frames in
-    omega (arith, a, b)
+    record {
+      frame = subst (λ (o : Option Place). IsTrue (is_frame o)) (sym r.entry) refl;
+      resident = subst (λ (s : Token). IsTrue (is_resident s)) (sym r.slot) refl;
+      holds = ap page_of r.slot;
+      above =
+          let a = r.above in
+          omega (arith, a);
+      small =
+          let a = r.below in
+          let b = c.requires.known.tied.few_frames in
+          omega (arith, a, b);
+    }
 
 pub returns-else-n-gt0 : goal.returns-else-n-gt0
 returns-else-n-gt0 c =

@@ -1,4 +1,4 @@
-use Rattle.std.proofs.Common.{◌≡◌, ℕ, suc, ◌+◌, ◌-◌, Bool, List, ◌∷◌, ◌++◌, [], map, sym, ap, ◌∙◌, subst, arith, append_assoc}
+use Rattle.std.proofs.Common.{◌≡◌, ℕ, suc, ◌+◌, ◌-◌, Bool, List, ◌∷◌, ◌++◌, [], map, sym, ap, ◌∙◌, subst, arith, append_assoc, rules}
 use Rattle.vm_facts.specs.declared.page.Page.{Page}
 use Rattle.core_map.specs.Frames.{IsSound}
 use Rattle.core_map.specs.Slots.{slot_at, page_of as token_page}
@@ -71,45 +71,34 @@ bring_all-requires t c =
       ),
     )
 
-pub returns-clause-place : goal.returns-clause-place
-returns-clause-place t c =
+pub returns : goal.returns
+returns t c =
     let m : ℕ = c.args.n - 1 in
     let e : c.args.n ≡ suc m = omega arith in
     let from : Source = source_by c.args.from_file in
     let b : Brings c.args.tables.now c.bring-part.new.tables c.args.parts.now.items from c.args.page c.bring-part.result c.args.lo m =
     step c.args.tables.now c.bring-part.new.tables c.args.parts.now.items c.args.from_file c.args.page c.beside.result c.bring-part.result c.args.lo c.args.n m e c.beside.ensures c.bring-part.ensures c.frames-frames.ensures.sound c.requires.may in
-    c.bring_all.ensures.place
-    ∙ ap (λ (ys : List Inbound). get_all (placement_of (opened c.bring-part.new.tables ys from c.args.page)) (Reads from c.args.page) (pages_from c.args.page (c.args.lo + 1) m)) c.push_reserved.ensures.items
-    ∙ ap (λ (p : Placement). get_all p (Reads from c.args.page) (pages_from c.args.page (c.args.lo + 1) m)) b.place
-    ∙ ap (λ (k : ℕ). get_all (placement_of (opened c.args.tables.now c.args.parts.now.items from c.args.page)) (Reads from c.args.page) (pages_from c.args.page c.args.lo k)) (sym e)
-
-pub returns-clause-frames : goal.returns-clause-frames
-returns-clause-frames t c =
-    let m : ℕ = c.args.n - 1 in
-    let e : c.args.n ≡ suc m = omega arith in
-    let from : Source = source_by c.args.from_file in
-    let b : Brings c.args.tables.now c.bring-part.new.tables c.args.parts.now.items from c.args.page c.bring-part.result c.args.lo m =
-    step c.args.tables.now c.bring-part.new.tables c.args.parts.now.items c.args.from_file c.args.page c.beside.result c.bring-part.result c.args.lo c.args.n m e c.beside.ensures c.bring-part.ensures c.frames-frames.ensures.sound c.requires.may in
-    c.bring_all.ensures.frames ∙ ap (λ (ys : List Inbound). frames_of (opened c.bring-part.new.tables ys from c.args.page)) c.push_reserved.ensures.items ∙ b.frames
-
-pub returns-clause-pages : goal.returns-clause-pages
-returns-clause-pages t c =
-    let m : ℕ = c.args.n - 1 in
-    let e : c.args.n ≡ suc m = omega arith in
-    let rest : List Page = pages_from c.args.page (c.args.lo + 1) m in
-    c.bring_all.ensures.pages
-    ∙ ap (λ (ys : List Inbound). inbound_pages ys ++ rest) c.push_reserved.ensures.items
-    ∙ ap (λ (qs : List Page). qs ++ rest) (pages_snoc c.args.parts.now.items c.bring-part.result)
-    ∙ append_assoc (inbound_pages c.args.parts.now.items) (c.bring-part.result.page ∷ []) rest
-    ∙ ap (λ (q : Page). inbound_pages c.args.parts.now.items ++ q ∷ rest) (c.bring-part.ensures.page ∙ c.beside.ensures)
-    ∙ ap (λ (k : ℕ). inbound_pages c.args.parts.now.items ++ pages_from c.args.page c.args.lo k) (sym e)
-
-pub returns-clause-from : goal.returns-clause-from
-returns-clause-from t c =
-    from_still c.bring-part.new.tables c.args.tables.now c.args.from_file c.bring_all.new.parts.items
-    (back_sources c.args.tables.now c.bring-part.new.tables (same c.args.tables.now c.bring-part.new.tables c.beside.result c.args.from_file c.bring-part.result c.bring-part.ensures)) c.bring_all.ensures.from
-
-pub returns-clause-images : goal.returns-clause-images
-returns-clause-images t c sid =
-    let s : SameSources c.args.tables.now c.bring-part.new.tables = same c.args.tables.now c.bring-part.new.tables c.beside.result c.args.from_file c.bring-part.result c.bring-part.ensures in
-    c.bring_all.ensures.images sid ∙ s.spaces sid
+    record {
+      place =
+          c.bring_all.ensures.place
+          ∙ ap (λ (ys : List Inbound). get_all (placement_of (opened c.bring-part.new.tables ys from c.args.page)) (Reads from c.args.page) (pages_from c.args.page (c.args.lo + 1) m)) c.push_reserved.ensures.items
+          ∙ ap (λ (p : Placement). get_all p (Reads from c.args.page) (pages_from c.args.page (c.args.lo + 1) m)) b.place
+          ∙ ap (λ (k : ℕ). get_all (placement_of (opened c.args.tables.now c.args.parts.now.items from c.args.page)) (Reads from c.args.page) (pages_from c.args.page c.args.lo k)) (sym e);
+      frames = c.bring_all.ensures.frames ∙ ap (λ (ys : List Inbound). frames_of (opened c.bring-part.new.tables ys from c.args.page)) c.push_reserved.ensures.items ∙ b.frames;
+      known = search rules;
+      pages =
+          let rest : List Page = pages_from c.args.page (c.args.lo + 1) m in
+          c.bring_all.ensures.pages
+          ∙ ap (λ (ys : List Inbound). inbound_pages ys ++ rest) c.push_reserved.ensures.items
+          ∙ ap (λ (qs : List Page). qs ++ rest) (pages_snoc c.args.parts.now.items c.bring-part.result)
+          ∙ append_assoc (inbound_pages c.args.parts.now.items) (c.bring-part.result.page ∷ []) rest
+          ∙ ap (λ (q : Page). inbound_pages c.args.parts.now.items ++ q ∷ rest) (c.bring-part.ensures.page ∙ c.beside.ensures)
+          ∙ ap (λ (k : ℕ). inbound_pages c.args.parts.now.items ++ pages_from c.args.page c.args.lo k) (sym e);
+      from =
+          from_still c.bring-part.new.tables c.args.tables.now c.args.from_file c.bring_all.new.parts.items
+          (back_sources c.args.tables.now c.bring-part.new.tables (same c.args.tables.now c.bring-part.new.tables c.beside.result c.args.from_file c.bring-part.result c.bring-part.ensures)) c.bring_all.ensures.from;
+      images = λ sid.
+          let s : SameSources c.args.tables.now c.bring-part.new.tables = same c.args.tables.now c.bring-part.new.tables c.beside.result c.args.from_file c.bring-part.result c.bring-part.ensures in
+          c.bring_all.ensures.images sid ∙ s.spaces sid;
+      rest = search rules;
+    }

@@ -12,19 +12,15 @@ invariant_of-self c =
     let l = subst (λ (ss : List Places). c.args.index < length ss) (sym c.self.view_is) c.requires in
     subst (λ (ss : List Places). AreRising (sids_of ss)) (sym c.remove-space.ensures.items) (removed_rises maps c.args.index c.remove-space.result l c.self.invariant)
 
-pub returns-clause-gone : goal.returns-clause-gone
-returns-clause-gone c = λ sid h.
-    let at = subst (λ (ss : List Places). StandsAt ss sid c.args.index) (sym c.self.view_is) h in
-    c.remove-space.ensures.items ∙ removed_is c.self.inside.maps.items sid c.args.index c.self.invariant at.number ∙ ap (without_space sid) c.self.view_is
-
-pub returns-clause-image : goal.returns-clause-image
-returns-clause-image c =
+pub returns : goal.returns
+returns c =
     let l = subst (λ (ss : List Places). c.args.index < length ss) (sym c.self.view_is) c.requires in
     let there = at_place c.self.inside.maps.items c.args.index c.remove-space.result l ∙ ap (λ (s : Places). Some s) (sym c.remove-space.ensures.value) in
-    ap (λ (n : ℕ). Some n) c.image.ensures ∙ sym (ap (option_map (λ (s : Places). s.image)) (ap (λ (ss : List Places). slice_get ss c.args.index) (sym c.self.view_is) ∙ there))
-
-pub returns-clause-pages : goal.returns-clause-pages
-returns-clause-pages c =
-    let l = subst (λ (ss : List Places). c.args.index < length ss) (sym c.self.view_is) c.requires in
-    let there = at_place c.self.inside.maps.items c.args.index c.remove-space.result l ∙ ap (λ (s : Places). Some s) (sym c.remove-space.ensures.value) in
-    ap (λ (n : ℕ). Some n) c.text_pages.ensures.of_image ∙ sym (ap (option_map (λ (s : Places). text_pages_of s.facts)) (ap (λ (ss : List Places). slice_get ss c.args.index) (sym c.self.view_is) ∙ there))
+    record {
+      gone =
+          λ sid h.
+          let at = subst (λ (ss : List Places). StandsAt ss sid c.args.index) (sym c.self.view_is) h in
+          c.remove-space.ensures.items ∙ removed_is c.self.inside.maps.items sid c.args.index c.self.invariant at.number ∙ ap (without_space sid) c.self.view_is;
+      image = ap (λ (n : ℕ). Some n) c.image.ensures ∙ sym (ap (option_map (λ (s : Places). s.image)) (ap (λ (ss : List Places). slice_get ss c.args.index) (sym c.self.view_is) ∙ there));
+      pages = ap (λ (n : ℕ). Some n) c.text_pages.ensures.of_image ∙ sym (ap (option_map (λ (s : Places). text_pages_of s.facts)) (ap (λ (ss : List Places). slice_get ss c.args.index) (sym c.self.view_is) ∙ there));
+    }
