@@ -1,4 +1,4 @@
-use Rattle.std.proofs.Common.{◌≡◌, ℕ, ◌-◌, Bool, true, false, List, ◌∷◌, length, take, drop, Result, Ok, Err, refl, sym, ap, ◌∙◌, subst, arith}
+use Rattle.std.proofs.Common.{◌≡◌, ℕ, ◌-◌, Bool, true, false, List, ◌∷◌, length, take, drop, Result, Ok, Err, refl, sym, ap, ◌∙◌, subst, arith, rules}
 use Rattle.std.specs.Prelude.{slice_index_or, is_ok, IfOk, OnOk}
 use Rattle.swap_book.specs.Holdings.{Holdings, of_owner, kept as kept_first}
 use Rattle.swap_book.specs.Book.{Book, with_holdings, growth_of, grown_book}
@@ -52,8 +52,8 @@ find_all-found-requires t c =
     let can : CanAsk b.holdings (w ∷ ws) = subst (CanAsk b.holdings) split c.requires in
     (let l = fewer_wants c.args.wants.now c.in-len1-up.len_at_least in omega (arith, c.decreases, l), can_behind b c.grow.new.self ok.0 w ws ok.1 c.in_ok-grow.ensures.book can)
 
-pub returns-then-is_kept-clause-answer : goal.returns-then-is_kept-clause-answer
-returns-then-is_kept-clause-answer t c =
+pub returns-then-is_kept : goal.returns-then-is_kept
+returns-then-is_kept t c =
     let b : Book = c.args.book.now in
     let w : Want = slice_index_or c.args.wants.now 0 _ in
     let ws : List Want = take (length c.args.wants.now - 1) (drop 1 c.args.wants.now) in
@@ -69,27 +69,13 @@ returns-then-is_kept-clause-answer t c =
       book = c.find_all-found.ensures.book;
       err = c.find_all-found.ensures.err;
     } in
-    subst (λ (xs : List Want). IfOk c.find_all-found.result (λ fits. fits ≡ fits_for b.size b.holdings xs)) (sym split) (behind_answer b c.grow.new.self c.find_all-found.new.book w ws c.args.keeps c.find_all-found.result g)
-
-pub returns-then-is_kept-clause-book : goal.returns-then-is_kept-clause-book
-returns-then-is_kept-clause-book t c =
-    let b : Book = c.args.book.now in
-    let w : Want = slice_index_or c.args.wants.now 0 _ in
-    let ws : List Want = take (length c.args.wants.now - 1) (drop 1 c.args.wants.now) in
-    let split : c.args.wants.now ≡ w ∷ ws = split_wants c.args.wants.now _ c.in-len1-up.len_at_least in
-    let ok = all_found (growth_of b w.owner w.blocks) (sym c.in_ok-grow.ensures.answer ∙ c.in_default-2.is) in
-    let can : CanAsk b.holdings (w ∷ ws) = subst (CanAsk b.holdings) split c.requires in
-    let g : Behind b c.grow.new.self c.find_all-found.new.book w ws c.args.keeps c.find_all-found.result = record {
-      hs = ok.0;
-      found = ok.1;
-      now_is = c.in_ok-grow.ensures.book;
-      others = can.differ.0;
-      answer = c.find_all-found.ensures.answer;
-      book = c.find_all-found.ensures.book;
-      err = c.find_all-found.ensures.err;
-    } in
-    subst (λ (xs : List Want). OnOk c.find_all-found.result (c.find_all-found.new.book ≡ book_asked c.args.keeps b xs)) (sym split)
-    (behind_kept b c.grow.new.self c.find_all-found.new.book w ws c.args.keeps c.find_all-found.result g (sym c.is_kept.ensures ∙ c.if-is_kept.true))
+    record {
+      answer = subst (λ (xs : List Want). IfOk c.find_all-found.result (λ fits. fits ≡ fits_for b.size b.holdings xs)) (sym split) (behind_answer b c.grow.new.self c.find_all-found.new.book w ws c.args.keeps c.find_all-found.result g);
+      book =
+          subst (λ (xs : List Want). OnOk c.find_all-found.result (c.find_all-found.new.book ≡ book_asked c.args.keeps b xs)) (sym split)
+          (behind_kept b c.grow.new.self c.find_all-found.new.book w ws c.args.keeps c.find_all-found.result g (sym c.is_kept.ensures ∙ c.if-is_kept.true));
+      err = search rules;
+    }
 
 pub give_back-requires : goal.give_back-requires
 give_back-requires t c =
@@ -111,27 +97,8 @@ give_back-requires t c =
     subst (λ (n : ℕ). MayGiveBack w.owner w.blocks n c.find_all-found.new.book.holdings) (sym (c.pieces_held-held.ensures ∙ ap (λ (hs : Holdings). length (of_owner w.owner hs)) c.holdings.ensures))
     (behind_may b c.grow.new.self c.find_all-found.new.book w ws c.args.keeps c.find_all-found.result g (sym c.is_kept.ensures ∙ c.if-is_kept.false) can.each.0)
 
-pub returns-clause-answer : goal.returns-clause-answer
-returns-clause-answer t c =
-    let b : Book = c.args.book.now in
-    let w : Want = slice_index_or c.args.wants.now 0 _ in
-    let ws : List Want = take (length c.args.wants.now - 1) (drop 1 c.args.wants.now) in
-    let split : c.args.wants.now ≡ w ∷ ws = split_wants c.args.wants.now _ c.in-len1-up.len_at_least in
-    let ok = all_found (growth_of b w.owner w.blocks) (sym c.in_ok-grow.ensures.answer ∙ c.in_default-2.is) in
-    let can : CanAsk b.holdings (w ∷ ws) = subst (CanAsk b.holdings) split c.requires in
-    let g : Behind b c.grow.new.self c.find_all-found.new.book w ws c.args.keeps c.find_all-found.result = record {
-      hs = ok.0;
-      found = ok.1;
-      now_is = c.in_ok-grow.ensures.book;
-      others = can.differ.0;
-      answer = c.find_all-found.ensures.answer;
-      book = c.find_all-found.ensures.book;
-      err = c.find_all-found.ensures.err;
-    } in
-    subst (λ (xs : List Want). IfOk c.find_all-found.result (λ fits. fits ≡ fits_for b.size b.holdings xs)) (sym split) (behind_answer b c.grow.new.self c.find_all-found.new.book w ws c.args.keeps c.find_all-found.result g)
-
-pub returns-clause-book : goal.returns-clause-book
-returns-clause-book t c =
+pub returns : goal.returns
+returns t c =
     let b : Book = c.args.book.now in
     let w : Want = slice_index_or c.args.wants.now 0 _ in
     let ws : List Want = take (length c.args.wants.now - 1) (drop 1 c.args.wants.now) in
@@ -151,28 +118,10 @@ returns-clause-book t c =
     let held = c.pieces_held-held.ensures ∙ ap (λ (hs : Holdings). length (of_owner w.owner hs)) c.holdings.ensures in
     let back : c.give_back.new.book ≡ b = c.give_back.ensures ∙ ap (λ (n : ℕ). with_holdings c.find_all-found.new.book (kept_first w.owner n c.find_all-found.new.book.holdings)) held
     ∙ behind_back b c.grow.new.self c.find_all-found.new.book w ws c.args.keeps c.find_all-found.result g kept in
-    subst (λ (xs : List Want). OnOk c.find_all-found.result (c.give_back.new.book ≡ book_asked c.args.keeps b xs)) (sym split)
-    (behind_not b c.grow.new.self c.find_all-found.new.book c.give_back.new.book w ws c.args.keeps c.find_all-found.result g kept back)
-
-pub returns-clause-err : goal.returns-clause-err
-returns-clause-err t c =
-    let b : Book = c.args.book.now in
-    let w : Want = slice_index_or c.args.wants.now 0 _ in
-    let ws : List Want = take (length c.args.wants.now - 1) (drop 1 c.args.wants.now) in
-    let split : c.args.wants.now ≡ w ∷ ws = split_wants c.args.wants.now _ c.in-len1-up.len_at_least in
-    let ok = all_found (growth_of b w.owner w.blocks) (sym c.in_ok-grow.ensures.answer ∙ c.in_default-2.is) in
-    let can : CanAsk b.holdings (w ∷ ws) = subst (CanAsk b.holdings) split c.requires in
-    let g : Behind b c.grow.new.self c.find_all-found.new.book w ws c.args.keeps c.find_all-found.result = record {
-      hs = ok.0;
-      found = ok.1;
-      now_is = c.in_ok-grow.ensures.book;
-      others = can.differ.0;
-      answer = c.find_all-found.ensures.answer;
-      book = c.find_all-found.ensures.book;
-      err = c.find_all-found.ensures.err;
-    } in
-    let kept = sym c.is_kept.ensures ∙ c.if-is_kept.false in
-    let held = c.pieces_held-held.ensures ∙ ap (λ (hs : Holdings). length (of_owner w.owner hs)) c.holdings.ensures in
-    let back : c.give_back.new.book ≡ b = c.give_back.ensures ∙ ap (λ (n : ℕ). with_holdings c.find_all-found.new.book (kept_first w.owner n c.find_all-found.new.book.holdings)) held
-    ∙ behind_back b c.grow.new.self c.find_all-found.new.book w ws c.args.keeps c.find_all-found.result g kept in
-    behind_err c.find_all-found.result c.give_back.new.book b back
+    record {
+      answer = subst (λ (xs : List Want). IfOk c.find_all-found.result (λ fits. fits ≡ fits_for b.size b.holdings xs)) (sym split) (behind_answer b c.grow.new.self c.find_all-found.new.book w ws c.args.keeps c.find_all-found.result g);
+      book =
+          subst (λ (xs : List Want). OnOk c.find_all-found.result (c.give_back.new.book ≡ book_asked c.args.keeps b xs)) (sym split)
+          (behind_not b c.grow.new.self c.find_all-found.new.book c.give_back.new.book w ws c.args.keeps c.find_all-found.result g kept back);
+      err = behind_err c.find_all-found.result c.give_back.new.book b back;
+    }

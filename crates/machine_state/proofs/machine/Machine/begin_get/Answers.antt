@@ -1,4 +1,4 @@
-use Rattle.std.proofs.Common.{◌≡◌, List, refl, sym, ap, ◌∙◌, subst}
+use Rattle.std.proofs.Common.{◌≡◌, List, refl, sym, ap, ◌∙◌, subst, rules}
 use Rattle.vm_facts.specs.declared.entry.Entry.{Entry}
 use Rattle.swap_book.specs.Holdings.{Holdings}
 use Rattle.page_model.specs.Conditions.{EachPage}
@@ -56,48 +56,28 @@ invariant_of-self-2 c _ =
       room = no_room _ _ _ c.make_room.ensures.room;
     }
 
-pub returns-clause-rest : goal.returns-clause-rest
-returns-clause-rest c =
+pub returns : goal.returns
+returns c =
     let t : Tables = c.self.inside.tables in
     let w : Tables = c.read_run.new.tables in
-    let e = c.read_run.ensures.rest in
-    let s : Still t w = still_along _ _ _ e (record { params = refl; images = refl; book = refl; found = refl; processes = refl; next_pid = refl; next_sid = refl }) in
-    rest_of c.self.inside c.args.self.now w _ _ _ c.self.view_is s c.make_room.ensures.room
-
-pub returns-clause-step : goal.returns-clause-step
-returns-clause-step c =
-    let t : Tables = c.self.inside.tables in
     let k : Kernel = kernel_by t c.self.inside.journal.items c.self.inside.stopped in
-    let w : Tables = c.read_run.new.tables in
     let is : kernel_by w c.push_reserved.new.self.items c.self.inside.stopped ≡ get_step k c.args.page c.args.lo c.args.n =
     ap (λ (j : List Entry). kernel_by w j c.self.inside.stopped) c.push_reserved.ensures.items
     ∙ get_kernel t w c.args.page c.args.lo c.args.n c.make_room.new.journal.items c.self.inside.stopped c.read_run.ensures
     ∙ ap (λ (j : List Entry). get_step (kernel_by t j c.self.inside.stopped) c.args.page c.args.lo c.args.n) c.make_room.ensures.same in
-    is ∙ ap (λ (s : Standing). get_step s.kernel c.args.page c.args.lo c.args.n) c.self.view_is
-
-pub returns-clause-keeps : goal.returns-clause-keeps
-returns-clause-keeps c =
-    let t : Tables = c.self.inside.tables in
     let r = running c.self.inside c.args.self.now c.self.invariant c.self.view_is c.requires.running c.requires.whole in
     let can : CanBringIn (placement_of (lists_of t)) c.args.page c.args.lo c.args.n = subst (λ (s : Standing). CanBringIn s.kernel.place c.args.page c.args.lo c.args.n) (sym c.self.view_is) c.requires.can in
-    let k : Kernel = kernel_by t c.self.inside.journal.items c.self.inside.stopped in
-    let w : Tables = c.read_run.new.tables in
-    let is : kernel_by w c.push_reserved.new.self.items c.self.inside.stopped ≡ get_step k c.args.page c.args.lo c.args.n =
-    ap (λ (j : List Entry). kernel_by w j c.self.inside.stopped) c.push_reserved.ensures.items
-    ∙ get_kernel t w c.args.page c.args.lo c.args.n c.make_room.new.journal.items c.self.inside.stopped c.read_run.ensures
-    ∙ ap (λ (j : List Entry). get_step (kernel_by t j c.self.inside.stopped) c.args.page c.args.lo c.args.n) c.make_room.ensures.same in
-    subst (KeepsFlat c.args.self.now.kernel) (sym is) (subst (λ (s : Standing). KeepsFlat s.kernel (get_step k c.args.page c.args.lo c.args.n)) c.self.view_is (get_keeps t.book.size k c.args.page c.args.lo c.args.n r.sound can))
-
-pub returns-clause-same : goal.returns-clause-same
-returns-clause-same c =
-    let t : Tables = c.self.inside.tables in
-    let r = running c.self.inside c.args.self.now c.self.invariant c.self.view_is c.requires.running c.requires.whole in
-    let can : CanBringIn (placement_of (lists_of t)) c.args.page c.args.lo c.args.n = subst (λ (s : Standing). CanBringIn s.kernel.place c.args.page c.args.lo c.args.n) (sym c.self.view_is) c.requires.can in
-    let k : Kernel = kernel_by t c.self.inside.journal.items c.self.inside.stopped in
-    let w : Tables = c.read_run.new.tables in
-    let is : kernel_by w c.push_reserved.new.self.items c.self.inside.stopped ≡ get_step k c.args.page c.args.lo c.args.n =
-    ap (λ (j : List Entry). kernel_by w j c.self.inside.stopped) c.push_reserved.ensures.items
-    ∙ get_kernel t w c.args.page c.args.lo c.args.n c.make_room.new.journal.items c.self.inside.stopped c.read_run.ensures
-    ∙ ap (λ (j : List Entry). get_step (kernel_by t j c.self.inside.stopped) c.args.page c.args.lo c.args.n) c.make_room.ensures.same in
-    subst (λ (y : Kernel). SameOutside c.args.self.now.kernel y (pages_from c.args.page c.args.lo c.args.n)) (sym is)
-    (subst (λ (s : Standing). SameOutside s.kernel (get_step k c.args.page c.args.lo c.args.n) (pages_from c.args.page c.args.lo c.args.n)) c.self.view_is (get_same t.book.size k c.args.page c.args.lo c.args.n r.sound can))
+    record {
+      step = is ∙ ap (λ (s : Standing). get_step s.kernel c.args.page c.args.lo c.args.n) c.self.view_is;
+      rest =
+          let e = c.read_run.ensures.rest in
+          let s : Still t w = still_along _ _ _ e (record { params = refl; images = refl; book = refl; found = refl; processes = refl; next_pid = refl; next_sid = refl }) in
+          rest_of c.self.inside c.args.self.now w _ _ _ c.self.view_is s c.make_room.ensures.room;
+      keeps = subst (KeepsFlat c.args.self.now.kernel) (sym is) (subst (λ (s : Standing). KeepsFlat s.kernel (get_step k c.args.page c.args.lo c.args.n)) c.self.view_is (get_keeps t.book.size k c.args.page c.args.lo c.args.n r.sound can));
+      same =
+          subst (λ (y : Kernel). SameOutside c.args.self.now.kernel y (pages_from c.args.page c.args.lo c.args.n)) (sym is)
+          (subst (λ (s : Standing). SameOutside s.kernel (get_step k c.args.page c.args.lo c.args.n) (pages_from c.args.page c.args.lo c.args.n)) c.self.view_is (get_same t.book.size k c.args.page c.args.lo c.args.n r.sound can));
+      stop = search rules;
+      cause = search rules;
+      full = search rules;
+    }

@@ -1,4 +1,4 @@
-use Rattle.std.proofs.Common.{◌≡◌, ℕ, ◌*◌, ◌<◌, ◌≤◌, List, length, map, drop, Some, refl, sym, ap, ◌∙◌, subst, arith}
+use Rattle.std.proofs.Common.{◌≡◌, ℕ, ◌*◌, ◌<◌, ◌≤◌, List, length, map, drop, Some, refl, sym, ap, ◌∙◌, subst, arith, rules}
 use Rattle.vm_facts.specs.declared.entry.Entry.{Entry}
 use Rattle.swap_book.specs.Holdings.{Holdings}
 use Rattle.transfer_ring.specs.declared.transfer.Finished.TheVariants as answers
@@ -76,8 +76,8 @@ invariant_of-self-in-Done g c _ =
       room = no_room _ _ _ c.make_room.ensures.room;
     }
 
-pub returns-in-Done-clause-step : goal.returns-in-Done-clause-step
-returns-in-Done-clause-step g c _ =
+pub returns-in-Done : goal.returns-in-Done
+returns-in-Done g c =
     let t : Tables = c.self.inside.tables in
     let r = running c.self.inside c.args.self.now c.self.invariant c.self.view_is c.requires.running c.requires.whole in
     let k : Known (lists_of t) = known_of c.self.inside c.frames-frames.ensures.sound r in
@@ -107,74 +107,45 @@ returns-in-Done-clause-step g c _ =
       sourced = head_sourced (images_of t) (image_at t) t.book.holdings t.book.size t.ring e.rest e.oldest e.ring_is (subst (λ (hs : Holdings). AreSourced (images_of t) (image_at t) hs t.book.size t.ring) whole now.stands.ring);
     } in
     record {
-      some = subst (λ (s : Standing). 0 < length s.kernel.place.transfers) c.self.view_is (subst (λ (ts : List Flight). 0 < length (map transfer_shown ts)) (sym e.ring_is) (omega arith));
-      read = brought n;
-      step = is ∙ ap (λ (s : Standing). done_step s.kernel (brought n)) c.self.view_is;
-      told = subst (λ (s : Standing). ReadsTold (sources s (g.F.Files.holds c.args.files.now)) (g.D.SwapDev.image c.args.swap.now) s.kernel (brought n)) c.self.view_is
-          (done_told t (images_of t) b e.oldest n e.rest t.book.size (g.F.Files.holds c.args.files.now) (g.D.SwapDev.image c.args.swap.now) (g.D.SwapDev.image c.complete_oldest.new.swap) f e.ends
-          (subst (λ (s : Standing). AreFiles s.images (g.F.Files.holds c.args.files.now)) (sym c.self.view_is) c.requires.files) c.look.ensures);
+      idle = search rules;
+      still = search rules;
+      step = λ _.
+          record {
+            some = subst (λ (s : Standing). 0 < length s.kernel.place.transfers) c.self.view_is (subst (λ (ts : List Flight). 0 < length (map transfer_shown ts)) (sym e.ring_is) (omega arith));
+            read = brought n;
+            step = is ∙ ap (λ (s : Standing). done_step s.kernel (brought n)) c.self.view_is;
+            told = subst (λ (s : Standing). ReadsTold (sources s (g.F.Files.holds c.args.files.now)) (g.D.SwapDev.image c.args.swap.now) s.kernel (brought n)) c.self.view_is
+                (done_told t (images_of t) b e.oldest n e.rest t.book.size (g.F.Files.holds c.args.files.now) (g.D.SwapDev.image c.args.swap.now) (g.D.SwapDev.image c.complete_oldest.new.swap) f e.ends
+                (subst (λ (s : Standing). AreFiles s.images (g.F.Files.holds c.args.files.now)) (sym c.self.view_is) c.requires.files) c.look.ensures);
+          };
+      rest = search rules;
+      keeps = λ images flat loads fits stands.
+          let area = c.requires.area in
+          let size = now.stands.book in
+          let p = ap (λ (s : Standing). s.params.swap_blocks) c.self.view_is in
+          let long : (image : List ℕ) → (g.D.SwapDev.image c.args.swap.now) ≡ Some image → 512 * t.book.size ≤ length image = λ image i. let m = g.met.D.SwapDev.whole c.args.swap.now image i in omega arith in
+          subst (λ (x : Kernel). StandsTold x images (g.D.SwapDev.image c.complete_oldest.new.swap) flat) (sym is)
+          (done_keeps t (images_of t) b e.oldest n e.rest t.book.size (g.F.Files.holds c.args.files.now) (g.D.SwapDev.image c.args.swap.now) (g.D.SwapDev.image c.complete_oldest.new.swap) images flat f e.ends r.sound
+          (subst (λ (s : Standing). AreFiles s.images (g.F.Files.holds c.args.files.now)) (sym c.self.view_is) c.requires.files)
+          (subst (λ (s : Standing). AreImages s.images (g.F.Files.holds c.args.files.now) images) (sym c.self.view_is) loads)
+          c.look.ensures
+          (subst (λ (s : Standing). TextFits images s.kernel.place) (sym c.self.view_is) fits)
+          long
+          (subst (λ (s : Standing). StandsTold s.kernel images (g.D.SwapDev.image c.args.swap.now) flat) (sym c.self.view_is) stands));
+      swapped = subst (λ (s : Standing). ImageAfter s.kernel (g.D.SwapDev.image c.args.swap.now) (g.D.SwapDev.image c.complete_oldest.new.swap)) c.self.view_is (done_image t (images_of t) b e.oldest c.in-Done.transfer e.rest t.book.size (g.F.Files.holds c.args.files.now) (g.D.SwapDev.image c.args.swap.now) (g.D.SwapDev.image c.complete_oldest.new.swap) f e.ends);
+      spoiled = search rules;
+      stop = search rules;
+      cause = search rules;
+      full = search rules;
+      files_lead = search rules;
+      swap_leads = search rules;
+      holds = search rules;
+      blocks = search rules;
+      open_faults = search rules;
+      page_faults = search rules;
+      read_faults = search rules;
+      write_faults = search rules;
     }
-
-pub returns-in-Done-clause-keeps : goal.returns-in-Done-clause-keeps
-returns-in-Done-clause-keeps g c images flat loads fits stands =
-    let t : Tables = c.self.inside.tables in
-    let r = running c.self.inside c.args.self.now c.self.invariant c.self.view_is c.requires.running c.requires.whole in
-    let k : Known (lists_of t) = known_of c.self.inside c.frames-frames.ensures.sound r in
-    let now = stands_now c.self.inside c.args.self.now c.self.invariant c.self.view_is c.requires.running in
-    let whole = whole_now c.self.inside c.args.self.now c.self.view_is c.requires.whole in
-    let e : Came t.ring (g.F.Files.holds c.args.files.now) (g.D.SwapDev.image c.args.swap.now) (g.D.SwapDev.image c.complete_oldest.new.swap) (answers.Done c.in-Done.transfer) = came t.ring (g.F.Files.holds c.args.files.now) (g.D.SwapDev.image c.args.swap.now) (g.D.SwapDev.image c.complete_oldest.new.swap) (answers.Done c.in-Done.transfer) c.in-Done.ensures.ends (λ i. let x = i in cc) in
-    let n : Flight = c.in-Done.transfer in
-    let w : Tables = c.land.new.tables in
-    let l : List Flight = c.complete_oldest.new.self in
-    let d : Doing t w l e.oldest n = record {
-      known = k;
-      was = was_lists t l e.rest e.oldest e.ring_is c.in-Done.ensures.rest;
-      back = done_back e.oldest n (g.F.Files.holds c.args.files.now) (g.D.SwapDev.image c.args.swap.now) (g.D.SwapDev.image c.complete_oldest.new.swap) e.ends;
-      place = c.land.ensures.place;
-      all = c.land.ensures.all;
-    } in
-    let b : Kernel = kernel_by t c.self.inside.journal.items c.self.inside.stopped in
-    let is : kernel_by w c.push_reserved.new.self.items c.self.inside.stopped ≡ done_step b (brought n) =
-    ap (λ (j : List Entry). kernel_by w j c.self.inside.stopped) c.push_reserved.ensures.items
-    ∙ done_kernel t w l e.oldest n c.make_room.new.journal.items c.self.inside.stopped d
-    ∙ ap (λ (j : List Entry). done_step (kernel_by t j c.self.inside.stopped) (brought n)) c.make_room.ensures.same in
-    let f : Before t (images_of t) b e.oldest e.rest t.book.size = record {
-      place = refl;
-      frames = refl;
-      ring = e.ring_is;
-      known = k;
-      sourced = head_sourced (images_of t) (image_at t) t.book.holdings t.book.size t.ring e.rest e.oldest e.ring_is (subst (λ (hs : Holdings). AreSourced (images_of t) (image_at t) hs t.book.size t.ring) whole now.stands.ring);
-    } in
-    let area = c.requires.area in
-    let size = now.stands.book in
-    let p = ap (λ (s : Standing). s.params.swap_blocks) c.self.view_is in
-    let long : (image : List ℕ) → (g.D.SwapDev.image c.args.swap.now) ≡ Some image → 512 * t.book.size ≤ length image = λ image i. let m = g.met.D.SwapDev.whole c.args.swap.now image i in omega arith in
-    subst (λ (x : Kernel). StandsTold x images (g.D.SwapDev.image c.complete_oldest.new.swap) flat) (sym is)
-    (done_keeps t (images_of t) b e.oldest n e.rest t.book.size (g.F.Files.holds c.args.files.now) (g.D.SwapDev.image c.args.swap.now) (g.D.SwapDev.image c.complete_oldest.new.swap) images flat f e.ends r.sound
-    (subst (λ (s : Standing). AreFiles s.images (g.F.Files.holds c.args.files.now)) (sym c.self.view_is) c.requires.files)
-    (subst (λ (s : Standing). AreImages s.images (g.F.Files.holds c.args.files.now) images) (sym c.self.view_is) loads)
-    c.look.ensures
-    (subst (λ (s : Standing). TextFits images s.kernel.place) (sym c.self.view_is) fits)
-    long
-    (subst (λ (s : Standing). StandsTold s.kernel images (g.D.SwapDev.image c.args.swap.now) flat) (sym c.self.view_is) stands))
-
-pub returns-in-Done-clause-swapped : goal.returns-in-Done-clause-swapped
-returns-in-Done-clause-swapped g c =
-    let t : Tables = c.self.inside.tables in
-    let r = running c.self.inside c.args.self.now c.self.invariant c.self.view_is c.requires.running c.requires.whole in
-    let k : Known (lists_of t) = known_of c.self.inside c.frames-frames.ensures.sound r in
-    let now = stands_now c.self.inside c.args.self.now c.self.invariant c.self.view_is c.requires.running in
-    let whole = whole_now c.self.inside c.args.self.now c.self.view_is c.requires.whole in
-    let e : Came t.ring (g.F.Files.holds c.args.files.now) (g.D.SwapDev.image c.args.swap.now) (g.D.SwapDev.image c.complete_oldest.new.swap) (answers.Done c.in-Done.transfer) = came t.ring (g.F.Files.holds c.args.files.now) (g.D.SwapDev.image c.args.swap.now) (g.D.SwapDev.image c.complete_oldest.new.swap) (answers.Done c.in-Done.transfer) c.in-Done.ensures.ends (λ i. let x = i in cc) in
-    let b : Kernel = kernel_by t c.self.inside.journal.items c.self.inside.stopped in
-    let f : Before t (images_of t) b e.oldest e.rest t.book.size = record {
-      place = refl;
-      frames = refl;
-      ring = e.ring_is;
-      known = k;
-      sourced = head_sourced (images_of t) (image_at t) t.book.holdings t.book.size t.ring e.rest e.oldest e.ring_is (subst (λ (hs : Holdings). AreSourced (images_of t) (image_at t) hs t.book.size t.ring) whole now.stands.ring);
-    } in
-    subst (λ (s : Standing). ImageAfter s.kernel (g.D.SwapDev.image c.args.swap.now) (g.D.SwapDev.image c.complete_oldest.new.swap)) c.self.view_is (done_image t (images_of t) b e.oldest c.in-Done.transfer e.rest t.book.size (g.F.Files.holds c.args.files.now) (g.D.SwapDev.image c.args.swap.now) (g.D.SwapDev.image c.complete_oldest.new.swap) f e.ends)
 
 pub returns-in-SwapWriteFault-clause-spoiled : goal.returns-in-SwapWriteFault-clause-spoiled
 returns-in-SwapWriteFault-clause-spoiled g c =

@@ -1,4 +1,4 @@
-use Rattle.std.proofs.Common.{◌≡◌, List, refl, sym, ap, ◌∙◌, subst}
+use Rattle.std.proofs.Common.{◌≡◌, List, refl, sym, ap, ◌∙◌, subst, rules}
 use Rattle.vm_facts.specs.declared.entry.Entry.{Entry}
 use Rattle.page_model.specs.Pages.{frame_of}
 use Rattle.kernel_model.specs.Kernel.{Kernel, zero_step}
@@ -60,48 +60,8 @@ invariant_of-self-2 c _ =
       room = no_room _ _ _ c.make_room.ensures.room;
     }
 
-pub returns-clause-rest : goal.returns-clause-rest
-returns-clause-rest c =
-    let r = running c.self.inside c.args.self.now c.self.invariant c.self.view_is c.requires.running c.requires.whole in
-    let can : CanZero (placement_of (lists_of c.self.inside.tables)) c.args.page = subst (λ (s : Standing). CanZero s.kernel.place c.args.page) (sym c.self.view_is) c.requires.can in
-    let z : Zeroing c.self.inside.tables c.take_frame-token.new.self c.seat.new.self c.finish_fill.new.self c.take_frame-token.result c.fill_frame-filled.result c.args.page = record {
-      known = known_of c.self.inside c.frames-frames.ensures.sound r;
-      took = record { free = c.take_frame-token.ensures.free; was = c.take_frame-token.ensures.was; slots = c.take_frame-token.ensures.slots; spaces = c.take_frame-token.ensures.spaces; rest = c.take_frame-token.ensures.rest };
-      bytes = c.fill_frame-filled.ensures;
-      seat = record { free = c.seat.ensures.free; slots = c.seat.ensures.slots; spaces = c.seat.ensures.spaces; rest = c.seat.ensures.rest };
-      finish = record { fills = c.finish_fill.ensures.fills; rest = c.finish_fill.ensures.rest };
-      writable = can.writable;
-      there = can.there;
-      first = can.first;
-      once = r.tied.once;
-    } in
-    let e = zeroing_rest c.self.inside.tables c.take_frame-token.new.self c.seat.new.self c.finish_fill.new.self c.take_frame-token.result c.fill_frame-filled.result c.args.page z in
-    let s : Still c.self.inside.tables c.finish_fill.new.self = still_along _ _ _ e (record { params = refl; images = refl; book = refl; found = refl; processes = refl; next_pid = refl; next_sid = refl }) in
-    rest_of c.self.inside c.args.self.now c.finish_fill.new.self _ _ _ c.self.view_is s c.make_room.ensures.room
-
-pub returns-clause-step : goal.returns-clause-step
-returns-clause-step c =
-    let r = running c.self.inside c.args.self.now c.self.invariant c.self.view_is c.requires.running c.requires.whole in
-    let can : CanZero (placement_of (lists_of c.self.inside.tables)) c.args.page = subst (λ (s : Standing). CanZero s.kernel.place c.args.page) (sym c.self.view_is) c.requires.can in
-    let z : Zeroing c.self.inside.tables c.take_frame-token.new.self c.seat.new.self c.finish_fill.new.self c.take_frame-token.result c.fill_frame-filled.result c.args.page = record {
-      known = known_of c.self.inside c.frames-frames.ensures.sound r;
-      took = record { free = c.take_frame-token.ensures.free; was = c.take_frame-token.ensures.was; slots = c.take_frame-token.ensures.slots; spaces = c.take_frame-token.ensures.spaces; rest = c.take_frame-token.ensures.rest };
-      bytes = c.fill_frame-filled.ensures;
-      seat = record { free = c.seat.ensures.free; slots = c.seat.ensures.slots; spaces = c.seat.ensures.spaces; rest = c.seat.ensures.rest };
-      finish = record { fills = c.finish_fill.ensures.fills; rest = c.finish_fill.ensures.rest };
-      writable = can.writable;
-      there = can.there;
-      first = can.first;
-      once = r.tied.once;
-    } in
-    let is : kernel_by c.finish_fill.new.self c.push_reserved.new.self.items c.self.inside.stopped ≡ zero_step (kernel_by c.self.inside.tables c.self.inside.journal.items c.self.inside.stopped) c.args.page =
-    ap (λ (j : List Entry). kernel_by c.finish_fill.new.self j c.self.inside.stopped) c.push_reserved.ensures.items
-    ∙ zero_kernel c.self.inside.tables c.take_frame-token.new.self c.seat.new.self c.finish_fill.new.self c.take_frame-token.result c.fill_frame-filled.result c.args.page c.make_room.new.journal.items c.self.inside.stopped z
-    ∙ ap (λ (j : List Entry). zero_step (kernel_by c.self.inside.tables j c.self.inside.stopped) c.args.page) c.make_room.ensures.same in
-    is ∙ ap (λ (s : Standing). zero_step s.kernel c.args.page) c.self.view_is
-
-pub returns-clause-keeps : goal.returns-clause-keeps
-returns-clause-keeps c =
+pub returns : goal.returns
+returns c =
     let r = running c.self.inside c.args.self.now c.self.invariant c.self.view_is c.requires.running c.requires.whole in
     let can : CanZero (placement_of (lists_of c.self.inside.tables)) c.args.page = subst (λ (s : Standing). CanZero s.kernel.place c.args.page) (sym c.self.view_is) c.requires.can in
     let z : Zeroing c.self.inside.tables c.take_frame-token.new.self c.seat.new.self c.finish_fill.new.self c.take_frame-token.result c.fill_frame-filled.result c.args.page = record {
@@ -120,26 +80,15 @@ returns-clause-keeps c =
     ∙ zero_kernel c.self.inside.tables c.take_frame-token.new.self c.seat.new.self c.finish_fill.new.self c.take_frame-token.result c.fill_frame-filled.result c.args.page c.make_room.new.journal.items c.self.inside.stopped z
     ∙ ap (λ (j : List Entry). zero_step (kernel_by c.self.inside.tables j c.self.inside.stopped) c.args.page) c.make_room.ensures.same in
     let k : Kernel = kernel_by c.self.inside.tables c.self.inside.journal.items c.self.inside.stopped in
-    subst (KeepsFlat c.args.self.now.kernel) (sym is) (subst (λ (s : Standing). KeepsFlat s.kernel (zero_step k c.args.page)) c.self.view_is (zero_keeps c.self.inside.tables.book.size k c.args.page c.self.inside.tables.fills.items r.sound can refl refl))
-
-pub returns-clause-same : goal.returns-clause-same
-returns-clause-same c =
-    let r = running c.self.inside c.args.self.now c.self.invariant c.self.view_is c.requires.running c.requires.whole in
-    let can : CanZero (placement_of (lists_of c.self.inside.tables)) c.args.page = subst (λ (s : Standing). CanZero s.kernel.place c.args.page) (sym c.self.view_is) c.requires.can in
-    let z : Zeroing c.self.inside.tables c.take_frame-token.new.self c.seat.new.self c.finish_fill.new.self c.take_frame-token.result c.fill_frame-filled.result c.args.page = record {
-      known = known_of c.self.inside c.frames-frames.ensures.sound r;
-      took = record { free = c.take_frame-token.ensures.free; was = c.take_frame-token.ensures.was; slots = c.take_frame-token.ensures.slots; spaces = c.take_frame-token.ensures.spaces; rest = c.take_frame-token.ensures.rest };
-      bytes = c.fill_frame-filled.ensures;
-      seat = record { free = c.seat.ensures.free; slots = c.seat.ensures.slots; spaces = c.seat.ensures.spaces; rest = c.seat.ensures.rest };
-      finish = record { fills = c.finish_fill.ensures.fills; rest = c.finish_fill.ensures.rest };
-      writable = can.writable;
-      there = can.there;
-      first = can.first;
-      once = r.tied.once;
-    } in
-    let is : kernel_by c.finish_fill.new.self c.push_reserved.new.self.items c.self.inside.stopped ≡ zero_step (kernel_by c.self.inside.tables c.self.inside.journal.items c.self.inside.stopped) c.args.page =
-    ap (λ (j : List Entry). kernel_by c.finish_fill.new.self j c.self.inside.stopped) c.push_reserved.ensures.items
-    ∙ zero_kernel c.self.inside.tables c.take_frame-token.new.self c.seat.new.self c.finish_fill.new.self c.take_frame-token.result c.fill_frame-filled.result c.args.page c.make_room.new.journal.items c.self.inside.stopped z
-    ∙ ap (λ (j : List Entry). zero_step (kernel_by c.self.inside.tables j c.self.inside.stopped) c.args.page) c.make_room.ensures.same in
-    let k : Kernel = kernel_by c.self.inside.tables c.self.inside.journal.items c.self.inside.stopped in
-    subst (λ (x : Kernel). SameElsewhere c.args.self.now.kernel x c.args.page) (sym is) (subst (λ (s : Standing). SameElsewhere s.kernel (zero_step k c.args.page) c.args.page) c.self.view_is (zero_same c.self.inside.tables.book.size k c.args.page r.sound can))
+    record {
+      step = is ∙ ap (λ (s : Standing). zero_step s.kernel c.args.page) c.self.view_is;
+      rest =
+          let e = zeroing_rest c.self.inside.tables c.take_frame-token.new.self c.seat.new.self c.finish_fill.new.self c.take_frame-token.result c.fill_frame-filled.result c.args.page z in
+          let s : Still c.self.inside.tables c.finish_fill.new.self = still_along _ _ _ e (record { params = refl; images = refl; book = refl; found = refl; processes = refl; next_pid = refl; next_sid = refl }) in
+          rest_of c.self.inside c.args.self.now c.finish_fill.new.self _ _ _ c.self.view_is s c.make_room.ensures.room;
+      keeps = subst (KeepsFlat c.args.self.now.kernel) (sym is) (subst (λ (s : Standing). KeepsFlat s.kernel (zero_step k c.args.page)) c.self.view_is (zero_keeps c.self.inside.tables.book.size k c.args.page c.self.inside.tables.fills.items r.sound can refl refl));
+      same = subst (λ (x : Kernel). SameElsewhere c.args.self.now.kernel x c.args.page) (sym is) (subst (λ (s : Standing). SameElsewhere s.kernel (zero_step k c.args.page) c.args.page) c.self.view_is (zero_same c.self.inside.tables.book.size k c.args.page r.sound can));
+      stop = search rules;
+      cause = search rules;
+      full = search rules;
+    }

@@ -1,4 +1,4 @@
-use Rattle.std.proofs.Common.{ℕ, ◌≡◌, List, refl, sym, ap, ◌∙◌, subst}
+use Rattle.std.proofs.Common.{ℕ, ◌≡◌, List, refl, sym, ap, ◌∙◌, subst, rules}
 use Rattle.vm_facts.specs.declared.entry.Entry.{Entry}
 use Rattle.vm_facts.specs.declared.entry.Entry.TheVariants as entries
 use Rattle.flat_state.specs.Journal.{append}
@@ -21,40 +21,22 @@ use Rattle.machine_state.proofs.MovesOn.{Moving, moved_still, moving_kernel, mov
 use Rattle.machine_state.proofs.Standings.{no_room, running, stands_now, whole_now, rest_of}
 use Rattle.machine_state.proofs.machine.Machine.hand.Goals as goal
 
-pub move_hands-requires-clause-known : goal.move_hands-requires-clause-known
-move_hands-requires-clause-known c =
-    known_of c.self.inside c.frames-frames.ensures.sound (running c.self.inside c.args.self.now c.self.invariant c.self.view_is c.requires.running c.requires.whole)
-
-pub move_hands-requires-clause-front : goal.move_hands-requires-clause-front
-move_hands-requires-clause-front c =
+pub move_hands-requires : goal.move_hands-requires
+move_hands-requires c =
     let r = running c.self.inside c.args.self.now c.self.invariant c.self.view_is c.requires.running c.requires.whole in
-    (hands_low (lists_of c.self.inside.tables) r.sound.hands).0
-
-pub move_hands-requires-clause-back : goal.move_hands-requires-clause-back
-move_hands-requires-clause-back c =
-    let r = running c.self.inside c.args.self.now c.self.invariant c.self.view_is c.requires.running c.requires.whole in
-    (hands_low (lists_of c.self.inside.tables) r.sound.hands).1
-
-pub move_hands-requires-clause-run : goal.move_hands-requires-clause-run
-move_hands-requires-clause-run c =
     let t : Tables = c.self.inside.tables in
-    let r = running c.self.inside c.args.self.now c.self.invariant c.self.view_is c.requires.running c.requires.whole in
     let k : Known (lists_of t) = known_of c.self.inside c.frames-frames.ensures.sound r in
     let can : CanMove (placement_of (lists_of t)) c.args.locked.now c.args.lo c.args.n = subst (λ (s : Standing). CanMove s.kernel.place c.args.locked.now c.args.lo c.args.n) (sym c.self.view_is) c.requires.can in
-    can.run
-
-pub move_hands-requires-clause-room : goal.move_hands-requires-clause-room
-move_hands-requires-clause-room c =
-    let t : Tables = c.self.inside.tables in
-    let r = running c.self.inside c.args.self.now c.self.invariant c.self.view_is c.requires.running c.requires.whole in
-    let k : Known (lists_of t) = known_of c.self.inside c.frames-frames.ensures.sound r in
-    let can : CanMove (placement_of (lists_of t)) c.args.locked.now c.args.lo c.args.n = subst (λ (s : Standing). CanMove s.kernel.place c.args.locked.now c.args.lo c.args.n) (sym c.self.view_is) c.requires.can in
-    can.room
-
-pub move_hands-requires-clause-blocks : goal.move_hands-requires-clause-blocks
-move_hands-requires-clause-blocks c =
-    let r = running c.self.inside c.args.self.now c.self.invariant c.self.view_is c.requires.running c.requires.whole in
-    all_blocks c.self.inside.tables.book.size (kernel_by c.self.inside.tables c.self.inside.journal.items c.self.inside.stopped) r.sound
+    record {
+      known = known_of c.self.inside c.frames-frames.ensures.sound (running c.self.inside c.args.self.now c.self.invariant c.self.view_is c.requires.running c.requires.whole);
+      front = (hands_low (lists_of c.self.inside.tables) r.sound.hands).0;
+      back = (hands_low (lists_of c.self.inside.tables) r.sound.hands).1;
+      run = can.run;
+      room = can.room;
+      blocks = all_blocks c.self.inside.tables.book.size (kernel_by c.self.inside.tables c.self.inside.journal.items c.self.inside.stopped) r.sound;
+      empty = search rules;
+      capacity = search rules;
+    }
 
 pub add_move-requires-clause-fits : goal.add_move-requires-clause-fits
 add_move-requires-clause-fits c count h =
@@ -89,29 +71,8 @@ invariant_of-self-2 c _ =
       room = no_room _ _ _ c.make_room_to_move.ensures.room;
     }
 
-pub returns-clause-rest : goal.returns-clause-rest
-returns-clause-rest c =
-    let t : Tables = c.self.inside.tables in
-    let r = running c.self.inside c.args.self.now c.self.invariant c.self.view_is c.requires.running c.requires.whole in
-    let k : Known (lists_of t) = known_of c.self.inside c.frames-frames.ensures.sound r in
-    let can : CanMove (placement_of (lists_of t)) c.args.locked.now c.args.lo c.args.n = subst (λ (s : Standing). CanMove s.kernel.place c.args.locked.now c.args.lo c.args.n) (sym c.self.view_is) c.requires.can in
-    let p : Placement = hand_move (placement_of (lists_of t)) c.args.locked.now in
-    let m : MovedOn t c.move_hands.new.tables p = c.move_hands.ensures in
-    let g : Moving c.self.inside c.move_hands.new.tables p c.args.locked.now (entries.Hands 1) = record {
-      runs = r;
-      moved = m;
-      is = refl;
-      can = tt;
-      shared = tt;
-      leaves = tt;
-      few = hand_few (placement_of (lists_of t)) c.args.locked.now c.args.lo c.args.n can.run can.room r.sound.few_transfers;
-    } in
-    let ej : c.add_move.new.journal.items ≡ append c.self.inside.journal.items (entries.Hands 1) =
-    c.add_move.ensures ∙ ap (λ (j : List Entry). append j (entries.Hands 1)) c.make_room_to_move.ensures.same in
-    rest_of c.self.inside c.args.self.now c.move_hands.new.tables _ _ _ c.self.view_is (moved_still t c.move_hands.new.tables p m) c.make_room_to_move.ensures.room
-
-pub returns-clause-step : goal.returns-clause-step
-returns-clause-step c =
+pub returns : goal.returns
+returns c =
     let t : Tables = c.self.inside.tables in
     let r = running c.self.inside c.args.self.now c.self.invariant c.self.view_is c.requires.running c.requires.whole in
     let k : Known (lists_of t) = known_of c.self.inside c.frames-frames.ensures.sound r in
@@ -132,52 +93,12 @@ returns-clause-step c =
     let b : Kernel = kernel_by t c.self.inside.journal.items c.self.inside.stopped in
     let is : kernel_by c.move_hands.new.tables c.add_move.new.journal.items c.self.inside.stopped ≡ hand_step b c.args.locked.now =
     moving_kernel c.self.inside c.move_hands.new.tables p c.args.locked.now (entries.Hands 1) c.add_move.new.journal.items c.self.inside.stopped g ej refl in
-    is ∙ ap (λ (s : Standing). hand_step s.kernel c.args.locked.now) c.self.view_is
-
-pub returns-clause-keeps : goal.returns-clause-keeps
-returns-clause-keeps c =
-    let t : Tables = c.self.inside.tables in
-    let r = running c.self.inside c.args.self.now c.self.invariant c.self.view_is c.requires.running c.requires.whole in
-    let k : Known (lists_of t) = known_of c.self.inside c.frames-frames.ensures.sound r in
-    let can : CanMove (placement_of (lists_of t)) c.args.locked.now c.args.lo c.args.n = subst (λ (s : Standing). CanMove s.kernel.place c.args.locked.now c.args.lo c.args.n) (sym c.self.view_is) c.requires.can in
-    let p : Placement = hand_move (placement_of (lists_of t)) c.args.locked.now in
-    let m : MovedOn t c.move_hands.new.tables p = c.move_hands.ensures in
-    let g : Moving c.self.inside c.move_hands.new.tables p c.args.locked.now (entries.Hands 1) = record {
-      runs = r;
-      moved = m;
-      is = refl;
-      can = tt;
-      shared = tt;
-      leaves = tt;
-      few = hand_few (placement_of (lists_of t)) c.args.locked.now c.args.lo c.args.n can.run can.room r.sound.few_transfers;
-    } in
-    let ej : c.add_move.new.journal.items ≡ append c.self.inside.journal.items (entries.Hands 1) =
-    c.add_move.ensures ∙ ap (λ (j : List Entry). append j (entries.Hands 1)) c.make_room_to_move.ensures.same in
-    let b : Kernel = kernel_by t c.self.inside.journal.items c.self.inside.stopped in
-    let is : kernel_by c.move_hands.new.tables c.add_move.new.journal.items c.self.inside.stopped ≡ hand_step b c.args.locked.now =
-    moving_kernel c.self.inside c.move_hands.new.tables p c.args.locked.now (entries.Hands 1) c.add_move.new.journal.items c.self.inside.stopped g ej refl in
-    subst (KeepsFlat c.args.self.now.kernel) (sym is) (subst (λ (s : Standing). KeepsFlat s.kernel (hand_step b c.args.locked.now)) c.self.view_is (hand_keeps t.book.size b c.args.locked.now r.sound))
-
-pub returns-clause-same : goal.returns-clause-same
-returns-clause-same c =
-    let t : Tables = c.self.inside.tables in
-    let r = running c.self.inside c.args.self.now c.self.invariant c.self.view_is c.requires.running c.requires.whole in
-    let k : Known (lists_of t) = known_of c.self.inside c.frames-frames.ensures.sound r in
-    let can : CanMove (placement_of (lists_of t)) c.args.locked.now c.args.lo c.args.n = subst (λ (s : Standing). CanMove s.kernel.place c.args.locked.now c.args.lo c.args.n) (sym c.self.view_is) c.requires.can in
-    let p : Placement = hand_move (placement_of (lists_of t)) c.args.locked.now in
-    let m : MovedOn t c.move_hands.new.tables p = c.move_hands.ensures in
-    let g : Moving c.self.inside c.move_hands.new.tables p c.args.locked.now (entries.Hands 1) = record {
-      runs = r;
-      moved = m;
-      is = refl;
-      can = tt;
-      shared = tt;
-      leaves = tt;
-      few = hand_few (placement_of (lists_of t)) c.args.locked.now c.args.lo c.args.n can.run can.room r.sound.few_transfers;
-    } in
-    let ej : c.add_move.new.journal.items ≡ append c.self.inside.journal.items (entries.Hands 1) =
-    c.add_move.ensures ∙ ap (λ (j : List Entry). append j (entries.Hands 1)) c.make_room_to_move.ensures.same in
-    let b : Kernel = kernel_by t c.self.inside.journal.items c.self.inside.stopped in
-    let is : kernel_by c.move_hands.new.tables c.add_move.new.journal.items c.self.inside.stopped ≡ hand_step b c.args.locked.now =
-    moving_kernel c.self.inside c.move_hands.new.tables p c.args.locked.now (entries.Hands 1) c.add_move.new.journal.items c.self.inside.stopped g ej refl in
-    subst (SameEverywhere c.args.self.now.kernel) (sym is) (subst (λ (s : Standing). SameEverywhere s.kernel (hand_step b c.args.locked.now)) c.self.view_is (hand_alike b c.args.locked.now))
+    record {
+      step = is ∙ ap (λ (s : Standing). hand_step s.kernel c.args.locked.now) c.self.view_is;
+      rest = rest_of c.self.inside c.args.self.now c.move_hands.new.tables _ _ _ c.self.view_is (moved_still t c.move_hands.new.tables p m) c.make_room_to_move.ensures.room;
+      keeps = subst (KeepsFlat c.args.self.now.kernel) (sym is) (subst (λ (s : Standing). KeepsFlat s.kernel (hand_step b c.args.locked.now)) c.self.view_is (hand_keeps t.book.size b c.args.locked.now r.sound));
+      same = subst (SameEverywhere c.args.self.now.kernel) (sym is) (subst (λ (s : Standing). SameEverywhere s.kernel (hand_step b c.args.locked.now)) c.self.view_is (hand_alike b c.args.locked.now));
+      stop = search rules;
+      cause = search rules;
+      full = search rules;
+    }

@@ -1,4 +1,4 @@
-use Rattle.std.proofs.Common.{◌≡◌, ℕ, cond, List, [], ◌∷◌, ◌++◌, refl, sym, ap, ◌∙◌, subst}
+use Rattle.std.proofs.Common.{◌≡◌, ℕ, cond, List, [], ◌∷◌, ◌++◌, refl, sym, ap, ◌∙◌, subst, rules}
 use Rattle.vm_facts.specs.declared.entry.Entry.{Entry}
 use Rattle.vm_facts.specs.declared.entry.Entry.TheVariants as entries
 use Rattle.flat_state.specs.Journal.{append}
@@ -72,32 +72,8 @@ invariant_of-self-2 c _ =
       room = no_room _ _ _ c.make_room.ensures.room;
     }
 
-pub returns-clause-rest : goal.returns-clause-rest
-returns-clause-rest c =
-    let t : Tables = c.self.inside.tables in
-    let r = running c.self.inside c.args.self.now c.self.invariant c.self.view_is c.requires.running c.requires.whole in
-    let k : Known (lists_of t) = known_of c.self.inside c.frames-frames.ensures.sound r in
-    let can : CanPush (placement_of (lists_of t)) c.args.lo c.args.n = subst (λ (s : Standing). CanPush s.kernel.place c.args.lo c.args.n) (sym c.self.view_is) c.requires.can in
-    let d : dirty_shown t.spaces t.texts c.args.lo ≡ is_dirty (placement_of (lists_of t)) c.args.lo = dirty_is (lists_of t) c.args.lo k.differ (push_there (lists_of t) c.args.lo c.args.n k can) in
-    let p : Placement = put_out (placement_of (lists_of t)) c.args.lo (number_of c.args.lo) (cond (dirty_shown t.spaces t.texts c.args.lo) c.args.n 0) in
-    let m : MovedOn t c.put_out.new.tables p =
-    subst (λ (n : ℕ). MovedOn t c.put_out.new.tables (put_out (placement_of (lists_of t)) c.args.lo n (cond (dirty_shown t.spaces t.texts c.args.lo) c.args.n 0))) c.number_of.ensures
-    (subst (λ (n : ℕ). MovedOn t c.put_out.new.tables (put_out (placement_of (lists_of t)) c.args.lo c.number_of.result n)) c.written_of-written.ensures c.put_out.ensures) in
-    let g : Moving c.self.inside c.put_out.new.tables p [] (entries.Put c.args.lo c.args.n) = record {
-      runs = r;
-      moved = m;
-      is = push_is (placement_of (lists_of t)) c.args.lo c.args.n (dirty_shown t.spaces t.texts c.args.lo) (sym d) can.some;
-      can = (push_seat (placement_of (lists_of t)) c.args.lo c.args.n can, can.seats);
-      shared = tt;
-      leaves = tt;
-      few = push_few (placement_of (lists_of t)) c.args.lo c.args.n (dirty_shown t.spaces t.texts c.args.lo) (sym d) can r.sound.few_transfers;
-    } in
-    let ej : c.push_reserved.new.self.items ≡ append c.self.inside.journal.items (entries.Put c.args.lo c.args.n) =
-    c.push_reserved.ensures.items ∙ ap (λ (j : List Entry). j ++ entries.Put c.args.lo c.args.n ∷ []) c.make_room.ensures.same in
-    rest_of c.self.inside c.args.self.now c.put_out.new.tables _ _ _ c.self.view_is (moved_still t c.put_out.new.tables p m) c.make_room.ensures.room
-
-pub returns-clause-step : goal.returns-clause-step
-returns-clause-step c =
+pub returns : goal.returns
+returns c =
     let t : Tables = c.self.inside.tables in
     let r = running c.self.inside c.args.self.now c.self.invariant c.self.view_is c.requires.running c.requires.whole in
     let k : Known (lists_of t) = known_of c.self.inside c.frames-frames.ensures.sound r in
@@ -121,58 +97,12 @@ returns-clause-step c =
     let b : Kernel = kernel_by t c.self.inside.journal.items c.self.inside.stopped in
     let is : kernel_by c.put_out.new.tables c.push_reserved.new.self.items c.self.inside.stopped ≡ push_step b c.args.lo c.args.n =
     moving_kernel c.self.inside c.put_out.new.tables p [] (entries.Put c.args.lo c.args.n) c.push_reserved.new.self.items c.self.inside.stopped g ej refl in
-    is ∙ ap (λ (s : Standing). push_step s.kernel c.args.lo c.args.n) c.self.view_is
-
-pub returns-clause-keeps : goal.returns-clause-keeps
-returns-clause-keeps c =
-    let t : Tables = c.self.inside.tables in
-    let r = running c.self.inside c.args.self.now c.self.invariant c.self.view_is c.requires.running c.requires.whole in
-    let k : Known (lists_of t) = known_of c.self.inside c.frames-frames.ensures.sound r in
-    let can : CanPush (placement_of (lists_of t)) c.args.lo c.args.n = subst (λ (s : Standing). CanPush s.kernel.place c.args.lo c.args.n) (sym c.self.view_is) c.requires.can in
-    let d : dirty_shown t.spaces t.texts c.args.lo ≡ is_dirty (placement_of (lists_of t)) c.args.lo = dirty_is (lists_of t) c.args.lo k.differ (push_there (lists_of t) c.args.lo c.args.n k can) in
-    let p : Placement = put_out (placement_of (lists_of t)) c.args.lo (number_of c.args.lo) (cond (dirty_shown t.spaces t.texts c.args.lo) c.args.n 0) in
-    let m : MovedOn t c.put_out.new.tables p =
-    subst (λ (n : ℕ). MovedOn t c.put_out.new.tables (put_out (placement_of (lists_of t)) c.args.lo n (cond (dirty_shown t.spaces t.texts c.args.lo) c.args.n 0))) c.number_of.ensures
-    (subst (λ (n : ℕ). MovedOn t c.put_out.new.tables (put_out (placement_of (lists_of t)) c.args.lo c.number_of.result n)) c.written_of-written.ensures c.put_out.ensures) in
-    let g : Moving c.self.inside c.put_out.new.tables p [] (entries.Put c.args.lo c.args.n) = record {
-      runs = r;
-      moved = m;
-      is = push_is (placement_of (lists_of t)) c.args.lo c.args.n (dirty_shown t.spaces t.texts c.args.lo) (sym d) can.some;
-      can = (push_seat (placement_of (lists_of t)) c.args.lo c.args.n can, can.seats);
-      shared = tt;
-      leaves = tt;
-      few = push_few (placement_of (lists_of t)) c.args.lo c.args.n (dirty_shown t.spaces t.texts c.args.lo) (sym d) can r.sound.few_transfers;
-    } in
-    let ej : c.push_reserved.new.self.items ≡ append c.self.inside.journal.items (entries.Put c.args.lo c.args.n) =
-    c.push_reserved.ensures.items ∙ ap (λ (j : List Entry). j ++ entries.Put c.args.lo c.args.n ∷ []) c.make_room.ensures.same in
-    let b : Kernel = kernel_by t c.self.inside.journal.items c.self.inside.stopped in
-    let is : kernel_by c.put_out.new.tables c.push_reserved.new.self.items c.self.inside.stopped ≡ push_step b c.args.lo c.args.n =
-    moving_kernel c.self.inside c.put_out.new.tables p [] (entries.Put c.args.lo c.args.n) c.push_reserved.new.self.items c.self.inside.stopped g ej refl in
-    subst (KeepsFlat c.args.self.now.kernel) (sym is) (subst (λ (s : Standing). KeepsFlat s.kernel (push_step b c.args.lo c.args.n)) c.self.view_is (push_keeps t.book.size b c.args.lo c.args.n r.sound can))
-
-pub returns-clause-same : goal.returns-clause-same
-returns-clause-same c =
-    let t : Tables = c.self.inside.tables in
-    let r = running c.self.inside c.args.self.now c.self.invariant c.self.view_is c.requires.running c.requires.whole in
-    let k : Known (lists_of t) = known_of c.self.inside c.frames-frames.ensures.sound r in
-    let can : CanPush (placement_of (lists_of t)) c.args.lo c.args.n = subst (λ (s : Standing). CanPush s.kernel.place c.args.lo c.args.n) (sym c.self.view_is) c.requires.can in
-    let d : dirty_shown t.spaces t.texts c.args.lo ≡ is_dirty (placement_of (lists_of t)) c.args.lo = dirty_is (lists_of t) c.args.lo k.differ (push_there (lists_of t) c.args.lo c.args.n k can) in
-    let p : Placement = put_out (placement_of (lists_of t)) c.args.lo (number_of c.args.lo) (cond (dirty_shown t.spaces t.texts c.args.lo) c.args.n 0) in
-    let m : MovedOn t c.put_out.new.tables p =
-    subst (λ (n : ℕ). MovedOn t c.put_out.new.tables (put_out (placement_of (lists_of t)) c.args.lo n (cond (dirty_shown t.spaces t.texts c.args.lo) c.args.n 0))) c.number_of.ensures
-    (subst (λ (n : ℕ). MovedOn t c.put_out.new.tables (put_out (placement_of (lists_of t)) c.args.lo c.number_of.result n)) c.written_of-written.ensures c.put_out.ensures) in
-    let g : Moving c.self.inside c.put_out.new.tables p [] (entries.Put c.args.lo c.args.n) = record {
-      runs = r;
-      moved = m;
-      is = push_is (placement_of (lists_of t)) c.args.lo c.args.n (dirty_shown t.spaces t.texts c.args.lo) (sym d) can.some;
-      can = (push_seat (placement_of (lists_of t)) c.args.lo c.args.n can, can.seats);
-      shared = tt;
-      leaves = tt;
-      few = push_few (placement_of (lists_of t)) c.args.lo c.args.n (dirty_shown t.spaces t.texts c.args.lo) (sym d) can r.sound.few_transfers;
-    } in
-    let ej : c.push_reserved.new.self.items ≡ append c.self.inside.journal.items (entries.Put c.args.lo c.args.n) =
-    c.push_reserved.ensures.items ∙ ap (λ (j : List Entry). j ++ entries.Put c.args.lo c.args.n ∷ []) c.make_room.ensures.same in
-    let b : Kernel = kernel_by t c.self.inside.journal.items c.self.inside.stopped in
-    let is : kernel_by c.put_out.new.tables c.push_reserved.new.self.items c.self.inside.stopped ≡ push_step b c.args.lo c.args.n =
-    moving_kernel c.self.inside c.put_out.new.tables p [] (entries.Put c.args.lo c.args.n) c.push_reserved.new.self.items c.self.inside.stopped g ej refl in
-    subst (SameEverywhere c.args.self.now.kernel) (sym is) (subst (λ (s : Standing). SameEverywhere s.kernel (push_step b c.args.lo c.args.n)) c.self.view_is (push_alike b c.args.lo c.args.n))
+    record {
+      step = is ∙ ap (λ (s : Standing). push_step s.kernel c.args.lo c.args.n) c.self.view_is;
+      rest = rest_of c.self.inside c.args.self.now c.put_out.new.tables _ _ _ c.self.view_is (moved_still t c.put_out.new.tables p m) c.make_room.ensures.room;
+      keeps = subst (KeepsFlat c.args.self.now.kernel) (sym is) (subst (λ (s : Standing). KeepsFlat s.kernel (push_step b c.args.lo c.args.n)) c.self.view_is (push_keeps t.book.size b c.args.lo c.args.n r.sound can));
+      same = subst (SameEverywhere c.args.self.now.kernel) (sym is) (subst (λ (s : Standing). SameEverywhere s.kernel (push_step b c.args.lo c.args.n)) c.self.view_is (push_alike b c.args.lo c.args.n));
+      stop = search rules;
+      cause = search rules;
+      full = search rules;
+    }

@@ -1,4 +1,4 @@
-use Rattle.std.proofs.Common.{◌≡◌, ℕ, ◌<◌, Bool, true, IsTrue, List, map, Option, refl, sym, ap, ◌∙◌, subst, arith}
+use Rattle.std.proofs.Common.{◌≡◌, ℕ, ◌<◌, Bool, true, IsTrue, List, map, Option, refl, sym, ap, ◌∙◌, subst, arith, rules}
 use Rattle.vm_facts.specs.declared.entry.Entry.{Entry}
 use Rattle.vax_pte.specs.declared.Place.{Place}
 use Rattle.vax_pte.specs.declared.Place.TheVariants.{Frame}
@@ -43,38 +43,24 @@ is_dirty-dirty-requires c i v e =
     let can : CanReclaim (placement_of (lists_of t)) c.args.page = subst (λ (s : Standing). CanReclaim s.kernel.place c.args.page) (sym c.self.view_is) c.requires.can in
     text_low (lists_of t) i v k (subst (IsThere (placement_of (lists_of t))) e (page_in (placement_of (lists_of t)) c.args.page can.frame (ap frame_of can.invalid)))
 
-pub revive-requires-clause-holds : goal.revive-requires-clause-holds
-revive-requires-clause-holds c =
+pub revive-requires : goal.revive-requires
+revive-requires c =
     let t : Tables = c.self.inside.tables in
     let r = running c.self.inside c.args.self.now c.self.invariant c.self.view_is c.requires.running c.requires.whole in
     let k : Known (lists_of t) = known_of c.self.inside c.frames-frames.ensures.sound r in
     let can : CanReclaim (placement_of (lists_of t)) c.args.page = subst (λ (s : Standing). CanReclaim s.kernel.place c.args.page) (sym c.self.view_is) c.requires.can in
     let i : InvalidEntry (lists_of t) c.args.page can.frame = invalid_entry (lists_of t) c.args.page can.frame k can.shared can.invalid in
     let frame : c.frame_of-frame.result.0 ≡ can.frame = c.frame_of-frame.ensures.frame ∙ ap frame_named i.entry in
-    ap (λ (f : ℕ). page_of (slot_at t.core.slots f)) frame ∙ i.held
-
-pub revive-requires-clause-above : goal.revive-requires-clause-above
-revive-requires-clause-above c =
-    let t : Tables = c.self.inside.tables in
-    let r = running c.self.inside c.args.self.now c.self.invariant c.self.view_is c.requires.running c.requires.whole in
-    let k : Known (lists_of t) = known_of c.self.inside c.frames-frames.ensures.sound r in
-    let can : CanReclaim (placement_of (lists_of t)) c.args.page = subst (λ (s : Standing). CanReclaim s.kernel.place c.args.page) (sym c.self.view_is) c.requires.can in
-    let i : InvalidEntry (lists_of t) c.args.page can.frame = invalid_entry (lists_of t) c.args.page can.frame k can.shared can.invalid in
-    let frame : c.frame_of-frame.result.0 ≡ can.frame = c.frame_of-frame.ensures.frame ∙ ap frame_named i.entry in
-    let a : 0 < can.frame = held_above (lists_of t) can.frame c.args.page k i.held in
-    omega (arith, frame)
-
-pub revive-requires-clause-small : goal.revive-requires-clause-small
-revive-requires-clause-small c =
-    let t : Tables = c.self.inside.tables in
-    let r = running c.self.inside c.args.self.now c.self.invariant c.self.view_is c.requires.running c.requires.whole in
-    let k : Known (lists_of t) = known_of c.self.inside c.frames-frames.ensures.sound r in
-    let can : CanReclaim (placement_of (lists_of t)) c.args.page = subst (λ (s : Standing). CanReclaim s.kernel.place c.args.page) (sym c.self.view_is) c.requires.can in
-    let i : InvalidEntry (lists_of t) c.args.page can.frame = invalid_entry (lists_of t) c.args.page can.frame k can.shared can.invalid in
-    let frame : c.frame_of-frame.result.0 ≡ can.frame = c.frame_of-frame.ensures.frame ∙ ap frame_named i.entry in
-    let a = below_held t.core.slots can.frame c.args.page i.held in
-    let b = k.tied.few_frames in
-    omega (arith, frame)
+    record {
+      holds = ap (λ (f : ℕ). page_of (slot_at t.core.slots f)) frame ∙ i.held;
+      above =
+          let a : 0 < can.frame = held_above (lists_of t) can.frame c.args.page k i.held in
+          omega (arith, frame);
+      small =
+          let a = below_held t.core.slots can.frame c.args.page i.held in
+          let b = k.tied.few_frames in
+          omega (arith, frame);
+    }
 
 pub invariant_of-self-2 : goal.invariant_of-self-2
 invariant_of-self-2 c _ =
@@ -100,23 +86,8 @@ invariant_of-self-2 c _ =
       room = no_room _ _ _ c.make_room.ensures.room;
     }
 
-pub returns-clause-rest : goal.returns-clause-rest
-returns-clause-rest c =
-    let t : Tables = c.self.inside.tables in
-    let r = running c.self.inside c.args.self.now c.self.invariant c.self.view_is c.requires.running c.requires.whole in
-    let k : Known (lists_of t) = known_of c.self.inside c.frames-frames.ensures.sound r in
-    let can : CanReclaim (placement_of (lists_of t)) c.args.page = subst (λ (s : Standing). CanReclaim s.kernel.place c.args.page) (sym c.self.view_is) c.requires.can in
-    let i : InvalidEntry (lists_of t) c.args.page can.frame = invalid_entry (lists_of t) c.args.page can.frame k can.shared can.invalid in
-    let frame : c.frame_of-frame.result.0 ≡ can.frame = c.frame_of-frame.ensures.frame ∙ ap frame_named i.entry in
-    let v : RevivedPage t c.revive.new.self c.args.page can.frame (dirty_shown t.spaces t.texts c.args.page) =
-    subst (λ (b : Bool). RevivedPage t c.revive.new.self c.args.page can.frame b) c.is_dirty-dirty.ensures (subst (λ (f : ℕ). RevivedPage t c.revive.new.self c.args.page f c.is_dirty-dirty.result) frame c.revive.ensures) in
-    let g : Reclaiming t c.revive.new.self c.args.page can.frame = record { known = k; invalid = can.invalid; entry = i; revived_it = v } in
-    let e = v.rest in
-    let s : Still t c.revive.new.self = still_along _ _ _ e (record { params = refl; images = refl; book = refl; found = refl; processes = refl; next_pid = refl; next_sid = refl }) in
-    rest_of c.self.inside c.args.self.now c.revive.new.self _ _ _ c.self.view_is s c.make_room.ensures.room
-
-pub returns-clause-step : goal.returns-clause-step
-returns-clause-step c =
+pub returns : goal.returns
+returns c =
     let t : Tables = c.self.inside.tables in
     let r = running c.self.inside c.args.self.now c.self.invariant c.self.view_is c.requires.running c.requires.whole in
     let k : Known (lists_of t) = known_of c.self.inside c.frames-frames.ensures.sound r in
@@ -131,40 +102,15 @@ returns-clause-step c =
     ap (λ (j : List Entry). kernel_by c.revive.new.self j c.self.inside.stopped) c.push_reserved.ensures.items
     ∙ reclaim_kernel t c.revive.new.self c.args.page can.frame c.make_room.new.journal.items c.self.inside.stopped g
     ∙ ap (λ (j : List Entry). reclaim_step (kernel_by t j c.self.inside.stopped) c.args.page) c.make_room.ensures.same in
-    is ∙ ap (λ (s : Standing). reclaim_step s.kernel c.args.page) c.self.view_is
-
-pub returns-clause-keeps : goal.returns-clause-keeps
-returns-clause-keeps c =
-    let t : Tables = c.self.inside.tables in
-    let r = running c.self.inside c.args.self.now c.self.invariant c.self.view_is c.requires.running c.requires.whole in
-    let k : Known (lists_of t) = known_of c.self.inside c.frames-frames.ensures.sound r in
-    let can : CanReclaim (placement_of (lists_of t)) c.args.page = subst (λ (s : Standing). CanReclaim s.kernel.place c.args.page) (sym c.self.view_is) c.requires.can in
-    let i : InvalidEntry (lists_of t) c.args.page can.frame = invalid_entry (lists_of t) c.args.page can.frame k can.shared can.invalid in
-    let frame : c.frame_of-frame.result.0 ≡ can.frame = c.frame_of-frame.ensures.frame ∙ ap frame_named i.entry in
-    let v : RevivedPage t c.revive.new.self c.args.page can.frame (dirty_shown t.spaces t.texts c.args.page) =
-    subst (λ (b : Bool). RevivedPage t c.revive.new.self c.args.page can.frame b) c.is_dirty-dirty.ensures (subst (λ (f : ℕ). RevivedPage t c.revive.new.self c.args.page f c.is_dirty-dirty.result) frame c.revive.ensures) in
-    let g : Reclaiming t c.revive.new.self c.args.page can.frame = record { known = k; invalid = can.invalid; entry = i; revived_it = v } in
-    let b : Kernel = kernel_by t c.self.inside.journal.items c.self.inside.stopped in
-    let is : kernel_by c.revive.new.self c.push_reserved.new.self.items c.self.inside.stopped ≡ reclaim_step b c.args.page =
-    ap (λ (j : List Entry). kernel_by c.revive.new.self j c.self.inside.stopped) c.push_reserved.ensures.items
-    ∙ reclaim_kernel t c.revive.new.self c.args.page can.frame c.make_room.new.journal.items c.self.inside.stopped g
-    ∙ ap (λ (j : List Entry). reclaim_step (kernel_by t j c.self.inside.stopped) c.args.page) c.make_room.ensures.same in
-    subst (KeepsFlat c.args.self.now.kernel) (sym is) (subst (λ (s : Standing). KeepsFlat s.kernel (reclaim_step b c.args.page)) c.self.view_is (reclaim_keeps t.book.size b c.args.page r.sound))
-
-pub returns-clause-same : goal.returns-clause-same
-returns-clause-same c =
-    let t : Tables = c.self.inside.tables in
-    let r = running c.self.inside c.args.self.now c.self.invariant c.self.view_is c.requires.running c.requires.whole in
-    let k : Known (lists_of t) = known_of c.self.inside c.frames-frames.ensures.sound r in
-    let can : CanReclaim (placement_of (lists_of t)) c.args.page = subst (λ (s : Standing). CanReclaim s.kernel.place c.args.page) (sym c.self.view_is) c.requires.can in
-    let i : InvalidEntry (lists_of t) c.args.page can.frame = invalid_entry (lists_of t) c.args.page can.frame k can.shared can.invalid in
-    let frame : c.frame_of-frame.result.0 ≡ can.frame = c.frame_of-frame.ensures.frame ∙ ap frame_named i.entry in
-    let v : RevivedPage t c.revive.new.self c.args.page can.frame (dirty_shown t.spaces t.texts c.args.page) =
-    subst (λ (b : Bool). RevivedPage t c.revive.new.self c.args.page can.frame b) c.is_dirty-dirty.ensures (subst (λ (f : ℕ). RevivedPage t c.revive.new.self c.args.page f c.is_dirty-dirty.result) frame c.revive.ensures) in
-    let g : Reclaiming t c.revive.new.self c.args.page can.frame = record { known = k; invalid = can.invalid; entry = i; revived_it = v } in
-    let b : Kernel = kernel_by t c.self.inside.journal.items c.self.inside.stopped in
-    let is : kernel_by c.revive.new.self c.push_reserved.new.self.items c.self.inside.stopped ≡ reclaim_step b c.args.page =
-    ap (λ (j : List Entry). kernel_by c.revive.new.self j c.self.inside.stopped) c.push_reserved.ensures.items
-    ∙ reclaim_kernel t c.revive.new.self c.args.page can.frame c.make_room.new.journal.items c.self.inside.stopped g
-    ∙ ap (λ (j : List Entry). reclaim_step (kernel_by t j c.self.inside.stopped) c.args.page) c.make_room.ensures.same in
-    subst (SameEverywhere c.args.self.now.kernel) (sym is) (subst (λ (s : Standing). SameEverywhere s.kernel (reclaim_step b c.args.page)) c.self.view_is (reclaim_alike b c.args.page))
+    record {
+      step = is ∙ ap (λ (s : Standing). reclaim_step s.kernel c.args.page) c.self.view_is;
+      rest =
+          let e = v.rest in
+          let s : Still t c.revive.new.self = still_along _ _ _ e (record { params = refl; images = refl; book = refl; found = refl; processes = refl; next_pid = refl; next_sid = refl }) in
+          rest_of c.self.inside c.args.self.now c.revive.new.self _ _ _ c.self.view_is s c.make_room.ensures.room;
+      keeps = subst (KeepsFlat c.args.self.now.kernel) (sym is) (subst (λ (s : Standing). KeepsFlat s.kernel (reclaim_step b c.args.page)) c.self.view_is (reclaim_keeps t.book.size b c.args.page r.sound));
+      same = subst (SameEverywhere c.args.self.now.kernel) (sym is) (subst (λ (s : Standing). SameEverywhere s.kernel (reclaim_step b c.args.page)) c.self.view_is (reclaim_alike b c.args.page));
+      stop = search rules;
+      cause = search rules;
+      full = search rules;
+    }

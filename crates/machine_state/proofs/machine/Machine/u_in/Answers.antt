@@ -1,4 +1,4 @@
-use Rattle.std.proofs.Common.{◌≡◌, ◌+◌, false, List, [], ◌∷◌, ◌++◌, length, IsSome, refl, sym, ap, ◌∙◌, subst, arith}
+use Rattle.std.proofs.Common.{◌≡◌, ◌+◌, false, List, [], ◌∷◌, ◌++◌, length, IsSome, refl, sym, ap, ◌∙◌, subst, arith, rules}
 use Rattle.vm_facts.specs.declared.entry.Entry.{Entry}
 use Rattle.vm_facts.specs.declared.entry.Entry.TheVariants as entries
 use Rattle.kernel_model.specs.Kernel.{Kernel, in_step}
@@ -21,31 +21,25 @@ u_block-block-requires u c =
     let r = running m c.args.self.now c.self.invariant c.self.view_is c.requires.running c.requires.whole in
     block_there t.book.size k c.args.pid r.sound (entering_alive t.processes c.args.pid (Kernel.processes k) o)
 
-pub read-requires-clause-even : goal.read-requires-clause-even
-read-requires-clause-even u c =
+pub read-requires : goal.read-requires
+read-requires u c =
     let m = c.self.inside in
     let t : Tables = m.tables in
     let k : Kernel = kernel_by t m.journal.items m.stopped in
     let r = running m c.args.self.now c.self.invariant c.self.view_is c.requires.running c.requires.whole in
     let e = sym c.u_block-block.ensures in
     let p = block_place t.book.size k c.args.pid c.u_block-block.result r.sound e in
-    p.even
-
-pub read-requires-clause-inside : goal.read-requires-clause-inside
-read-requires-clause-inside u c =
-    let m = c.self.inside in
-    let t : Tables = m.tables in
-    let k : Kernel = kernel_by t m.journal.items m.stopped in
-    let r = running m c.args.self.now c.self.invariant c.self.view_is c.requires.running c.requires.whole in
-    let now = stands_now m c.args.self.now c.self.invariant c.self.view_is c.requires.running in
-    let whole = whole_now m c.args.self.now c.self.view_is c.requires.whole in
-    let e = sym c.u_block-block.ensures in
-    let p = block_place t.book.size k c.args.pid c.u_block-block.result r.sound e in
-    let within = p.within in
-    let area = c.requires.area in
-    let size = now.stands.book in
-    let ps = ap (λ (s : Standing). s.params.swap_blocks) c.self.view_is in
-    omega arith
+    record {
+      even = p.even;
+      inside =
+          let now = stands_now m c.args.self.now c.self.invariant c.self.view_is c.requires.running in
+          let whole = whole_now m c.args.self.now c.self.view_is c.requires.whole in
+          let within = p.within in
+          let area = c.requires.area in
+          let size = now.stands.book in
+          let ps = ap (λ (s : Standing). s.params.swap_blocks) c.self.view_is in
+          omega arith;
+    }
 
 pub move_record-requires : goal.move_record-requires
 move_record-requires u c =
@@ -81,8 +75,8 @@ invariant_of-self-in-Done u c _ =
       room = no_room _ _ _ c.make_room.ensures.room;
     }
 
-pub returns-in-Done-clause-step : goal.returns-in-Done-clause-step
-returns-in-Done-clause-step u c =
+pub returns-in-Done : goal.returns-in-Done
+returns-in-Done u c =
     let m = c.self.inside in
     let t : Tables = m.tables in
     let k : Kernel = kernel_by t m.journal.items m.stopped in
@@ -99,27 +93,22 @@ returns-in-Done-clause-step u c =
     in_is m c.move_record.new.processes c.push_reserved.new.self.items c.self.inside.stopped c.args.pid c.regs_in-regs.result c.next_place-since.result g in
     let a : AreStored k c.args.pid (u.D.SwapDev.image c.args.swap.now) c.regs_in-regs.result =
     read_regs k c.args.pid c.u_block-block.result c.read.new.buf c.regs_in-regs.result (u.D.SwapDev.image c.args.swap.now) (sym c.u_block-block.ensures) c.regs_in-regs.ensures c.in-Done.ensures.done in
-    let i : IsIn k (kernel_by (with_records t c.move_record.new.processes) c.push_reserved.new.self.items c.self.inside.stopped) c.args.pid (u.D.SwapDev.image c.args.swap.now) = record { regs = c.regs_in-regs.result; stored = a; step = is } in
-    subst (λ (s : Standing). IsIn s.kernel (kernel_by (with_records t c.move_record.new.processes) c.push_reserved.new.self.items c.self.inside.stopped) c.args.pid (u.D.SwapDev.image c.args.swap.now)) c.self.view_is i
-
-pub returns-in-Done-clause-keeps : goal.returns-in-Done-clause-keeps
-returns-in-Done-clause-keeps u c =
-    let m = c.self.inside in
-    let t : Tables = m.tables in
-    let k : Kernel = kernel_by t m.journal.items m.stopped in
-    let can : CanComeIn k c.args.pid = subst (λ (s : Standing). CanComeIn s.kernel c.args.pid) (sym c.self.view_is) c.requires.can in
-    let o : IsOutThere t.processes c.args.pid (Kernel.processes k) = entering t m.journal.items m.stopped c.args.pid can in
-    let g : Gone m c.move_record.new.processes c.push_reserved.new.self.items c.self.inside.stopped c.args.pid c.regs_in-regs.result false c.next_place-since.result (entries.SwapIn c.args.pid) = record {
-      moved = c.move_record.ensures;
-      lasts = entering_lasts t.processes c.args.pid (Kernel.processes k) c.move_record.ensures.was o c.move_record.ensures.found;
-      since_is = c.next_place-since.ensures ∙ ap (λ (j : List Entry). length j + 1) (c.as_slice.ensures.value ∙ c.make_room.ensures.same);
-      journal_is = c.push_reserved.ensures.items ∙ ap (λ (j : List Entry). j ++ entries.SwapIn c.args.pid ∷ []) c.make_room.ensures.same;
-      stopped_is = refl;
-    } in
-    let is : kernel_by (with_records t c.move_record.new.processes) c.push_reserved.new.self.items c.self.inside.stopped ≡ in_step k c.args.pid c.regs_in-regs.result =
-    in_is m c.move_record.new.processes c.push_reserved.new.self.items c.self.inside.stopped c.args.pid c.regs_in-regs.result c.next_place-since.result g in
-    let a : AreStored k c.args.pid (u.D.SwapDev.image c.args.swap.now) c.regs_in-regs.result =
-    read_regs k c.args.pid c.u_block-block.result c.read.new.buf c.regs_in-regs.result (u.D.SwapDev.image c.args.swap.now) (sym c.u_block-block.ensures) c.regs_in-regs.ensures c.in-Done.ensures.done in
-    subst (λ (x : Kernel). KeepsIn c.args.self.now.kernel x c.args.pid (u.D.SwapDev.image c.args.swap.now) (u.D.SwapDev.image c.read.new.self)) (sym is)
-    (subst (λ (s : Standing). KeepsIn s.kernel (in_step k c.args.pid c.regs_in-regs.result) c.args.pid (u.D.SwapDev.image c.args.swap.now) (u.D.SwapDev.image c.read.new.self)) c.self.view_is
-    (in_keeps k c.args.pid c.regs_in-regs.result (u.D.SwapDev.image c.args.swap.now) (u.D.SwapDev.image c.read.new.self) a c.read.ensures.image))
+    record {
+      step =
+          let i : IsIn k (kernel_by (with_records t c.move_record.new.processes) c.push_reserved.new.self.items c.self.inside.stopped) c.args.pid (u.D.SwapDev.image c.args.swap.now) = record { regs = c.regs_in-regs.result; stored = a; step = is } in
+          subst (λ (s : Standing). IsIn s.kernel (kernel_by (with_records t c.move_record.new.processes) c.push_reserved.new.self.items c.self.inside.stopped) c.args.pid (u.D.SwapDev.image c.args.swap.now)) c.self.view_is i;
+      rest = search rules;
+      keeps =
+          subst (λ (x : Kernel). KeepsIn c.args.self.now.kernel x c.args.pid (u.D.SwapDev.image c.args.swap.now) (u.D.SwapDev.image c.read.new.self)) (sym is)
+          (subst (λ (s : Standing). KeepsIn s.kernel (in_step k c.args.pid c.regs_in-regs.result) c.args.pid (u.D.SwapDev.image c.args.swap.now) (u.D.SwapDev.image c.read.new.self)) c.self.view_is
+          (in_keeps k c.args.pid c.regs_in-regs.result (u.D.SwapDev.image c.args.swap.now) (u.D.SwapDev.image c.read.new.self) a c.read.ensures.image));
+      image = search rules;
+      uncalled = search rules;
+      stop = search rules;
+      cause = search rules;
+      full = search rules;
+      leads = search rules;
+      blocks = search rules;
+      read_faults = search rules;
+      write_faults = search rules;
+    }

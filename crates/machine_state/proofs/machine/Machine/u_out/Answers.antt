@@ -1,4 +1,4 @@
-use Rattle.std.proofs.Common.{◌≡◌, ℕ, ◌+◌, ◌*◌, ◌≤◌, true, List, [], ◌∷◌, ◌++◌, length, Some, refl, sym, ap, ◌∙◌, subst, arith}
+use Rattle.std.proofs.Common.{◌≡◌, ℕ, ◌+◌, ◌*◌, ◌≤◌, true, List, [], ◌∷◌, ◌++◌, length, Some, refl, sym, ap, ◌∙◌, subst, arith, rules}
 use Rattle.vm_facts.specs.declared.entry.Entry.{Entry}
 use Rattle.vm_facts.specs.declared.entry.Entry.TheVariants as entries
 use Rattle.kernel_model.specs.Kernel.{Kernel, out_step}
@@ -29,31 +29,25 @@ u_block-block-requires u c =
     let r = running m c.args.self.now c.self.invariant c.self.view_is c.requires.running c.requires.whole in
     block_there t.book.size k c.args.pid r.sound (leaving_alive t k c.args.pid l)
 
-pub write-requires-clause-even : goal.write-requires-clause-even
-write-requires-clause-even u c =
+pub write-requires : goal.write-requires
+write-requires u c =
     let m = c.self.inside in
     let t : Tables = m.tables in
     let k : Kernel = kernel_by t m.journal.items m.stopped in
     let r = running m c.args.self.now c.self.invariant c.self.view_is c.requires.running c.requires.whole in
     let e = sym c.u_block-block.ensures in
     let p = block_place t.book.size k c.args.pid c.u_block-block.result r.sound e in
-    p.even
-
-pub write-requires-clause-inside : goal.write-requires-clause-inside
-write-requires-clause-inside u c =
-    let m = c.self.inside in
-    let t : Tables = m.tables in
-    let k : Kernel = kernel_by t m.journal.items m.stopped in
-    let r = running m c.args.self.now c.self.invariant c.self.view_is c.requires.running c.requires.whole in
-    let now = stands_now m c.args.self.now c.self.invariant c.self.view_is c.requires.running in
-    let whole = whole_now m c.args.self.now c.self.view_is c.requires.whole in
-    let e = sym c.u_block-block.ensures in
-    let p = block_place t.book.size k c.args.pid c.u_block-block.result r.sound e in
-    let within = p.within in
-    let area = c.requires.area in
-    let size = now.stands.book in
-    let ps = ap (λ (s : Standing). s.params.swap_blocks) c.self.view_is in
-    omega arith
+    record {
+      even = p.even;
+      inside =
+          let now = stands_now m c.args.self.now c.self.invariant c.self.view_is c.requires.running in
+          let whole = whole_now m c.args.self.now c.self.view_is c.requires.whole in
+          let within = p.within in
+          let area = c.requires.area in
+          let size = now.stands.book in
+          let ps = ap (λ (s : Standing). s.params.swap_blocks) c.self.view_is in
+          omega arith;
+    }
 
 pub invariant_of-self-in-Done : goal.invariant_of-self-in-Done
 invariant_of-self-in-Done u c _ =
@@ -80,8 +74,8 @@ invariant_of-self-in-Done u c _ =
       room = no_room _ _ _ c.make_room.ensures.room;
     }
 
-pub returns-in-Done-clause-step : goal.returns-in-Done-clause-step
-returns-in-Done-clause-step u c =
+pub returns-in-Done : goal.returns-in-Done
+returns-in-Done u c =
     let m = c.self.inside in
     let t : Tables = m.tables in
     let k : Kernel = kernel_by t m.journal.items m.stopped in
@@ -96,44 +90,30 @@ returns-in-Done-clause-step u c =
     } in
     let is : kernel_by (with_records t c.move_record.new.processes) c.push_reserved.new.self.items c.self.inside.stopped ≡ out_step k c.args.pid =
     out_is m c.move_record.new.processes c.push_reserved.new.self.items c.self.inside.stopped c.args.pid c.no_regs.result c.next_place-since.result g c.no_regs.ensures in
-    is ∙ ap (λ (s : Standing). out_step s.kernel c.args.pid) c.self.view_is
-
-pub returns-in-Done-clause-keeps : goal.returns-in-Done-clause-keeps
-returns-in-Done-clause-keeps u c =
-    let m = c.self.inside in
-    let t : Tables = m.tables in
-    let k : Kernel = kernel_by t m.journal.items m.stopped in
-    let can : CanGoOut k c.args.pid = subst (λ (s : Standing). CanGoOut s.kernel c.args.pid) (sym c.self.view_is) c.requires.can in
-    let l : Leaving t k c.args.pid = leaving t m.journal.items m.stopped c.args.pid can in
-    let r = running m c.args.self.now c.self.invariant c.self.view_is c.requires.running c.requires.whole in
-    let now = stands_now m c.args.self.now c.self.invariant c.self.view_is c.requires.running in
-    let whole = whole_now m c.args.self.now c.self.view_is c.requires.whole in
-    let g : Gone m c.move_record.new.processes c.push_reserved.new.self.items c.self.inside.stopped c.args.pid c.no_regs.result true c.next_place-since.result (entries.SwapOut c.args.pid) = record {
-      moved = c.move_record.ensures;
-      lasts = leaving_lasts t k c.args.pid c.move_record.ensures.was l c.move_record.ensures.found;
-      since_is = c.next_place-since.ensures ∙ ap (λ (j : List Entry). length j + 1) (c.as_slice.ensures.value ∙ c.make_room.ensures.same);
-      journal_is = c.push_reserved.ensures.items ∙ ap (λ (j : List Entry). j ++ entries.SwapOut c.args.pid ∷ []) c.make_room.ensures.same;
-      stopped_is = refl;
-    } in
-    let is : kernel_by (with_records t c.move_record.new.processes) c.push_reserved.new.self.items c.self.inside.stopped ≡ out_step k c.args.pid =
-    out_is m c.move_record.new.processes c.push_reserved.new.self.items c.self.inside.stopped c.args.pid c.no_regs.result c.next_place-since.result g c.no_regs.ensures in
     let w : WritesU k c.args.pid (u.D.SwapDev.image c.args.swap.now) (u.D.SwapDev.image c.write.new.self) =
     written k c.args.pid c.u_block-block.result c.u_page_of-page.result (u.D.SwapDev.image c.args.swap.now) (u.D.SwapDev.image c.write.new.self) (sym c.u_block-block.ensures) (bytes_are t m.journal.items m.stopped c.args.pid c.u_page_of-page.result l c.u_page_of-page.ensures) c.in-Done.ensures.done in
-    let area = c.requires.area in
-    let size = now.stands.book in
-    let ps = ap (λ (s : Standing). s.params.swap_blocks) c.self.view_is in
-    let long : (image : List ℕ) → u.D.SwapDev.image c.args.swap.now ≡ Some image → 512 * t.book.size ≤ length image = λ image i. let long = u.met.D.SwapDev.whole c.args.swap.now image i in omega arith in
-    subst (λ (x : Kernel). KeepsOut c.args.self.now.kernel x (u.D.SwapDev.image c.args.swap.now) (u.D.SwapDev.image c.write.new.self)) (sym is)
-    (subst (λ (s : Standing). KeepsOut s.kernel (out_step k c.args.pid) (u.D.SwapDev.image c.args.swap.now) (u.D.SwapDev.image c.write.new.self)) c.self.view_is
-    (out_keeps t.book.size t k c.args.pid (u.D.SwapDev.image c.args.swap.now) (u.D.SwapDev.image c.write.new.self) l r.sound r.numbered can.resident c.u_page_of-page.result c.u_page_of-page.ensures long w))
-
-pub returns-in-Done-clause-swapped : goal.returns-in-Done-clause-swapped
-returns-in-Done-clause-swapped u c =
-    let m = c.self.inside in
-    let t : Tables = m.tables in
-    let k : Kernel = kernel_by t m.journal.items m.stopped in
-    let can : CanGoOut k c.args.pid = subst (λ (s : Standing). CanGoOut s.kernel c.args.pid) (sym c.self.view_is) c.requires.can in
-    let l : Leaving t k c.args.pid = leaving t m.journal.items m.stopped c.args.pid can in
-    let w : WritesU k c.args.pid (u.D.SwapDev.image c.args.swap.now) (u.D.SwapDev.image c.write.new.self) =
-    written k c.args.pid c.u_block-block.result c.u_page_of-page.result (u.D.SwapDev.image c.args.swap.now) (u.D.SwapDev.image c.write.new.self) (sym c.u_block-block.ensures) (bytes_are t m.journal.items m.stopped c.args.pid c.u_page_of-page.result l c.u_page_of-page.ensures) c.in-Done.ensures.done in
-    subst (λ (s : Standing). WritesU s.kernel c.args.pid (u.D.SwapDev.image c.args.swap.now) (u.D.SwapDev.image c.write.new.self)) c.self.view_is w
+    record {
+      step = is ∙ ap (λ (s : Standing). out_step s.kernel c.args.pid) c.self.view_is;
+      rest = search rules;
+      keeps =
+          let r = running m c.args.self.now c.self.invariant c.self.view_is c.requires.running c.requires.whole in
+          let now = stands_now m c.args.self.now c.self.invariant c.self.view_is c.requires.running in
+          let whole = whole_now m c.args.self.now c.self.view_is c.requires.whole in
+          let area = c.requires.area in
+          let size = now.stands.book in
+          let ps = ap (λ (s : Standing). s.params.swap_blocks) c.self.view_is in
+          let long : (image : List ℕ) → u.D.SwapDev.image c.args.swap.now ≡ Some image → 512 * t.book.size ≤ length image = λ image i. let long = u.met.D.SwapDev.whole c.args.swap.now image i in omega arith in
+          subst (λ (x : Kernel). KeepsOut c.args.self.now.kernel x (u.D.SwapDev.image c.args.swap.now) (u.D.SwapDev.image c.write.new.self)) (sym is)
+          (subst (λ (s : Standing). KeepsOut s.kernel (out_step k c.args.pid) (u.D.SwapDev.image c.args.swap.now) (u.D.SwapDev.image c.write.new.self)) c.self.view_is
+          (out_keeps t.book.size t k c.args.pid (u.D.SwapDev.image c.args.swap.now) (u.D.SwapDev.image c.write.new.self) l r.sound r.numbered can.resident c.u_page_of-page.result c.u_page_of-page.ensures long w));
+      swapped = subst (λ (s : Standing). WritesU s.kernel c.args.pid (u.D.SwapDev.image c.args.swap.now) (u.D.SwapDev.image c.write.new.self)) c.self.view_is w;
+      spoiled = search rules;
+      uncalled = search rules;
+      stop = search rules;
+      cause = search rules;
+      full = search rules;
+      leads = search rules;
+      blocks = search rules;
+      read_faults = search rules;
+      write_faults = search rules;
+    }

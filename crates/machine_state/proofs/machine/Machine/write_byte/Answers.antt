@@ -1,4 +1,4 @@
-use Rattle.std.proofs.Common.{◌≡◌, IsTrue, sym, ap, ◌∙◌, subst, arith, refl}
+use Rattle.std.proofs.Common.{◌≡◌, IsTrue, sym, ap, ◌∙◌, subst, arith, refl, rules}
 use Rattle.vm_facts.specs.declared.page.PageState.TheVariants.{Valid}
 use Rattle.core_map.specs.declared.slot.Slot.{Slot as Token}
 use Rattle.core_map.specs.Slots.{is_resident}
@@ -17,48 +17,24 @@ use Rattle.machine_state.proofs.WriteStanding.{write_standing}
 use Rattle.table_steps.proofs.UserFrames.{known_by, own_home, held_whole}
 use Rattle.machine_state.proofs.machine.Machine.write_byte.Goals as goal
 
-pub write_byte-requires-clause-home : goal.write_byte-requires-clause-home
-write_byte-requires-clause-home c =
-    let t : Tables = c.self.inside.tables in
-    own_home (lists_of t) c.args.index c.args.page c.requires.writable (subst (λ (s : Standing). IsOwnPage s.kernel.place c.args.index c.args.page) (sym c.self.view_is) c.requires.own)
-
-pub write_byte-requires-clause-resident : goal.write_byte-requires-clause-resident
-write_byte-requires-clause-resident c =
+pub write_byte-requires : goal.write_byte-requires
+write_byte-requires c =
     let t : Tables = c.self.inside.tables in
     let now = stands_now c.self.inside c.args.self.now c.self.invariant c.self.view_is c.requires.running in
     let k : Known (lists_of t) = known_by t c.self.inside.journal.items c.self.inside.stopped c.frames-frames.ensures.sound now.stands in
     let valid : state_of (placement_of (lists_of t)) c.args.page ≡ Valid c.args.frame = subst (λ (s : Standing). state_of s.kernel.place c.args.page ≡ Valid c.args.frame) (sym c.self.view_is) c.requires.valid in
     let i : InFrame (lists_of t) c.args.page c.args.frame = in_frame (lists_of t) c.args.page c.args.frame k valid in
-    subst (λ (s : Token). IsTrue (is_resident s)) (sym i.resident) refl
-
-pub write_byte-requires-clause-below : goal.write_byte-requires-clause-below
-write_byte-requires-clause-below c =
-    let t : Tables = c.self.inside.tables in
-    let now = stands_now c.self.inside c.args.self.now c.self.invariant c.self.view_is c.requires.running in
-    let k : Known (lists_of t) = known_by t c.self.inside.journal.items c.self.inside.stopped c.frames-frames.ensures.sound now.stands in
-    let valid : state_of (placement_of (lists_of t)) c.args.page ≡ Valid c.args.frame = subst (λ (s : Standing). state_of s.kernel.place c.args.page ≡ Valid c.args.frame) (sym c.self.view_is) c.requires.valid in
-    let i : InFrame (lists_of t) c.args.page c.args.frame = in_frame (lists_of t) c.args.page c.args.frame k valid in
-    i.below
-
-pub write_byte-requires-clause-above : goal.write_byte-requires-clause-above
-write_byte-requires-clause-above c =
-    let t : Tables = c.self.inside.tables in
-    let now = stands_now c.self.inside c.args.self.now c.self.invariant c.self.view_is c.requires.running in
-    let k : Known (lists_of t) = known_by t c.self.inside.journal.items c.self.inside.stopped c.frames-frames.ensures.sound now.stands in
-    let valid : state_of (placement_of (lists_of t)) c.args.page ≡ Valid c.args.frame = subst (λ (s : Standing). state_of s.kernel.place c.args.page ≡ Valid c.args.frame) (sym c.self.view_is) c.requires.valid in
-    let i : InFrame (lists_of t) c.args.page c.args.frame = in_frame (lists_of t) c.args.page c.args.frame k valid in
-    i.above
-
-pub write_byte-requires-clause-small : goal.write_byte-requires-clause-small
-write_byte-requires-clause-small c =
-    let t : Tables = c.self.inside.tables in
-    let now = stands_now c.self.inside c.args.self.now c.self.invariant c.self.view_is c.requires.running in
-    let k : Known (lists_of t) = known_by t c.self.inside.journal.items c.self.inside.stopped c.frames-frames.ensures.sound now.stands in
-    let valid : state_of (placement_of (lists_of t)) c.args.page ≡ Valid c.args.frame = subst (λ (s : Standing). state_of s.kernel.place c.args.page ≡ Valid c.args.frame) (sym c.self.view_is) c.requires.valid in
-    let i : InFrame (lists_of t) c.args.page c.args.frame = in_frame (lists_of t) c.args.page c.args.frame k valid in
-    let a = i.below in
-    let b = k.tied.few_frames in
-    omega arith
+    record {
+      home = own_home (lists_of t) c.args.index c.args.page c.requires.writable (subst (λ (s : Standing). IsOwnPage s.kernel.place c.args.index c.args.page) (sym c.self.view_is) c.requires.own);
+      resident = subst (λ (s : Token). IsTrue (is_resident s)) (sym i.resident) refl;
+      below = i.below;
+      within = search rules;
+      above = i.above;
+      small =
+          let a = i.below in
+          let b = k.tied.few_frames in
+          omega arith;
+    }
 
 pub invariant_of-self : goal.invariant_of-self
 invariant_of-self c _ =
