@@ -42,13 +42,12 @@ Calm p w = CalmSlot w (slot_of p w)
 
 pub put_slot : (p : Placement) (v : Page) (s : PageState) (m : Bool)
     → (slot_of (put p v s m) v ≡ record { state = s; mark = m; filling = filling_behind s (slot_of p v).filling }) ⊎ (slot_of (put p v s m) v ≡ slot_of p v)
-put_slot p v s m = elim (le_or (number_of v) (length (slots_of p v))) [
-  | inl l ↦ inl (put_same p v s m l)
-  | inr l ↦ inr (let k = put_length p v s m v in get_or_past (slots_of (put p v s m) v) (number_of v) no_slot (omega arith) ∙ sym (get_or_past (slots_of p v) (number_of v) no_slot l))
-]
-  where
-    le_or : (a b : ℕ) → (a < b) ⊎ (b ≤ a)
-    le_or a b = grind arith
+put_slot p v s m =
+    let le_or : (a b : ℕ) → (a < b) ⊎ (b ≤ a) = λ a b. grind arith in
+    elim (le_or (number_of v) (length (slots_of p v))) [
+      | inl l ↦ inl (put_same p v s m l)
+      | inr l ↦ inr (let k = put_length p v s m v in get_or_past (slots_of (put p v s m) v) (number_of v) no_slot (omega arith) ∙ sym (get_or_past (slots_of p v) (number_of v) no_slot l))
+    ]
 
 pub put_calm : (p : Placement) (v : Page) (s : PageState) (m : Bool) (w : Page) → (w ≡ v → (is_dirty_by v m ≡ false) × (is_going s ≡ false))
     → Calm p w → Calm (put p v s m) w

@@ -92,13 +92,12 @@ blank_calm : (w : Page) (x : Slot) → is_dirty_by w false ≡ false → BlankSl
 blank_calm w x d b = (ap (is_dirty_by w) b.1 ∙ d, ap is_going b.0)
 
 sized_calm : (v : Page) (n w : ℕ) (xs : List Slot) → is_dirty_by v false ≡ false → CalmSlot v (get_or xs w no_slot) → CalmSlot v (get_or (sized n xs) w no_slot)
-sized_calm v n w xs d c = elim (le_or w n) [
-  | inl l ↦ alike_calm v (get_or (sized n xs) w no_slot) (get_or xs w no_slot) (sized_within n w xs l) c
-  | inr l ↦ subst (CalmSlot v) (sym (sized_past n w xs l)) (d, refl)
-]
-  where
-    le_or : (a b : ℕ) → (a < b) ⊎ (b ≤ a)
-    le_or a b = grind arith
+sized_calm v n w xs d c =
+    let le_or : (a b : ℕ) → (a < b) ⊎ (b ≤ a) = λ a b. grind arith in
+    elim (le_or w n) [
+      | inl l ↦ alike_calm v (get_or (sized n xs) w no_slot) (get_or xs w no_slot) (sized_within n w xs l) c
+      | inr l ↦ subst (CalmSlot v) (sym (sized_past n w xs l)) (d, refl)
+    ]
 
 cut_data : (v : Page) (d s w : ℕ) (o : Option SpacePages) → is_dirty_by v false ≡ false → CalmSlot v (get_or (data_in o) w no_slot)
     → CalmSlot v (get_or (data_in (mapped (cut d s) o)) w no_slot)
@@ -195,11 +194,10 @@ leave_text_calm p image w h c = go (sharers p image) refl
     go (suc n) e = c
 
 give_up_calm : (p : Placement) (sid : ℕ) (w : Page) → TextShared (give_up p sid) w → Calm p w → Calm (give_up p sid) w
-give_up_calm p sid w h c = leave_text_calm r (image_of p sid) w (λ image v e z. h image v e (leave_text_sharers r (image_of p sid) image ∙ z))
+give_up_calm p sid w h c =
+    let r : Placement = remove_space (drop_all p (pages_of_space p sid)) sid in
+    leave_text_calm r (image_of p sid) w (λ image v e z. h image v e (leave_text_sharers r (image_of p sid) image ∙ z))
     (remove_calm (drop_all p (pages_of_space p sid)) sid w (drop_all_calm (pages_of_space p sid) p w (segments_drop sid 0 (data_count p sid) 0 (stack_count p sid)) c))
-  where
-    r : Placement
-    r = remove_space (drop_all p (pages_of_space p sid)) sid
 
 unless_calm : (borrowed : Bool) (p : Placement) (sid : ℕ) (w : Page) → TextShared (give_up_unless borrowed p sid) w → Calm p w
     → Calm (give_up_unless borrowed p sid) w

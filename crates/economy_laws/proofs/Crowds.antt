@@ -128,10 +128,9 @@ run_room F memory (Tests a next) h = go (run_room F memory next h) (memory.may_w
 
 child_room : (F : FlatState) (b : Bool) (regs : Regs) (child : ℕ) → nat_lt (length F.processes) process_limit ≡ b
     → ReplyRoom F (child_by b regs child (Fork F.next_pid)) × ReplyRoom F (child_by b regs child (Lend F.next_pid))
-child_room F true regs child e = let l : length F.processes < 64 = less (length F.processes) e in (l, l)
-  where
-    less : (n : ℕ) → nat_lt n 64 ≡ true → n < 64
-    less n e = grind (arith, nat_tests)
+child_room F true regs child e =
+    let less : (n : ℕ) → nat_lt n 64 ≡ true → n < 64 = λ n e. grind (arith, nat_tests) in
+    let l : length F.processes < 64 = less (length F.processes) e in (l, l)
 child_room F false regs child e = (tt, tt)
 
 written_room : (F : FlatState) (b : Bool) (buffer count : ℕ) → AllRoom F (written_to b buffer count)

@@ -121,10 +121,9 @@ not_grown : (s : Space) (d t a : ℕ) (spot : Spot) (q : Page) → Bigger s d t 
 unfolding grown_page
 not_grown s d t a (spots.Text i) q b w e = ap (λ (x : Page). same_page x (grown_page s a)) (let k : q ≡ Text s.image (i / 1024) = cc in k)
 not_grown s d t a (spots.Data i) q b w e = ap (λ (x : Page). same_page x (grown_page s a)) (let k : q ≡ Data s.sid (i / 1024) = cc in k)
-not_grown s d t a (spots.Stack i) q b w e = ap (λ (x : Page). same_page x (grown_page s a)) (let k : q ≡ Stack s.sid (i / 1024) = cc in k) ∙ apart (i / 1024) (stack_index a / 1024) (let k = b.room in let l = b.paged in omega arith)
-  where
-    apart : (x y : ℕ) → x < y → ((s.sid == s.sid) && (x == y)) ≡ false
-    apart x y l = grind (arith, nat_tests)
+not_grown s d t a (spots.Stack i) q b w e =
+    let apart : (x y : ℕ) → x < y → ((s.sid == s.sid) && (x == y)) ≡ false = λ x y l. grind (arith, nat_tests) in
+    ap (λ (x : Page). same_page x (grown_page s a)) (let k : q ≡ Stack s.sid (i / 1024) = cc in k) ∙ apart (i / 1024) (stack_index a / 1024) (let k = b.room in let l = b.paged in omega arith)
 not_grown s d t a _ q b w e = absurd cc
 
 -- An instruction that found no stack at an address.

@@ -46,13 +46,12 @@ use Rattle.economy_laws.proofs.Idle.{open_due}
 -- Sizes.
 
 sized_valid : (n v : ℕ) (xs : List Slot) → length xs ≤ n → is_valid (get_or xs v no_slot).state ≡ true → is_valid (get_or (sized n xs) v no_slot).state ≡ true
-sized_valid n v xs l h = elim (le_or v (length xs)) [
-  | inl m ↦ let k = sized_within n v xs (omega arith) in ap is_valid k.0 ∙ h
-  | inr m ↦ absurd (let k = get_or_past xs v no_slot m in let z : true ≡ false = sym h ∙ ap (λ (x : Slot). is_valid x.state) k in cc)
-]
-  where
-    le_or : (a b : ℕ) → (a < b) ⊎ (b ≤ a)
-    le_or a b = grind arith
+sized_valid n v xs l h =
+    let le_or : (a b : ℕ) → (a < b) ⊎ (b ≤ a) = λ a b. grind arith in
+    elim (le_or v (length xs)) [
+      | inl m ↦ let k = sized_within n v xs (omega arith) in ap is_valid k.0 ∙ h
+      | inr m ↦ absurd (let k = get_or_past xs v no_slot m in let z : true ≡ false = sym h ∙ ap (λ (x : Slot). is_valid x.state) k in cc)
+    ]
 
 cut_data_valid : (d s v : ℕ) (o : Option SpacePages) → length (data_in o) ≤ d → is_valid (get_or (data_in o) v no_slot).state ≡ true
     → is_valid (get_or (data_in (mapped (cut d s) o)) v no_slot).state ≡ true
@@ -88,11 +87,10 @@ resize_cut p sid d s ld ls = go (data_count p sid - d) (stack_count p sid - s) (
 -- Where the stack grows.
 
 pub below_spot : {X : Type 0} (s : Space) (p : Program X) (a : ℕ) → run (answers_of s) p ≡ Err (Below a) → address_in s a ≡ spots.Below
-below_spot s (Reads b next) a h = go (address_in s b) refl (λ byte k. below_spot s (next byte) a k) h
+below_spot s (Reads b next) a h =
+    let same : (let r : Result ℕ Refused = Err (Below b) in r) ≡ Err (Below a) → b ≡ a = λ e. cc in
+    go (address_in s b) refl (λ byte k. below_spot s (next byte) a k) h
   where
-    same : (let r : Result ℕ Refused = Err (Below b) in r) ≡ Err (Below a) → b ≡ a
-    same e = cc
-
     go : (spot : Spot) → address_in s b ≡ spot → ((byte : ℕ) → run (answers_of s) (next byte) ≡ Err (Below a) → address_in s a ≡ spots.Below) → after_read (byte_at s spot) b (λ byte. run (answers_of s) (next byte)) ≡ Err (Below a) → address_in s a ≡ spots.Below
     go (spots.Text i) e more k = more (Rattle.std.specs.Prelude.slice_index s.text_bytes i) k
     go (spots.Data i) e more k = more (Rattle.std.specs.Prelude.slice_index s.data_bytes i) k

@@ -272,40 +272,35 @@ pub ready : (A : Inputs) (s : State) (pid : ℕ) (b : Bool) (n m : ℕ) → FewT
     → (is_out s.place pid ≡ true → (length s.place.transfers + 194 ≤ n) × (32 ≤ m))
     → (is_out s.place pid ≡ false → (length s.place.transfers + 5 * (32 - length (before_absent s.place (touched A s.point.flat pid))) + (32 - length (touched A s.point.flat pid)) + 1 ≤ n) × (32 - length (before_absent s.place (touched A s.point.flat pid)) ≤ m))
     → Left A s pid b n m
-ready A s pid b n m few r c d out room = record {
-  start = λ q ds e. absurd (let z : Start q ∷ ds ≡ [] = sym e ∙ d in cc);
-  copied = λ q parent ds e. absurd (let z : CopyOf q parent ∷ ds ≡ [] = sym e ∙ d in cc);
-  comes = λ z o. out o;
-  page = λ q z o w e. wants q o e;
-  acts = λ z o w e. does o e;
-}
-  where
-    pages : List Page
-    pages = touched A s.point.flat pid
-
-    wants : (q : Page) → is_out s.place pid ≡ false → wanted A s ≡ Some q → PageLeft A s pid b q n m
-    wants q o e =
-        let k : Splits s.place (touched A s.point.flat pid) (before_absent s.place (touched A s.point.flat pid)) q = split_absent s.place (touched A s.point.flat pid) q (sym (wanted_is A s pid c d) ∙ e) in
-        let l = split_short s.place (touched A s.point.flat pid) (before_absent s.place (touched A s.point.flat pid)) q k in
-        let f = few s pid r in
-        let g = room o in
-        record {
-          before = before_absent s.place (touched A s.point.flat pid);
-          splits = k;
-          x = length s.place.transfers + 5;
-          y = 1;
-          left = serve_new b s.place (before_absent s.place (touched A s.point.flat pid)) q (owns A s r.placed) (split_there A s pid (before_absent s.place (touched A s.point.flat pid)) q r k);
-          some = omega (arith, g.0);
-          takers = omega (arith, g.1);
-        }
-
-    does : is_out s.place pid ≡ false → wanted A s ≡ None → ActLeft A s pid n m
-    does o e =
-        let k : before_absent s.place (touched A s.point.flat pid) ≡ touched A s.point.flat pid = all_before s.place (touched A s.point.flat pid) (none_absent s.place (touched A s.point.flat pid) (sym (wanted_is A s pid c d) ∙ e)) in
-        let l = ap length k in
-        let g = room o in
-        record {
-          flights = omega (arith, g.0);
-          some = λ z. omega (arith, g.0);
-          takers = λ z. omega (arith, g.1);
-        }
+ready A s pid b n m few r c d out room =
+    let pages : List Page = touched A s.point.flat pid in
+    let wants : (q : Page) → is_out s.place pid ≡ false → wanted A s ≡ Some q → PageLeft A s pid b q n m = λ q o e.
+    let k : Splits s.place (touched A s.point.flat pid) (before_absent s.place (touched A s.point.flat pid)) q = split_absent s.place (touched A s.point.flat pid) q (sym (wanted_is A s pid c d) ∙ e) in
+    let l = split_short s.place (touched A s.point.flat pid) (before_absent s.place (touched A s.point.flat pid)) q k in
+    let f = few s pid r in
+    let g = room o in
+    record {
+      before = before_absent s.place (touched A s.point.flat pid);
+      splits = k;
+      x = length s.place.transfers + 5;
+      y = 1;
+      left = serve_new b s.place (before_absent s.place (touched A s.point.flat pid)) q (owns A s r.placed) (split_there A s pid (before_absent s.place (touched A s.point.flat pid)) q r k);
+      some = omega (arith, g.0);
+      takers = omega (arith, g.1);
+    } in
+    let does : is_out s.place pid ≡ false → wanted A s ≡ None → ActLeft A s pid n m = λ o e.
+    let k : before_absent s.place (touched A s.point.flat pid) ≡ touched A s.point.flat pid = all_before s.place (touched A s.point.flat pid) (none_absent s.place (touched A s.point.flat pid) (sym (wanted_is A s pid c d) ∙ e)) in
+    let l = ap length k in
+    let g = room o in
+    record {
+      flights = omega (arith, g.0);
+      some = λ z. omega (arith, g.0);
+      takers = λ z. omega (arith, g.1);
+    } in
+    record {
+      start = λ q ds e. absurd (let z : Start q ∷ ds ≡ [] = sym e ∙ d in cc);
+      copied = λ q parent ds e. absurd (let z : CopyOf q parent ∷ ds ≡ [] = sym e ∙ d in cc);
+      comes = λ z o. out o;
+      page = λ q z o w e. wants q o e;
+      acts = λ z o w e. does o e;
+    }

@@ -65,13 +65,12 @@ entries_some A F pid refused c h =
 -- A process that runs acts.
 pub act_some : (A : Inputs) (s : State) (pid : ℕ) (now : Bool) → IsRun A s → Runs A s pid now → act A s pid ≡ None → ⊥
 unfolding act
-act_some A s pid now r run h = by (must_refuse A s pid) (must_settle A s pid) (sym (ap (λ (b : Bool). act_if b A s pid) steps) ∙ h)
+act_some A s pid now r run h =
+    let es : List Entry = (step_at A s.point pid).entries in
+    by (must_refuse A s pid) (must_settle A s pid) (sym (ap (λ (b : Bool). act_if b A s pid) steps) ∙ h)
   where
     steps : can_step s.point.flat pid ≡ true
     steps = on_steps A s s.mark pid now run.on
-
-    es : List Entry
-    es = (step_at A s.point pid).entries
 
     some : (xs : List Entry) → first_if true xs ≡ None → xs ≡ []
     some [] e = refl

@@ -258,16 +258,13 @@ some_same a b e = cc
 page_next : (A : Inputs) (s : State) (u : Entry) (pid : ℕ) (b : Bool) (n m : ℕ) (q : Page) → FewTouched A → IsRun A s → IsClosing A s pid
     → IsRun A (after A s u) → IsClosing A (after A s u) pid → Left A s pid b n m
     → Runs A s pid true → wanted A s ≡ Some q → serve_unit s.place q true ≡ Some u → Next A s pid b u n m
-page_next A s u pid b n m q few r c r2 c2 l run w i = go (is_valid (state_of sp q)) refl
+page_next A s u pid b n m q few r c r2 c2 l run w i =
+    let pages : List Page = touched A s.point.flat pid in
+    let sp : Placement = serve_step s.place k.before q in
+    go (is_valid (state_of sp q)) refl
   where
-    pages : List Page
-    pages = touched A s.point.flat pid
-
     k : PageLeft A s pid b q n m
     k = l.page q run.clear run.resident (on_steps A s s.mark pid true run.on) w
-
-    sp : Placement
-    sp = serve_step s.place k.before q
 
     unit : u ≡ serve_entry s.place q
     unit = (unit_is s.place q true u i).1

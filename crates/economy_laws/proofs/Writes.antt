@@ -48,12 +48,11 @@ PutsDirty p (entries.Put q n) = is_dirty p q ≡ true → AllDirty p (pages_from
 PutsDirty p _ = Unit {0}
 
 run_put_dirty : (p : Placement) (v : Page) → is_dirty p v ≡ true → AllDirty p (pages_from v (number_of v) (run_put p v).n)
-run_put_dirty p v d = subst (λ (b : Bool). AllDirty p (pages_from v (number_of v) (run_put_by p v b).n)) (sym d)
+run_put_dirty p v d =
+    let passes : ℕ → Bool = λ w. is_seated p (beside v w) && (is_dirty p (beside v w) && is_near v w) in
+    subst (λ (b : Bool). AllDirty p (pages_from v (number_of v) (run_put_by p v b).n)) (sym d)
     (run_each (λ r. is_dirty p r ≡ true) passes v (run_up passes (number_of v) most_written) (run_up_in passes (number_of v) most_written) d
     (λ w e. (and_parts (is_dirty p (beside v w)) (is_near v w) (and_parts (is_seated p (beside v w)) (is_dirty p (beside v w) && is_near v w) e).1).0))
-  where
-    passes : ℕ → Bool
-    passes w = is_seated p (beside v w) && (is_dirty p (beside v w) && is_near v w)
 
 force_puts : (p : Placement) (ts : List Transfer) → PutsDirty p (force_entry ts)
 force_puts p [] = tt

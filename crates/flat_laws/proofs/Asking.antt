@@ -176,22 +176,17 @@ image_same : (images : List NamedImage) (k : Kernel) (flat : FlatState) (image :
     → image_asked k.place k.next_sid image (facts_in o) ≡ image_wanted (is_shared flat image) flat.next_sid image o
 image_same images k flat image None i x c n t e = refl
 image_same images k flat image (Some named) i x c n t e =
+    let shared : is_shared flat image ≡ is_some_of image_of_pages image k.place.spaces = shared_same k flat image c n t in
+    let size : 2 * length (slots_of k.place (Text image 0)) ≡ 2 * text_pages_of named.image.facts =
+    let l : length named.image.text ≡ 1024 * length (slots_of k.place (Text image 0)) = sym (ap (λ (o : Option NamedImage). length (text_of o)) e) ∙ x image in
+    let r : length named.image.text ≡ 1024 * text_pages_of named.image.facts = (i image named e).text in
+    omega (arith, l, r) in
+    let text : text_asked (sharers k.place image) image (2 * length (slots_of k.place (Text image 0))) ≡ text_wanted (is_shared flat image) image named.image =
+    text_same image (sharers k.place image) (2 * length (slots_of k.place (Text image 0))) (is_shared flat image) named
+    (λ z. shared ∙ no_sharers image k.place.spaces z) (λ m z. shared ∙ some_sharers image m k.place.spaces z) size in
     ap (λ (sid : ℕ). image_asked k.place sid image (Some named.image.facts)) t.next_sid
     ∙ ap (λ (ws : List Wanted). ws ++ (wanted (owners.Data flat.next_sid) (pieces (2 * data_pages_of named.image.facts)) ++ wanted (owners.Stack flat.next_sid) (pieces 2))) text
     ∙ sym (append_assoc (text_wanted (is_shared flat image) image named.image) (wanted (owners.Data flat.next_sid) (pieces (2 * data_pages_of named.image.facts))) (wanted (owners.Stack flat.next_sid) (pieces 2)))
-  where
-    shared : is_shared flat image ≡ is_some_of image_of_pages image k.place.spaces
-    shared = shared_same k flat image c n t
-
-    size : 2 * length (slots_of k.place (Text image 0)) ≡ 2 * text_pages_of named.image.facts
-    size =
-        let l : length named.image.text ≡ 1024 * length (slots_of k.place (Text image 0)) = sym (ap (λ (o : Option NamedImage). length (text_of o)) e) ∙ x image in
-        let r : length named.image.text ≡ 1024 * text_pages_of named.image.facts = (i image named e).text in
-        omega (arith, l, r)
-
-    text : text_asked (sharers k.place image) image (2 * length (slots_of k.place (Text image 0))) ≡ text_wanted (is_shared flat image) image named.image
-    text = text_same image (sharers k.place image) (2 * length (slots_of k.place (Text image 0))) (is_shared flat image) named
-        (λ z. shared ∙ no_sharers image k.place.spaces z) (λ m z. shared ∙ some_sharers image m k.place.spaces z) size
 
 -- Changes.
 
@@ -214,17 +209,12 @@ pub change_same : (images : List NamedImage) (k : Kernel) (flat : FlatState) (pi
     → TextFits images k.place → Numbered k → IsNumbered flat → SameTables k flat
     → process_of flat pid ≡ Some p → p.holding ≡ Holds s → asked (facts_of images) k pid change ≡ change_wanted images flat s change
 change_same images k flat pid p s change i x c n t here holds =
+    let step : Stepping k flat pid p s = stepping k flat pid p s t here holds in
+    let life : life_of_proc (numbered (λ (q : Proc). q.pid) pid k.processes) ≡ HoldsSpace s.sid = ap life_of_proc step.kept ∙ step.life in
+    let fits : Fits (Some s) (numbered space_number s.sid k.place.spaces) =
+    subst (λ (o : Option Space). Fits o (numbered space_number s.sid k.place.spaces)) (own_space flat pid p s n here holds) (all_fit k flat t s.sid) in
     ap (λ (l : Life). change_asks (facts_of images) k.place (space_of_life l) k.next_sid change) life
     ∙ sizes_same images k flat s change i x c n t (data_counted s (numbered space_number s.sid k.place.spaces) fits) (stack_counted s (numbered space_number s.sid k.place.spaces) fits)
-  where
-    step : Stepping k flat pid p s
-    step = stepping k flat pid p s t here holds
-
-    life : life_of_proc (numbered (λ (q : Proc). q.pid) pid k.processes) ≡ HoldsSpace s.sid
-    life = ap life_of_proc step.kept ∙ step.life
-
-    fits : Fits (Some s) (numbered space_number s.sid k.place.spaces)
-    fits = subst (λ (o : Option Space). Fits o (numbered space_number s.sid k.place.spaces)) (own_space flat pid p s n here holds) (all_fit k flat t s.sid)
 
 -- The step.
 

@@ -59,31 +59,20 @@ words_joined (w ∷ ws) vs = ap (λ (l : List ℕ). w % 2 ^ 8 ∷ w / 2 ^ 8 % 2 
 pub regs_back_any : (regs : Regs) (data_pages stack_pages : ℕ) → AreRegs regs → regs_in (u_page regs data_pages stack_pages) ≡ regs
 unfolding u_page
 regs_back_any regs d s a =
+    let ws : List ℕ = regs.r ++ codes_of regs ∷ [] in
+    let rest : List ℕ = flat_map word_bytes (d ∷ s ∷ []) ++ replicate 948 0 in
+    let k : AllLongwords ws = words_more regs.r (codes_of regs ∷ []) a.each (let h = codes_small regs.n regs.z regs.v regs.c in omega arith, tt) in
+    let n : length ws ≡ length regs.r + 1 = Rattle.std.proofs.Common.length-append regs.r (codes_of regs ∷ []) in
+    let r : longwords 16 (flat_map word_bytes ws ++ rest) ≡ regs.r = words_read 16 ws rest (omega (arith, a.count, n)) k ∙ take_at regs.r (codes_of regs ∷ []) 16 a.count in
+    let c : get_or (longwords 17 (flat_map word_bytes ws ++ rest)) 16 0 ≡ codes_of regs =
+    ap (λ (xs : List ℕ). get_or xs 16 0) (words_read 17 ws rest (omega (arith, a.count, n)) k) ∙ get_at 16 regs.r (codes_of regs) [] a.count in
     ap (λ (l : List ℕ). regs_in (l ++ replicate 948 0)) (ap (flat_map word_bytes) (parted regs.r (codes_of regs) d s) ∙ words_joined ws (d ∷ s ∷ []))
     ∙ ap regs_in (append_assoc (flat_map word_bytes ws) (flat_map word_bytes (d ∷ s ∷ [])) (replicate 948 0))
     ∙ (ap (λ (x : List ℕ). regs_from x (get_or (longwords 17 (flat_map word_bytes ws ++ rest)) 16 0)) r ∙ ap (regs_from regs.r) c ∙ codes_back regs.r regs.n regs.z regs.v regs.c)
   where
-    ws : List ℕ
-    ws = regs.r ++ codes_of regs ∷ []
-
-    rest : List ℕ
-    rest = flat_map word_bytes (d ∷ s ∷ []) ++ replicate 948 0
-
     parted : (xs : List ℕ) (x y z : ℕ) → xs ++ x ∷ y ∷ z ∷ [] ≡ (xs ++ x ∷ []) ++ y ∷ z ∷ []
     parted [] x y z = refl
     parted (w ∷ xs) x y z = ap (λ (l : List ℕ). w ∷ l) (parted xs x y z)
-
-    k : AllLongwords ws
-    k = words_more regs.r (codes_of regs ∷ []) a.each (let h = codes_small regs.n regs.z regs.v regs.c in omega arith, tt)
-
-    n : length ws ≡ length regs.r + 1
-    n = Rattle.std.proofs.Common.length-append regs.r (codes_of regs ∷ [])
-
-    r : longwords 16 (flat_map word_bytes ws ++ rest) ≡ regs.r
-    r = words_read 16 ws rest (omega (arith, a.count, n)) k ∙ take_at regs.r (codes_of regs ∷ []) 16 a.count
-
-    c : get_or (longwords 17 (flat_map word_bytes ws ++ rest)) 16 0 ≡ codes_of regs
-    c = ap (λ (xs : List ℕ). get_or xs 16 0) (words_read 17 ws rest (omega (arith, a.count, n)) k) ∙ get_at 16 regs.r (codes_of regs) [] a.count
 
 pub regs_back : (regs : Regs) (data_pages stack_pages : ℕ) → AreRegs regs → data_pages < 2 ^ 32 → stack_pages < 2 ^ 32
     → regs_in (u_page regs data_pages stack_pages) ≡ regs

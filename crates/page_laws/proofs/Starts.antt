@@ -101,32 +101,28 @@ count_some f a (suc n) l = elim (cases_eq f a) [
 ]
 
 pub start_owner : (images : List Image) (first : List Starting) (frames : ℕ) → OwnsFrames (start_placement images first frames)
-start_owner images first frames = record {
-  once = λ f b. let a = count_once f 1 frames (let l = b.0 in omega arith) (let l = b.1 in let n = size in omega arith) in let s = empty f in omega arith;
-  frames = λ f l. let k = count_some f 1 frames l in (let m = k.0 in omega arith, let m = k.1 in let n = size in omega arith);
-  names = λ q f e. none_some f (sym (ap frame_of (start_blank images first frames q).0) ∙ e);
-  named = λ f q e. none_some q (sym (no_page frames f) ∙ e);
-  listed = λ f q l e. none_some q (sym (no_page frames f) ∙ e);
-  moves = tt;
-  dirty = λ q e. absurd (let k : true ≡ false = sym e ∙ ap (is_marked_dirty q) (start_blank images first frames q).1 ∙ marked_false q in cc);
-}
-  where
-    size : length (start_placement images first frames).holds ≡ frames
-    size = length-replicate frames None
-
-    empty : (f : ℕ) → seated (start_placement images first frames) f ≡ 0
-    empty f = ap (seated_of (start_placement images first frames) f) (no_page frames f)
+start_owner images first frames =
+    let size : length (start_placement images first frames).holds ≡ frames = length-replicate frames None in
+    let empty : (f : ℕ) → seated (start_placement images first frames) f ≡ 0 = λ f. ap (seated_of (start_placement images first frames) f) (no_page frames f) in
+    record {
+      once = λ f b. let a = count_once f 1 frames (let l = b.0 in omega arith) (let l = b.1 in let n = size in omega arith) in let s = empty f in omega arith;
+      frames = λ f l. let k = count_some f 1 frames l in (let m = k.0 in omega arith, let m = k.1 in let n = size in omega arith);
+      names = λ q f e. none_some f (sym (ap frame_of (start_blank images first frames q).0) ∙ e);
+      named = λ f q e. none_some q (sym (no_page frames f) ∙ e);
+      listed = λ f q l e. none_some q (sym (no_page frames f) ∙ e);
+      moves = tt;
+      dirty = λ q e. absurd (let k : true ≡ false = sym e ∙ ap (is_marked_dirty q) (start_blank images first frames q).1 ∙ marked_false q in cc);
+    }
 
 -- The hands stand a quarter of the frames apart.
 pub start_hands : (images : List Image) (first : List Starting) (frames : ℕ) → 0 < frames → HandsStand (start_placement images first frames)
-start_hands images first frames l = record {
-  low = omega arith;
-  high = let n = size in omega arith;
-  ahead = sym (ap (λ (n : ℕ). walk n (n / 4) 1) size ∙ walk_up frames (frames / 4) 1 (omega arith));
-}
-  where
-    size : length (start_placement images first frames).holds ≡ frames
-    size = length-replicate frames None
+start_hands images first frames l =
+    let size : length (start_placement images first frames).holds ≡ frames = length-replicate frames None in
+    record {
+      low = omega arith;
+      high = let n = size in omega arith;
+      ahead = sym (ap (λ (n : ℕ). walk n (n / 4) 1) size ∙ walk_up frames (frames / 4) 1 (omega arith));
+    }
 
 -- Text is aside, shared or not.
 pub start_aside : (images : List Image) (first : List Starting) (frames : ℕ) → TextAside (start_placement images first frames)

@@ -158,12 +158,10 @@ unit_names A s u h = kind_names A s u (kind_of A s u h)
 -- what a copy is made from was filled
 parent_filled : (p : Placement) (q : Page) → DueStand p → IsParentOfDue p q → state_of p q ≡ Unfilled → ⊥
 parent_filled p q d w e =
+    let first : due_at (CopyOf w.child q ∷ w.rest) w.child ≡ Some (CopyOf w.child q) = ap (λ (b : Bool). cond b (Some (CopyOf w.child q)) (due_at w.rest w.child)) (same_page_self w.child) in
     let due : IsDue p w.child (CopyOf w.child q) = d w.child (CopyOf w.child q) (ap (λ (ds : List Due). due_at ds w.child) w.first ∙ first) in
     let source : HasSource p (CopyOf w.child q) = due.source in
     source.1 e
-  where
-    first : due_at (CopyOf w.child q ∷ w.rest) w.child ≡ Some (CopyOf w.child q)
-    first = ap (λ (b : Bool). cond b (Some (CopyOf w.child q)) (due_at w.rest w.child)) (same_page_self w.child)
 
 pub zero_called : (A : Inputs) (s : State) (q : Page) → IsRun A s → next_unit A s ≡ Some (entries.Zero q) → IsWanted A s q ⊎ IsStartDue s.place q
 zero_called A s q r h = elim (unit_names A s (entries.Zero q) h) [

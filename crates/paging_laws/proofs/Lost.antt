@@ -67,16 +67,13 @@ touched_new A s qs r =
 stepped_lost : (A : Inputs) (s : State) (u : Entry) (q : Page) (f pid at : ℕ) (qs : List Page) → IsRun A s → process_of_entry u ≡ Some pid
     → frame_of (state_of s.place q) ≡ Some f
     → frame_of (state_of (place_change (facts_of A.images) (touch_all s.place qs) pid (space_held s pid) (is_borrower s.point.flat.processes pid) s.point.flat.next_sid at (step_at A s.point pid).change) q) ≢ Some f → IsLost A s u q f
-stepped_lost A s u q f pid at qs r e h k = elim (change_frame (facts_of A.images) p pid (space_held s pid) (is_borrower s.point.flat.processes pid) s.point.flat.next_sid at (step_at A s.point pid).change q (touched_new A s qs r)) [
-  | inl i ↦ absurd (k (i ∙ t.frames q ∙ h))
-  | inr i ↦ given A s u q f pid (step_at A s.point pid).change e refl i.1
-]
-  where
-    p : Placement
-    p = touch_all s.place qs
-
-    t : Steady s.place p
-    t = touch_all_steady qs s.place
+stepped_lost A s u q f pid at qs r e h k =
+    let p : Placement = touch_all s.place qs in
+    let t : Steady s.place p = touch_all_steady qs s.place in
+    elim (change_frame (facts_of A.images) p pid (space_held s pid) (is_borrower s.point.flat.processes pid) s.point.flat.next_sid at (step_at A s.point pid).change q (touched_new A s qs r)) [
+      | inl i ↦ absurd (k (i ∙ t.frames q ∙ h))
+      | inr i ↦ given A s u q f pid (step_at A s.point pid).change e refl i.1
+    ]
 
 flat_lost : (A : Inputs) (s : State) (u : Entry) (q : Page) (f pid : ℕ) → IsRun A s → process_of_entry u ≡ Some pid
     → frame_of (state_of s.place q) ≡ Some f → frame_of (state_of (after A s u).place q) ≢ Some f → IsLost A s u q f

@@ -142,21 +142,20 @@ run_has p q c = go (state_of p q) refl
     go (Going f) e = by (Going f) f e refl
 
 pub read_small : (A : Inputs) (s : State) (q : Page) (lo n : ℕ) → IsRun A s → next_unit A s ≡ Some (entries.Get q lo n) → IsSmallRead s.place q lo n
-read_small A s q lo n r h = record {
-  has = at_read (λ (a b : ℕ). (a ≤ number_of q) × (number_of q < a + b)) k.has;
-  few = subst (λ (x : ℕ). x ≤ most_read q) (sym is.1) k.few;
-  there = λ w l m. let e : CanEnter s.place (beside q w) = each_at (CanEnter s.place) q lo n w can l m in e.there;
-  fresh = λ w f l m e. let c : CanEnter s.place (beside q w) = each_at (CanEnter s.place) q lo n w can l m in none_some f (sym c.frameless ∙ o.named f (beside q w) e);
-  near = at_read (λ (a b : ℕ). (w : ℕ) → state_of s.place q ≡ OnSwap → a ≤ w → w < a + b → chunk_of (beside q w) ≡ chunk_of q) k.near;
-  alone = λ i e. is.1 ∙ k.alone i e;
-  spares = subst (λ (x : ℕ). (x ≡ 1) ⊎ (x + desired_free s.place ≤ length s.place.free)) (sym is.1) k.spares;
-}
+read_small A s q lo n r h =
+    let o : OwnsFrames s.place = owns A s r.placed in
+    record {
+      has = at_read (λ (a b : ℕ). (a ≤ number_of q) × (number_of q < a + b)) k.has;
+      few = subst (λ (x : ℕ). x ≤ most_read q) (sym is.1) k.few;
+      there = λ w l m. let e : CanEnter s.place (beside q w) = each_at (CanEnter s.place) q lo n w can l m in e.there;
+      fresh = λ w f l m e. let c : CanEnter s.place (beside q w) = each_at (CanEnter s.place) q lo n w can l m in none_some f (sym c.frameless ∙ o.named f (beside q w) e);
+      near = at_read (λ (a b : ℕ). (w : ℕ) → state_of s.place q ≡ OnSwap → a ≤ w → w < a + b → chunk_of (beside q w) ≡ chunk_of q) k.near;
+      alone = λ i e. is.1 ∙ k.alone i e;
+      spares = subst (λ (x : ℕ). (x ≡ 1) ⊎ (x + desired_free s.place ≤ length s.place.free)) (sym is.1) k.spares;
+    }
   where
     is : (lo ≡ (run_in s.place q).lo) × (n ≡ (run_in s.place q).n)
     is = get_run A s q lo n h
-
-    o : OwnsFrames s.place
-    o = owns A s r.placed
 
     can : EachPage (CanEnter s.place) (pages_from q lo n)
     can = let a : IsAllowed s.place (entries.Get q lo n) = unit_allowed A s (entries.Get q lo n) r h in a.can

@@ -259,50 +259,21 @@ pub stepped_placed : (A : Inputs) (s : State) (u : Entry) → ImagesFit A.images
     → (h : Stepped A s u)
     → Placed A s.point.flat s.place s.holdings → Placed A (after A s u).point.flat (after A s u).place (after A s u).holdings
 stepped_placed A s u images execs numbers lenders h st =
-    subst (λ (x : FlatState). Placed A x (after A s u).place (after A s u).holdings) (sym (stepped_flat A s u h))
-    (subst (λ (x : Placement). Placed A step.after x (after A s u).holdings) (sym r.place)
-    (subst (Placed A step.after (place_behind A s pid step u)) (sym (r.holdings ∙ held_is A s pid u x.process x.space found.0 h.ends own x.here x.holds (c.suits step.change form.suits) found.1))
-    (subst (λ (y : FlatState). Placed A y (place_behind A s pid step u) (given_up s.point.flat y pid x.space step.change found.0)) (sym form_after)
-    made)))
-  where
-    pid : ℕ
-    pid = h.pid
-
-    step : Step
-    step = step_at A s.point pid
-
-    runs : Runs A s pid h.now
-    runs = h.runs
-
-    can : can_step s.point.flat pid ≡ true
-    can = on_steps A s s.mark pid h.now runs.on
-
-    x : Stepper s.point.flat pid
-    x = stepper s.point.flat pid can
-
-    own : process_of_entry u ≡ Some pid
-    own = steps_own A s.point pid u h.next
-
-    r : Arrives A s pid u
-    r = arrives A s pid u h.ends own
-
-    c : Completes A s.point pid u
-    c = completes A s.point pid u h.ends h.next
-
-    form : Formed A.images s.point.flat x.process x.space (is_refused s.point.last pid) step
-    form = stepped_form A s u h x numbers
-
-    number : x.process.pid ≡ pid
-    number = (found_at s.point.flat pid x.process x.here).0
-
-    form_after : step.after ≡ apply_change A.images (apply_writes s.point.flat pid step.writes) pid step.regs step.change
-    form_after = form.after ∙ ap (λ (n : ℕ). apply_change A.images (apply_writes s.point.flat n step.writes) n step.regs step.change) number
-
-    found : (found : Holdings) × (place_all A.swap_blocks s.holdings (change_wanted A.images s.point.flat x.space step.change) ≡ Ok found)
-    found = found_pieces A s pid x.process x.space can x.here x.holds h.unrefused form.wants
-
-    making : Making A s.point.flat s.place s.holdings found.0 pid x.process x.space step.writes step.change
-    making = record {
+    let pid : ℕ = h.pid in
+    let step : Step = step_at A s.point pid in
+    let runs : Runs A s pid h.now = h.runs in
+    let can : can_step s.point.flat pid ≡ true = on_steps A s s.mark pid h.now runs.on in
+    let x : Stepper s.point.flat pid = stepper s.point.flat pid can in
+    let own : process_of_entry u ≡ Some pid = steps_own A s.point pid u h.next in
+    let r : Arrives A s pid u = arrives A s pid u h.ends own in
+    let c : Completes A s.point pid u = completes A s.point pid u h.ends h.next in
+    let form : Formed A.images s.point.flat x.process x.space (is_refused s.point.last pid) step = stepped_form A s u h x numbers in
+    let number : x.process.pid ≡ pid = (found_at s.point.flat pid x.process x.here).0 in
+    let form_after : step.after ≡ apply_change A.images (apply_writes s.point.flat pid step.writes) pid step.regs step.change =
+    form.after ∙ ap (λ (n : ℕ). apply_change A.images (apply_writes s.point.flat n step.writes) n step.regs step.change) number in
+    let found : (found : Holdings) × (place_all A.swap_blocks s.holdings (change_wanted A.images s.point.flat x.space step.change) ≡ Ok found) =
+    found_pieces A s pid x.process x.space can x.here x.holds h.unrefused form.wants in
+    let making : Making A s.point.flat s.place s.holdings found.0 pid x.process x.space step.writes step.change = record {
       images = images;
       numbers = numbers;
       lenders = lenders;
@@ -314,7 +285,11 @@ stepped_placed A s u images execs numbers lenders h st =
       execs = execs s.point.flat pid (is_refused s.point.last pid);
       pieces = found.1;
       settles = settled_when A s pid x.process x.space x.here x.holds h.unsettling;
-    }
-
-    made : Placed A (apply_change A.images (apply_writes s.point.flat pid step.writes) pid step.regs step.change) (place_behind A s pid step u) (given_up s.point.flat (apply_change A.images (apply_writes s.point.flat pid step.writes) pid step.regs step.change) pid x.space step.change found.0)
-    made = step_placed A s.point.flat s.place s.holdings found.0 pid step.regs s.journal u x.process x.space step.writes (pages_written s.point.flat pid step) step.change making st
+    } in
+    let made : Placed A (apply_change A.images (apply_writes s.point.flat pid step.writes) pid step.regs step.change) (place_behind A s pid step u) (given_up s.point.flat (apply_change A.images (apply_writes s.point.flat pid step.writes) pid step.regs step.change) pid x.space step.change found.0) =
+    step_placed A s.point.flat s.place s.holdings found.0 pid step.regs s.journal u x.process x.space step.writes (pages_written s.point.flat pid step) step.change making st in
+    subst (λ (x : FlatState). Placed A x (after A s u).place (after A s u).holdings) (sym (stepped_flat A s u h))
+    (subst (λ (x : Placement). Placed A step.after x (after A s u).holdings) (sym r.place)
+    (subst (Placed A step.after (place_behind A s pid step u)) (sym (r.holdings ∙ held_is A s pid u x.process x.space found.0 h.ends own x.here x.holds (c.suits step.change form.suits) found.1))
+    (subst (λ (y : FlatState). Placed A y (place_behind A s pid step u) (given_up s.point.flat y pid x.space step.change found.0)) (sym form_after)
+    made)))

@@ -97,91 +97,50 @@ pub back_change : (A : Inputs) (flat : FlatState) (p : Placement) (hs found : Ho
     → Placed A flat p hs
     → Placed A (apply_change A.images flat pid regs change) (place_change (facts_of A.images) p pid s.sid true flat.next_sid (length (append j e)) change) (given_up flat (apply_change A.images flat pid regs change) pid s change found)
 back_change A flat p hs found pid regs j e q s change c lend w gb st =
+    let at : ℕ = length (append j e) in
+    let after : FlatState = apply_change A.images flat pid regs change in
+    let k : Kernel = with_found flat p found j in
+    let so : Sound A.swap_blocks (machine_of flat p hs) = st.sound in
+    let before : Sound A.swap_blocks (record k { holdings = hs }) = record { owner = so.owner; tokens = so.tokens; hands = so.hands; few_transfers = so.few_transfers } in
+    let nb : Numbered (machine_of flat p hs) = st.numbered in
+    let n : Numbered k = record { spaces_differ = nb.spaces_differ; spaces_below = nb.spaces_below; pids_differ = nb.pids_differ; pids_below = nb.pids_below; residents = nb.residents } in
+    let t : SameTables k flat = record { processes = tb.processes; next_pid = refl; next_sid = refl; spaces = tb.spaces } in
+    let sb : Stands A.images (machine_of flat p hs) flat = st.stands in
+    let stands : Stands A.images k flat = record { starts = λ x h. refl; texts = sb.texts; out = sb.out } in
+    let lender : (m : Process) × IsLender flat pid s.sid m = lender_found flat pid q s c.found_process c.holds w c.numbers lend in
+    let m : Process = lender.0 in
+    let a : Borrowing k flat pid q m s = borrowing k flat pid q m s t c.found_process c.holds lender.1 in
+    let g : Stepping k flat pid q s = a.step in
+    let own_lives : lives k.processes pid ≡ true = ap lives_in g.kept ∙ ap has_life g.life in
+    let lender_lives : lives k.processes m.pid ≡ true = ap lives_in a.kept ∙ ap has_life a.life in
+    let k1 : Kernel = pass_step k pid m.pid in
+    let sound1 : Sound A.swap_blocks (record k1 { holdings = hs }) = pass_sound A.swap_blocks (record k { holdings = hs }) pid m.pid own_lives lender_lives before in
+    let n1 : Numbered k1 = pass_numbered k pid m.pid own_lives lender_lives n in
+    let ready : ReadyFor k1 pid change = back_ready k flat pid q m s change a gb in
+    let pieces : place_all A.swap_blocks hs (asked (facts_of A.images) k1 pid change) ≡ Ok found =
+    ap (place_all A.swap_blocks hs) (asks_same (facts_of A.images) k k1 pid change gb refl refl ∙ change_same A.images k flat pid q s change c.images sb.texts n c.numbers t c.found_process c.holds) ∙ c.pieces in
+    let l : Kernel = change_step (facts_of A.images) k1 pid regs e change in
+    let sound : Sound A.swap_blocks l = ready_sound A.swap_blocks (facts_of A.images) k1 hs pid regs e change sound1 n1 ready pieces in
+    let numbered_now : Numbered l = flat_numbered (facts_of A.images) k1 pid regs e change (takes_none k1 change gb) ready.alive n1 in
+    let told : Told A l after = back_told A k flat pid regs e q m s change gb c.images c.numbers c.found_process c.holds lender.1 c.resident c.clear c.execs t stands in
+    let lands : Lands A k pid s.sid e change l = back_lands A k flat pid regs e q m s change a gb in
+    let un : Unhanded p (place_change (facts_of A.images) p pid s.sid true flat.next_sid at change) = change_unhanded (facts_of A.images) p pid s.sid true flat.next_sid at change in
+    let hands : SameHands p (place_change (facts_of A.images) p pid s.sid true flat.next_sid at change) = un.hands in
+    let dues : DueStand l.place = subst DueStand (sym lands.place) (change_due (facts_of A.images) p pid s.sid true flat.next_sid at change c.clear (can change gb) (is_apart change gb)) in
+    let once : EachOnce l.place.due = subst (λ (x : Placement). EachOnce x.due) (sym lands.place) (change_once (facts_of A.images) p pid s.sid true flat.next_sid at change c.clear) in
+    let parts : HaveParts l.place.transfers = subst (λ (x : Placement). HaveParts x.transfers) (sym lands.place) (subst HaveParts (sym un.transfers) st.parts) in
+    let frames : length l.place.holds ≡ A.frames = subst (λ (x : Placement). length x.holds ≡ A.frames) (sym lands.place) (hands.frames ∙ st.frames) in
+    let fits : Fits (Some s) (numbered space_number s.sid p.spaces) =
+    subst (λ (x : Option Space). Fits x (numbered space_number s.sid p.spaces)) (own_space flat pid q s c.numbers c.found_process c.holds) (tb.spaces s.sid) in
+    let back : given_up flat after pid s change found ≡ holdings_after found p l.place pid s.sid true change =
+    given_same flat after pid s change found p l.place true w (fit_image s (numbered space_number s.sid p.spaces) fits) (λ z. absurd cc) in
     subst (Placed A after (place_change (facts_of A.images) p pid s.sid true flat.next_sid at change)) (sym back)
     (subst (λ (x : Placement). Placed A after x (holdings_after found p l.place pid s.sid true change)) lands.place
     (subst (Placed A after l.place) lands.holdings
     (from_machine A after l sound numbered_now told.tables told.stands dues once parts frames)))
   where
-    at : ℕ
-    at = length (append j e)
-
-    after : FlatState
-    after = apply_change A.images flat pid regs change
-
-    k : Kernel
-    k = with_found flat p found j
-
-    so : Sound A.swap_blocks (machine_of flat p hs)
-    so = st.sound
-
-    before : Sound A.swap_blocks (record k { holdings = hs })
-    before = record { owner = so.owner; tokens = so.tokens; hands = so.hands; few_transfers = so.few_transfers }
-
-    nb : Numbered (machine_of flat p hs)
-    nb = st.numbered
-
-    n : Numbered k
-    n = record { spaces_differ = nb.spaces_differ; spaces_below = nb.spaces_below; pids_differ = nb.pids_differ; pids_below = nb.pids_below; residents = nb.residents }
-
     tb : SameTables (machine_of flat p hs) flat
     tb = st.tables
-
-    t : SameTables k flat
-    t = record { processes = tb.processes; next_pid = refl; next_sid = refl; spaces = tb.spaces }
-
-    sb : Stands A.images (machine_of flat p hs) flat
-    sb = st.stands
-
-    stands : Stands A.images k flat
-    stands = record { starts = λ x h. refl; texts = sb.texts; out = sb.out }
-
-    lender : (m : Process) × IsLender flat pid s.sid m
-    lender = lender_found flat pid q s c.found_process c.holds w c.numbers lend
-
-    m : Process
-    m = lender.0
-
-    a : Borrowing k flat pid q m s
-    a = borrowing k flat pid q m s t c.found_process c.holds lender.1
-
-    g : Stepping k flat pid q s
-    g = a.step
-
-    own_lives : lives k.processes pid ≡ true
-    own_lives = ap lives_in g.kept ∙ ap has_life g.life
-
-    lender_lives : lives k.processes m.pid ≡ true
-    lender_lives = ap lives_in a.kept ∙ ap has_life a.life
-
-    k1 : Kernel
-    k1 = pass_step k pid m.pid
-
-    sound1 : Sound A.swap_blocks (record k1 { holdings = hs })
-    sound1 = pass_sound A.swap_blocks (record k { holdings = hs }) pid m.pid own_lives lender_lives before
-
-    n1 : Numbered k1
-    n1 = pass_numbered k pid m.pid own_lives lender_lives n
-
-    ready : ReadyFor k1 pid change
-    ready = back_ready k flat pid q m s change a gb
-
-    pieces : place_all A.swap_blocks hs (asked (facts_of A.images) k1 pid change) ≡ Ok found
-    pieces = ap (place_all A.swap_blocks hs) (asks_same (facts_of A.images) k k1 pid change gb refl refl ∙ change_same A.images k flat pid q s change c.images sb.texts n c.numbers t c.found_process c.holds) ∙ c.pieces
-
-    l : Kernel
-    l = change_step (facts_of A.images) k1 pid regs e change
-
-    sound : Sound A.swap_blocks l
-    sound = ready_sound A.swap_blocks (facts_of A.images) k1 hs pid regs e change sound1 n1 ready pieces
-
-    numbered_now : Numbered l
-    numbered_now = flat_numbered (facts_of A.images) k1 pid regs e change (takes_none k1 change gb) ready.alive n1
-
-    told : Told A l after
-    told = back_told A k flat pid regs e q m s change gb c.images c.numbers c.found_process c.holds lender.1 c.resident c.clear c.execs t stands
-
-    lands : Lands A k pid s.sid e change l
-    lands = back_lands A k flat pid regs e q m s change a gb
 
     can : (x : Change) → GivesBack x → CanChange p s.sid true flat.next_sid x
     can (Exec image top) gb = (next_new flat p c.numbers tb.spaces, λ z. absurd cc)
@@ -192,27 +151,3 @@ back_change A flat p hs found pid regs j e q s change c lend w gb st =
     is_apart (Exec image top) gb = λ z. absurd cc
     is_apart (End status) gb = tt
     is_apart _ gb = absurd gb
-
-    un : Unhanded p (place_change (facts_of A.images) p pid s.sid true flat.next_sid at change)
-    un = change_unhanded (facts_of A.images) p pid s.sid true flat.next_sid at change
-
-    hands : SameHands p (place_change (facts_of A.images) p pid s.sid true flat.next_sid at change)
-    hands = un.hands
-
-    dues : DueStand l.place
-    dues = subst DueStand (sym lands.place) (change_due (facts_of A.images) p pid s.sid true flat.next_sid at change c.clear (can change gb) (is_apart change gb))
-
-    once : EachOnce l.place.due
-    once = subst (λ (x : Placement). EachOnce x.due) (sym lands.place) (change_once (facts_of A.images) p pid s.sid true flat.next_sid at change c.clear)
-
-    parts : HaveParts l.place.transfers
-    parts = subst (λ (x : Placement). HaveParts x.transfers) (sym lands.place) (subst HaveParts (sym un.transfers) st.parts)
-
-    frames : length l.place.holds ≡ A.frames
-    frames = subst (λ (x : Placement). length x.holds ≡ A.frames) (sym lands.place) (hands.frames ∙ st.frames)
-
-    fits : Fits (Some s) (numbered space_number s.sid p.spaces)
-    fits = subst (λ (x : Option Space). Fits x (numbered space_number s.sid p.spaces)) (own_space flat pid q s c.numbers c.found_process c.holds) (tb.spaces s.sid)
-
-    back : given_up flat after pid s change found ≡ holdings_after found p l.place pid s.sid true change
-    back = given_same flat after pid s change found p l.place true w (fit_image s (numbered space_number s.sid p.spaces) fits) (λ z. absurd cc)

@@ -71,33 +71,23 @@ first_same : (images : List NamedImage) (p : Placement) (earlier : List ℕ) (pi
     → first_wanted images (contains earlier n) pid n ++ rest
     ≡ text_asked (times n earlier) n (2 * length (slots_of p (pages.Text n 0))) ++ (wanted (owners.Data pid) (pieces (2 * data_pages_of named.image.facts)) ++ (wanted (owners.Stack pid) (pieces 2) ++ (wanted (owners.U pid) (u_pieces 2) ++ rest)))
 first_same images p earlier pid n named rest e size =
+    let t : List Wanted = text_wanted (contains earlier n) n named.image in
+    let d : List Wanted = pieces_for (owners.Data pid) (data_pages_of named.image.facts) in
+    let k : List Wanted = pieces_for (owners.Stack pid) 1 in
+    let u : List Wanted = pieces_for (owners.U pid) 1 in
     ap (λ (o : Option NamedImage). (image_wanted (contains earlier n) pid n o ++ u) ++ rest) e
     ∙ assoc ((t ++ d) ++ k) u rest ∙ assoc (t ++ d) k (u ++ rest) ∙ assoc t d (k ++ (u ++ rest))
     ∙ ap (λ (x : List Wanted). x ++ (d ++ (k ++ (u ++ rest)))) (sym (text_same n (times n earlier) (2 * length (slots_of p (pages.Text n 0))) (contains earlier n) named (contains_times earlier n).0 (contains_times earlier n).1 size))
-  where
-    t : List Wanted
-    t = text_wanted (contains earlier n) n named.image
-
-    d : List Wanted
-    d = pieces_for (owners.Data pid) (data_pages_of named.image.facts)
-
-    k : List Wanted
-    k = pieces_for (owners.Stack pid) 1
-
-    u : List Wanted
-    u = pieces_for (owners.U pid) 1
 
 first_joined : (A : Inputs) (p : Placement) (earlier : List ℕ) (pid : ℕ) (ns : List ℕ) (hs found : Holdings) → FirstThere A.images ns
     → ((n : ℕ) (named : NamedImage) → image_numbered A.images n ≡ Some named → 2 * length (slots_of p (pages.Text n 0)) ≡ 2 * text_pages_of named.image.facts)
     → first_held A earlier pid ns hs ≡ Ok found → place_all A.swap_blocks hs (start_asks p earlier pid (starting A.images ns)) ≡ Ok found
 unfolding first_held place_all
-first_joined A p earlier pid [] hs found there sizes h = ok h
-  where
-    ok : (let x : Result Holdings ℕ = Ok hs in x) ≡ Ok found → (let y : Result Holdings ℕ = Ok hs in y) ≡ Ok found
-    ok e = ap (λ (z : Holdings). Ok z) (same e)
-      where
-        same : (let x : Result Holdings ℕ = Ok hs in x) ≡ Ok found → hs ≡ found
-        same e = cc
+first_joined A p earlier pid [] hs found there sizes h =
+    let ok : (let x : Result Holdings ℕ = Ok hs in x) ≡ Ok found → (let y : Result Holdings ℕ = Ok hs in y) ≡ Ok found = λ e.
+    let same : (let x : Result Holdings ℕ = Ok hs in x) ≡ Ok found → hs ≡ found = λ e. cc in
+    ap (λ (z : Holdings). Ok z) (same e) in
+    ok h
 first_joined A p earlier pid (n ∷ ns) hs found there sizes h =
     ap (λ (o : Option NamedImage). place_all A.swap_blocks hs (start_asks p earlier pid (starting_as n o ++ starting A.images ns))) there.0.1
     ∙ ap (place_all A.swap_blocks hs) (sym (first_same A.images p earlier pid n there.0.0 (start_asks p (n ∷ earlier) (pid + 1) (starting A.images ns)) there.0.1 (sizes n there.0.0 there.0.1)))
@@ -143,68 +133,42 @@ start_once n (a ∷ more) = (later_not_due n (n + 1) more (omega arith), start_o
 -- All of it.
 
 pub run_start : (A : Inputs) (hs : Holdings) → ImagesFit A.images → FirstThere A.images A.first → 0 < A.frames → start_held A ≡ Ok hs → IsRun A (start A hs)
-run_start A hs images there some found = record {
-  placed = from_machine A (start_state A) k sound numbers coupled.tables beside (start_due facts first A.frames) (start_once 1 first) tt (length-replicate A.frames None);
-  numbers = start_numbered A;
-  lenders = start_lent A;
-  texts = start_texts A.images 1 A.first;
-  sized = start_sized A (images_whole A.images images);
-  flows = record { says = tt; waits = tt };
-  mark = tt;
-}
-  where
-    first : List Starting
-    first = starting A.images A.first
-
-    facts : List Image
-    facts = map (λ (named : NamedImage). named.image.facts) A.images
-
-    p : Placement
-    p = start_placement facts first A.frames
-
-    frames : List (List ℕ)
-    frames = replicate A.frames []
-
-    k : Kernel
-    k = start_kernel A first hs frames
-
-    are : AreStarting A.images A.first first
-    are = are_starting A.images A.first there
-
-    coupled : Coupled k A.images [] (start_state A)
-    coupled = start_coupled_all A first hs frames [] are images
-
-    beside : Stands A.images k (start_state A)
-    beside = start_beside A first hs frames are images
-
-    sizes : (n : ℕ) (named : NamedImage) → image_numbered A.images n ≡ Some named → 2 * length (slots_of p (pages.Text n 0)) ≡ 2 * text_pages_of named.image.facts
-    sizes n named e =
-        let i : ImageFits named = images n named e in
-        let t : length named.image.text ≡ 1024 * length (slots_of p (pages.Text n 0)) = sym (ap (λ (o : Option NamedImage). length (Rattle.kernel_model.specs.Coupled.text_of o)) e) ∙ beside.texts n in
-        let r = i.text in omega (arith, t, r)
-
-    owner : OneOwner A.swap_blocks (is_started 1 first) p hs
-    owner = start_found A.swap_blocks facts first A.frames hs (first_joined A p [] 1 A.first [] hs there sizes found)
-
-    sound : Sound A.swap_blocks k
-    sound = record {
+run_start A hs images there some found =
+    let first : List Starting = starting A.images A.first in
+    let facts : List Image = map (λ (named : NamedImage). named.image.facts) A.images in
+    let p : Placement = start_placement facts first A.frames in
+    let frames : List (List ℕ) = replicate A.frames [] in
+    let k : Kernel = start_kernel A first hs frames in
+    let are : AreStarting A.images A.first first = are_starting A.images A.first there in
+    let coupled : Coupled k A.images [] (start_state A) = start_coupled_all A first hs frames [] are images in
+    let beside : Stands A.images k (start_state A) = start_beside A first hs frames are images in
+    let sizes : (n : ℕ) (named : NamedImage) → image_numbered A.images n ≡ Some named → 2 * length (slots_of p (pages.Text n 0)) ≡ 2 * text_pages_of named.image.facts = λ n named e.
+    let i : ImageFits named = images n named e in
+    let t : length named.image.text ≡ 1024 * length (slots_of p (pages.Text n 0)) = sym (ap (λ (o : Option NamedImage). length (Rattle.kernel_model.specs.Coupled.text_of o)) e) ∙ beside.texts n in
+    let r = i.text in omega (arith, t, r) in
+    let owner : OneOwner A.swap_blocks (is_started 1 first) p hs = start_found A.swap_blocks facts first A.frames hs (first_joined A p [] 1 A.first [] hs there sizes found) in
+    let sound : Sound A.swap_blocks k =
+    let hands : HandsStand p = Rattle.page_laws.proofs.Starts.start_hands facts first A.frames some in
+    record {
       owner = alive_owner A.swap_blocks (is_started 1 first) (lives k.processes) p hs (λ n. started_lives A.images A.first 1 n there) owner;
       tokens = length-replicate A.frames [] ∙ sym (length-replicate A.frames None);
       hands = hands;
       few_transfers = omega arith;
-    }
-      where
-        hands : HandsStand p
-        hands = Rattle.page_laws.proofs.Starts.start_hands facts first A.frames some
-
-    n : IsNumbered (start_state A)
-    n = start_numbered A
-
-    numbers : Numbered k
-    numbers = record {
+    } in
+    let n : IsNumbered (start_state A) = start_numbered A in
+    let numbers : Numbered k = record {
       spaces_differ = (start_numbers facts first A.frames).0;
       spaces_below = subst (λ (m : ℕ). AllBelow m (map Rattle.page_model.specs.Placement.space_number p.spaces)) (let e = started_count A.images A.first there in let z : 1 + length first ≡ length A.first + 1 = omega arith in z) (start_numbers facts first A.frames).1;
       pids_differ = subst AllDistinct (sym (kept_pids (start_state A).processes)) n.pids;
       pids_below = subst (AllBelow (start_state A).next_pid) (sym (kept_pids (start_state A).processes)) n.pids_below;
       residents = λ m a. started_in 1 m first (sym (started_lives A.images A.first 1 m there) ∙ a);
+    } in
+    record {
+      placed = from_machine A (start_state A) k sound numbers coupled.tables beside (start_due facts first A.frames) (start_once 1 first) tt (length-replicate A.frames None);
+      numbers = start_numbered A;
+      lenders = start_lent A;
+      texts = start_texts A.images 1 A.first;
+      sized = start_sized A (images_whole A.images images);
+      flows = record { says = tt; waits = tt };
+      mark = tt;
     }

@@ -93,190 +93,69 @@ pub step_reaches : (A : Inputs) (s : State) (k : Kernel) (image : List ℕ) (u :
     → LendsStand s.point.flat → StandsAt A s k image
     → (h : Stepped A s u) → AllValid s.place (touched A s.point.flat h.pid)
     → Whole A s k u image h
-step_reaches A s k image u images execs numbers lenders at h valid = record {
-  changes = changes;
-  runs = runs_on;
-  written = subst (λ (y : Kernel). Mid A flat1 y image) (sym k1_is) mid1;
-  taken = subst (λ (y : Kernel). Coupled y A.images image flat1) (sym k2_is) ready.coupled;
-  out_regs = subst (λ (x : FlatState). OutRegs (after A s u).place x) (sym flat_is)
-      (regs_stay A.images flat s.place (after A s u).place pid step.writes step.regs step.change runs.resident outs may
-      (λ n e. still_out n (change_out (facts_of A.images) (touch_all s.place written) pid (space_of_process (process_of flat pid)) (is_borrower flat.processes pid) flat.next_sid (place_at s u) step.change n (ap (λ (p : Placement). is_out p n) (sym r.place) ∙ e)))
-      (subst (λ (p : Placement). OutRegs p flat) at.place kp.out_regs));
-}
-  where
-    pid : ℕ
-    pid = h.pid
-
-    flat : FlatState
-    flat = s.point.flat
-
-    step : Step
-    step = step_at A s.point pid
-
-    written : List Page
-    written = pages_written flat pid step
-
-    runs : Runs A s pid h.now
-    runs = h.runs
-
-    can : can_step flat pid ≡ true
-    can = on_steps A s s.mark pid h.now runs.on
-
-    x : Stepper flat pid
-    x = stepper flat pid can
-
-    own : process_of_entry u ≡ Some pid
-    own = steps_own A s.point pid u h.next
-
-    r : Arrives A s pid u
-    r = arrives A s pid u h.ends own
-
-    c : Completes A s.point pid u
-    c = completes A s.point pid u h.ends h.next
-
-    form : Formed A.images flat x.process x.space (is_refused s.point.last pid) step
-    form = stepped_form A s u h x numbers
-
-    number : x.process.pid ≡ pid
-    number = (found_at flat pid x.process x.here).0
-
-    flat1 : FlatState
-    flat1 = apply_writes flat pid step.writes
-
-    form_after : step.after ≡ apply_change A.images flat1 pid step.regs step.change
-    form_after = form.after ∙ ap (λ (n : ℕ). apply_change A.images (apply_writes flat n step.writes) n step.regs step.change) number
-
-    flat_is : (after A s u).point.flat ≡ apply_change A.images flat1 pid step.regs step.change
-    flat_is = stepped_flat A s u h ∙ form_after
-
-    may : NamesChild flat1 step.change
-    may = subst (λ (n : ℕ). NamesChild (apply_writes flat n step.writes) step.change) number form.may
-
-    found : (found : Holdings) × (place_all A.swap_blocks s.holdings (change_wanted A.images flat x.space step.change) ≡ Ok found)
-    found = found_pieces A s pid x.process x.space can x.here x.holds h.unrefused form.wants
-
+step_reaches A s k image u images execs numbers lenders at h valid =
+    let written : List Page = pages_written flat pid step in
+    let own : process_of_entry u ≡ Some pid = steps_own A s.point pid u h.next in
+    let r : Arrives A s pid u = arrives A s pid u h.ends own in
+    let c : Completes A s.point pid u = completes A s.point pid u h.ends h.next in
+    let form : Formed A.images flat x.process x.space (is_refused s.point.last pid) step = stepped_form A s u h x numbers in
+    let number : x.process.pid ≡ pid = (found_at flat pid x.process x.here).0 in
+    let form_after : step.after ≡ apply_change A.images flat1 pid step.regs step.change =
+    form.after ∙ ap (λ (n : ℕ). apply_change A.images (apply_writes flat n step.writes) n step.regs step.change) number in
+    let flat_is : (after A s u).point.flat ≡ apply_change A.images flat1 pid step.regs step.change = stepped_flat A s u h ∙ form_after in
+    let may : NamesChild flat1 step.change = subst (λ (n : ℕ). NamesChild (apply_writes flat n step.writes) step.change) number form.may in
+    let found : (found : Holdings) × (place_all A.swap_blocks s.holdings (change_wanted A.images flat x.space step.change) ≡ Ok found) =
+    found_pieces A s pid x.process x.space can x.here x.holds h.unrefused form.wants in
     -- bytes
-    kp : Keeps A flat k image
-    kp = at.keeps
-
-    mid0 : Mid A flat k image
-    mid0 = record { sound = kp.sound; numbered = kp.numbered; coupled = kp.coupled; stands = kp.stands }
-
-    st0 : Stands A.images k flat
-    st0 = kp.stands
-
-    outs : Rattle.kernel_model.specs.Stands.OutHold s.place flat
-    outs = subst (λ (p : Placement). Rattle.kernel_model.specs.Stands.OutHold p flat) at.place st0.out
-
-    pages : List Page
-    pages = filter_map (λ (w : ByteWrite). page_tested x.space (address_in x.space w.address)) step.writes
-
-    k1 : Kernel
-    k1 = write_bytes k x.space step.writes
-
-    bytes : WroteAll A flat1 k k1 image pages
-    bytes = write_all step.writes A flat k image pid x.process x.space x.space mid0 (ap (λ (p : Placement). p.due) at.place ∙ runs.clear) numbers x.here x.holds (space_self x.space)
-        (all_writable k.place x.space (touched A flat pid) step.writes (subst (λ (p : Placement). AllValid p (touched A flat pid)) (sym at.place) valid)
-        (writes_shown A flat pid x.process x.space (is_refused s.point.last pid) x.here (ready_here flat pid x.process can x.here) x.holds))
-
-    rest : Rest k k1
-    rest = bytes.rest
-
-    k1_is : written_step A s k pid ≡ k1
-    k1_is = ap (λ (o : Option Process). write_by k o step.writes) x.here ∙ ap (λ (y : Holding). write_held k y step.writes) x.holds
-
-    written_is : written ≡ pages
-    written_is = ap (λ (o : Option Process). written_by o step.writes) x.here ∙ ap (λ (y : Holding). written_in y step.writes) x.holds
-
-    p1 : Placement
-    p1 = touch_all s.place written
-
-    place1 : k1.place ≡ p1
-    place1 = bytes.place ∙ ap₂ (λ (p : Placement) (qs : List Page). touch_all p qs) at.place (sym written_is)
-
-    still_out : (n : ℕ) → is_out p1 n ≡ true → is_out s.place n ≡ true
-    still_out n e = sym (touched_out written s.place n) ∙ e
-
-    -- the flat state with them
-    z : Space
-    z = puts x.space step.writes
-
-    w : Wrote flat flat1 pid x.process x.space z
-    w = wrote flat pid step.writes x.process x.space x.here x.holds
-
-    same : SameSpace x.space z
-    same = w.same
-
-    q1 : Process
-    q1 = record x.process { holding = Holds z }
-
-    here : process_of flat1 pid ≡ Some q1
-    here = subst (λ (y : FlatState). process_of y pid ≡ Some q1) (sym w.is) (wrote_process flat pid x.process z x.here)
-
-    numbers1 : IsNumbered flat1
-    numbers1 = writes_numbered flat pid step.writes x.process x.space x.here x.holds numbers
-
-    lenders1 : LendsStand flat1
-    lenders1 = writes_lent flat pid step.writes x.process x.space x.here x.holds lenders
-
-    mid1 : Mid A flat1 k1 image
-    mid1 = bytes.mid
-
-    c0 : Coupled k A.images image flat
-    c0 = kp.coupled
-
-    c1 : Coupled k1 A.images image flat1
-    c1 = mid1.coupled
-
-    t0 : SameTables k flat
-    t0 = c0.tables
-
-    t1 : SameTables k1 flat1
-    t1 = c1.tables
-
-    st1 : Stands A.images k1 flat1
-    st1 = mid1.stands
-
-    borrows : is_borrower flat1.processes pid ≡ is_borrower flat.processes pid
-    borrows = borrows_same flat1.processes flat.processes pid (sym t1.processes ∙ ap (λ (ps : List Rattle.kernel_model.specs.Kernel.Proc). Rattle.std.specs.Prelude.map Rattle.kernel_model.specs.Coupled.outline_kept ps) rest.processes ∙ t0.processes)
-
-    next : k1.next_sid ≡ flat.next_sid
-    next = rest.next_sid ∙ t0.next_sid
-
+    let kp : Keeps A flat k image = at.keeps in
+    let mid0 : Mid A flat k image = record { sound = kp.sound; numbered = kp.numbered; coupled = kp.coupled; stands = kp.stands } in
+    let st0 : Stands A.images k flat = kp.stands in
+    let outs : Rattle.kernel_model.specs.Stands.OutHold s.place flat = subst (λ (p : Placement). Rattle.kernel_model.specs.Stands.OutHold p flat) at.place st0.out in
+    let pages : List Page = filter_map (λ (w : ByteWrite). page_tested x.space (address_in x.space w.address)) step.writes in
+    let k1 : Kernel = write_bytes k x.space step.writes in
+    let bytes : WroteAll A flat1 k k1 image pages =
+    write_all step.writes A flat k image pid x.process x.space x.space mid0 (ap (λ (p : Placement). p.due) at.place ∙ runs.clear) numbers x.here x.holds (space_self x.space)
+    (all_writable k.place x.space (touched A flat pid) step.writes (subst (λ (p : Placement). AllValid p (touched A flat pid)) (sym at.place) valid)
+    (writes_shown A flat pid x.process x.space (is_refused s.point.last pid) x.here (ready_here flat pid x.process can x.here) x.holds)) in
+    let rest : Rest k k1 = bytes.rest in
+    let k1_is : written_step A s k pid ≡ k1 = ap (λ (o : Option Process). write_by k o step.writes) x.here ∙ ap (λ (y : Holding). write_held k y step.writes) x.holds in
+    let written_is : written ≡ pages = ap (λ (o : Option Process). written_by o step.writes) x.here ∙ ap (λ (y : Holding). written_in y step.writes) x.holds in
+    let p1 : Placement = touch_all s.place written in
+    let place1 : k1.place ≡ p1 = bytes.place ∙ ap₂ (λ (p : Placement) (qs : List Page). touch_all p qs) at.place (sym written_is) in
+    let still_out : (n : ℕ) → is_out p1 n ≡ true → is_out s.place n ≡ true = λ n e. sym (touched_out written s.place n) ∙ e in
+    let q1 : Process = record x.process { holding = Holds z } in
+    let here : process_of flat1 pid ≡ Some q1 = subst (λ (y : FlatState). process_of y pid ≡ Some q1) (sym w.is) (wrote_process flat pid x.process z x.here) in
+    let numbers1 : IsNumbered flat1 = writes_numbered flat pid step.writes x.process x.space x.here x.holds numbers in
+    let lenders1 : LendsStand flat1 = writes_lent flat pid step.writes x.process x.space x.here x.holds lenders in
+    let mid1 : Mid A flat1 k1 image = bytes.mid in
+    let c0 : Coupled k A.images image flat = kp.coupled in
+    let c1 : Coupled k1 A.images image flat1 = mid1.coupled in
+    let t0 : SameTables k flat = c0.tables in
+    let t1 : SameTables k1 flat1 = c1.tables in
+    let st1 : Stands A.images k1 flat1 = mid1.stands in
+    let borrows : is_borrower flat1.processes pid ≡ is_borrower flat.processes pid =
+    borrows_same flat1.processes flat.processes pid (sym t1.processes ∙ ap (λ (ps : List Rattle.kernel_model.specs.Kernel.Proc). Rattle.std.specs.Prelude.map Rattle.kernel_model.specs.Coupled.outline_kept ps) rest.processes ∙ t0.processes) in
+    let next : k1.next_sid ≡ flat.next_sid = rest.next_sid ∙ t0.next_sid in
     -- with the pieces
-    k2 : Kernel
-    k2 = record k1 { holdings = found.0 }
-
-    held1 : k1.holdings ≡ s.holdings
-    held1 = rest.holdings ∙ at.holdings
-
-    k2_is : taken_step A s k pid ≡ k2
-    k2_is =
-        ap (λ (y : Kernel). takes_step A y (wanted_if A.images flat step.change (process_of flat pid))) k1_is
-        ∙ ap (λ (o : Option Process). takes_step A k1 (wanted_if A.images flat step.change o)) x.here
-        ∙ ap (λ (y : Holding). takes_step A k1 (wanted_in A.images flat step.change y)) x.holds
-        ∙ ap (λ (hs : Holdings). let y : Kernel = record k1 { holdings = with_pieces A (change_wanted A.images flat x.space step.change) hs } in y) held1
-        ∙ ap (λ (o : Result Holdings ℕ). let y : Kernel = record k1 { holdings = or_before s.holdings o } in y) found.1
-
-    wanted1 : change_wanted A.images flat1 z step.change ≡ change_wanted A.images flat x.space step.change
-    wanted1 = sym (change_same A.images k flat1 pid q1 z step.change images st0.texts kp.numbered numbers1 t01 here refl) ∙ change_same A.images k flat pid x.process x.space step.change images st0.texts kp.numbered numbers t0 x.here x.holds
-      where
-        t01 : SameTables k flat1
-        t01 = subst (SameTables k) (sym w.is) (space_tables k flat x.process x.space z numbers (found_self flat pid x.process x.here) x.holds same t0)
-
-    pieces1 : place_all A.swap_blocks s.holdings (change_wanted A.images flat1 z step.change) ≡ Ok found.0
-    pieces1 = ap (place_all A.swap_blocks s.holdings) wanted1 ∙ found.1
-
-    ready : Found A flat1 k2 image s.holdings
-    ready = record {
+    let k2 : Kernel = record k1 { holdings = found.0 } in
+    let held1 : k1.holdings ≡ s.holdings = rest.holdings ∙ at.holdings in
+    let k2_is : taken_step A s k pid ≡ k2 =
+    ap (λ (y : Kernel). takes_step A y (wanted_if A.images flat step.change (process_of flat pid))) k1_is
+    ∙ ap (λ (o : Option Process). takes_step A k1 (wanted_if A.images flat step.change o)) x.here
+    ∙ ap (λ (y : Holding). takes_step A k1 (wanted_in A.images flat step.change y)) x.holds
+    ∙ ap (λ (hs : Holdings). let y : Kernel = record k1 { holdings = with_pieces A (change_wanted A.images flat x.space step.change) hs } in y) held1
+    ∙ ap (λ (o : Result Holdings ℕ). let y : Kernel = record k1 { holdings = or_before s.holdings o } in y) found.1 in
+    let wanted1 : change_wanted A.images flat1 z step.change ≡ change_wanted A.images flat x.space step.change =
+    let t01 : SameTables k flat1 = subst (SameTables k) (sym w.is) (space_tables k flat x.process x.space z numbers (found_self flat pid x.process x.here) x.holds same t0) in
+    sym (change_same A.images k flat1 pid q1 z step.change images st0.texts kp.numbered numbers1 t01 here refl) ∙ change_same A.images k flat pid x.process x.space step.change images st0.texts kp.numbered numbers t0 x.here x.holds in
+    let pieces1 : place_all A.swap_blocks s.holdings (change_wanted A.images flat1 z step.change) ≡ Ok found.0 = ap (place_all A.swap_blocks s.holdings) wanted1 ∙ found.1 in
+    let ready : Found A flat1 k2 image s.holdings = record {
       sound = subst (λ (hs : Holdings). Sound A.swap_blocks (record k1 { holdings = hs })) held1 mid1.sound;
       numbered = let n1 : Numbered k1 = mid1.numbered in record { spaces_differ = n1.spaces_differ; spaces_below = n1.spaces_below; pids_differ = n1.pids_differ; pids_below = n1.pids_below; residents = n1.residents };
       coupled = takes_coupled A.swap_blocks k1 A.images image flat1 (change_wanted A.images flat1 z step.change) found.0 st1.texts (ap (λ (hs : Holdings). place_all A.swap_blocks hs (change_wanted A.images flat1 z step.change)) held1 ∙ pieces1) c1;
       stands = record { starts = st1.starts; texts = st1.texts; out = st1.out };
-    }
-
-    changing : Changing A flat1 k1.place s.holdings found.0 pid q1 z step.change
-    changing = record {
+    } in
+    let changing : Changing A flat1 k1.place s.holdings found.0 pid q1 z step.change = record {
       images = images;
       numbers = numbers1;
       found_process = here;
@@ -286,36 +165,18 @@ step_reaches A s k image u images execs numbers lenders at h valid = record {
       may = may;
       execs = execs flat pid (is_refused s.point.last pid);
       pieces = pieces1;
-    }
-
-    fits1 : Fits (Some z) (numbered space_number z.sid k1.place.spaces)
-    fits1 = subst (λ (o : Option Space). Fits o (numbered space_number z.sid k1.place.spaces)) (own_space flat1 pid q1 z numbers1 here refl) (t1.spaces z.sid)
-
-    loses : (y : Change) (b : Bool) → loses_pages z b y ≡ loses_pages x.space b y
-    loses Keep b = refl
-    loses (Resize d t) b = ap₂ (λ (i k : ℕ). nat_lt d (i / 1024) || nat_lt t (k / 1024)) same.data_size same.stack_size
-    loses (Fork child) b = refl
-    loses (Lend child) b = refl
-    loses (Exec image top) b = refl
-    loses (Reap child) b = refl
-    loses Sleep b = refl
-    loses (End status) b = refl
-
-    settled : loses_pages z (is_borrower flat.processes pid) step.change ≡ true → is_settled k1.place z.sid ≡ true
-    settled l = ap (λ (p : Placement). is_settled p z.sid) place1 ∙ ap (is_settled p1) same.sid ∙ touched_settled written s.place x.space.sid
-        ∙ settled_when A s pid x.process x.space x.here x.holds h.unsettling (sym (loses step.change (is_borrower flat.processes pid)) ∙ l)
-
-    landed : Landed A (apply_change A.images flat1 pid step.regs step.change) k2 (passing_change (is_borrower flat.processes pid) (facts_of A.images) k2 pid step.regs u step.change) image pid z.sid (is_borrower flat.processes pid) u step.change (given_up flat1 (apply_change A.images flat1 pid step.regs step.change) pid z step.change found.0)
-    landed = step_landed A k2 flat1 image s.holdings pid step.regs u q1 z (is_borrower flat.processes pid) step.change changing lenders1 borrows (λ o. settles_for k1.place z (is_borrower flat.processes pid) step.change o fits1 settled) ready
-
-    sid_is : z.sid ≡ space_of_process (process_of flat pid)
-    sid_is = same.sid ∙ sym (ap space_of_process x.here ∙ ap space_of_holding x.holds)
-
-    journal1 : k1.journal ≡ s.journal
-    journal1 = rest.journal ∙ at.journal
-
-    changes : Reaches A s u (process_step A s k pid u) image
-    changes = subst (λ (y : Kernel). Reaches A s u (passing_change (is_borrower flat.processes pid) (facts_of A.images) y pid step.regs u step.change) image) (sym k2_is) (record {
+    } in
+    let fits1 : Fits (Some z) (numbered space_number z.sid k1.place.spaces) =
+    subst (λ (o : Option Space). Fits o (numbered space_number z.sid k1.place.spaces)) (own_space flat1 pid q1 z numbers1 here refl) (t1.spaces z.sid) in
+    let settled : loses_pages z (is_borrower flat.processes pid) step.change ≡ true → is_settled k1.place z.sid ≡ true = λ l.
+    ap (λ (p : Placement). is_settled p z.sid) place1 ∙ ap (is_settled p1) same.sid ∙ touched_settled written s.place x.space.sid
+    ∙ settled_when A s pid x.process x.space x.here x.holds h.unsettling (sym (loses step.change (is_borrower flat.processes pid)) ∙ l) in
+    let landed : Landed A (apply_change A.images flat1 pid step.regs step.change) k2 (passing_change (is_borrower flat.processes pid) (facts_of A.images) k2 pid step.regs u step.change) image pid z.sid (is_borrower flat.processes pid) u step.change (given_up flat1 (apply_change A.images flat1 pid step.regs step.change) pid z step.change found.0) =
+    step_landed A k2 flat1 image s.holdings pid step.regs u q1 z (is_borrower flat.processes pid) step.change changing lenders1 borrows (λ o. settles_for k1.place z (is_borrower flat.processes pid) step.change o fits1 settled) ready in
+    let sid_is : z.sid ≡ space_of_process (process_of flat pid) = same.sid ∙ sym (ap space_of_process x.here ∙ ap space_of_holding x.holds) in
+    let journal1 : k1.journal ≡ s.journal = rest.journal ∙ at.journal in
+    let changes : Reaches A s u (process_step A s k pid u) image =
+    subst (λ (y : Kernel). Reaches A s u (passing_change (is_borrower flat.processes pid) (facts_of A.images) y pid step.regs u step.change) image) (sym k2_is) (record {
       mid = subst (λ (y : FlatState). Mid A y (passing_change (is_borrower flat.processes pid) (facts_of A.images) k2 pid step.regs u step.change) image) (sym flat_is) landed.mid;
       place = landed.place
           ∙ ap (λ (p : Placement). place_change (facts_of A.images) p pid z.sid (is_borrower flat.processes pid) k1.next_sid (length (append k1.journal u)) step.change) place1
@@ -327,21 +188,69 @@ step_reaches A s k image u images execs numbers lenders at h valid = record {
           ∙ ap (λ (y : FlatState). given_up flat y pid x.space step.change found.0) (sym form_after)
           ∙ sym (r.holdings ∙ held_is A s pid u x.process x.space found.0 h.ends own x.here x.holds (c.suits step.change form.suits) found.1);
       journal = landed.journal ∙ ap (λ (j : List Entry). append j u) journal1;
-    })
+    }) in
+    let runs_on : (n : ℕ) → u ≡ entries.Ran pid n → Reaches A s u (ran_step A s k pid n) image = λ n i.
+    let keep : step.change ≡ Keep = subst (λ (y : Entry). Suits (y ∷ []) step.change) i (c.suits step.change form.suits) in
+    subst (λ (y : Kernel). Reaches A s u (ran_by y pid step.regs (entries.Ran pid n)) image) (sym k1_is)
+    (subst (λ (y : Entry). Reaches A s u (ran_by k1 pid step.regs y) image) i (record {
+      mid = subst (λ (y : FlatState). Mid A y (ran_by k1 pid step.regs u) image) (sym (flat_is ∙ ap (apply_change A.images flat1 pid step.regs) keep)) (record {
+        sound = ran_sound A.swap_blocks k1 pid step.regs u mid1.sound;
+        numbered = ran_numbered k1 pid step.regs u mid1.numbered;
+        coupled = ran_coupled k1 A.images image flat1 pid step.regs u q1 z here refl changing.resident c1;
+        stands = ran_stands A.images k1 flat1 pid step.regs u q1 z here refl changing.resident st1;
+      });
+      place = place1 ∙ sym (r.place ∙ ap (λ (y : Change). place_change (facts_of A.images) p1 pid (space_of_process (process_of flat pid)) (is_borrower flat.processes pid) flat.next_sid (place_at s u) y) keep);
+      holdings = held1 ∙ sym (r.holdings ∙ ap (λ (y : Entry). held_entry A s.point y s.holdings) i);
+      journal = ap (λ (j : List Entry). append j u) journal1;
+    })) in
+    record {
+      changes = changes;
+      runs = runs_on;
+      written = subst (λ (y : Kernel). Mid A flat1 y image) (sym k1_is) mid1;
+      taken = subst (λ (y : Kernel). Coupled y A.images image flat1) (sym k2_is) ready.coupled;
+      out_regs = subst (λ (x : FlatState). OutRegs (after A s u).place x) (sym flat_is)
+          (regs_stay A.images flat s.place (after A s u).place pid step.writes step.regs step.change runs.resident outs may
+          (λ n e. still_out n (change_out (facts_of A.images) (touch_all s.place written) pid (space_of_process (process_of flat pid)) (is_borrower flat.processes pid) flat.next_sid (place_at s u) step.change n (ap (λ (p : Placement). is_out p n) (sym r.place) ∙ e)))
+          (subst (λ (p : Placement). OutRegs p flat) at.place kp.out_regs));
+    }
+  where
+    pid : ℕ
+    pid = h.pid
 
-    runs_on : (n : ℕ) → u ≡ entries.Ran pid n → Reaches A s u (ran_step A s k pid n) image
-    runs_on n i = subst (λ (y : Kernel). Reaches A s u (ran_by y pid step.regs (entries.Ran pid n)) image) (sym k1_is)
-        (subst (λ (y : Entry). Reaches A s u (ran_by k1 pid step.regs y) image) i (record {
-          mid = subst (λ (y : FlatState). Mid A y (ran_by k1 pid step.regs u) image) (sym (flat_is ∙ ap (apply_change A.images flat1 pid step.regs) keep)) (record {
-            sound = ran_sound A.swap_blocks k1 pid step.regs u mid1.sound;
-            numbered = ran_numbered k1 pid step.regs u mid1.numbered;
-            coupled = ran_coupled k1 A.images image flat1 pid step.regs u q1 z here refl changing.resident c1;
-            stands = ran_stands A.images k1 flat1 pid step.regs u q1 z here refl changing.resident st1;
-          });
-          place = place1 ∙ sym (r.place ∙ ap (λ (y : Change). place_change (facts_of A.images) p1 pid (space_of_process (process_of flat pid)) (is_borrower flat.processes pid) flat.next_sid (place_at s u) y) keep);
-          holdings = held1 ∙ sym (r.holdings ∙ ap (λ (y : Entry). held_entry A s.point y s.holdings) i);
-          journal = ap (λ (j : List Entry). append j u) journal1;
-        }))
-      where
-        keep : step.change ≡ Keep
-        keep = subst (λ (y : Entry). Suits (y ∷ []) step.change) i (c.suits step.change form.suits)
+    flat : FlatState
+    flat = s.point.flat
+
+    step : Step
+    step = step_at A s.point pid
+
+    runs : Runs A s pid h.now
+    runs = h.runs
+
+    can : can_step flat pid ≡ true
+    can = on_steps A s s.mark pid h.now runs.on
+
+    x : Stepper flat pid
+    x = stepper flat pid can
+
+    flat1 : FlatState
+    flat1 = apply_writes flat pid step.writes
+
+    -- the flat state with them
+    z : Space
+    z = puts x.space step.writes
+
+    w : Wrote flat flat1 pid x.process x.space z
+    w = wrote flat pid step.writes x.process x.space x.here x.holds
+
+    same : SameSpace x.space z
+    same = w.same
+
+    loses : (y : Change) (b : Bool) → loses_pages z b y ≡ loses_pages x.space b y
+    loses Keep b = refl
+    loses (Resize d t) b = ap₂ (λ (i k : ℕ). nat_lt d (i / 1024) || nat_lt t (k / 1024)) same.data_size same.stack_size
+    loses (Fork child) b = refl
+    loses (Lend child) b = refl
+    loses (Exec image top) b = refl
+    loses (Reap child) b = refl
+    loses Sleep b = refl
+    loses (End status) b = refl

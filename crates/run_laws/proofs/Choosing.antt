@@ -31,10 +31,9 @@ held_in F (q ∷ ps) r d o = go (runner_by F q q.holding) refl (held_in F ps r d
 
     absent : (qs : List Process) (n : ℕ) → IsAbsent n (map (λ (q : Process). q.pid) qs) → holds_some (find (λ x. x.pid == n) qs) ≡ true → ⊥
     absent [] n a e = absurd cc
-    absent (x ∷ qs) n a e = absent_go (absent qs n a.1) (sym (ap (λ (b : Bool). holds_some (cond b (Some x) (find (λ y. y.pid == n) qs))) (ne_eqb x.pid n a.0)) ∙ e)
-      where
-        absent_go : (holds_some (find (λ y. y.pid == n) qs) ≡ true → ⊥) → holds_some (find (λ y. y.pid == n) qs) ≡ true → ⊥
-        absent_go f k = f k
+    absent (x ∷ qs) n a e =
+        let absent_go : (holds_some (find (λ y. y.pid == n) qs) ≡ true → ⊥) → holds_some (find (λ y. y.pid == n) qs) ≡ true → ⊥ = λ f k. f k in
+        absent_go (absent qs n a.1) (sym (ap (λ (b : Bool). holds_some (cond b (Some x) (find (λ y. y.pid == n) qs))) (ne_eqb x.pid n a.0)) ∙ e)
 
     behind : holds_some (find (λ x. x.pid == r.pid) ps) ≡ true → holds_some (cond (q.pid == r.pid) (Some q) (find (λ x. x.pid == r.pid) ps)) ≡ true
     behind e = pick (q.pid == r.pid) refl

@@ -100,24 +100,22 @@ due_here A s k q d ds same i e = ap (λ (p : Placement). due_at p.due q) same �
 pub kind_goes : (A : Inputs) (s : State) (k : Kernel) (image : List ℕ) (read : List (List ℕ)) (u : Entry) → StandsAt A s k image read → Stood A s
     → IsNumbered s.point.flat
     → TextsHeld A.images s.point.flat → Kind A s u → process_of_entry u ≡ None → Stays u → Couples A s k image read u
-kind_goes A s k image read u x st nums texts (Fills q due e i) n y = subst (Couples A s k image read) (sym i) (filled A s k image read (entries.Zero q) x make)
-  where
-    make : 0 < length k.place.free → Couples A s k image read (entries.Zero q)
-    make some =
-        let h : due_at k.place.due q ≡ Some (Start q) = due_here A s k q (Start q) due x.same refl e in
-        let d : IsDue k.place q (Start q) = subst DueStand (sym x.same) st.dues q (Start q) h in
-        goes_start A.swap_blocks k A.images image s.point.flat (locked A s) read q q x.machine (record { there = d.there; frameless = ap frame_of d.unfilled }) d.writable some d.unfilled h
+kind_goes A s k image read u x st nums texts (Fills q due e i) n y =
+    let make : 0 < length k.place.free → Couples A s k image read (entries.Zero q) = λ some.
+    let h : due_at k.place.due q ≡ Some (Start q) = due_here A s k q (Start q) due x.same refl e in
+    let d : IsDue k.place q (Start q) = subst DueStand (sym x.same) st.dues q (Start q) h in
+    goes_start A.swap_blocks k A.images image s.point.flat (locked A s) read q q x.machine (record { there = d.there; frameless = ap frame_of d.unfilled }) d.writable some d.unfilled h in
+    subst (Couples A s k image read) (sym i) (filled A s k image read (entries.Zero q) x make)
 kind_goes A s k image read u x st nums texts (Brings q parent due e i) n y =
     let d : IsDue s.place q (CopyOf q parent) = st.dues q (CopyOf q parent) (ap (λ (l : List Due). due_at l q) e ∙ first_due (CopyOf q parent) due) in
     served A s k image read u parent true x (Rattle.page_laws.proofs.Ownership.Serve.state_there s.place parent (d.source).1) (not_due s.place parent st.dues (d.source).1) i
-kind_goes A s k image read u x st nums texts (Copies q parent due e none i) n y = subst (Couples A s k image read) (sym i) (filled A s k image read (entries.Copy q) x make)
-  where
-    make : 0 < length k.place.free → Couples A s k image read (entries.Copy q)
-    make some =
-        let h : due_at k.place.due q ≡ Some (CopyOf q parent) = due_here A s k q (CopyOf q parent) due x.same refl e in
-        let d : IsDue k.place q (CopyOf q parent) = subst DueStand (sym x.same) st.dues q (CopyOf q parent) h in
-        let v : (f : ℕ) × (state_of s.place parent ≡ Valid f) = served_none s.place parent none in
-        goes_copy A.swap_blocks k A.images image s.point.flat (locked A s) read q q parent v.0 x.machine (record { there = d.there; frameless = ap frame_of d.unfilled }) d.writable some d.unfilled h (ap (λ (p : Placement). state_of p parent) x.same ∙ v.1)
+kind_goes A s k image read u x st nums texts (Copies q parent due e none i) n y =
+    let make : 0 < length k.place.free → Couples A s k image read (entries.Copy q) = λ some.
+    let h : due_at k.place.due q ≡ Some (CopyOf q parent) = due_here A s k q (CopyOf q parent) due x.same refl e in
+    let d : IsDue k.place q (CopyOf q parent) = subst DueStand (sym x.same) st.dues q (CopyOf q parent) h in
+    let v : (f : ℕ) × (state_of s.place parent ≡ Valid f) = served_none s.place parent none in
+    goes_copy A.swap_blocks k A.images image s.point.flat (locked A s) read q q parent v.0 x.machine (record { there = d.there; frameless = ap frame_of d.unfilled }) d.writable some d.unfilled h (ap (λ (p : Placement). state_of p parent) x.same ∙ v.1) in
+    subst (Couples A s k image read) (sym i) (filled A s k image read (entries.Copy q) x make)
 kind_goes A s k image read u x st nums texts (Serves pid now q r w i) n y =
     let j : Splits s.place (touched_next A s) (locked A s) q = wanted_splits A s q r.clear w in
     let all = subst (Rattle.page_model.specs.Conditions.EachPage (Present s.place)) (ap (touched_by A s.point.flat) (sym (on_running A s s.mark pid now r.on))) (touched_present A s.point.flat s.place s.holdings pid nums texts st) in
@@ -132,14 +130,12 @@ kind_goes A s k image read u x st nums texts (Moves count e m l w i) n y = subst
     move true = finish A s k image read x
     move false = goes_hand A.swap_blocks k A.images image s.point.flat (locked A s) read x.machine
 kind_goes A s k image read u x st nums texts (PutsOut pid e m i) n y =
+    let sid : ℕ = space_of_process (process_of s.point.flat pid) in
     subst (λ (e : Entry). Stays e → Couples A s k image read e) (sym i)
     (subst (λ (p : Placement). Stays (put_out_unit p pid sid) → Couples A s k image read (put_out_unit p pid sid)) x.same
     (unit_case (λ (e : Entry). Stays e → Couples A s k image read e) k.place pid sid (λ t ts h z. finish A s k image read x)
     (λ v h j d z. let c : HasSeat k.place v = seated_seat k.place v (seated_first k.place (pages_of_space k.place sid) v j) in goes_put A.swap_blocks k A.images image s.point.flat (locked A s) read v (run_put k.place v).n x.machine c (run_seats k.place v c))
     (λ h j z. absurd z))) y
-  where
-    sid : ℕ
-    sid = space_of_process (process_of s.point.flat pid)
 kind_goes A s k image read u x st nums texts (Notes e m i) n y = let m : Machine A.swap_blocks k A.images image s.point.flat read = x.machine in subst (Couples A s k image read) (sym i) (record { coupled = note_coupled k A.images image s.point.flat (owners_entry s) m.coupled; stands = note_stands A.images k s.point.flat (owners_entry s) m.stands; tokens = refl })
 kind_goes A s k image read u x st nums texts (Begins e m i) n y = begins_is (Couples A s k image read) A s u i marked
   where

@@ -153,11 +153,11 @@ step_some A F pid refused c =
 
 -- a process that runs, all of whose pages are valid, has a next unit
 pub runs_some : (A : Inputs) (s : State) (pid : ℕ) (now : Bool) → IsRun A s → Runs A s pid now → wanted A s ≡ None → (u : Entry) × (next_unit A s ≡ Some u)
-runs_some A s pid now r x w = (a.0, runs_next A s pid now a.0 x w a.1)
+runs_some A s pid now r x w =
+    let f : Flows A s = r.flows in
+    let a : (u : Entry) × (act A s pid ≡ Some u) = acts_some A s pid c (left s.point.last refl f.waits) in
+    (a.0, runs_next A s pid now a.0 x w a.1)
   where
-    f : Flows A s
-    f = r.flows
-
     c : can_step s.point.flat pid ≡ true
     c = on_steps A s s.mark pid now x.on
 
@@ -189,9 +189,6 @@ runs_some A s pid now r x w = (a.0, runs_next A s pid now a.0 x w a.1)
     left (Some (entries.SwapOut p)) e y z = some (sym (ap (λ (o : Option Entry). Rattle.flat_model.specs.Run.due o pid (step_at A s.point pid).entries) e) ∙ z)
     left (Some (entries.SwapIn p)) e y z = some (sym (ap (λ (o : Option Entry). Rattle.flat_model.specs.Run.due o pid (step_at A s.point pid).entries) e) ∙ z)
     left (Some (entries.Owners k l m n)) e y z = some (sym (ap (λ (o : Option Entry). Rattle.flat_model.specs.Run.due o pid (step_at A s.point pid).entries) e) ∙ z)
-
-    a : (u : Entry) × (act A s pid ≡ Some u)
-    a = acts_some A s pid c (left s.point.last refl f.waits)
 
 -- The limit.
 

@@ -228,15 +228,14 @@ noted_on A s u _ pid now g = absurd g
 
 noted_awaits : (A : Inputs) (s : State) (u : Entry) (pid : ℕ) (now : Bool) → Runs A s pid now → wanted A s ≡ None
     → (due_at A (noted s u).point pid ≡ [] → ⊥) → Awaits A (noted s u) pid
-noted_awaits A s u pid now r w n = record {
-  now = now;
-  runs = record { clear = r.clear; on = noted_on A s u s.mark pid now r.on; resident = r.resident };
-  unwanted = unwanted;
-  left = n;
-}
-  where
-    unwanted : wanted A (noted s u) ≡ None
-    unwanted = all_unwanted A (noted s u) r.clear (wanted_none A s r.clear w)
+noted_awaits A s u pid now r w n =
+    let unwanted : wanted A (noted s u) ≡ None = all_unwanted A (noted s u) r.clear (wanted_none A s r.clear w) in
+    record {
+      now = now;
+      runs = record { clear = r.clear; on = noted_on A s u s.mark pid now r.on; resident = r.resident };
+      unwanted = unwanted;
+      left = n;
+    }
 
 done_on : (A : Inputs) (s : State) (m : Mark) (pid : ℕ) (now : Bool) → GoesOn A s m pid now → GoesOn A (after A s entries.Done) (completed m) pid now
 unfolding after
@@ -552,15 +551,14 @@ flows_on A s u o f h = go (kind_of A s u h)
 
     act_by_kind : (pid : ℕ) (now : Bool) → Runs A s pid now → wanted A s ≡ None → Acted A s pid u → Flows A (after A s u)
     act_by_kind pid now r w (Settles e) = plain (ap process_of_entry e)
-    act_by_kind pid now r w (Refuses e) = record { says = says; waits = refuses e }
-      where
-        refuses : u ≡ entries.Refused pid → WaitsBy A (after A s u) (after A s u).point.last
-        refuses e = subst (λ (x : Entry). WaitsBy A (after A s x) (after A s x).point.last) (sym e)
-            (subst (λ (t : State). WaitsBy A t t.point.last) (sym (refused_after A s pid))
-            (noted_awaits A s (entries.Refused pid) pid now r w
-            (λ z. has_some (flat_step A s.point.flat pid true).entries
-            (refused_entry A s.point.flat pid (subst (λ (t : State). LastSays A t.point.flat t.point.last) (refused_after A s pid) (subst (λ (x : Entry). LastSays A (after A s x).point.flat (after A s x).point.last) e says)))
-            (sym (ap (λ (b : Bool). (flat_step A s.point.flat pid b).entries) (eq_self pid)) ∙ z))))
+    act_by_kind pid now r w (Refuses e) =
+        let refuses : u ≡ entries.Refused pid → WaitsBy A (after A s u) (after A s u).point.last = λ e. subst (λ (x : Entry). WaitsBy A (after A s x) (after A s x).point.last) (sym e)
+        (subst (λ (t : State). WaitsBy A t t.point.last) (sym (refused_after A s pid))
+        (noted_awaits A s (entries.Refused pid) pid now r w
+        (λ z. has_some (flat_step A s.point.flat pid true).entries
+        (refused_entry A s.point.flat pid (subst (λ (t : State). LastSays A t.point.flat t.point.last) (refused_after A s pid) (subst (λ (x : Entry). LastSays A (after A s x).point.flat (after A s x).point.last) e says)))
+        (sym (ap (λ (b : Bool). (flat_step A s.point.flat pid b).entries) (eq_self pid)) ∙ z)))) in
+        record { says = says; waits = refuses e }
     act_by_kind pid now r w (Steps f g e) = record { says = says; waits = step_waits A s pid now u r w e says }
 
     go : Kind A s u → Flows A (after A s u)

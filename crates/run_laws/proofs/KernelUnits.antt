@@ -98,32 +98,19 @@ written_table k (Some q) ws = go q.holding
 step_behind : (A : Inputs) (s : State) (k : Kernel) (image : List ℕ) (pid : ℕ) (e : Entry) → StandsAt A s k image
     → (KernelState.kernel (states_after A.images (resting s k image) (step_units A s k pid e)) ≡ process_step A s k pid e)
     × (KernelState.image (states_after A.images (resting s k image) (step_units A s k pid e)) ≡ image)
-step_behind A s k image pid e at = (
-  ap (λ (m : KernelState). m.kernel) here
-      ∙ ap (λ (b : Bool). passing_change b (facts_of A.images) (taken_step A s k pid) pid (step_at A s.point pid).regs e (step_at A s.point pid).change) lender,
-  ap (λ (m : KernelState). m.image) here,
-)
-  where
-    kp : Keeps A s.point.flat k image
-    kp = at.keeps
-
-    c : Coupled k A.images image s.point.flat
-    c = kp.coupled
-
-    l : Kernel
-    l = written_step A s k pid
-
-    r : Leads A.images (resting s k image) (written_units A s k pid) l
-    r = process_leads A.images pid (step_at A s.point pid).writes (process_of s.point.flat pid) (resting s k image)
-
-    us : List KernelUnit
-    us = FindUnit (Kernel.holdings (taken_step A s k pid)) ∷ ChangeUnit pid (step_at A s.point pid).regs e (step_at A s.point pid).change ∷ []
-
-    here : states_after A.images (resting s k image) (step_units A s k pid e) ≡ states_after A.images (Now (resting s k image) l r.0) us
-    here = r.1 us
-
-    lender : has_lender l.processes pid ≡ is_borrower s.point.flat.processes pid
-    lender = ap (λ (ps : List Proc). has_lender ps pid) (written_table k (process_of s.point.flat pid) (step_at A s.point pid).writes) ∙ borrows_is k s.point.flat pid c.tables
+step_behind A s k image pid e at =
+    let kp : Keeps A s.point.flat k image = at.keeps in
+    let c : Coupled k A.images image s.point.flat = kp.coupled in
+    let l : Kernel = written_step A s k pid in
+    let r : Leads A.images (resting s k image) (written_units A s k pid) l = process_leads A.images pid (step_at A s.point pid).writes (process_of s.point.flat pid) (resting s k image) in
+    let us : List KernelUnit = FindUnit (Kernel.holdings (taken_step A s k pid)) ∷ ChangeUnit pid (step_at A s.point pid).regs e (step_at A s.point pid).change ∷ [] in
+    let here : states_after A.images (resting s k image) (step_units A s k pid e) ≡ states_after A.images (Now (resting s k image) l r.0) us = r.1 us in
+    let lender : has_lender l.processes pid ≡ is_borrower s.point.flat.processes pid =
+    ap (λ (ps : List Proc). has_lender ps pid) (written_table k (process_of s.point.flat pid) (step_at A s.point pid).writes) ∙ borrows_is k s.point.flat pid c.tables in (
+      ap (λ (m : KernelState). m.kernel) here
+          ∙ ap (λ (b : Bool). passing_change b (facts_of A.images) (taken_step A s k pid) pid (step_at A s.point pid).regs e (step_at A s.point pid).change) lender,
+      ap (λ (m : KernelState). m.image) here,
+    )
 
 pub unit_behind : (A : Inputs) (s : State) (k : Kernel) (image : List ℕ) (read : List (List ℕ)) (u : Entry) → StandsAt A s k image → next_unit A s ≡ Some u
     → (KernelState.kernel (states_after A.images (resting s k image) (units_behind A s k read u)) ≡ unit_step A s k image read u)

@@ -106,74 +106,41 @@ pub own_landed : (A : Inputs) (k : Kernel) (flat : FlatState) (image : List ℕ)
     → Changing A flat k.place before k.holdings pid q s change → is_borrower flat.processes pid ≡ b
     → Own b change → SettlesFor k.place s.sid change → Found A flat k image before
     → Landed A (apply_change A.images flat pid regs change) k (keeps_step (facts_of A.images) k pid regs e change) image pid s.sid b e change (given_up flat (apply_change A.images flat pid regs change) pid s change k.holdings)
-own_landed A k flat image before pid regs e q s b change c w o settles x = record {
-  mid = record { sound = kept.sound; numbered = kept.numbered; coupled = coupled; stands = told.stands };
-  place = lands.place ∙ keeps_place (facts_of A.images) k.place pid s.sid b k.next_sid (length (append k.journal e)) change o;
-  holdings = lands.holdings ∙ sym back;
-  journal = lands.journal;
-}
-  where
-    after : FlatState
-    after = apply_change A.images flat pid regs change
-
-    cp : Coupled k A.images image flat
-    cp = x.coupled
-
-    t : SameTables k flat
-    t = cp.tables
-
-    st : Stands A.images k flat
-    st = x.stands
-
-    so : Sound A.swap_blocks (record k { holdings = before })
-    so = x.sound
-
-    ready : ReadyFor k pid change
-    ready = coupled_ready k flat pid q s change t c.found_process c.holds (takes_next k flat change t c.may) (may_reap k flat change t c.may) settles
-
-    pieces : place_all A.swap_blocks before (asked (facts_of A.images) k pid change) ≡ Ok k.holdings
-    pieces = ap (place_all A.swap_blocks before) (change_same A.images k flat pid q s change c.images st.texts x.numbered c.numbers t c.found_process c.holds) ∙ c.pieces
-
-    l : Kernel
-    l = keeps_step (facts_of A.images) k pid regs e change
-
-    kept : own.Kept A l
-    kept = own_kept A k flat pid regs e q s change c.numbers c.found_process c.holds t c.may (ready_sound A.swap_blocks (facts_of A.images) k before pid regs e change so x.numbered ready pieces) (flat_numbered (facts_of A.images) k pid regs e change (takes_next k flat change t c.may) ready.alive x.numbered)
-
-    told : own.Told A l after
-    told = own_told A k flat pid regs e q s b change c.images c.numbers c.found_process c.holds w o c.resident c.clear c.may c.execs t st
-
-    lands : own.Lands A k pid s.sid e change l
-    lands = own_lands A k flat pid regs e q s change c.found_process c.holds t
-
-    g : Stepping k flat pid q s
-    g = stepping k flat pid q s t c.found_process c.holds
-
-    ow : OneOwner A.swap_blocks (lives k.processes) k.place before
-    ow = so.owner
-
-    forgets : MayForget (facts_of A.images) k.place s.sid false k.next_sid change
-    forgets = subst (λ (y : Life). MayForget (facts_of A.images) k.place (space_of_life y) (gave_back y) k.next_sid change) (ap life_of_proc g.kept ∙ g.life) (may_change (facts_of A.images) k pid change ow.frames x.numbered ready).forgets
-
-    coupled : Coupled l A.images image after
-    coupled = own_coupled A k flat image before pid regs e q s b change c w o settles forgets x
-
-    fits : Fits (Some s) (numbered space_number s.sid k.place.spaces)
-    fits = subst (λ (y : Option Space). Fits y (numbered space_number s.sid k.place.spaces)) (own_space flat pid q s c.numbers c.found_process c.holds) (t.spaces s.sid)
-
-    numbers : IsNumbered after
-    numbers = changes_numbered A.images flat pid regs change q s c.found_process c.holds c.may c.numbers
-
-    shared : is_shared after s.image ≡ Rattle.register_laws.proofs.FlatLawsAsking.is_some_of Rattle.register_laws.proofs.FlatLawsAsking.image_of_pages s.image l.place.spaces
-    shared = shared_same l after s.image kept.numbered numbers told.tables
-
-    same_image : image_of k.place s.sid ≡ s.image
-    same_image = fit_image s (numbered space_number s.sid k.place.spaces) fits
-
-    back : given_up flat after pid s change k.holdings ≡ holdings_after k.holdings k.place l.place pid s.sid false change
-    back = given_same flat after pid s change k.holdings k.place l.place b w same_image
-        (λ z. ((λ i. shared ∙ no_sharers s.image l.place.spaces (ap (sharers l.place) (sym same_image) ∙ i)), (λ m i. shared ∙ some_sharers s.image m l.place.spaces (ap (sharers l.place) (sym same_image) ∙ i))))
-        ∙ keeps_holdings k.holdings k.place l.place pid s.sid b change o
+own_landed A k flat image before pid regs e q s b change c w o settles x =
+    let after : FlatState = apply_change A.images flat pid regs change in
+    let cp : Coupled k A.images image flat = x.coupled in
+    let t : SameTables k flat = cp.tables in
+    let st : Stands A.images k flat = x.stands in
+    let so : Sound A.swap_blocks (record k { holdings = before }) = x.sound in
+    let ready : ReadyFor k pid change = coupled_ready k flat pid q s change t c.found_process c.holds (takes_next k flat change t c.may) (may_reap k flat change t c.may) settles in
+    let pieces : place_all A.swap_blocks before (asked (facts_of A.images) k pid change) ≡ Ok k.holdings =
+    ap (place_all A.swap_blocks before) (change_same A.images k flat pid q s change c.images st.texts x.numbered c.numbers t c.found_process c.holds) ∙ c.pieces in
+    let l : Kernel = keeps_step (facts_of A.images) k pid regs e change in
+    let kept : own.Kept A l =
+    own_kept A k flat pid regs e q s change c.numbers c.found_process c.holds t c.may (ready_sound A.swap_blocks (facts_of A.images) k before pid regs e change so x.numbered ready pieces) (flat_numbered (facts_of A.images) k pid regs e change (takes_next k flat change t c.may) ready.alive x.numbered) in
+    let told : own.Told A l after = own_told A k flat pid regs e q s b change c.images c.numbers c.found_process c.holds w o c.resident c.clear c.may c.execs t st in
+    let lands : own.Lands A k pid s.sid e change l = own_lands A k flat pid regs e q s change c.found_process c.holds t in
+    let g : Stepping k flat pid q s = stepping k flat pid q s t c.found_process c.holds in
+    let ow : OneOwner A.swap_blocks (lives k.processes) k.place before = so.owner in
+    let forgets : MayForget (facts_of A.images) k.place s.sid false k.next_sid change =
+    subst (λ (y : Life). MayForget (facts_of A.images) k.place (space_of_life y) (gave_back y) k.next_sid change) (ap life_of_proc g.kept ∙ g.life) (may_change (facts_of A.images) k pid change ow.frames x.numbered ready).forgets in
+    let coupled : Coupled l A.images image after = own_coupled A k flat image before pid regs e q s b change c w o settles forgets x in
+    let fits : Fits (Some s) (numbered space_number s.sid k.place.spaces) =
+    subst (λ (y : Option Space). Fits y (numbered space_number s.sid k.place.spaces)) (own_space flat pid q s c.numbers c.found_process c.holds) (t.spaces s.sid) in
+    let numbers : IsNumbered after = changes_numbered A.images flat pid regs change q s c.found_process c.holds c.may c.numbers in
+    let shared : is_shared after s.image ≡ Rattle.register_laws.proofs.FlatLawsAsking.is_some_of Rattle.register_laws.proofs.FlatLawsAsking.image_of_pages s.image l.place.spaces =
+    shared_same l after s.image kept.numbered numbers told.tables in
+    let same_image : image_of k.place s.sid ≡ s.image = fit_image s (numbered space_number s.sid k.place.spaces) fits in
+    let back : given_up flat after pid s change k.holdings ≡ holdings_after k.holdings k.place l.place pid s.sid false change =
+    given_same flat after pid s change k.holdings k.place l.place b w same_image
+    (λ z. ((λ i. shared ∙ no_sharers s.image l.place.spaces (ap (sharers l.place) (sym same_image) ∙ i)), (λ m i. shared ∙ some_sharers s.image m l.place.spaces (ap (sharers l.place) (sym same_image) ∙ i))))
+    ∙ keeps_holdings k.holdings k.place l.place pid s.sid b change o in
+    record {
+      mid = record { sound = kept.sound; numbered = kept.numbered; coupled = coupled; stands = told.stands };
+      place = lands.place ∙ keeps_place (facts_of A.images) k.place pid s.sid b k.next_sid (length (append k.journal e)) change o;
+      holdings = lands.holdings ∙ sym back;
+      journal = lands.journal;
+    }
 
 -- Who borrowed its space, and gives it back.
 
@@ -200,66 +167,33 @@ pub back_landed : (A : Inputs) (k : Kernel) (flat : FlatState) (image : List ℕ
     → Found A flat k image before
     → Landed A (apply_change A.images flat pid regs change) k (back_step (facts_of A.images) k pid regs e change) image pid s.sid true e change (given_up flat (apply_change A.images flat pid regs change) pid s change k.holdings)
 back_landed A k flat image before pid regs e q s change c lend w gb x =
+    let after : FlatState = apply_change A.images flat pid regs change in
+    let cp : Coupled k A.images image flat = x.coupled in
+    let t : SameTables k flat = cp.tables in
+    let st : Stands A.images k flat = x.stands in
+    let lender : (m : Process) × IsLender flat pid s.sid m = lender_found flat pid q s c.found_process c.holds w c.numbers lend in
+    let m : Process = lender.0 in
+    let a : Borrowing k flat pid q m s = borrowing k flat pid q m s t c.found_process c.holds lender.1 in
+    let g : Stepping k flat pid q s = a.step in
+    let k1 : Kernel = pass_step k pid m.pid in
+    let sound1 : Sound A.swap_blocks (record k1 { holdings = before }) =
+    pass_sound A.swap_blocks (record k { holdings = before }) pid m.pid (ap lives_in g.kept ∙ ap has_life g.life) (ap lives_in a.kept ∙ ap has_life a.life) x.sound in
+    let n1 : Numbered k1 = pass_numbered k pid m.pid (ap lives_in g.kept ∙ ap has_life g.life) (ap lives_in a.kept ∙ ap has_life a.life) x.numbered in
+    let ready : ReadyFor k1 pid change = back_ready k flat pid q m s change a gb in
+    let pieces : place_all A.swap_blocks before (asked (facts_of A.images) k1 pid change) ≡ Ok k.holdings =
+    ap (place_all A.swap_blocks before) (asks_same (facts_of A.images) k k1 pid change gb refl refl ∙ change_same A.images k flat pid q s change c.images st.texts x.numbered c.numbers t c.found_process c.holds) ∙ c.pieces in
+    let l : Kernel = change_step (facts_of A.images) k1 pid regs e change in
+    let sound : Sound A.swap_blocks l = ready_sound A.swap_blocks (facts_of A.images) k1 before pid regs e change sound1 n1 ready pieces in
+    let told : back.Told A l after = back_told A k flat pid regs e q m s change gb c.images c.numbers c.found_process c.holds lender.1 c.resident c.clear c.execs t st in
+    let lands : back.Lands A k pid s.sid e change l = back_lands A k flat pid regs e q m s change a gb in
+    let fits : Fits (Some s) (numbered space_number s.sid k.place.spaces) =
+    subst (λ (y : Option Space). Fits y (numbered space_number s.sid k.place.spaces)) (own_space flat pid q s c.numbers c.found_process c.holds) (t.spaces s.sid) in
     subst (λ (y : Kernel). Landed A after k y image pid s.sid true e change (given_up flat after pid s change k.holdings)) (sym (back_is A k pid m.pid regs e change gb (lender_is k flat pid s.sid m t c.numbers lender.1))) (record {
       mid = record { sound = sound; numbered = flat_numbered (facts_of A.images) k1 pid regs e change (takes_none k1 change gb) ready.alive n1; coupled = back_coupled A k flat image before pid regs e q m s change c lender.1 gb x; stands = told.stands };
       place = lands.place;
       holdings = lands.holdings ∙ sym (given_same flat after pid s change k.holdings k.place l.place true w (fit_image s (numbered space_number s.sid k.place.spaces) fits) (λ z. absurd cc));
       journal = lands.journal;
     })
-  where
-    after : FlatState
-    after = apply_change A.images flat pid regs change
-
-    cp : Coupled k A.images image flat
-    cp = x.coupled
-
-    t : SameTables k flat
-    t = cp.tables
-
-    st : Stands A.images k flat
-    st = x.stands
-
-    lender : (m : Process) × IsLender flat pid s.sid m
-    lender = lender_found flat pid q s c.found_process c.holds w c.numbers lend
-
-    m : Process
-    m = lender.0
-
-    a : Borrowing k flat pid q m s
-    a = borrowing k flat pid q m s t c.found_process c.holds lender.1
-
-    g : Stepping k flat pid q s
-    g = a.step
-
-    k1 : Kernel
-    k1 = pass_step k pid m.pid
-
-    sound1 : Sound A.swap_blocks (record k1 { holdings = before })
-    sound1 = pass_sound A.swap_blocks (record k { holdings = before }) pid m.pid (ap lives_in g.kept ∙ ap has_life g.life) (ap lives_in a.kept ∙ ap has_life a.life) x.sound
-
-    n1 : Numbered k1
-    n1 = pass_numbered k pid m.pid (ap lives_in g.kept ∙ ap has_life g.life) (ap lives_in a.kept ∙ ap has_life a.life) x.numbered
-
-    ready : ReadyFor k1 pid change
-    ready = back_ready k flat pid q m s change a gb
-
-    pieces : place_all A.swap_blocks before (asked (facts_of A.images) k1 pid change) ≡ Ok k.holdings
-    pieces = ap (place_all A.swap_blocks before) (asks_same (facts_of A.images) k k1 pid change gb refl refl ∙ change_same A.images k flat pid q s change c.images st.texts x.numbered c.numbers t c.found_process c.holds) ∙ c.pieces
-
-    l : Kernel
-    l = change_step (facts_of A.images) k1 pid regs e change
-
-    sound : Sound A.swap_blocks l
-    sound = ready_sound A.swap_blocks (facts_of A.images) k1 before pid regs e change sound1 n1 ready pieces
-
-    told : back.Told A l after
-    told = back_told A k flat pid regs e q m s change gb c.images c.numbers c.found_process c.holds lender.1 c.resident c.clear c.execs t st
-
-    lands : back.Lands A k pid s.sid e change l
-    lands = back_lands A k flat pid regs e q m s change a gb
-
-    fits : Fits (Some s) (numbered space_number s.sid k.place.spaces)
-    fits = subst (λ (y : Option Space). Fits y (numbered space_number s.sid k.place.spaces)) (own_space flat pid q s c.numbers c.found_process c.holds) (t.spaces s.sid)
 
 -- Either, by whether the process borrowed.
 

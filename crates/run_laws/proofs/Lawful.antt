@@ -190,31 +190,14 @@ follows_state A (u ∷ us) s t f = follows_state A us (after A s u) t f.1
 -- A journal that next units make is lawful: a run of the flat machine, with its count and its holdings.
 pub reaches_lawful : (A : Inputs) (journal : List Entry) (s : State) → ImagesFit A.images → ExecsFit A
     → ((hs : Holdings) → start_held A ≡ Ok hs → IsRun A (start A hs)) → Reaches A journal s → IsLawful A journal s
-reaches_lawful A journal s images execs begin r = record { reaches = r; flat = flat; count = count; holdings = holdings }
-  where
-    hs : Holdings
-    hs = r.holdings
-
-    us : List Entry
-    us = r.units
-
-    units : AllUnits us
-    units = all_units A us (start A hs) s r.follows
-
-    at : state_after A (start A hs) us ≡ s
-    at = follows_state A us (start A hs) s r.follows
-
-    run : flat_run A (appended [] us) ≡ Some (state_after A (start A hs) us).point
-    run = next_run A hs us units (all_next A us (start A hs) s images execs (begin hs r.found) r.follows)
-
-    flat : flat_run A journal ≡ Some s.point
-    flat = ap (flat_run A) (sym r.joined) ∙ run ∙ ap (λ (x : State). Some x.point) at
-
-    same : state_at A hs journal ≡ s
-    same = ap (state_at A hs) (sym r.joined) ∙ state_appended A hs us units ∙ at
-
-    count : instructions_of journal ≡ s.count
-    count = sym (Rattle.run_model.proofs.After.state_count A hs journal) ∙ ap (λ (x : State). x.count) same
-
-    holdings : held A journal ≡ Ok s.holdings
-    holdings = run_held A hs journal r.found (run_flat A hs journal s.point flat) ∙ ap (λ (x : State). Ok x.holdings) same
+reaches_lawful A journal s images execs begin r =
+    let hs : Holdings = r.holdings in
+    let us : List Entry = r.units in
+    let units : AllUnits us = all_units A us (start A hs) s r.follows in
+    let at : state_after A (start A hs) us ≡ s = follows_state A us (start A hs) s r.follows in
+    let run : flat_run A (appended [] us) ≡ Some (state_after A (start A hs) us).point = next_run A hs us units (all_next A us (start A hs) s images execs (begin hs r.found) r.follows) in
+    let flat : flat_run A journal ≡ Some s.point = ap (flat_run A) (sym r.joined) ∙ run ∙ ap (λ (x : State). Some x.point) at in
+    let same : state_at A hs journal ≡ s = ap (state_at A hs) (sym r.joined) ∙ state_appended A hs us units ∙ at in
+    let count : instructions_of journal ≡ s.count = sym (Rattle.run_model.proofs.After.state_count A hs journal) ∙ ap (λ (x : State). x.count) same in
+    let holdings : held A journal ≡ Ok s.holdings = run_held A hs journal r.found (run_flat A hs journal s.point flat) ∙ ap (λ (x : State). Ok x.holdings) same in
+    record { reaches = r; flat = flat; count = count; holdings = holdings }

@@ -222,31 +222,26 @@ page_room A flat k image u kp = go u
 pub paged_behind : (A : Inputs) (s : State) (k : Kernel) (image : List ℕ) (read : List (List ℕ)) (u : Entry) → IsRun A s → StandsAt A s k image
     → AreRead (beside_kernel k A.images image s.point.flat) k.place.transfers read → Kind A s u → process_of_entry u ≡ None → Stays u
     → Behind A (after A s u) (page_step k (locked A s) read u) (page_image k image u)
-paged_behind A s k image read u r at are kind n y = record {
-  place = lands.place ∙ ap (λ (p : Placement). place_entry (locked A s) (place_at s u) p u) at.place ∙ sym (plain_place A s u n);
-  holdings = lands.holdings ∙ at.holdings ∙ sym (plain_holdings A s u n);
-  journal = lands.journal ∙ ap (λ (j : List Entry). append j u) at.journal ∙ sym (after_journal A s u);
-  coupled = subst (λ (x : Point). Coupled (page_step k (locked A s) read u) A.images (page_image k image u) x.flat) (sym (plain_point A s u n)) goes.coupled;
-  stands = subst (λ (x : Point). Stands A.images (page_step k (locked A s) read u) x.flat) (sym (plain_point A s u n)) goes.stands;
-  frames = goes.tokens ∙ frames_at A s k image r.placed at;
-  room = page_room A s.point.flat k image u kp;
-  out_regs = subst (λ (x : Point). OutRegs (Kernel.place (page_step k (locked A s) read u)) x.flat) (sym (plain_point A s u n)) (outs_kept k.place (Kernel.place (page_step k (locked A s) read u)) s.point.flat was kp.out_regs);
-}
-  where
-    kp : Keeps A s.point.flat k image
-    kp = at.keeps
-
-    goes : Goes k A.images image s.point.flat (locked A s) read u
-    goes = kind_goes A s k image read u (record { same = at.place; machine = record { sound = kp.sound; stands = kp.stands; room = kp.room; are = are; coupled = kp.coupled } }) r.placed r.numbers r.texts kind n y
-
-    lands : Lands k (page_step k (locked A s) read u) (locked A s) (place_at s u) u
-    lands = page_lands k (locked A s) (place_at s u) read u n y
-
-    was : (m : ℕ) → is_out (Kernel.place (page_step k (locked A s) read u)) m ≡ true → is_out k.place m ≡ true
-    was m e = elim (entry_out (locked A s) (place_at s u) k.place u m (ap (λ (p : Placement). is_out p m) (sym lands.place) ∙ e)) [
+paged_behind A s k image read u r at are kind n y =
+    let kp : Keeps A s.point.flat k image = at.keeps in
+    let goes : Goes k A.images image s.point.flat (locked A s) read u =
+    kind_goes A s k image read u (record { same = at.place; machine = record { sound = kp.sound; stands = kp.stands; room = kp.room; are = are; coupled = kp.coupled } }) r.placed r.numbers r.texts kind n y in
+    let lands : Lands k (page_step k (locked A s) read u) (locked A s) (place_at s u) u = page_lands k (locked A s) (place_at s u) read u n y in
+    let was : (m : ℕ) → is_out (Kernel.place (page_step k (locked A s) read u)) m ≡ true → is_out k.place m ≡ true = λ m e.
+    elim (entry_out (locked A s) (place_at s u) k.place u m (ap (λ (p : Placement). is_out p m) (sym lands.place) ∙ e)) [
       | inl h ↦ h
       | inr l ↦ absurd (no_leaver u m y l)
-    ]
+    ] in
+    record {
+      place = lands.place ∙ ap (λ (p : Placement). place_entry (locked A s) (place_at s u) p u) at.place ∙ sym (plain_place A s u n);
+      holdings = lands.holdings ∙ at.holdings ∙ sym (plain_holdings A s u n);
+      journal = lands.journal ∙ ap (λ (j : List Entry). append j u) at.journal ∙ sym (after_journal A s u);
+      coupled = subst (λ (x : Point). Coupled (page_step k (locked A s) read u) A.images (page_image k image u) x.flat) (sym (plain_point A s u n)) goes.coupled;
+      stands = subst (λ (x : Point). Stands A.images (page_step k (locked A s) read u) x.flat) (sym (plain_point A s u n)) goes.stands;
+      frames = goes.tokens ∙ frames_at A s k image r.placed at;
+      room = page_room A s.point.flat k image u kp;
+      out_regs = subst (λ (x : Point). OutRegs (Kernel.place (page_step k (locked A s) read u)) x.flat) (sym (plain_point A s u n)) (outs_kept k.place (Kernel.place (page_step k (locked A s) read u)) s.point.flat was kp.out_regs);
+    }
 
 -- Notes of a process.
 
@@ -275,40 +270,27 @@ said_is A s k image read _ y = absurd y
 
 in_behind : (A : Inputs) (s : State) (k : Kernel) (image : List ℕ) (pid : ℕ) → IsRun A s → StandsAt A s k image → is_out s.place pid ≡ true
     → Behind A (after A s (entries.SwapIn pid)) (in_step k pid (regs_in (stored_at image (block_in k.holdings (owners.U pid) 0)))) image
-in_behind A s k image pid r at out = record {
-  place = ap (λ (j : List Entry). place_entry [] (length (append j (entries.SwapIn pid))) k.place (entries.SwapIn pid)) at.journal ∙ ap (λ (p : Placement). place_entry [] (place_at s (entries.SwapIn pid)) p (entries.SwapIn pid)) at.place ∙ sym (plain_place A s (entries.SwapIn pid) refl);
-  holdings = at.holdings ∙ sym (plain_holdings A s (entries.SwapIn pid) refl);
-  journal = ap (λ (j : List Entry). append j (entries.SwapIn pid)) at.journal ∙ sym (after_journal A s (entries.SwapIn pid));
-  coupled = subst (λ (x : Point). Coupled l A.images image x.flat) (sym (plain_point A s (entries.SwapIn pid) refl)) (in_coupled_any k A.images image s.point.flat pid regs x.0 x.2 here (kp.out_regs pid x.0 here x.2) refl kp.coupled);
-  stands = subst (λ (x : Point). Stands A.images l x.flat) (sym (plain_point A s (entries.SwapIn pid) refl)) (in_stands A.images k s.point.flat pid regs st);
-  frames = frames_at A s k image r.placed at;
-  room = kp.room;
-  out_regs = subst (λ (x : Point). OutRegs l.place x.flat) (sym (plain_point A s (entries.SwapIn pid) refl)) (outs_kept k.place l.place s.point.flat was kp.out_regs);
-}
-  where
-    kp : Keeps A s.point.flat k image
-    kp = at.keeps
-
-    st : Stands A.images k s.point.flat
-    st = kp.stands
-
-    regs : Regs
-    regs = regs_in (stored_at image (block_in k.holdings (owners.U pid) 0))
-
-    l : Kernel
-    l = in_step k pid regs
-
-    here : is_out k.place pid ≡ true
-    here = ap (λ (p : Placement). is_out p pid) at.place ∙ out
-
-    x : (x : Process) × (t : Space) × (process_of s.point.flat pid ≡ Some x) × (x.holding ≡ Holds t)
-    x = out_holder k.place s.point.flat pid st.out here
-
-    was : (m : ℕ) → is_out l.place m ≡ true → is_out k.place m ≡ true
-    was m e = elim (entry_out [] (length (append k.journal (entries.SwapIn pid))) k.place (entries.SwapIn pid) m e) [
+in_behind A s k image pid r at out =
+    let kp : Keeps A s.point.flat k image = at.keeps in
+    let st : Stands A.images k s.point.flat = kp.stands in
+    let regs : Regs = regs_in (stored_at image (block_in k.holdings (owners.U pid) 0)) in
+    let l : Kernel = in_step k pid regs in
+    let here : is_out k.place pid ≡ true = ap (λ (p : Placement). is_out p pid) at.place ∙ out in
+    let x : (x : Process) × (t : Space) × (process_of s.point.flat pid ≡ Some x) × (x.holding ≡ Holds t) = out_holder k.place s.point.flat pid st.out here in
+    let was : (m : ℕ) → is_out l.place m ≡ true → is_out k.place m ≡ true = λ m e. elim (entry_out [] (length (append k.journal (entries.SwapIn pid))) k.place (entries.SwapIn pid) m e) [
       | inl h ↦ h
       | inr y ↦ absurd y
-    ]
+    ] in
+    record {
+      place = ap (λ (j : List Entry). place_entry [] (length (append j (entries.SwapIn pid))) k.place (entries.SwapIn pid)) at.journal ∙ ap (λ (p : Placement). place_entry [] (place_at s (entries.SwapIn pid)) p (entries.SwapIn pid)) at.place ∙ sym (plain_place A s (entries.SwapIn pid) refl);
+      holdings = at.holdings ∙ sym (plain_holdings A s (entries.SwapIn pid) refl);
+      journal = ap (λ (j : List Entry). append j (entries.SwapIn pid)) at.journal ∙ sym (after_journal A s (entries.SwapIn pid));
+      coupled = subst (λ (x : Point). Coupled l A.images image x.flat) (sym (plain_point A s (entries.SwapIn pid) refl)) (in_coupled_any k A.images image s.point.flat pid regs x.0 x.2 here (kp.out_regs pid x.0 here x.2) refl kp.coupled);
+      stands = subst (λ (x : Point). Stands A.images l x.flat) (sym (plain_point A s (entries.SwapIn pid) refl)) (in_stands A.images k s.point.flat pid regs st);
+      frames = frames_at A s k image r.placed at;
+      room = kp.room;
+      out_regs = subst (λ (x : Point). OutRegs l.place x.flat) (sym (plain_point A s (entries.SwapIn pid) refl)) (outs_kept k.place l.place s.point.flat was kp.out_regs);
+    }
 
 -- A process goes out.
 
@@ -354,49 +336,31 @@ off_behind : (A : Inputs) (s : State) (k : Kernel) (image : List ℕ) (pid : ℕ
     → ((p : Proc) → proc_of k pid ≡ Some p → AreRegs p.regs) → is_out s.place pid ≡ false
     → holds_some (process_of s.point.flat pid) ≡ true
     → Behind A (after A s (entries.SwapOut pid)) (out_step k pid) (store_at image (block_in k.holdings (owners.U pid) 0) (u_bytes k (proc_of k pid)))
-off_behind A s k image pid r at given out h = subst (λ (o : Option Proc). Behind A (after A s (entries.SwapOut pid)) (out_step k pid) (store_at image (block_in k.holdings (owners.U pid) 0) (u_bytes k o))) (sym x.kept) (record {
-  place = ap (λ (j : List Entry). place_entry [] (length (append j (entries.SwapOut pid))) k.place (entries.SwapOut pid)) at.journal ∙ ap (λ (p : Placement). place_entry [] (place_at s (entries.SwapOut pid)) p (entries.SwapOut pid)) at.place ∙ sym (plain_place A s (entries.SwapOut pid) refl);
-  holdings = at.holdings ∙ sym (plain_holdings A s (entries.SwapOut pid) refl);
-  journal = ap (λ (j : List Entry). append j (entries.SwapOut pid)) at.journal ∙ sym (after_journal A s (entries.SwapOut pid));
-  coupled = subst (λ (x : Point). Coupled l A.images behind x.flat) (sym (plain_point A s (entries.SwapOut pid) refl)) (out_coupled A.swap_blocks k A.images image s.point.flat pid x.proc kp.sound kp.room x.kept x.life are (n.residents pid (ap lives_in x.kept ∙ x.life)) here kp.coupled);
-  stands = subst (λ (x : Point). Stands A.images l x.flat) (sym (plain_point A s (entries.SwapOut pid) refl)) (out_stands A.images k s.point.flat pid x.process x.space x.here x.holds kp.stands);
-  frames = frames_at A s k image r.placed at;
-  room = subst (λ (n : ℕ). 512 * A.swap_blocks ≤ n) (sym (out_length A.swap_blocks k image pid x.proc (length (slots_of k.place (Data (space_of_life x.proc.life) 0))) (length (slots_of k.place (Stack (space_of_life x.proc.life) 0))) kp.sound kp.room are (ap lives_in x.kept ∙ x.life))) kp.room;
-  out_regs = subst (λ (x : Point). OutRegs l.place x.flat) (sym (plain_point A s (entries.SwapOut pid) refl)) outs;
-})
-  where
-    kp : Keeps A s.point.flat k image
-    kp = at.keeps
-
-    n : Numbered k
-    n = kp.numbered
-
-    c : Coupled k A.images image s.point.flat
-    c = kp.coupled
-
-    x : Leaves k s.point.flat pid
-    x = leaves k s.point.flat pid c.tables h
-
-    are : AreRegs x.proc.regs
-    are = given x.proc x.kept
-
-    l : Kernel
-    l = out_step k pid
-
-    behind : List ℕ
-    behind = store_at image (block_in k.holdings (owners.U pid) 0) (u_bytes k (Some x.proc))
-
-    here : is_out k.place pid ≡ false
-    here = ap (λ (p : Placement). is_out p pid) at.place ∙ out
-
-    own_regs : x.proc.regs ≡ x.process.regs
-    own_regs = subst (λ (z : Bool). KeepsRegs k image z x.process x.proc.regs (space_of_holding x.process.holding)) here (regs_at k A.images image s.point.flat c pid x.process x.proc (found_at s.point.flat pid x.process x.here).1 x.kept)
-
-    outs : OutRegs l.place s.point.flat
-    outs n q e f = elim (entry_out [] (length (append k.journal (entries.SwapOut pid))) k.place (entries.SwapOut pid) n e) [
+off_behind A s k image pid r at given out h =
+    let kp : Keeps A s.point.flat k image = at.keeps in
+    let n : Numbered k = kp.numbered in
+    let c : Coupled k A.images image s.point.flat = kp.coupled in
+    let x : Leaves k s.point.flat pid = leaves k s.point.flat pid c.tables h in
+    let are : AreRegs x.proc.regs = given x.proc x.kept in
+    let l : Kernel = out_step k pid in
+    let behind : List ℕ = store_at image (block_in k.holdings (owners.U pid) 0) (u_bytes k (Some x.proc)) in
+    let here : is_out k.place pid ≡ false = ap (λ (p : Placement). is_out p pid) at.place ∙ out in
+    let own_regs : x.proc.regs ≡ x.process.regs =
+    subst (λ (z : Bool). KeepsRegs k image z x.process x.proc.regs (space_of_holding x.process.holding)) here (regs_at k A.images image s.point.flat c pid x.process x.proc (found_at s.point.flat pid x.process x.here).1 x.kept) in
+    let outs : OutRegs l.place s.point.flat = λ n q e f. elim (entry_out [] (length (append k.journal (entries.SwapOut pid))) k.place (entries.SwapOut pid) n e) [
       | inl was ↦ kp.out_regs n q was f
       | inr i ↦ subst AreRegs (own_regs ∙ ap (λ (y : Process). y.regs) (same_Some x.process q (sym x.here ∙ ap (process_of s.point.flat) i ∙ f))) are
-    ]
+    ] in
+    subst (λ (o : Option Proc). Behind A (after A s (entries.SwapOut pid)) (out_step k pid) (store_at image (block_in k.holdings (owners.U pid) 0) (u_bytes k o))) (sym x.kept) (record {
+      place = ap (λ (j : List Entry). place_entry [] (length (append j (entries.SwapOut pid))) k.place (entries.SwapOut pid)) at.journal ∙ ap (λ (p : Placement). place_entry [] (place_at s (entries.SwapOut pid)) p (entries.SwapOut pid)) at.place ∙ sym (plain_place A s (entries.SwapOut pid) refl);
+      holdings = at.holdings ∙ sym (plain_holdings A s (entries.SwapOut pid) refl);
+      journal = ap (λ (j : List Entry). append j (entries.SwapOut pid)) at.journal ∙ sym (after_journal A s (entries.SwapOut pid));
+      coupled = subst (λ (x : Point). Coupled l A.images behind x.flat) (sym (plain_point A s (entries.SwapOut pid) refl)) (out_coupled A.swap_blocks k A.images image s.point.flat pid x.proc kp.sound kp.room x.kept x.life are (n.residents pid (ap lives_in x.kept ∙ x.life)) here kp.coupled);
+      stands = subst (λ (x : Point). Stands A.images l x.flat) (sym (plain_point A s (entries.SwapOut pid) refl)) (out_stands A.images k s.point.flat pid x.process x.space x.here x.holds kp.stands);
+      frames = frames_at A s k image r.placed at;
+      room = subst (λ (n : ℕ). 512 * A.swap_blocks ≤ n) (sym (out_length A.swap_blocks k image pid x.proc (length (slots_of k.place (Data (space_of_life x.proc.life) 0))) (length (slots_of k.place (Stack (space_of_life x.proc.life) 0))) kp.sound kp.room are (ap lives_in x.kept ∙ x.life))) kp.room;
+      out_regs = subst (λ (x : Point). OutRegs l.place x.flat) (sym (plain_point A s (entries.SwapOut pid) refl)) outs;
+    })
 
 -- A process's step.
 

@@ -48,25 +48,20 @@ makes_follows A (u ∷ us) s t k l image behind m = (m.0, makes_follows A us (af
 pub start_keeps : (A : Inputs) (hs : Holdings) (frames : List (List ℕ)) (image : List ℕ) → CanRun A hs → length frames ≡ A.frames
     → 512 * A.swap_blocks ≤ length image
     → StandsAt A (start A hs) (start_kernel A (starting A.images A.first) hs frames) image
-start_keeps A hs frames image c f room = stands_behind A (start A hs) (start_kernel A first hs frames) image r.placed (record {
-  place = refl;
-  holdings = refl;
-  journal = refl;
-  coupled = start_coupled_all A first hs frames image are c.images;
-  stands = start_beside A first hs frames are c.images;
-  frames = f;
-  room = room;
-  out_regs = λ pid q out e. absurd (let z : true ≡ false = sym out ∙ all_in first 1 pid in cc);
-})
-  where
-    first : List Starting
-    first = starting A.images A.first
-
-    are : AreStarting A.images A.first first
-    are = are_starting A.images A.first c.first
-
-    r : IsRun A (start A hs)
-    r = run_start A hs c.images c.first c.frames c.pieces
+start_keeps A hs frames image c f room =
+    let first : List Starting = starting A.images A.first in
+    let are : AreStarting A.images A.first first = are_starting A.images A.first c.first in
+    let r : IsRun A (start A hs) = run_start A hs c.images c.first c.frames c.pieces in
+    stands_behind A (start A hs) (start_kernel A first hs frames) image r.placed (record {
+      place = refl;
+      holdings = refl;
+      journal = refl;
+      coupled = start_coupled_all A first hs frames image are c.images;
+      stands = start_beside A first hs frames are c.images;
+      frames = f;
+      room = room;
+      out_regs = λ pid q out e. absurd (let z : true ≡ false = sym out ∙ all_in first 1 pid in cc);
+    })
 
 -- Each kind of unit by itself.
 

@@ -167,61 +167,47 @@ pub own_change : (A : Inputs) (flat : FlatState) (p : Placement) (hs found : Hol
     → SettlesFor p s.sid change → Placed A flat p hs
     → Placed A (apply_change A.images flat pid regs change) (place_change (facts_of A.images) p pid s.sid b flat.next_sid (length (append j e)) change) (given_up flat (apply_change A.images flat pid regs change) pid s change found)
 own_change A flat p hs found pid regs j e q s b change c w o settles st =
+    let at : ℕ = length (append j e) in
+    let after : FlatState = apply_change A.images flat pid regs change in
+    let k : Kernel = with_found flat p found j in
+    let so : Sound A.swap_blocks (machine_of flat p hs) = st.sound in
+    let before : Sound A.swap_blocks (record k { holdings = hs }) = record { owner = so.owner; tokens = so.tokens; hands = so.hands; few_transfers = so.few_transfers } in
+    let nb : Numbered (machine_of flat p hs) = st.numbered in
+    let n : Numbered k = record { spaces_differ = nb.spaces_differ; spaces_below = nb.spaces_below; pids_differ = nb.pids_differ; pids_below = nb.pids_below; residents = nb.residents } in
+    let t : SameTables k flat = record { processes = tb.processes; next_pid = refl; next_sid = refl; spaces = tb.spaces } in
+    let sb : Stands A.images (machine_of flat p hs) flat = st.stands in
+    let stands : Stands A.images k flat = record { starts = λ x h. refl; texts = sb.texts; out = sb.out } in
+    let ready : ReadyFor k pid change = coupled_ready k flat pid q s change t c.found_process c.holds (takes_next k flat change t c.may) (may_reap k flat change t c.may) settles in
+    let pieces : place_all A.swap_blocks hs (asked (facts_of A.images) k pid change) ≡ Ok found =
+    ap (place_all A.swap_blocks hs) (change_same A.images k flat pid q s change c.images sb.texts n c.numbers t c.found_process c.holds) ∙ c.pieces in
+    let l : Kernel = next_of (facts_of A.images) k pid regs e change in
+    let kept : Kept A l =
+    own_kept A k flat pid regs e q s change c.numbers c.found_process c.holds t c.may (ready_sound A.swap_blocks (facts_of A.images) k hs pid regs e change before n ready pieces) (flat_numbered (facts_of A.images) k pid regs e change (takes_next k flat change t c.may) ready.alive n) in
+    let told : Told A l after = own_told A k flat pid regs e q s b change c.images c.numbers c.found_process c.holds w o c.resident c.clear c.may c.execs t stands in
+    let lands : Lands A k pid s.sid e change l = own_lands A k flat pid regs e q s change c.found_process c.holds t in
+    let g : Stepping k flat pid q s = stepping k flat pid q s t c.found_process c.holds in
+    let ow : OneOwner A.swap_blocks (lives k.processes) p hs = so.owner in
+    let can : CanChange p s.sid false flat.next_sid change =
+    subst (λ (x : Life). CanChange p (space_of_life x) (gave_back x) flat.next_sid change) (ap life_of_proc g.kept ∙ g.life) (may_change (facts_of A.images) k pid change ow.frames n ready).can in
+    let un : Unhanded p (place_change (facts_of A.images) p pid s.sid false flat.next_sid at change) = change_unhanded (facts_of A.images) p pid s.sid false flat.next_sid at change in
+    let hands : SameHands p (place_change (facts_of A.images) p pid s.sid false flat.next_sid at change) = un.hands in
+    let dues : DueStand l.place = subst DueStand (sym lands.place) (change_due (facts_of A.images) p pid s.sid false flat.next_sid at change c.clear can (is_apart change)) in
+    let once : EachOnce l.place.due = subst (λ (x : Placement). EachOnce x.due) (sym lands.place) (change_once (facts_of A.images) p pid s.sid false flat.next_sid at change c.clear) in
+    let parts : HaveParts l.place.transfers = subst (λ (x : Placement). HaveParts x.transfers) (sym lands.place) (subst HaveParts (sym un.transfers) st.parts) in
+    let frames : length l.place.holds ≡ A.frames = subst (λ (x : Placement). length x.holds ≡ A.frames) (sym lands.place) (hands.frames ∙ st.frames) in
+    let numbers : IsNumbered after = Rattle.kernel_laws.proofs.Flat.Numbers.changes_numbered A.images flat pid regs change q s c.found_process c.holds c.may c.numbers in
+    let shared : Rattle.flat_model.specs.Asked.is_shared after s.image ≡ Rattle.register_laws.proofs.FlatLawsAsking.is_some_of Rattle.register_laws.proofs.FlatLawsAsking.image_of_pages s.image l.place.spaces =
+    shared_same l after s.image kept.numbered numbers told.tables in
+    let back : given_up flat after pid s change found ≡ holdings_after found p l.place pid s.sid false change = given_same flat after pid s change found p l.place b w image
+    (λ z. ((λ i. shared ∙ no_sharers s.image l.place.spaces (ap (sharers l.place) (sym image) ∙ i)), (λ m i. shared ∙ some_sharers s.image m l.place.spaces (ap (sharers l.place) (sym image) ∙ i))))
+    ∙ keeps_holdings found p l.place pid s.sid b change o in
     subst (Placed A after (place_change (facts_of A.images) p pid s.sid b flat.next_sid at change)) (sym back)
     (subst (λ (x : Placement). Placed A after x (holdings_after found p l.place pid s.sid false change)) (lands.place ∙ keeps_place (facts_of A.images) p pid s.sid b flat.next_sid at change o)
     (subst (Placed A after l.place) lands.holdings
     (from_machine A after l kept.sound kept.numbered told.tables told.stands dues once parts frames)))
   where
-    at : ℕ
-    at = length (append j e)
-
-    after : FlatState
-    after = apply_change A.images flat pid regs change
-
-    k : Kernel
-    k = with_found flat p found j
-
-    so : Sound A.swap_blocks (machine_of flat p hs)
-    so = st.sound
-
-    before : Sound A.swap_blocks (record k { holdings = hs })
-    before = record { owner = so.owner; tokens = so.tokens; hands = so.hands; few_transfers = so.few_transfers }
-
-    nb : Numbered (machine_of flat p hs)
-    nb = st.numbered
-
-    n : Numbered k
-    n = record { spaces_differ = nb.spaces_differ; spaces_below = nb.spaces_below; pids_differ = nb.pids_differ; pids_below = nb.pids_below; residents = nb.residents }
-
     tb : SameTables (machine_of flat p hs) flat
     tb = st.tables
-
-    t : SameTables k flat
-    t = record { processes = tb.processes; next_pid = refl; next_sid = refl; spaces = tb.spaces }
-
-    sb : Stands A.images (machine_of flat p hs) flat
-    sb = st.stands
-
-    stands : Stands A.images k flat
-    stands = record { starts = λ x h. refl; texts = sb.texts; out = sb.out }
-
-    ready : ReadyFor k pid change
-    ready = coupled_ready k flat pid q s change t c.found_process c.holds (takes_next k flat change t c.may) (may_reap k flat change t c.may) settles
-
-    pieces : place_all A.swap_blocks hs (asked (facts_of A.images) k pid change) ≡ Ok found
-    pieces = ap (place_all A.swap_blocks hs) (change_same A.images k flat pid q s change c.images sb.texts n c.numbers t c.found_process c.holds) ∙ c.pieces
-
-    l : Kernel
-    l = next_of (facts_of A.images) k pid regs e change
-
-    kept : Kept A l
-    kept = own_kept A k flat pid regs e q s change c.numbers c.found_process c.holds t c.may (ready_sound A.swap_blocks (facts_of A.images) k hs pid regs e change before n ready pieces) (flat_numbered (facts_of A.images) k pid regs e change (takes_next k flat change t c.may) ready.alive n)
-
-    told : Told A l after
-    told = own_told A k flat pid regs e q s b change c.images c.numbers c.found_process c.holds w o c.resident c.clear c.may c.execs t stands
-
-    lands : Lands A k pid s.sid e change l
-    lands = own_lands A k flat pid regs e q s change c.found_process c.holds t
 
     fits : Fits (Some s) (numbered space_number s.sid p.spaces)
     fits = subst (λ (x : Option Space). Fits x (numbered space_number s.sid p.spaces)) (own_space flat pid q s c.numbers c.found_process c.holds) (tb.spaces s.sid)
@@ -239,43 +225,5 @@ own_change A flat p hs found pid regs j e q s b change c w o settles st =
     is_apart Sleep = tt
     is_apart (End status) = tt
 
-    g : Stepping k flat pid q s
-    g = stepping k flat pid q s t c.found_process c.holds
-
-    ow : OneOwner A.swap_blocks (lives k.processes) p hs
-    ow = so.owner
-
-    can : CanChange p s.sid false flat.next_sid change
-    can = subst (λ (x : Life). CanChange p (space_of_life x) (gave_back x) flat.next_sid change) (ap life_of_proc g.kept ∙ g.life) (may_change (facts_of A.images) k pid change ow.frames n ready).can
-
-    un : Unhanded p (place_change (facts_of A.images) p pid s.sid false flat.next_sid at change)
-    un = change_unhanded (facts_of A.images) p pid s.sid false flat.next_sid at change
-
-    hands : SameHands p (place_change (facts_of A.images) p pid s.sid false flat.next_sid at change)
-    hands = un.hands
-
-    dues : DueStand l.place
-    dues = subst DueStand (sym lands.place) (change_due (facts_of A.images) p pid s.sid false flat.next_sid at change c.clear can (is_apart change))
-
-    once : EachOnce l.place.due
-    once = subst (λ (x : Placement). EachOnce x.due) (sym lands.place) (change_once (facts_of A.images) p pid s.sid false flat.next_sid at change c.clear)
-
-    parts : HaveParts l.place.transfers
-    parts = subst (λ (x : Placement). HaveParts x.transfers) (sym lands.place) (subst HaveParts (sym un.transfers) st.parts)
-
-    frames : length l.place.holds ≡ A.frames
-    frames = subst (λ (x : Placement). length x.holds ≡ A.frames) (sym lands.place) (hands.frames ∙ st.frames)
-
-    numbers : IsNumbered after
-    numbers = Rattle.kernel_laws.proofs.Flat.Numbers.changes_numbered A.images flat pid regs change q s c.found_process c.holds c.may c.numbers
-
-    shared : Rattle.flat_model.specs.Asked.is_shared after s.image ≡ Rattle.register_laws.proofs.FlatLawsAsking.is_some_of Rattle.register_laws.proofs.FlatLawsAsking.image_of_pages s.image l.place.spaces
-    shared = shared_same l after s.image kept.numbered numbers told.tables
-
     image : image_of p s.sid ≡ s.image
     image = fit_image s (numbered space_number s.sid p.spaces) fits
-
-    back : given_up flat after pid s change found ≡ holdings_after found p l.place pid s.sid false change
-    back = given_same flat after pid s change found p l.place b w image
-        (λ z. ((λ i. shared ∙ no_sharers s.image l.place.spaces (ap (sharers l.place) (sym image) ∙ i)), (λ m i. shared ∙ some_sharers s.image m l.place.spaces (ap (sharers l.place) (sym image) ∙ i))))
-        ∙ keeps_holdings found p l.place pid s.sid b change o

@@ -65,15 +65,13 @@ put_unit A s pid d e =
 pub put_falls : (A : Inputs) (s : State) (u : Entry) (pid : ℕ) → IsRun A s → s.mark ≡ marks.PutOut pid → next_unit A s ≡ Some u
     → put_rank (after A s u).place pid (space_of_process (process_of s.point.flat pid)) < put_rank s.place pid (space_of_process (process_of s.point.flat pid))
 put_falls A s u pid r e h =
+    let same : (a b : Entry) → Some a ≡ Some b → a ≡ b = λ a b e. cc in
     let x : PutsIt A s pid = puts_it A s pid r e in
     let sid : ℕ = space_of_process (process_of s.point.flat pid) in
     let i : u ≡ put_out_unit s.place pid sid = same u (put_out_unit s.place pid sid) (sym h ∙ put_unit A s pid x.clear e) in
     subst (λ (v : Entry). put_rank (after A s v).place pid sid < put_rank s.place pid sid) (sym i)
     (subst (λ (p : Placement). put_rank p pid sid < put_rank s.place pid sid) (sym (plain_place A s (put_out_unit s.place pid sid) (Rattle.run_laws.proofs.Plain.put_flat s.place pid sid)))
     (unit_falls (locked A s) (place_at s (put_out_unit s.place pid sid)) s.place pid sid (owns A s r.placed) x.resident x.inside))
-  where
-    same : (a b : Entry) → Some a ≡ Some b → a ≡ b
-    same a b e = cc
 
 pub put_ends : (A : Inputs) (s : State) (pid at : ℕ) → IsRun A s → s.mark ≡ marks.PutOut pid
     → EndsPuttingOut at s.place pid (space_of_process (process_of s.point.flat pid))

@@ -53,57 +53,29 @@ record FlatKept (A : Inputs) (flat : FlatState) : Type 0 where
 
 step_kept : (A : Inputs) (s : State) (u : Entry) → ImagesFit A.images → ExecsFit A → Stepped A s u → FlatKept A s.point.flat
     → FlatKept A (after A s u).point.flat
-step_kept A s u images execs h k = subst (FlatKept A) (sym (stepped_flat A s u h)) (record {
-  numbers = step_numbered A flat pid (is_refused s.point.last pid) k.numbers;
-  lenders = subst LendsStand (sym form_after) (changes_lent A.images flat1 pid step.regs step.change q1 z here refl may numbers1 (writes_lent flat pid step.writes x.process x.space x.here x.holds k.lenders));
-  texts = subst (TextsHeld A.images) (sym form_after) (change_texts A.images flat1 pid step.regs step.change q1 z here refl (execs flat pid (is_refused s.point.last pid)) (write_texts A.images flat pid step.writes x.process x.space x.here x.holds k.texts));
-  sized = step_sized A flat pid (is_refused s.point.last pid) (images_whole A.images images) k.sized;
-})
-  where
-    pid : ℕ
-    pid = h.pid
-
-    flat : FlatState
-    flat = s.point.flat
-
-    step : Step
-    step = step_at A s.point pid
-
-    runs : Runs A s pid h.now
-    runs = h.runs
-
-    x : Stepper flat pid
-    x = stepper flat pid (on_steps A s s.mark pid h.now runs.on)
-
-    form : Formed A.images flat x.process x.space (is_refused s.point.last pid) step
-    form = stepped_form A s u h x k.numbers
-
-    number : x.process.pid ≡ pid
-    number = (found_at flat pid x.process x.here).0
-
-    flat1 : FlatState
-    flat1 = apply_writes flat pid step.writes
-
-    form_after : step.after ≡ apply_change A.images flat1 pid step.regs step.change
-    form_after = form.after ∙ ap (λ (n : ℕ). apply_change A.images (apply_writes flat n step.writes) n step.regs step.change) number
-
-    may : NamesChild flat1 step.change
-    may = subst (λ (n : ℕ). NamesChild (apply_writes flat n step.writes) step.change) number form.may
-
-    z : Space
-    z = Rattle.flat_state.specs.Space.puts x.space step.writes
-
-    q1 : Process
-    q1 = record x.process { holding = Holds z }
-
-    w : Wrote flat flat1 pid x.process x.space z
-    w = wrote flat pid step.writes x.process x.space x.here x.holds
-
-    here : process_of flat1 pid ≡ Some q1
-    here = subst (λ (y : FlatState). process_of y pid ≡ Some q1) (sym w.is) (wrote_process flat pid x.process z x.here)
-
-    numbers1 : IsNumbered flat1
-    numbers1 = writes_numbered flat pid step.writes x.process x.space x.here x.holds k.numbers
+step_kept A s u images execs h k =
+    let pid : ℕ = h.pid in
+    let flat : FlatState = s.point.flat in
+    let step : Step = step_at A s.point pid in
+    let runs : Runs A s pid h.now = h.runs in
+    let x : Stepper flat pid = stepper flat pid (on_steps A s s.mark pid h.now runs.on) in
+    let form : Formed A.images flat x.process x.space (is_refused s.point.last pid) step = stepped_form A s u h x k.numbers in
+    let number : x.process.pid ≡ pid = (found_at flat pid x.process x.here).0 in
+    let flat1 : FlatState = apply_writes flat pid step.writes in
+    let form_after : step.after ≡ apply_change A.images flat1 pid step.regs step.change =
+    form.after ∙ ap (λ (n : ℕ). apply_change A.images (apply_writes flat n step.writes) n step.regs step.change) number in
+    let may : NamesChild flat1 step.change = subst (λ (n : ℕ). NamesChild (apply_writes flat n step.writes) step.change) number form.may in
+    let z : Space = Rattle.flat_state.specs.Space.puts x.space step.writes in
+    let q1 : Process = record x.process { holding = Holds z } in
+    let w : Wrote flat flat1 pid x.process x.space z = wrote flat pid step.writes x.process x.space x.here x.holds in
+    let here : process_of flat1 pid ≡ Some q1 = subst (λ (y : FlatState). process_of y pid ≡ Some q1) (sym w.is) (wrote_process flat pid x.process z x.here) in
+    let numbers1 : IsNumbered flat1 = writes_numbered flat pid step.writes x.process x.space x.here x.holds k.numbers in
+    subst (FlatKept A) (sym (stepped_flat A s u h)) (record {
+      numbers = step_numbered A flat pid (is_refused s.point.last pid) k.numbers;
+      lenders = subst LendsStand (sym form_after) (changes_lent A.images flat1 pid step.regs step.change q1 z here refl may numbers1 (writes_lent flat pid step.writes x.process x.space x.here x.holds k.lenders));
+      texts = subst (TextsHeld A.images) (sym form_after) (change_texts A.images flat1 pid step.regs step.change q1 z here refl (execs flat pid (is_refused s.point.last pid)) (write_texts A.images flat pid step.writes x.process x.space x.here x.holds k.texts));
+      sized = step_sized A flat pid (is_refused s.point.last pid) (images_whole A.images images) k.sized;
+    })
 
 -- Marks.
 

@@ -121,17 +121,14 @@ changed_sized A F p s (Exec number top) sz fit (named, im, whole) c h t e = subs
 changed_sized A F p s (Reap child) sz fit x c h t e =
     with_sized (record F { processes = filter (λ q. not (q.pid == child)) F.processes }) p (record { spaces = each_left Sized (λ q. not (q.pid == child)) F.processes e.spaces; count = let l = left_count (λ q. not (q.pid == child)) F.processes in let k = e.count in omega arith }) (subst HoldingSized (sym h) t)
 changed_sized A F p s Sleep sz fit x c h t e = with_sized F (record p { asleep = true }) e (subst HoldingSized (sym h) t)
-changed_sized A F p s (End status) sz fit x c h t e = left_sized (p.parent == 0) (orphaned (given_back (with_process F record p { holding = Zombie status }) p.pid s) p.pid) p.pid p.parent
+changed_sized A F p s (End status) sz fit x c h t e =
+    let w : FlatSized (with_process F (record p { holding = Zombie status })) = with_sized F (record p { holding = Zombie status }) e tt in
+    let ps : List Process = returned p.pid s (replaced F.processes (record p { holding = Zombie status })) in
+    left_sized (p.parent == 0) (orphaned (given_back (with_process F record p { holding = Zombie status }) p.pid s) p.pid) p.pid p.parent
     (record {
       spaces = each_mapped Sized (without_parent p.pid) (filter (λ q. not (is_zombie_child p.pid q)) ps) (λ q k. k) (each_left Sized (λ q. not (is_zombie_child p.pid q)) ps (sized_returned p.pid s (replaced F.processes (record p { holding = Zombie status })) t w.spaces));
       count = let a = map_count (without_parent p.pid) (filter (λ q. not (is_zombie_child p.pid q)) ps) in let b = left_count (λ q. not (is_zombie_child p.pid q)) ps in let d = length-returned p.pid s (replaced F.processes (record p { holding = Zombie status })) in let g = w.count in omega arith;
     })
-  where
-    w : FlatSized (with_process F (record p { holding = Zombie status }))
-    w = with_sized F (record p { holding = Zombie status }) e tt
-
-    ps : List Process
-    ps = returned p.pid s (replaced F.processes (record p { holding = Zombie status }))
 
 -- Who writes.
 
@@ -450,14 +447,11 @@ held_sized (q ∷ ps) sid s h e = go q.holding h.0 e (held_sized ps sid s h.1)
     go (Zombie status) t e later = later e
 
 pub place_sized : (A : Inputs) (s : State) → IsRun A s → FlatSized s.point.flat → PlaceSized s.place
-place_sized A s r h sid = go (numbered sid_of sid (spaces_of s.point.flat)) (numbered space_number sid s.place.spaces) refl refl (t.spaces sid)
+place_sized A s r h sid =
+    let st : Placed A s.point.flat s.place s.holdings = r.placed in
+    let t : SameTables (machine_of s.point.flat s.place s.holdings) s.point.flat = st.tables in
+    go (numbered sid_of sid (spaces_of s.point.flat)) (numbered space_number sid s.place.spaces) refl refl (t.spaces sid)
   where
-    st : Placed A s.point.flat s.place s.holdings
-    st = r.placed
-
-    t : SameTables (machine_of s.point.flat s.place s.holdings) s.point.flat
-    t = st.tables
-
     go : (o : Option Space) (x : Option SpacePages) → numbered sid_of sid (spaces_of s.point.flat) ≡ o → numbered space_number sid s.place.spaces ≡ x → Fits o x → (length (data_in (numbered space_number sid s.place.spaces)) ≤ 4096) × (length (stack_in (numbered space_number sid s.place.spaces)) ≤ 512)
     go None None e i f = subst (λ (y : Option SpacePages). (length (data_in y) ≤ 4096) × (length (stack_in y) ≤ 512)) (sym i) (omega arith, omega arith)
     go (Some z) (Some x) e i f =

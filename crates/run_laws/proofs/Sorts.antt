@@ -71,13 +71,10 @@ sort_of A s u m (Acts pid now r w a) = go (acted A s pid u a)
 sort_of A s u m (ComesIn pid e c i) = GoesIn pid i (comes_out A s pid m c)
 sort_of A s u m (Interrupts e j i) = pages A s u entries.Done i tt
 sort_of A s u m (Moves count e j l w i) = pages A s u (move_unit s.place (locked A s)) i (move_paging s.place (locked A s))
-sort_of A s u m (PutsOut pid e j i) = subst (Sort A s) (sym i) (unit_case (Sort A s) s.place pid sid (λ t ts h. Pages refl tt) (λ v h y z. Pages refl tt) (λ h y. GoesOff pid refl stands.2 stands.1))
-  where
-    sid : ℕ
-    sid = space_of_process (process_of s.point.flat pid)
-
-    stands : (s.place.due ≡ []) × (holds_some (process_of s.point.flat pid) ≡ true) × (is_out s.place pid ≡ false)
-    stands = subst (MarkStands s) j m
+sort_of A s u m (PutsOut pid e j i) =
+    let sid : ℕ = space_of_process (process_of s.point.flat pid) in
+    let stands : (s.place.due ≡ []) × (holds_some (process_of s.point.flat pid) ≡ true) × (is_out s.place pid ≡ false) = subst (MarkStands s) j m in
+    subst (Sort A s) (sym i) (unit_case (Sort A s) s.place pid sid (λ t ts h. Pages refl tt) (λ v h y z. Pages refl tt) (λ h y. GoesOff pid refl stands.2 stands.1))
 sort_of A s u m (Notes e j i) = pages A s u (owners_entry s) i tt
 sort_of A s u m (Begins e j i) = begins_is (Sort A s) A s u i begun
   where

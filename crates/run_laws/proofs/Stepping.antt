@@ -98,10 +98,9 @@ pub given_written : (F G after : FlatState) (pid : ℕ) (s z : Space) (change : 
     → given_up G after pid z change hs ≡ given_up F after pid s change hs
 given_written F G after pid s z (Resize d t) hs a i b = ap (λ (n : ℕ). with_pages (owners.Stack n) t (with_pages (owners.Data n) d hs)) a
 given_written F G after pid s z (Exec image top) hs a i b = ap (λ (x : Bool). without_own x after z hs) b ∙ own_written (is_borrower F.processes pid) after s z hs a i
-given_written F G after pid s z (End status) hs a i b = ap (λ (x : Bool). without_own x after z us) b ∙ own_written (is_borrower F.processes pid) after s z us a i
-  where
-    us : Holdings
-    us = without_owner (owners.U pid) hs
+given_written F G after pid s z (End status) hs a i b =
+    let us : Holdings = without_owner (owners.U pid) hs in
+    ap (λ (x : Bool). without_own x after z us) b ∙ own_written (is_borrower F.processes pid) after s z us a i
 given_written F G after pid s z _ hs a i b = refl
 
 -- Touched pages.
@@ -191,6 +190,9 @@ pub step_placed : (A : Inputs) (flat : FlatState) (p : Placement) (hs found : Ho
     → Making A flat p hs found pid q s ws change → Placed A flat p hs
     → Placed A (apply_change A.images (apply_writes flat pid ws) pid regs change) (place_step (facts_of A.images) flat pid (length (append j e)) written change p) (given_up flat (apply_change A.images (apply_writes flat pid ws) pid regs change) pid s change found)
 step_placed A flat p hs found pid regs j e q s ws written change m st =
+    let next : flat1.next_sid ≡ flat.next_sid = ap (λ (x : FlatState). x.next_sid) w.is in
+    let made : Placed A after (place_change (facts_of A.images) p1 pid z.sid (is_borrower flat1.processes pid) flat1.next_sid at change) (given_up flat1 after pid z change found) =
+    go (own_or (is_borrower flat1.processes pid) change) in
     subst (λ (n : ℕ). Placed A after (place_change (facts_of A.images) p1 pid n (is_borrower flat.processes pid) flat.next_sid at change) (given_up flat after pid s change found)) (sym (ap space_of_process m.found_process ∙ ap space_of_holding m.holds))
     (subst (Placed A after (place_change (facts_of A.images) p1 pid s.sid (is_borrower flat.processes pid) flat.next_sid at change)) (given_written flat flat1 after pid s z change found same.sid same.image borrows)
     (subst (λ (n : ℕ). Placed A after (place_change (facts_of A.images) p1 pid s.sid (is_borrower flat.processes pid) n at change) (given_up flat1 after pid z change found)) next
@@ -243,9 +245,6 @@ step_placed A flat p hs found pid regs j e q s ws written change m st =
     borrows : is_borrower flat1.processes pid ≡ is_borrower flat.processes pid
     borrows = borrows_same flat1.processes flat.processes pid (sym t01.processes ∙ t0.processes)
 
-    next : flat1.next_sid ≡ flat.next_sid
-    next = ap (λ (x : FlatState). x.next_sid) w.is
-
     sd : Stands A.images (machine_of flat p hs) flat
     sd = st.stands
 
@@ -285,6 +284,3 @@ step_placed A flat p hs found pid regs j e q s ws written change m st =
     go (inl o) = own_change A flat1 p1 hs found pid regs j e q1 z (is_borrower flat1.processes pid) change c refl o (settles_for p1 z (is_borrower flat1.processes pid) change o fits1 settled) st1
     go (inr (b, g)) = subst (λ (x : Bool). Placed A after (place_change (facts_of A.images) p1 pid z.sid x flat1.next_sid at change) (given_up flat1 after pid z change found)) (sym b)
         (back_change A flat1 p1 hs found pid regs j e q1 z change c (writes_lent flat pid ws q s m.found_process m.holds m.lenders) b g st1)
-
-    made : Placed A after (place_change (facts_of A.images) p1 pid z.sid (is_borrower flat1.processes pid) flat1.next_sid at change) (given_up flat1 after pid z change found)
-    made = go (own_or (is_borrower flat1.processes pid) change)

@@ -114,26 +114,18 @@ pub record SameOut (A : Inputs) (s : State) (k : Kernel) (image : List ℕ) (pid
 
 pub same_out : (A : Inputs) (s : State) (k : Kernel) (image : List ℕ) (pid : ℕ) → StandsAt A s k image → is_out s.place pid ≡ false
     → holds_some (process_of s.point.flat pid) ≡ true → SameOut A s k image pid
-same_out A s k image pid at out h = record {
-  there = x;
-  regs = subst (λ (z : Bool). KeepsRegs k image z x.process x.proc.regs (space_of_holding x.process.holding)) (ap (λ (p : Placement). is_out p pid) at.place ∙ out) (regs_at k A.images image s.point.flat c pid x.process x.proc f.1 x.kept);
-  space = ap (λ (o : Outline). space_of_life o.life) (outline_at k.processes s.point.flat.processes t.processes pid x.proc x.process x.kept f.1) ∙ space_same x.process.holding;
-}
-  where
-    kp : Keeps A s.point.flat k image
-    kp = at.keeps
-
-    c : Coupled k A.images image s.point.flat
-    c = kp.coupled
-
-    t : SameTables k s.point.flat
-    t = c.tables
-
-    x : Leaves k s.point.flat pid
-    x = leaves k s.point.flat pid t h
-
-    f : (x.process.pid ≡ pid) × (Rattle.page_model.specs.Pages.numbered (λ (y : Process). y.pid) pid s.point.flat.processes ≡ Some x.process)
-    f = found_at s.point.flat pid x.process x.here
+same_out A s k image pid at out h =
+    let kp : Keeps A s.point.flat k image = at.keeps in
+    let c : Coupled k A.images image s.point.flat = kp.coupled in
+    let t : SameTables k s.point.flat = c.tables in
+    let x : Leaves k s.point.flat pid = leaves k s.point.flat pid t h in
+    let f : (x.process.pid ≡ pid) × (Rattle.page_model.specs.Pages.numbered (λ (y : Process). y.pid) pid s.point.flat.processes ≡ Some x.process) =
+    found_at s.point.flat pid x.process x.here in
+    record {
+      there = x;
+      regs = subst (λ (z : Bool). KeepsRegs k image z x.process x.proc.regs (space_of_holding x.process.holding)) (ap (λ (p : Placement). is_out p pid) at.place ∙ out) (regs_at k A.images image s.point.flat c pid x.process x.proc f.1 x.kept);
+      space = ap (λ (o : Outline). space_of_life o.life) (outline_at k.processes s.point.flat.processes t.processes pid x.proc x.process x.kept f.1) ∙ space_same x.process.holding;
+    }
 
 off_same : (A : Inputs) (s : State) (k : Kernel) (image : List ℕ) (pid : ℕ) → StandsAt A s k image → SameOut A s k image pid
     → unit_image k image (entries.SwapOut pid) ≡ image_behind A s (entries.SwapOut pid) image
@@ -240,14 +232,13 @@ made A (u ∷ us) s t k image images r at f o =
 -- what is on swap
 pub on_swap : (A : Inputs) (s : State) (k : Kernel) (image : List ℕ) → StandsAt A s k image → HasSwapped A s image
 on_swap A s k image at q e =
+    let there : (p : Placement) (q : Page) → state_of p q ≡ OnSwap → Rattle.page_model.specs.Placement.IsThere p q = λ p q e.
+    Rattle.page_laws.proofs.Ownership.Serve.state_there p q (λ z. absurd (let y : OnSwap ≡ Rattle.vm_facts.specs.declared.page.PageState.TheVariants.Unfilled = sym e ∙ z in cc)) in
     let kp : Keeps A s.point.flat k image = at.keeps in
     let c : Coupled k A.images image s.point.flat = kp.coupled in
     let st : state_of k.place q ≡ OnSwap = ap (λ (p : Placement). state_of p q) at.place ∙ e in
     subst (λ (hs : Holdings). stored hs image q ≡ memory_of A.images s.point.flat q) at.holdings
     (keeps_at k.place (beside_kernel k A.images image s.point.flat) q OnSwap c.pages (there k.place q st) st)
-  where
-    there : (p : Placement) (q : Page) → state_of p q ≡ OnSwap → Rattle.page_model.specs.Placement.IsThere p q
-    there p q e = Rattle.page_laws.proofs.Ownership.Serve.state_there p q (λ z. absurd (let y : OnSwap ≡ Rattle.vm_facts.specs.declared.page.PageState.TheVariants.Unfilled = sym e ∙ z in cc))
 
 -- A whole run, by its journal.
 
@@ -260,22 +251,11 @@ swapped_same A hs us journal t image c f j =
 pub run_swaps : (A : Inputs) (hs : Holdings) (us journal : List Entry) (t : State) (image : List ℕ) → CanRun A hs → Follows A (start A hs) us t
     → appended [] us ≡ journal → OutsFit A (start A hs) us
     → 512 * A.swap_blocks ≤ length image → HasSwapped A t (swapped A journal image)
-run_swaps A hs us journal t image c f j o room = subst (HasSwapped A t) (same ∙ swapped_same A hs us journal t image c f j) (on_swap A t m.machine m.behind (units_keep A us (start A hs) t k m.machine image m.behind c.images r at m.makes))
-  where
-    frames : List (List ℕ)
-    frames = replicate A.frames []
-
-    k : Kernel
-    k = start_kernel A (starting A.images A.first) hs frames
-
-    at : StandsAt A (start A hs) k image
-    at = start_keeps A hs frames image c (length-replicate A.frames []) room
-
-    r : IsRun A (start A hs)
-    r = run_start A hs c.images c.first c.frames c.pieces
-
-    m : Made A (start A hs) k image us t
-    m = made A us (start A hs) t k image c.images r at f o
-
-    same : m.behind ≡ swapped_from A (start A hs) us image
-    same = images_same A us (start A hs) t k m.machine image m.behind c.images r at m.makes
+run_swaps A hs us journal t image c f j o room =
+    let frames : List (List ℕ) = replicate A.frames [] in
+    let k : Kernel = start_kernel A (starting A.images A.first) hs frames in
+    let at : StandsAt A (start A hs) k image = start_keeps A hs frames image c (length-replicate A.frames []) room in
+    let r : IsRun A (start A hs) = run_start A hs c.images c.first c.frames c.pieces in
+    let m : Made A (start A hs) k image us t = made A us (start A hs) t k image c.images r at f o in
+    let same : m.behind ≡ swapped_from A (start A hs) us image = images_same A us (start A hs) t k m.machine image m.behind c.images r at m.makes in
+    subst (HasSwapped A t) (same ∙ swapped_same A hs us journal t image c f j) (on_swap A t m.machine m.behind (units_keep A us (start A hs) t k m.machine image m.behind c.images r at m.makes))

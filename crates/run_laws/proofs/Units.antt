@@ -157,15 +157,14 @@ kind_good A s u st nums texts m (Interrupts e k i) n =
     paged A s u entries.Done i tt (done_allowed s.place (let x : (s.place.due ≡ []) × (0 < length s.place.transfers) = subst (MarkStands s) k m in x.1)) (let l = sixteen A s st in let k = done_count s.place in omega arith)
 kind_good A s u st nums texts m (Moves count e k l w i) n =
     paged A s u (move_unit s.place (locked A s)) i (move_paging s.place (locked A s)) (move_allowed s.place (locked A s)) (move_few (locked A s) (place_at s (move_unit s.place (locked A s))) s.place (sixteen A s st))
-kind_good A s u st nums texts m (PutsOut pid e k i) n = subst (Good A s) (sym i) (record {
-  plain = put_flat s.place pid sid;
-  allowed = put_out_allowed s.place pid sid;
-  few = unit_few (locked A s) (place_at s (put_out_unit s.place pid sid)) s.place pid sid (sixteen A s st);
-  leaves = unit_case (LeaverHolds s.point.flat) s.place pid sid (λ t ts h x l. absurd l) (λ v h y z x l. absurd l) (λ h y x l. subst (λ (z : ℕ). holds_some (process_of s.point.flat z) ≡ true) l (let y : (s.place.due ≡ []) × (holds_some (process_of s.point.flat pid) ≡ true) × (Rattle.page_model.specs.Swapper.is_out s.place pid ≡ false) = subst (MarkStands s) k m in y.1));
-})
-  where
-    sid : ℕ
-    sid = space_of_process (process_of s.point.flat pid)
+kind_good A s u st nums texts m (PutsOut pid e k i) n =
+    let sid : ℕ = space_of_process (process_of s.point.flat pid) in
+    subst (Good A s) (sym i) (record {
+      plain = put_flat s.place pid sid;
+      allowed = put_out_allowed s.place pid sid;
+      few = unit_few (locked A s) (place_at s (put_out_unit s.place pid sid)) s.place pid sid (sixteen A s st);
+      leaves = unit_case (LeaverHolds s.point.flat) s.place pid sid (λ t ts h x l. absurd l) (λ v h y z x l. absurd l) (λ h y x l. subst (λ (z : ℕ). holds_some (process_of s.point.flat z) ≡ true) l (let y : (s.place.due ≡ []) × (holds_some (process_of s.point.flat pid) ≡ true) × (Rattle.page_model.specs.Swapper.is_out s.place pid ≡ false) = subst (MarkStands s) k m in y.1));
+    })
 kind_good A s u st nums texts m (Notes e k i) n = paged A s u (owners_entry s) i tt (record { can = tt; shared = tt; begins = tt; leaves = tt; finds = tt }) (sixteen A s st)
 kind_good A s u st nums texts m (Begins e k i) n = Rattle.run_laws.proofs.Settling.begins_is (Good A s) A s u i (marked (sixteen A s st))
   where

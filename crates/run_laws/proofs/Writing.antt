@@ -87,26 +87,20 @@ puts_same (w ∷ ws) s =
 pub space_tables : (k : Kernel) (flat : FlatState) (q : Process) (s z : Space) → IsNumbered flat → numbered pid_of q.pid flat.processes ≡ Some q
     → q.holding ≡ Holds s → SameSpace s z → SameTables k flat
     → SameTables k (with_process flat (record q { holding = Holds z }))
-space_tables k flat q s z nums f h same t = tables_of k (with_process flat fp) (t.processes ∙ sym (replaced_outlines flat.processes q fp f outline)) t.next_pid t.next_sid fits
-  where
-    fp : Process
-    fp = record q { holding = Holds z }
-
-    outline : outline_of fp ≡ outline_of q
-    outline = ap (λ (n : ℕ). let o : Outline = record { pid = q.pid; parent = q.parent; life = Rattle.kernel_model.specs.Kernel.HoldsSpace n; asleep = q.asleep } in o) same.sid
-        ∙ ap (λ (x : Holding). let o : Outline = record { pid = q.pid; parent = q.parent; life = Rattle.kernel_model.specs.Kernel.life_of x; asleep = q.asleep } in o) (sym h)
-
-    here : HeldAt flat.processes fp s
-    here = held_at flat.processes q fp s f h nums.sids
-
-    fits : AllFit (with_process flat fp) k.place
-    fits n = elim (cases_eq n s.sid) [
+space_tables k flat q s z nums f h same t =
+    let fp : Process = record q { holding = Holds z } in
+    let outline : outline_of fp ≡ outline_of q =
+    ap (λ (n : ℕ). let o : Outline = record { pid = q.pid; parent = q.parent; life = Rattle.kernel_model.specs.Kernel.HoldsSpace n; asleep = q.asleep } in o) same.sid
+    ∙ ap (λ (x : Holding). let o : Outline = record { pid = q.pid; parent = q.parent; life = Rattle.kernel_model.specs.Kernel.life_of x; asleep = q.asleep } in o) (sym h) in
+    let here : HeldAt flat.processes fp s = held_at flat.processes q fp s f h nums.sids in
+    let fits : AllFit (with_process flat fp) k.place = λ n. elim (cases_eq n s.sid) [
       | inl i ↦ subst (λ (m : ℕ). Fits (numbered sid_of m (held (replaced flat.processes fp))) (numbered space_number m k.place.spaces)) (sym i)
           (subst (λ (o : Option Space). Fits o (numbered space_number s.sid k.place.spaces)) (sym (held_now flat.processes fp s here ∙ numbered_hit sid_of s.sid z [] same.sid))
           (fit_bytes s z (numbered space_number s.sid k.place.spaces) same.image same.data_size same.stack_size
           (subst (λ (o : Option Space). Fits o (numbered space_number s.sid k.place.spaces)) (held_own flat.processes fp s here) (t.spaces s.sid))))
       | inr d ↦ subst (λ (o : Option Space). Fits o (numbered space_number n k.place.spaces)) (sym (held_other flat.processes fp s n here d (numbered_miss sid_of n z [] (λ i. d (sym (sym same.sid ∙ i)))))) (t.spaces n)
-    ]
+    ] in
+    tables_of k (with_process flat fp) (t.processes ∙ sym (replaced_outlines flat.processes q fp f outline)) t.next_pid t.next_sid fits
 
 -- who is out still holds a space
 out_same_holders : (p : Placement) (flat after : FlatState) → map outline_of after.processes ≡ map outline_of flat.processes → OutHold p flat → OutHold p after

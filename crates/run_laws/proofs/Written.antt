@@ -210,6 +210,10 @@ write_all [] A flat k image pid q t s m due nums f h same a = record {
   rest = record { holdings = refl; processes = refl; next_sid = refl; journal = refl; due = refl };
 }
 write_all (w ∷ ws) A flat k image pid q t s m due nums f h same a =
+    let flat1 : FlatState = apply_writes flat pid (w ∷ []) in
+    let k1 : Kernel = write_byte k s w in
+    let o : Option Page = page_tested s (address_in s w.address) in
+    let q1 : Process = record q { holding = Holds (put t w) } in
     let one : WroteOne A flat1 k k1 image o = write_one A flat k image pid q t s w m due nums f h same a.0 in
     let r : Rest k k1 = one.rest in
     let here : process_of flat1 pid ≡ Some q1 = subst (λ (x : FlatState). process_of x pid ≡ Some q1) (sym (written flat pid w q t f h)) (wrote_process flat pid q (put t w) f) in
@@ -221,15 +225,3 @@ write_all (w ∷ ws) A flat k image pid q t s m due nums f h same a =
       place = more.place ∙ ap (λ (p : Placement). touch_all p (filter_map (λ (w : ByteWrite). page_tested s (address_in s w.address)) ws)) one.place ∙ sym (touched_more k.place s w ws);
       rest = rest_both k k1 (write_bytes k1 s ws) r more.rest;
     }
-  where
-    flat1 : FlatState
-    flat1 = apply_writes flat pid (w ∷ [])
-
-    k1 : Kernel
-    k1 = write_byte k s w
-
-    o : Option Page
-    o = page_tested s (address_in s w.address)
-
-    q1 : Process
-    q1 = record q { holding = Holds (put t w) }

@@ -128,20 +128,16 @@ writing b (e ∷ es) p r locked fr w h = go p.transfers refl w h.1 h.2
   where
     go : (ts : List Transfer) → p.transfers ≡ ts → HasWrite ts → e ≡ force_entry ts → Forces es (force_by p locked ts) locked r → Short b (e ∷ es) r 1 0 0
     go [] k v i f = absurd v
-    go (t ∷ ts) k v i f = subst (λ (x : Entry). Short b (x ∷ es) r 1 0 0) (sym i) (subst (λ (xs : List Entry). Short b (entries.Done ∷ xs) r 1 0 0) (sym n.0) (record {
-      few = let a = adds_one b entries.Done refl in omega (arith, none);
-      rest = λ l. omega (arith, none);
-      moves = omega arith;
-    }))
-      where
-        free : 0 < length (done p).free
-        free = subst (λ (q : Placement). 0 < length q.free) (sym (ap (done_of p) k)) (subst (λ (d : Errand). 0 < length (land_all p d t.parts ts).free) (sym v.0) (write_frees t.parts p ts v.1))
-
-        n : (es ≡ []) × (done p ≡ r)
-        n = no_units es (done p) r locked free f
-
-        none : length r.transfers ≡ 0
-        none = subst (λ (q : Placement). length q.transfers ≡ 0) n.1 (ap length (done_rest p t ts k ∙ v.2))
+    go (t ∷ ts) k v i f =
+        let free : 0 < length (done p).free =
+        subst (λ (q : Placement). 0 < length q.free) (sym (ap (done_of p) k)) (subst (λ (d : Errand). 0 < length (land_all p d t.parts ts).free) (sym v.0) (write_frees t.parts p ts v.1)) in
+        let n : (es ≡ []) × (done p ≡ r) = no_units es (done p) r locked free f in
+        let none : length r.transfers ≡ 0 = subst (λ (q : Placement). length q.transfers ≡ 0) n.1 (ap length (done_rest p t ts k ∙ v.2)) in
+        subst (λ (x : Entry). Short b (x ∷ es) r 1 0 0) (sym i) (subst (λ (xs : List Entry). Short b (entries.Done ∷ xs) r 1 0 0) (sym n.0) (record {
+          few = let a = adds_one b entries.Done refl in omega (arith, none);
+          rest = λ l. omega (arith, none);
+          moves = omega arith;
+        }))
 
 -- with nothing in flight the hands move till a frame is free, or a write begins
 moving : (b : Bool) (us : List Entry) (p r : Placement) (locked : List Page) → OwnsFrames p → p.transfers ≡ [] → Forces us p locked r
@@ -157,17 +153,14 @@ moving b (e ∷ es) p r locked o t h = subst (λ (x : Entry). Short b (x ∷ es)
     by : Moved (hand_move p locked) → Forces es (hand_move p locked) locked r
         → ((hand_move p locked).transfers ≡ [] → Forces es (hand_move p locked) locked r → Short true es r (adds true (entries.Hands 1) + 1) 0 (length es))
         → Short b (entries.Hands 1 ∷ es) r (adds b (entries.Hands 1) + 1) 0 (length (e ∷ es))
-    by (Frees l z) f more = subst (λ (xs : List Entry). Short b (entries.Hands 1 ∷ xs) r (adds b (entries.Hands 1) + 1) 0 (length (e ∷ es))) (sym n.0) (record {
-      few = omega (arith, none);
-      rest = λ l. omega (arith, none);
-      moves = omega arith;
-    })
-      where
-        n : (es ≡ []) × (hand_move p locked ≡ r)
-        n = no_units es (hand_move p locked) r locked l f
-
-        none : length r.transfers ≡ 0
-        none = subst (λ (q : Placement). length q.transfers ≡ 0) n.1 (ap length z)
+    by (Frees l z) f more =
+        let n : (es ≡ []) × (hand_move p locked ≡ r) = no_units es (hand_move p locked) r locked l f in
+        let none : length r.transfers ≡ 0 = subst (λ (q : Placement). length q.transfers ≡ 0) n.1 (ap length z) in
+        subst (λ (xs : List Entry). Short b (entries.Hands 1 ∷ xs) r (adds b (entries.Hands 1) + 1) 0 (length (e ∷ es))) (sym n.0) (record {
+          few = omega (arith, none);
+          rest = λ l. omega (arith, none);
+          moves = omega arith;
+        })
     by (Writing z w) f more = let k : Short true es r 1 0 0 = writing true es (hand_move p locked) r locked z w f in record {
       few = omega (arith, k.few);
       rest = k.rest;

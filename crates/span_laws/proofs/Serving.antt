@@ -227,17 +227,12 @@ fed_served : (b : Bool) (us : List Entry) (p r : Placement) (locked : List Page)
     → frame_of (state_of p q) ≡ None → 0 < length p.free → Serves us p locked q now r
     → Served b us r q (length p.transfers + 3) 0 (length p.transfers) 1 0
 fed_served b [] p r locked q now o there n l h = none_served b p r q (length p.transfers + 3) 0 (length p.transfers) 1 0 h (omega arith) (λ v. absurd (frameless_not_valid (state_of p q) n v))
-fed_served b (e ∷ es) p r locked q now o there n l h = let x = first_of p.free l in go (fed p locked q now e x.0 x.1 n x.2 h.0) (λ s. fed_served false es (done p) r locked q now (done_owner p o) (done_there p q o there) still free s)
+fed_served b (e ∷ es) p r locked q now o there n l h =
+    let st : Steady p (done p) = done_steady p o in
+    let still : frame_of (state_of (done p) q) ≡ None = ap (λ (x : Slot). frame_of x.state) (st.others q n) ∙ n in
+    let free : 0 < length (done p).free = omega (arith, done_free p, l) in
+    let x = first_of p.free l in go (fed p locked q now e x.0 x.1 n x.2 h.0) (λ s. fed_served false es (done p) r locked q now (done_owner p o) (done_there p q o there) still free s)
   where
-    st : Steady p (done p)
-    st = done_steady p o
-
-    still : frame_of (state_of (done p) q) ≡ None
-    still = ap (λ (x : Slot). frame_of x.state) (st.others q n) ∙ n
-
-    free : 0 < length (done p).free
-    free = omega (arith, done_free p, l)
-
     go : Fed p locked q e → (Serves es (done p) locked q now r → Served false es r q (length (done p).transfers + 3) 0 (length (done p).transfers) 1 0) → Served b (e ∷ es) r q (length p.transfers + 3) 0 (length p.transfers) 1 0
     go (Filled i s) more =
         let x = first_of p.free l in
@@ -251,14 +246,13 @@ fed_served b (e ∷ es) p r locked q now o there n l h = let x = first_of p.free
         looser b (e ∷ es) r q (1 + (length (done p).transfers + 3)) 0 (length (done p).transfers) 1 0 (length p.transfers + 3) 0 (length p.transfers) 1 0
         (more_served b entries.Done e es r q (length (done p).transfers + 3) 0 (length (done p).transfers) 1 0 i refl refl k) (omega arith) (omega arith) (omega arith) (omega arith)
     go (Read i s) more =
+        let read_there : serve_step p locked q ≡ read_step p q → IsThere (read_step p q) q = λ s.
+        subst (λ (y : Placement). IsThere y q) s (let a = serve_sizes p locked q o q in omega (arith, there)) in
         let c = read_length p q in
         let enter : CanEnter p q = record { there = there; frameless = n } in
         let k = flying_served false es (read_step p q) r locked q now (Rattle.page_laws.proofs.Ownership.Serve.read_owner p q o enter) (read_there s) (coming_flies (state_of (read_step p q) q) (read_comes p q o enter l)) (subst (λ (y : Placement). Serves es y locked q now r) s h.1) in
         looser b (e ∷ es) r q (1 + (length (read_step p q).transfers + 1)) 1 (length (read_step p q).transfers) 1 0 (length p.transfers + 3) 0 (length p.transfers) 1 0
         (more_served b (read_entry p q) e es r q (length (read_step p q).transfers + 1) 1 (length (read_step p q).transfers) 0 0 i refl refl k) (omega arith) (omega arith) (omega arith) (omega arith)
-      where
-        read_there : serve_step p locked q ≡ read_step p q → IsThere (read_step p q) q
-        read_there s = subst (λ (y : Placement). IsThere y q) s (let a = serve_sizes p locked q o q in omega (arith, there))
 
 -- A page that has no frame: first a frame is forced.
 
@@ -294,17 +288,13 @@ forced_unit p locked q now e n fr h = let a = unit_is p q now e h in go (state_o
 split : (us : List Entry) (p r : Placement) (locked : List Page) (q : Page) (now : Bool) → OwnsFrames p → IsThere p q → frame_of (state_of p q) ≡ None
     → Serves us p locked q now r → Split us p r locked q now
 split [] p r locked q now o there n h = record { before = []; behind = []; middle = p; whole = refl; forces = refl; owner = o; there = there; frameless = n; then = inl (refl, h) }
-split (e ∷ es) p r locked q now o there n h = go p.free refl (λ s. split es (force p locked) r locked q now (force_owner p locked o) forced_there forced_none s)
+split (e ∷ es) p r locked q now o there n h =
+    let st : Stays p (force p locked) = force_stays p locked o in
+    let forced_there : IsThere (force p locked) q =
+    let a = st.sizes q in omega (arith, there) in
+    let forced_none : frame_of (state_of (force p locked) q) ≡ None = st.frames q ∙ n in
+    go p.free refl (λ s. split es (force p locked) r locked q now (force_owner p locked o) forced_there forced_none s)
   where
-    st : Stays p (force p locked)
-    st = force_stays p locked o
-
-    forced_there : IsThere (force p locked) q
-    forced_there = let a = st.sizes q in omega (arith, there)
-
-    forced_none : frame_of (state_of (force p locked) q) ≡ None
-    forced_none = st.frames q ∙ n
-
     go : (fr : List ℕ) → p.free ≡ fr → (Serves es (force p locked) locked q now r → Split es (force p locked) r locked q now) → Split (e ∷ es) p r locked q now
     go [] k more =
         let u = forced_unit p locked q now e n k h.0 in

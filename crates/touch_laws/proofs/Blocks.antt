@@ -80,11 +80,9 @@ by_stack false false false false t a i h = (refl, refl)
 above_both : (t d s a i : ℕ) → spot_at t d s a ≡ Stack i → (t ≤ a) × (t + d ≤ a)
 unfolding spot_at
 above_both t d s a i h =
+    let at_least : (a b : ℕ) → ltb a b ≡ false → b ≤ a = λ a b e. grind (arith, nat_tests) in
     let found = by_stack (ltb a t) (ltb a (t + d)) _ _ t a i h in
     (at_least a t found.0, at_least a (t + d) found.1)
-  where
-    at_least : (a b : ℕ) → ltb a b ≡ false → b ≤ a
-    at_least a b e = grind (arith, nat_tests)
 
 stack_block : (s : Space) (x i : ℕ) → IsWhole s → address_in s x ≡ Stack i → IsBlock s x (pages.Stack s.sid (i / 1024))
 unfolding page_in

@@ -98,6 +98,8 @@ no_more : (ys xs : List Page) → NoneTwice xs → ((q : Page) → is_among q xs
 no_more [] [] h k = omega arith
 no_more [] (x ∷ xs) h k = absurd (let e = k x (among_first x xs) in cc)
 no_more (y ∷ ys) xs h k =
+    let left : (q : Page) → is_among q (but y xs) ≡ true → is_among q ys ≡ true = λ q here.
+    go q (same_page q y) refl here (k q (filtered_among (λ other. not (same_page y other)) q xs here).0) in
     let n = but_one y xs h in
     let m = no_more ys (but y xs) (none_filtered (λ other. not (same_page y other)) xs h) left in
     omega arith
@@ -108,9 +110,6 @@ no_more (y ∷ ys) xs h k =
         let self = ap (λ (r : Page). not (same_page y r)) (same_page_is q y e) ∙ ap not (same_page_self y) in
         absurd cc
     go q false e here l = l
-
-    left : (q : Page) → is_among q (but y xs) ≡ true → is_among q ys ≡ true
-    left q here = go q (same_page q y) refl here (k q (filtered_among (λ other. not (same_page y other)) q xs here).0)
 
 pub few_distinct : (xs ys : List Page) → ((q : Page) → is_among q xs ≡ true → is_among q ys ≡ true) → length (distinct xs) ≤ length ys
 few_distinct xs ys h = no_more ys (distinct xs) (none_distinct xs) (λ q k. h q (among_distinct q xs k))

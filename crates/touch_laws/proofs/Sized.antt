@@ -120,10 +120,9 @@ entered_sized : (images : List NamedImage) (F : FlatState) (p : Process) (s : Sp
     → AllSized F.processes → IsSized s → AllSized (entered F p s number o top).processes
 entered_sized images F p s number None top w e h k = h
 entered_sized images F p s number (Some named) top w e h k =
+    let loaded : ImageWhole named → IsSized (record { sid = F.next_sid; image = number; text_bytes = named.image.text; data_bytes = named.image.data; stack_bytes = top }) = λ fits.
+    let a = fits.text in let b = fits.text_fits in let c = fits.data in let d = fits.data_fits in record { text = omega arith; text_fits = omega arith; «data» = omega arith; data_fits = omega arith } in
     sized_returned p.pid s _ (sized_replaced F.processes _ h (loaded (w number named e))) k
-  where
-    loaded : ImageWhole named → IsSized (record { sid = F.next_sid; image = number; text_bytes = named.image.text; data_bytes = named.image.data; stack_bytes = top })
-    loaded fits = let a = fits.text in let b = fits.text_fits in let c = fits.data in let d = fits.data_fits in record { text = omega arith; text_fits = omega arith; «data» = omega arith; data_fits = omega arith }
 
 changed_sized : (images : List NamedImage) (F : FlatState) (p : Process) (s : Space) (change : Change) → ImagesWhole images → MayResize change
     → AllSized F.processes → p.holding ≡ Holds s → IsSized s

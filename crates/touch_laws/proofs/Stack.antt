@@ -24,10 +24,9 @@ sp_put P regs value new old = go (cases_lt 14 (length regs.r))
   where
     go : (14 < length regs.r) ⊎ (length regs.r ≤ 14) → P (sp (with_register regs 14 value))
     go (inl l) = subst P (sym (get_or-set_same regs.r 14 value 0 l)) new
-    go (inr l) = subst P (get_or_past regs.r 14 0 l ∙ sym (get_or_past (sp_list regs value) 14 0 (let n = length-set regs.r 14 value in omega arith))) old
-      where
-        sp_list : Regs → ℕ → List ℕ
-        sp_list regs value = (with_register regs 14 value).r
+    go (inr l) =
+        let sp_list : Regs → ℕ → List ℕ = λ regs value. (with_register regs 14 value).r in
+        subst P (get_or_past regs.r 14 0 l ∙ sym (get_or_past (sp_list regs value) 14 0 (let n = length-set regs.r 14 value in omega arith))) old
 
 -- another register leaves SP
 pub sp_kept : (regs : Regs) (reg value : ℕ) → reg ≢ 14 → sp (with_register regs reg value) ≡ sp regs

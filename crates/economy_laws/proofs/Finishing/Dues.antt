@@ -113,16 +113,13 @@ fill_ends (suc n) A P d ds lk e Q m s x g l on p k mk w lt = go (λ t. fill_ends
 bring_ends : (n : ℕ) (A : Inputs) (P : State → Type 0) (q parent : Page) (ds : List Due) (m : Mark) (s : State) → Stage A P → IsLasting m → Then A P ds m
     → P s → s.place.due ≡ CopyOf q parent ∷ ds → s.mark ≡ m → rank s.place (parent ∷ []) parent < n → Finishes A s
 bring_ends zero A P q parent ds m s g l on p k mk lt = absurd (omega arith)
-bring_ends (suc n) A P q parent ds m s g l on p k mk lt = go (λ t. bring_ends n A P q parent ds m t g l on) (is_valid (state_of s.place parent)) refl
+bring_ends (suc n) A P q parent ds m s g l on p k mk lt =
+    let lk : List Page = parent ∷ [] in
+    let locks : locked A s ≡ parent ∷ [] = ap (locked_by A s) k in
+    go (λ t. bring_ends n A P q parent ds m t g l on) (is_valid (state_of s.place parent)) refl
   where
     r : IsRun A s
     r = g.run s p
-
-    lk : List Page
-    lk = parent ∷ []
-
-    locks : locked A s ≡ parent ∷ []
-    locks = ap (locked_by A s) k
 
     room : HasRoom s.place (parent ∷ [])
     room = subst (HasRoom s.place) (ap (locked_by A s) k) (run_room A s r g.frames)

@@ -113,28 +113,22 @@ out_mark A s _ pid m n = inl m
 put_ends : (n : ℕ) (A : Inputs) (P : State → Type 0) (pid sid : ℕ) (s : State) → Stage A P → P s → s.mark ≡ marks.PutOut pid
     → space_of_process (process_of s.point.flat pid) ≡ sid → put_rank s.place pid sid < n → Finishes A s
 put_ends zero A P pid sid s g p mk i lt = absurd (omega arith)
-put_ends (suc n) A P pid sid s g p mk i lt = finish_on A P s g p (go (λ t. put_ends n A P pid sid t g))
-  where
-    r : IsRun A s
-    r = g.run s p
-
-    d : s.place.due ≡ []
-    d = let m : (s.place.due ≡ []) × (Rattle.kernel_model.specs.Stands.holds_some (process_of s.point.flat pid) ≡ true) × (Rattle.page_model.specs.Swapper.is_out s.place pid ≡ false) = subst (MarkStands s) mk r.mark in m.0
-
-    same : (a b : Entry) → Some a ≡ Some b → a ≡ b
-    same a b e = cc
-
-    go : ((t : State) → P t → t.mark ≡ marks.PutOut pid → space_of_process (process_of t.point.flat pid) ≡ sid → put_rank t.place pid sid < n → Finishes A t)
-        → (u : Entry) → next_unit A s ≡ Some u → is_boundary u ≡ false → P (after A s u) → Finishes A (after A s u)
-    go more u h b p2 =
-        let is : u ≡ put_out_unit s.place pid (space_of_process (process_of s.point.flat pid)) = same u (put_out_unit s.place pid (space_of_process (process_of s.point.flat pid))) (sym h ∙ put_unit A s pid d mk) in
-        let point = plain_point A s u (ap process_of_entry is ∙ put_flat s.place pid (space_of_process (process_of s.point.flat pid))) in
-        let falls = put_falls A s u pid r mk h in
-        elim (out_mark A s u pid mk b) [
-          | inl m ↦ more (after A s u) p2 m (ap (λ (x : Point). space_of_process (process_of x.flat pid)) point ∙ i)
-              (let a : put_rank (after A s u).place pid sid < put_rank s.place pid sid = subst (λ (x : ℕ). put_rank (after A s u).place pid x < put_rank s.place pid x) i falls in omega arith)
-          | inr m ↦ over_ends A P (after A s u) g p2 m
-        ]
+put_ends (suc n) A P pid sid s g p mk i lt =
+    let r : IsRun A s = g.run s p in
+    let d : s.place.due ≡ [] =
+    let m : (s.place.due ≡ []) × (Rattle.kernel_model.specs.Stands.holds_some (process_of s.point.flat pid) ≡ true) × (Rattle.page_model.specs.Swapper.is_out s.place pid ≡ false) = subst (MarkStands s) mk r.mark in m.0 in
+    let same : (a b : Entry) → Some a ≡ Some b → a ≡ b = λ a b e. cc in
+    let go : ((t : State) → P t → t.mark ≡ marks.PutOut pid → space_of_process (process_of t.point.flat pid) ≡ sid → put_rank t.place pid sid < n → Finishes A t)
+    → (u : Entry) → next_unit A s ≡ Some u → is_boundary u ≡ false → P (after A s u) → Finishes A (after A s u) = λ more u h b p2.
+    let is : u ≡ put_out_unit s.place pid (space_of_process (process_of s.point.flat pid)) = same u (put_out_unit s.place pid (space_of_process (process_of s.point.flat pid))) (sym h ∙ put_unit A s pid d mk) in
+    let point = plain_point A s u (ap process_of_entry is ∙ put_flat s.place pid (space_of_process (process_of s.point.flat pid))) in
+    let falls = put_falls A s u pid r mk h in
+    elim (out_mark A s u pid mk b) [
+      | inl m ↦ more (after A s u) p2 m (ap (λ (x : Point). space_of_process (process_of x.flat pid)) point ∙ i)
+          (let a : put_rank (after A s u).place pid sid < put_rank s.place pid sid = subst (λ (x : ℕ). put_rank (after A s u).place pid x < put_rank s.place pid x) i falls in omega arith)
+      | inr m ↦ over_ends A P (after A s u) g p2 m
+    ] in
+    finish_on A P s g p (go (λ t. put_ends n A P pid sid t g))
 
 -- Each of these marks.
 pub still_ends : (A : Inputs) (P : State → Type 0) (s : State) → Stage A P

@@ -204,38 +204,27 @@ record Settled (A : Inputs) (s t : State) (pid : ℕ) : Type 0 where
 
 settled : (A : Inputs) (s : State) (pid : ℕ) (u : Entry) → IsRun A s → Inside A s pid → wanted A s ≡ None → act A s pid ≡ Some u → u ≡ entries.Done
     → is_boundary u ≡ false → Settled A s (after A s u) pid
-settled A s pid u r i w a is b = record { here = here; none = none; less = omega (arith, fewer); point = point }
+settled A s pid u r i w a is b =
+    let pl : (after A s u).place ≡ done s.place = plain_place A s u plain ∙ ap (place_entry (locked A s) (place_at s u) s.place) is in
+    let point : (after A s u).point ≡ s.point = plain_point A s u plain in
+    let fewer : length (after A s u).place.transfers + 1 ≡ length s.place.transfers =
+    let some = settles A s pid (a ∙ ap (λ (x : Entry). Some x) is) in let l = done_less s.place (λ z. absurd (let y = ap length z in omega arith)) in let t = ap (λ (x : Placement). length x.transfers) pl in omega arith in
+    let due : (after A s u).place.due ≡ [] =
+    let st : Steady s.place (done s.place) = done_steady s.place (owns A s r.placed) in ap (λ (x : Placement). x.due) pl ∙ st.due ∙ i.clear in
+    let here : Inside A (after A s u) pid = record { on = still_on A s pid u i.on b; clear = due; inside = out (is_out (after A s u).place pid) refl } in
+    let valid : AllValid s.place (touched A s.point.flat pid) = none_absent s.place (touched A s.point.flat pid) (sym (wanted_on A s pid i.on i.clear) ∙ w) in
+    let none : wanted A (after A s u) ≡ None =
+    let kept = spared s.place (done s.place) (touched A s.point.flat pid) valid (done_spares s.place (touched A s.point.flat pid) (owns A s r.placed)) (touched A s.point.flat pid) (λ y e. e) in
+    wanted_on A (after A s u) pid (still_on A s pid u i.on b) due ∙ ap (first_absent (after A s u).place) (ap (λ (x : Point). touched A x.flat pid) point)
+    ∙ ap (λ (x : Placement). first_absent x (touched A s.point.flat pid)) pl ∙ all_present (done s.place) (touched A s.point.flat pid) kept in
+    record { here = here; none = none; less = omega (arith, fewer); point = point }
   where
     plain : process_of_entry u ≡ None
     plain = ap process_of_entry is
 
-    pl : (after A s u).place ≡ done s.place
-    pl = plain_place A s u plain ∙ ap (place_entry (locked A s) (place_at s u) s.place) is
-
-    point : (after A s u).point ≡ s.point
-    point = plain_point A s u plain
-
-    fewer : length (after A s u).place.transfers + 1 ≡ length s.place.transfers
-    fewer = let some = settles A s pid (a ∙ ap (λ (x : Entry). Some x) is) in let l = done_less s.place (λ z. absurd (let y = ap length z in omega arith)) in let t = ap (λ (x : Placement). length x.transfers) pl in omega arith
-
-    due : (after A s u).place.due ≡ []
-    due = let st : Steady s.place (done s.place) = done_steady s.place (owns A s r.placed) in ap (λ (x : Placement). x.due) pl ∙ st.due ∙ i.clear
-
     out : (o : Bool) → is_out (after A s u).place pid ≡ o → o ≡ false
     out false e = refl
     out true e = absurd (stays_in A s u pid plain (λ x. subst (λ (y : Entry). Leaver y pid) is x) i.inside e)
-
-    here : Inside A (after A s u) pid
-    here = record { on = still_on A s pid u i.on b; clear = due; inside = out (is_out (after A s u).place pid) refl }
-
-    valid : AllValid s.place (touched A s.point.flat pid)
-    valid = none_absent s.place (touched A s.point.flat pid) (sym (wanted_on A s pid i.on i.clear) ∙ w)
-
-    none : wanted A (after A s u) ≡ None
-    none =
-        let kept = spared s.place (done s.place) (touched A s.point.flat pid) valid (done_spares s.place (touched A s.point.flat pid) (owns A s r.placed)) (touched A s.point.flat pid) (λ y e. e) in
-        wanted_on A (after A s u) pid (still_on A s pid u i.on b) due ∙ ap (first_absent (after A s u).place) (ap (λ (x : Point). touched A x.flat pid) point)
-        ∙ ap (λ (x : Placement). first_absent x (touched A s.point.flat pid)) pl ∙ all_present (done s.place) (touched A s.point.flat pid) kept
 
 -- after `Refused` and `Out` transfers end, or a boundary comes
 closed_ends : (n : ℕ) (A : Inputs) (P : State → Type 0) (pid : ℕ) (s : State) → Stage A P → P s → Inside A s pid → wanted A s ≡ None
@@ -265,14 +254,11 @@ closed_ends (suc n) A P pid s g p i w c lt = finish_on A P s g p (λ u h b p2. g
 
 noted_ends : (A : Inputs) (P : State → Type 0) (pid : ℕ) (s : State) (u : Entry) → Stage A P → P (after A s u) → Inside A s pid → wanted A s ≡ None
     → is_closed (Some u) ≡ true → after A s u ≡ noted s u → Finishes A (after A s u)
-noted_ends A P pid s u g p2 i w c e = closed_ends (1 + length (after A s u).place.transfers) A P pid (after A s u) g p2
+noted_ends A P pid s u g p2 i w c e =
+    let here : Inside A (noted s u) pid = record { on = i.on; clear = i.clear; inside = i.inside } in
+    let none : wanted A (noted s u) ≡ None = wanted_on A (noted s u) pid i.on i.clear ∙ sym (wanted_on A s pid i.on i.clear) ∙ w in
+    closed_ends (1 + length (after A s u).place.transfers) A P pid (after A s u) g p2
     (subst (λ (t : State). Inside A t pid) (sym e) here) (subst (λ (t : State). wanted A t ≡ None) (sym e) none) (subst (λ (t : State). is_closed t.point.last ≡ true) (sym e) c) (omega arith)
-  where
-    here : Inside A (noted s u) pid
-    here = record { on = i.on; clear = i.clear; inside = i.inside }
-
-    none : wanted A (noted s u) ≡ None
-    none = wanted_on A (noted s u) pid i.on i.clear ∙ sym (wanted_on A s pid i.on i.clear) ∙ w
 
 -- its pages are all valid: it acts, and once it grew it touches more pages
 act_ends : (n : ℕ) (A : Inputs) (P : State → Type 0) (pid most : ℕ) (s : State) → Stage A P

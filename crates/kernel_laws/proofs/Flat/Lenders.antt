@@ -67,23 +67,22 @@ not_holds s sid child e = absurd cc
 -- A process gives way to one that has a space of the same number.
 same_lent : (ps : List Process) (q p : Process) (s z : Space) → numbered pid_of p.pid ps ≡ Some q → q.holding ≡ Holds s → p.holding ≡ Holds z
     → z.sid ≡ s.sid → Lent ps → Lent (replaced ps p)
-same_lent ps q p s z e h k i l = lent_kept ps (replaced ps p) l (λ x sid child f g. elim (cases_eq x.pid p.pid) [
-  | inl j ↦ not_holds z sid child (sym k ∙ ap (λ (y : Process). y.holding) (same_Some p x (sym (replaced_at ps q p e) ∙ ap (λ (n : ℕ). numbered pid_of n (replaced ps p)) (sym j) ∙ f)) ∙ g)
-  | inr d ↦ record {
-    before = x;
-    number = refl;
-    found = sym (replaced_not ps p x.pid d) ∙ f;
-    holding = g;
-    stays = forward sid child;
-  }
-])
-  where
-    forward : (sid child : ℕ) → IsWith sid (numbered pid_of child ps) → IsWith sid (numbered pid_of child (replaced ps p))
-    forward sid child y = elim (cases_eq child p.pid) [
+same_lent ps q p s z e h k i l =
+    let forward : (sid child : ℕ) → IsWith sid (numbered pid_of child ps) → IsWith sid (numbered pid_of child (replaced ps p)) = λ sid child y. elim (cases_eq child p.pid) [
       | inl j ↦ subst (λ (n : ℕ). IsWith sid (numbered pid_of n (replaced ps p))) (sym j) (subst (IsWith sid) (sym (replaced_at ps q p e))
           (subst (HasOrLent sid) (sym k) (i ∙ subst (HasOrLent sid) h (subst (IsWith sid) e (subst (λ (n : ℕ). IsWith sid (numbered pid_of n ps)) j y)))))
       | inr d ↦ subst (IsWith sid) (sym (replaced_not ps p child d)) y
-    ]
+    ] in
+    lent_kept ps (replaced ps p) l (λ x sid child f g. elim (cases_eq x.pid p.pid) [
+      | inl j ↦ not_holds z sid child (sym k ∙ ap (λ (y : Process). y.holding) (same_Some p x (sym (replaced_at ps q p e) ∙ ap (λ (n : ℕ). numbered pid_of n (replaced ps p)) (sym j) ∙ f)) ∙ g)
+      | inr d ↦ record {
+        before = x;
+        number = refl;
+        found = sym (replaced_not ps p x.pid d) ∙ f;
+        holding = g;
+        stays = forward sid child;
+      }
+    ])
 
 -- A new process that holds a space.
 pushed_lent : (ps : List Process) (p : Process) (s : Space) → numbered pid_of p.pid ps ≡ None → p.holding ≡ Holds s → Lent ps → Lent (ps ++ p ∷ [])
@@ -100,7 +99,27 @@ pushed_lent ps p s e h l = lent_kept ps (ps ++ p ∷ []) l (λ x sid child f g. 
 lends_lent : (ps : List Process) (q p c : Process) (s : Space) → numbered pid_of p.pid ps ≡ Some q → q.holding ≡ Holds s
     → p.holding ≡ Lends s.sid c.pid → numbered pid_of c.pid ps ≡ None
     → c.holding ≡ Holds s → Lent ps → Lent (replaced ps p ++ c ∷ [])
-lends_lent ps q p c s e h k new hc l = record { right = right; one = one }
+lends_lent ps q p c s e h k new hc l =
+    let right : (x : Process) (sid child : ℕ) → numbered pid_of x.pid qs ≡ Some x → x.holding ≡ Lends sid child → IsWith sid (numbered pid_of child qs) = λ x sid child f g.
+    elim (either x sid child f g) [
+      | inl i ↦ subst (λ (n : ℕ). IsWith sid (numbered pid_of n qs)) i.2 (subst (IsWith sid) (sym at_child) (subst (HasOrLent sid) (sym hc) i.1))
+      | inr i ↦ forward sid child (l.right x sid child i.1 g)
+    ] in
+    -- nobody had lent to the new process
+    let old_child : (x : Process) (sid child : ℕ) → numbered pid_of x.pid ps ≡ Some x → x.holding ≡ Lends sid child → c.pid ≢ child = λ x sid child f g i.
+    subst (IsWith sid) new (subst (λ (n : ℕ). IsWith sid (numbered pid_of n ps)) (sym i) (l.right x sid child f g)) in
+    let one : (x y : Process) (a b child : ℕ) → numbered pid_of x.pid qs ≡ Some x → numbered pid_of y.pid qs ≡ Some y → x.holding ≡ Lends a child → y.holding ≡ Lends b child → x.pid ≡ y.pid = λ x y a b child f g hx hy.
+    elim (either x a child f hx) [
+      | inl i ↦ elim (either y b child g hy) [
+        | inl j ↦ i.0 ∙ sym j.0
+        | inr j ↦ absurd (old_child y b child j.1 hy i.2)
+      ]
+      | inr i ↦ elim (either y b child g hy) [
+        | inl j ↦ absurd (old_child x a child i.1 hx j.2)
+        | inr j ↦ l.one x y a b child i.1 j.1 hx hy
+      ]
+    ] in
+    record { right = right; one = one }
   where
     qs : List Process
     qs = replaced ps p ++ c ∷ []
@@ -143,28 +162,6 @@ lends_lent ps q p c s e h k new hc l = record { right = right; one = one }
         go : (o : Option Process) → numbered pid_of child ps ≡ o → child ≢ p.pid → IsWith sid (numbered pid_of child qs)
         go None i d = absurd (subst (IsWith sid) i y)
         go (Some z) i d = subst (IsWith sid) (i ∙ sym (pushed_found pid_of child (replaced ps p) c z (replaced_not ps p child d ∙ i))) y
-
-    right : (x : Process) (sid child : ℕ) → numbered pid_of x.pid qs ≡ Some x → x.holding ≡ Lends sid child → IsWith sid (numbered pid_of child qs)
-    right x sid child f g = elim (either x sid child f g) [
-      | inl i ↦ subst (λ (n : ℕ). IsWith sid (numbered pid_of n qs)) i.2 (subst (IsWith sid) (sym at_child) (subst (HasOrLent sid) (sym hc) i.1))
-      | inr i ↦ forward sid child (l.right x sid child i.1 g)
-    ]
-
-    -- nobody had lent to the new process
-    old_child : (x : Process) (sid child : ℕ) → numbered pid_of x.pid ps ≡ Some x → x.holding ≡ Lends sid child → c.pid ≢ child
-    old_child x sid child f g i = subst (IsWith sid) new (subst (λ (n : ℕ). IsWith sid (numbered pid_of n ps)) (sym i) (l.right x sid child f g))
-
-    one : (x y : Process) (a b child : ℕ) → numbered pid_of x.pid qs ≡ Some x → numbered pid_of y.pid qs ≡ Some y → x.holding ≡ Lends a child → y.holding ≡ Lends b child → x.pid ≡ y.pid
-    one x y a b child f g hx hy = elim (either x a child f hx) [
-      | inl i ↦ elim (either y b child g hy) [
-        | inl j ↦ i.0 ∙ sym j.0
-        | inr j ↦ absurd (old_child y b child j.1 hy i.2)
-      ]
-      | inr i ↦ elim (either y b child g hy) [
-        | inl j ↦ absurd (old_child x a child i.1 hx j.2)
-        | inr j ↦ l.one x y a b child i.1 j.1 hx hy
-      ]
-    ]
 
 -- A space that goes back.
 
@@ -211,26 +208,25 @@ returned_cases (q ∷ ps) pid s d = elim (cases_Bool (lends_to pid q.holding)) [
 back_lent : (ps : List Process) (q p : Process) (s : Space) → AllDistinct (map pid_of ps) → numbered pid_of p.pid ps ≡ Some q → q.holding ≡ Holds s
     → ((sid child : ℕ) → p.holding ≢ Lends sid child)
     → Lent ps → Lent (returned p.pid s (replaced ps p))
-back_lent ps q p s d e h none l = elim (returned_cases r0 p.pid s distinct) [
-  | inl c ↦ subst Lent (sym c.0) (lent_kept ps r0 l (λ x sid child f g. record {
-    before = x;
-    number = refl;
-    found = sym (replaced_not ps p x.pid (own x sid child f g)) ∙ f;
-    holding = g;
-    stays = λ y. subst (IsWith sid) (sym (replaced_not ps p child (λ i. let z : true ≡ false = sym (lends_true p.pid sid x.holding (g ∙ ap (Lends sid) i)) ∙ c.1 x f in cc))) y;
-  }))
-  | inr c ↦ (let m : (sid : ℕ) × (c.0.holding ≡ Lends sid p.pid) = lender_is p.pid c.0.holding c.2 in
-      let other : c.0.pid ≢ p.pid = own c.0 m.0 p.pid c.1 m.1 in
-      let was : numbered pid_of c.0.pid ps ≡ Some c.0 = sym (replaced_not ps p c.0.pid other) ∙ c.1 in
-      let right : s.sid ≡ m.0 = subst (HasOrLent m.0) h (subst (IsWith m.0) e (l.right c.0 m.0 p.pid was m.1)) in
-      subst Lent (sym c.3) (lent_kept ps (replaced r0 (record c.0 { holding = Holds s })) l (λ x sid child f g. behind c.0 m.0 m.1 c.1 was right x sid child f g (cases_eq x.pid c.0.pid))))
-]
+back_lent ps q p s d e h none l =
+    let distinct : AllDistinct (map pid_of r0) = subst AllDistinct (sym (replaced_pids ps q p e)) d in
+    elim (returned_cases r0 p.pid s distinct) [
+      | inl c ↦ subst Lent (sym c.0) (lent_kept ps r0 l (λ x sid child f g. record {
+        before = x;
+        number = refl;
+        found = sym (replaced_not ps p x.pid (own x sid child f g)) ∙ f;
+        holding = g;
+        stays = λ y. subst (IsWith sid) (sym (replaced_not ps p child (λ i. let z : true ≡ false = sym (lends_true p.pid sid x.holding (g ∙ ap (Lends sid) i)) ∙ c.1 x f in cc))) y;
+      }))
+      | inr c ↦ (let m : (sid : ℕ) × (c.0.holding ≡ Lends sid p.pid) = lender_is p.pid c.0.holding c.2 in
+          let other : c.0.pid ≢ p.pid = own c.0 m.0 p.pid c.1 m.1 in
+          let was : numbered pid_of c.0.pid ps ≡ Some c.0 = sym (replaced_not ps p c.0.pid other) ∙ c.1 in
+          let right : s.sid ≡ m.0 = subst (HasOrLent m.0) h (subst (IsWith m.0) e (l.right c.0 m.0 p.pid was m.1)) in
+          subst Lent (sym c.3) (lent_kept ps (replaced r0 (record c.0 { holding = Holds s })) l (λ x sid child f g. behind c.0 m.0 m.1 c.1 was right x sid child f g (cases_eq x.pid c.0.pid))))
+    ]
   where
     r0 : List Process
     r0 = replaced ps p
-
-    distinct : AllDistinct (map pid_of r0)
-    distinct = subst AllDistinct (sym (replaced_pids ps q p e)) d
 
     -- a lender isn't the process itself
     own : (x : Process) (sid child : ℕ) → numbered pid_of x.pid r0 ≡ Some x → x.holding ≡ Lends sid child → x.pid ≢ p.pid
@@ -334,12 +330,11 @@ changes_lent images flat pid regs change q s e h m n st = subst LendsStand (sym 
     go Keep m = of_lent (with_process flat p) (same_lent flat.processes q p s s found h h refl l)
     go Sleep m = of_lent (with_process flat (record p { asleep = true })) (same_lent flat.processes q (record p { asleep = true }) s s found h h refl l)
     go (Resize d t) m = of_lent (with_process flat (record p { holding = Holds (resized s d t) })) (same_lent flat.processes q (record p { holding = Holds (resized s d t) }) s (resized s d t) found h refl refl l)
-    go (Fork child) m = subst (λ (x : ℕ). LendsStand (forked flat p s x)) (sym m) (of_lent (forked flat p s flat.next_pid)
+    go (Fork child) m =
+        let new : flat.next_pid ≢ q.pid = λ i. none_some q (sym (next_pid_none flat n) ∙ ap (λ (x : ℕ). numbered pid_of x flat.processes) i ∙ found) in
+        subst (λ (x : ℕ). LendsStand (forked flat p s x)) (sym m) (of_lent (forked flat p s flat.next_pid)
         (pushed_lent (replaced flat.processes p) (child_of p flat.next_pid (record s { sid = flat.next_sid })) (record s { sid = flat.next_sid }) (replaced_not flat.processes p flat.next_pid new ∙ next_pid_none flat n) refl
         (same_lent flat.processes q p s s found h h refl l)))
-      where
-        new : flat.next_pid ≢ q.pid
-        new i = none_some q (sym (next_pid_none flat n) ∙ ap (λ (x : ℕ). numbered pid_of x flat.processes) i ∙ found)
     go (Lend child) m = subst (λ (x : ℕ). LendsStand (lent flat p s x)) (sym m) (of_lent (lent flat p s flat.next_pid)
         (lends_lent flat.processes q (record p { holding = Lends s.sid flat.next_pid }) (child_of p flat.next_pid s) s found h refl (next_pid_none flat n) refl l))
     go (Exec number top) m = by (image_numbered images number)
@@ -355,24 +350,16 @@ changes_lent images flat pid regs change q s e h m n st = subst LendsStand (sym 
         other : q.pid ≢ child
         other i = let same : q ≡ m.0 = same_Some q m.0 (sym found ∙ ap (λ (x : ℕ). numbered pid_of x flat.processes) i ∙ sym (found_is flat.processes child) ∙ m.2) in
             let z : Holds s ≡ Zombie m.1 = sym h ∙ ap (λ (x : Process). x.holding) same ∙ m.3 in cc
-    go (End status) m = subst LendsStand (sym (left_is (q.parent == 0) (orphaned (given_back (with_process flat fp) q.pid s) q.pid) q.pid q.parent))
+    go (End status) m =
+        let fp : Process = record p { holding = Zombie status } in
+        let rs : List Process = returned q.pid s (replaced flat.processes fp) in
+        let tidy : Rattle.kernel_laws.proofs.Flat.Numbers.Tidy rs flat.next_pid flat.next_sid = Rattle.kernel_laws.proofs.Flat.Numbers.back_tidy flat pid q fp s n e h found refl refl refl in
+        let distinct : AllDistinct (map pid_of rs) = tidy.pids in
+        let at : numbered pid_of q.pid rs ≡ Some fp =
+        Rattle.kernel_laws.proofs.Flat.Numbers.returned_own (replaced flat.processes fp) q.pid s fp (subst AllDistinct (sym (replaced_pids flat.processes q fp found)) n.pids) (replaced_at flat.processes q fp found) refl in
+        subst LendsStand (sym (left_is (q.parent == 0) (orphaned (given_back (with_process flat fp) q.pid s) q.pid) q.pid q.parent))
         (of_lent (record flat { processes = left_flat (q.parent == 0) (orphans q.pid rs) q.pid q.parent })
         (left_lent (q.parent == 0) rs fp q.pid q.parent distinct at refl (back_lent flat.processes q fp s n.pids found h (λ sid child i. cc) l)))
-      where
-        fp : Process
-        fp = record p { holding = Zombie status }
-
-        rs : List Process
-        rs = returned q.pid s (replaced flat.processes fp)
-
-        tidy : Rattle.kernel_laws.proofs.Flat.Numbers.Tidy rs flat.next_pid flat.next_sid
-        tidy = Rattle.kernel_laws.proofs.Flat.Numbers.back_tidy flat pid q fp s n e h found refl refl refl
-
-        distinct : AllDistinct (map pid_of rs)
-        distinct = tidy.pids
-
-        at : numbered pid_of q.pid rs ≡ Some fp
-        at = Rattle.kernel_laws.proofs.Flat.Numbers.returned_own (replaced flat.processes fp) q.pid s fp (subst AllDistinct (sym (replaced_pids flat.processes q fp found)) n.pids) (replaced_at flat.processes q fp found) refl
 
 pub writes_lent : (flat : FlatState) (pid : ℕ) (ws : List ByteWrite) (q : Process) (s : Space) → process_of flat pid ≡ Some q → q.holding ≡ Holds s
     → LendsStand flat → LendsStand (apply_writes flat pid ws)

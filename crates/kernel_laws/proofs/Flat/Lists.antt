@@ -166,36 +166,24 @@ held_new ps p s n a e =
 pub held_gain : (ps : List Process) (m p : Process) (s : Space) → numbered pid_of p.pid ps ≡ Some m → space_held m.holding ≡ [] → p.holding ≡ Holds s
     → numbered sid_of s.sid (held ps) ≡ None
     → (numbered sid_of s.sid (held (replaced ps p)) ≡ Some s) × ((n : ℕ) → n ≢ s.sid → numbered sid_of n (held (replaced ps p)) ≡ numbered sid_of n (held ps))
-held_gain ps m p s e h i z = (own, other)
+held_gain ps m p s e h i z =
+    let r : Parts ps m p = parts_at ps m p e in
+    let front : List Space = held r.front in
+    let back : List Space = held r.back in
+    let old : held ps ≡ front ++ back = ap held r.old ∙ held_parts r.front m r.back ∙ ap (λ (l : List Space). front ++ (l ++ back)) h in
+    let new : held (replaced ps p) ≡ front ++ ((s ∷ []) ++ back) = ap held r.new ∙ held_parts r.front p r.back ∙ ap (λ (x : Holding). front ++ (space_held x ++ back)) i in
+    let own : numbered sid_of s.sid (held (replaced ps p)) ≡ Some s = ap (numbered sid_of s.sid) new ∙ three s.sid front (s ∷ []) back
+    ∙ ap (λ (o : Option Space). or_else o (or_else (numbered sid_of s.sid (s ∷ [])) (numbered sid_of s.sid back)))
+    (first_none (numbered sid_of s.sid front) (numbered sid_of s.sid back) (sym (numbered_append sid_of s.sid front back) ∙ sym (ap (numbered sid_of s.sid) old) ∙ z))
+    ∙ ap (λ (o : Option Space). or_else o (numbered sid_of s.sid back)) (numbered_hit sid_of s.sid s [] refl) in
+    let other : (n : ℕ) → n ≢ s.sid → numbered sid_of n (held (replaced ps p)) ≡ numbered sid_of n (held ps) = λ n d.
+    ap (numbered sid_of n) new ∙ three n front (s ∷ []) back ∙ ap (λ (o : Option Space). or_else (numbered sid_of n front) (or_else o (numbered sid_of n back))) (numbered_miss sid_of n s [] (λ x. d (sym x)))
+    ∙ sym (numbered_append sid_of n front back) ∙ sym (ap (numbered sid_of n) old) in
+    (own, other)
   where
-    r : Parts ps m p
-    r = parts_at ps m p e
-
-    front : List Space
-    front = held r.front
-
-    back : List Space
-    back = held r.back
-
-    old : held ps ≡ front ++ back
-    old = ap held r.old ∙ held_parts r.front m r.back ∙ ap (λ (l : List Space). front ++ (l ++ back)) h
-
-    new : held (replaced ps p) ≡ front ++ ((s ∷ []) ++ back)
-    new = ap held r.new ∙ held_parts r.front p r.back ∙ ap (λ (x : Holding). front ++ (space_held x ++ back)) i
-
     first_none : (o x : Option Space) → or_else o x ≡ None → o ≡ None
     first_none None x y = refl
     first_none (Some w) x y = absurd cc
-
-    own : numbered sid_of s.sid (held (replaced ps p)) ≡ Some s
-    own = ap (numbered sid_of s.sid) new ∙ three s.sid front (s ∷ []) back
-        ∙ ap (λ (o : Option Space). or_else o (or_else (numbered sid_of s.sid (s ∷ [])) (numbered sid_of s.sid back)))
-        (first_none (numbered sid_of s.sid front) (numbered sid_of s.sid back) (sym (numbered_append sid_of s.sid front back) ∙ sym (ap (numbered sid_of s.sid) old) ∙ z))
-        ∙ ap (λ (o : Option Space). or_else o (numbered sid_of s.sid back)) (numbered_hit sid_of s.sid s [] refl)
-
-    other : (n : ℕ) → n ≢ s.sid → numbered sid_of n (held (replaced ps p)) ≡ numbered sid_of n (held ps)
-    other n d = ap (numbered sid_of n) new ∙ three n front (s ∷ []) back ∙ ap (λ (o : Option Space). or_else (numbered sid_of n front) (or_else o (numbered sid_of n back))) (numbered_miss sid_of n s [] (λ x. d (sym x)))
-        ∙ sym (numbered_append sid_of n front back) ∙ sym (ap (numbered sid_of n) old)
 
 -- the same numbers
 pub replaced_pids : (ps : List Process) (q p : Process) → numbered pid_of p.pid ps ≡ Some q → map pid_of (replaced ps p) ≡ map pid_of ps

@@ -326,22 +326,21 @@ same_numbered flat q p e par h n = of_tidy (with_process flat p) (exchange flat.
 -- a zombie goes
 reaped : (flat : FlatState) (child status : ℕ) (z : Process) → process_of flat child ≡ Some z → z.holding ≡ Zombie status → IsNumbered flat
     → IsNumbered (without_process flat child)
-reaped flat child status z e h n = of_tidy (without_process flat child) (record {
-  pids = distinct_filter pid_of (λ (x : Process). not (x.pid == child)) flat.processes n.pids;
-  sids = subst (λ (l : List Space). AllDistinct (map sid_of l)) (sym same) n.sids;
-  pids_below = below_filter pid_of flat.next_pid (λ (x : Process). not (x.pid == child)) flat.processes n.pids_below;
-  sids_below = subst (λ (l : List Space). AllBelow flat.next_sid (map sid_of l)) (sym same) n.sids_below;
-  lower = lower_filter (λ (x : Process). not (x.pid == child)) flat.processes n.parents;
-})
+reaped flat child status z e h n =
+    let same : held (filter (λ (x : Process). not (x.pid == child)) flat.processes) ≡ held flat.processes = held_filter (λ (x : Process). not (x.pid == child)) flat.processes n.pids
+    (λ x f t. let i : x.pid ≡ child = Rattle.std.proofs.lemmas.Bool.eqb-true x.pid child (off (x.pid == child) t) in
+    ap (λ (y : Process). space_held y.holding) (same_Some x z (sym f ∙ ap (λ (m : ℕ). numbered pid_of m flat.processes) i ∙ sym (found_is flat.processes child) ∙ e)) ∙ ap space_held h) in
+    of_tidy (without_process flat child) (record {
+      pids = distinct_filter pid_of (λ (x : Process). not (x.pid == child)) flat.processes n.pids;
+      sids = subst (λ (l : List Space). AllDistinct (map sid_of l)) (sym same) n.sids;
+      pids_below = below_filter pid_of flat.next_pid (λ (x : Process). not (x.pid == child)) flat.processes n.pids_below;
+      sids_below = subst (λ (l : List Space). AllBelow flat.next_sid (map sid_of l)) (sym same) n.sids_below;
+      lower = lower_filter (λ (x : Process). not (x.pid == child)) flat.processes n.parents;
+    })
   where
     off : (b : Bool) → not b ≡ false → b ≡ true
     off true e = refl
     off false e = absurd cc
-
-    same : held (filter (λ (x : Process). not (x.pid == child)) flat.processes) ≡ held flat.processes
-    same = held_filter (λ (x : Process). not (x.pid == child)) flat.processes n.pids
-        (λ x f t. let i : x.pid ≡ child = Rattle.std.proofs.lemmas.Bool.eqb-true x.pid child (off (x.pid == child) t) in
-        ap (λ (y : Process). space_held y.holding) (same_Some x z (sym f ∙ ap (λ (m : ℕ). numbered pid_of m flat.processes) i ∙ sym (found_is flat.processes child) ∙ e)) ∙ ap space_held h)
 
 pub changes_numbered : (images : List NamedImage) (flat : FlatState) (pid : ℕ) (regs : Regs) (change : Change) (q : Process) (s : Space)
     → process_of flat pid ≡ Some q → q.holding ≡ Holds s

@@ -71,47 +71,28 @@ pub start_begins : (A : Inputs) (first : List Starting) (hs found : Holdings) (f
     → AreStarting A.images A.first first → image_numbered A.images number ≡ Some named
     → start_kernel (with_first A number) (first ++ starting_in number named ∷ []) found frames ≡ begin_step (start_kernel A first hs frames) found number named.name named.image.facts
 start_begins A first hs found frames number named a e =
+    let before : Kernel = start_kernel A first hs frames in
+    let facts : List Image = facts_of A.images in
+    let after : List Process = start_processes A.images 1 (A.first ++ number ∷ []) in
+    let next : ℕ = length (A.first ++ number ∷ []) + 1 in
+    let p : Process = start_process (length A.first + 1) number named in
+    let count : next ≡ length A.first + 1 + 1 = ap (λ (n : ℕ). n + 1) (length-append A.first (number ∷ [])) in
+    let same : 1 + length first ≡ length A.first + 1 =
+    let c = starting_count A.images A.first first a in omega arith in
+    let place : start_placement facts (first ++ starting_in number named ∷ []) A.frames ≡ begin_place before.place (length A.first + 1) number named.image.facts =
+    ap (λ (ss : List SpacePages). let q : Placement = record (start_placement facts first A.frames) { spaces = ss; residents = residents_from 1 (first ++ starting_in number named ∷ []); due = due_from 1 (first ++ starting_in number named ∷ []) } in q) (spaces_last 1 first (starting_in number named))
+    ∙ ap (λ (rs : List Residence). let q : Placement = record (start_placement facts first A.frames) { spaces = spaces_from 1 first ++ new_pages (1 + length first) number named.image.facts ∷ []; residents = rs; due = due_from 1 (first ++ starting_in number named ∷ []) } in q) (residents_last 1 first (starting_in number named))
+    ∙ ap (λ (ds : List Due). let q : Placement = record (start_placement facts first A.frames) { spaces = spaces_from 1 first ++ new_pages (1 + length first) number named.image.facts ∷ []; residents = residents_from 1 first ++ record { pid = 1 + length first; out = false; since = 0 } ∷ []; due = ds } in q) (due_last 1 first (starting_in number named))
+    ∙ ap (λ (n : ℕ). begin_place before.place n number named.image.facts) same in
+    let all : after ≡ start_processes A.images 1 A.first ++ p ∷ [] =
+    processes_last A.images 1 A.first number named e ∙ ap (λ (n : ℕ). start_processes A.images 1 A.first ++ start_process n number named ∷ []) (let c : 1 + length A.first ≡ length A.first + 1 = omega arith in c) in
+    let processes : map kept_of after ≡ before.processes ++ kept_of p ∷ [] = ap (map kept_of) all ∙ map-append kept_of (start_processes A.images 1 A.first) (p ∷ []) in
+    let starts : map start_of (held after) ≡ before.starts ++ record { page = Stack (length A.first + 1) 0; bytes = Rattle.flat_state.specs.Flat.start_page (named.name ∷ []) } ∷ [] =
+    ap (λ (ps : List Process). map start_of (held ps)) all ∙ ap (map start_of) (held-append (start_processes A.images 1 A.first) (p ∷ [])) ∙ map-append start_of (held (start_processes A.images 1 A.first)) (held (p ∷ [])) in
     ap (λ (p : Placement). at_start found frames p (map kept_of after) next (map start_of (held after))) place
     ∙ ap (λ (ps : List Proc). at_start found frames (begin_place before.place (length A.first + 1) number named.image.facts) ps next (map start_of (held after))) processes
     ∙ ap (λ (n : ℕ). at_start found frames (begin_place before.place (length A.first + 1) number named.image.facts) (before.processes ++ kept_of p ∷ []) n (map start_of (held after))) count
     ∙ ap (λ (ss : List StartBytes). at_start found frames (begin_place before.place (length A.first + 1) number named.image.facts) (before.processes ++ kept_of p ∷ []) (length A.first + 1 + 1) ss) starts
-  where
-    before : Kernel
-    before = start_kernel A first hs frames
-
-    facts : List Image
-    facts = facts_of A.images
-
-    after : List Process
-    after = start_processes A.images 1 (A.first ++ number ∷ [])
-
-    next : ℕ
-    next = length (A.first ++ number ∷ []) + 1
-
-    p : Process
-    p = start_process (length A.first + 1) number named
-
-    count : next ≡ length A.first + 1 + 1
-    count = ap (λ (n : ℕ). n + 1) (length-append A.first (number ∷ []))
-
-    same : 1 + length first ≡ length A.first + 1
-    same = let c = starting_count A.images A.first first a in omega arith
-
-    place : start_placement facts (first ++ starting_in number named ∷ []) A.frames ≡ begin_place before.place (length A.first + 1) number named.image.facts
-    place =
-        ap (λ (ss : List SpacePages). let q : Placement = record (start_placement facts first A.frames) { spaces = ss; residents = residents_from 1 (first ++ starting_in number named ∷ []); due = due_from 1 (first ++ starting_in number named ∷ []) } in q) (spaces_last 1 first (starting_in number named))
-        ∙ ap (λ (rs : List Residence). let q : Placement = record (start_placement facts first A.frames) { spaces = spaces_from 1 first ++ new_pages (1 + length first) number named.image.facts ∷ []; residents = rs; due = due_from 1 (first ++ starting_in number named ∷ []) } in q) (residents_last 1 first (starting_in number named))
-        ∙ ap (λ (ds : List Due). let q : Placement = record (start_placement facts first A.frames) { spaces = spaces_from 1 first ++ new_pages (1 + length first) number named.image.facts ∷ []; residents = residents_from 1 first ++ record { pid = 1 + length first; out = false; since = 0 } ∷ []; due = ds } in q) (due_last 1 first (starting_in number named))
-        ∙ ap (λ (n : ℕ). begin_place before.place n number named.image.facts) same
-
-    all : after ≡ start_processes A.images 1 A.first ++ p ∷ []
-    all = processes_last A.images 1 A.first number named e ∙ ap (λ (n : ℕ). start_processes A.images 1 A.first ++ start_process n number named ∷ []) (let c : 1 + length A.first ≡ length A.first + 1 = omega arith in c)
-
-    processes : map kept_of after ≡ before.processes ++ kept_of p ∷ []
-    processes = ap (map kept_of) all ∙ map-append kept_of (start_processes A.images 1 A.first) (p ∷ [])
-
-    starts : map start_of (held after) ≡ before.starts ++ record { page = Stack (length A.first + 1) 0; bytes = Rattle.flat_state.specs.Flat.start_page (named.name ∷ []) } ∷ []
-    starts = ap (λ (ps : List Process). map start_of (held ps)) all ∙ ap (map start_of) (held-append (start_processes A.images 1 A.first) (p ∷ [])) ∙ map-append start_of (held (start_processes A.images 1 A.first)) (held (p ∷ []))
 
 pub start_none : (A : Inputs) (frames : List (List ℕ)) → A.first ≡ [] → start_kernel A [] [] frames ≡ new_kernel (facts_of A.images) A.frames frames
 start_none A frames e = ap (λ (ns : List ℕ). at_start [] frames (start_placement (facts_of A.images) [] A.frames) (map kept_of (start_processes A.images 1 ns)) (length ns + 1) (map start_of (held (start_processes A.images 1 ns)))) e
@@ -175,19 +156,13 @@ pub start_finds : (size : ℕ) (images : List Image) (first : List Starting) (a 
     → place_all size [] (start_asks (start_placement images first frames) [] 1 first) ≡ Ok hs
     → place_all size [] (start_asks (start_placement images (first ++ a ∷ []) frames) [] 1 (first ++ a ∷ [])) ≡ place_all size hs (begin_asks (start_placement images first frames) (1 + length first) a.image a.facts)
 start_finds size images first a frames hs e =
+    let p : Placement = start_placement images first frames in
+    let q : Placement = start_placement images (first ++ a ∷ []) frames in
+    let whole : (t d s u : List Wanted) → t ++ (d ++ (s ++ u)) ≡ (t ++ (d ++ s)) ++ u = λ t d s u. sym (append_assoc t (d ++ s) u ∙ ap (λ (l : List Wanted). t ++ l) (append_assoc d s u)) in
     ap (place_all size []) (asks_same p q refl [] 1 (first ++ a ∷ []) ∙ asks_last p [] 1 first a (sharers p a.image) (omega arith))
     ∙ place_all-append size [] (start_asks p [] 1 first) (last_asks p (sharers p a.image) (1 + length first) a)
     ∙ ap (λ (r : Result (List Held) ℕ). and_then r (λ now. place_all size now (last_asks p (sharers p a.image) (1 + length first) a))) e
     ∙ ap (place_all size hs) (whole (text_asked (sharers p a.image) a.image (2 * length (slots_of p (Text a.image 0)))) (wanted (owners.Data (1 + length first)) (pieces (2 * data_pages_of a.facts))) (wanted (owners.Stack (1 + length first)) (pieces 2)) (wanted (owners.U (1 + length first)) (u_pieces 2)))
-  where
-    p : Placement
-    p = start_placement images first frames
-
-    q : Placement
-    q = start_placement images (first ++ a ∷ []) frames
-
-    whole : (t d s u : List Wanted) → t ++ (d ++ (s ++ u)) ≡ (t ++ (d ++ s)) ++ u
-    whole t d s u = sym (append_assoc t (d ++ s) u ∙ ap (λ (l : List Wanted). t ++ l) (append_assoc d s u))
 
 -- What is due.
 
@@ -205,10 +180,22 @@ there_same p x due (Stack sid v) t = elim (first_or_none sid p.spaces x) [
 there_same p x due (Text image v) t = refl
 
 begin_due : (p : Placement) (pid image : ℕ) (facts : Image) → IsNew p pid → DueStand p → DueStand (begin_place p pid image facts)
-begin_due p pid image facts new st w d e = elim (due_either p.due (Start (Stack pid 0) ∷ []) w d e) [
-  | inl k ↦ old (st w d k)
-  | inr k ↦ (let i : IsDue (enter_space p pid image facts) w d = enter_due p pid image facts new w d k in record { writable = i.writable; there = i.there; unfilled = i.unfilled; zeros = i.zeros; source = source d i.source })
-]
+begin_due p pid image facts new st w d e =
+    let old : IsDue p w d → IsDue q w d = λ i.
+    let same_filling : (v : Page) → slots_of q v ≡ slots_of p v → filling_of q v ≡ filling_of p v = λ v s.
+    ap (λ (xs : List Rattle.page_model.specs.Pages.Slot). Rattle.page_model.specs.Placement.filling_by v (Rattle.std.specs.Prelude.get_or xs (Rattle.flat_state.specs.PageNames.number_of v) Rattle.page_model.specs.Pages.no_slot).filling) s in
+    let slots : slots_of q w ≡ slots_of p w = there_same p (new_pages pid image facts) q.due w i.there in
+    record {
+      writable = i.writable;
+      there = subst (λ (xs : List Rattle.page_model.specs.Pages.Slot). Rattle.flat_state.specs.PageNames.number_of w < length xs) (sym slots) i.there;
+      unfilled = (enter_alike p pid image facts new w).0 ∙ i.unfilled;
+      zeros = same_filling w slots ∙ i.zeros;
+      source = kept d i.source;
+    } in
+    elim (due_either p.due (Start (Stack pid 0) ∷ []) w d e) [
+      | inl k ↦ old (st w d k)
+      | inr k ↦ (let i : IsDue (enter_space p pid image facts) w d = enter_due p pid image facts new w d k in record { writable = i.writable; there = i.there; unfilled = i.unfilled; zeros = i.zeros; source = source d i.source })
+    ]
   where
     q : Placement
     q = begin_place p pid image facts
@@ -220,20 +207,6 @@ begin_due p pid image facts new st w d e = elim (due_either p.due (Start (Stack 
     kept : (c : Due) → HasSource p c → HasSource q c
     kept (Start r) s = tt
     kept (CopyOf r parent) s = (s.0, λ z. s.1 (sym (enter_alike p pid image facts new parent).0 ∙ z))
-
-    old : IsDue p w d → IsDue q w d
-    old i =
-        let slots : slots_of q w ≡ slots_of p w = there_same p (new_pages pid image facts) q.due w i.there in
-        record {
-          writable = i.writable;
-          there = subst (λ (xs : List Rattle.page_model.specs.Pages.Slot). Rattle.flat_state.specs.PageNames.number_of w < length xs) (sym slots) i.there;
-          unfilled = (enter_alike p pid image facts new w).0 ∙ i.unfilled;
-          zeros = same_filling w slots ∙ i.zeros;
-          source = kept d i.source;
-        }
-      where
-        same_filling : (v : Page) → slots_of q v ≡ slots_of p v → filling_of q v ≡ filling_of p v
-        same_filling v s = ap (λ (xs : List Rattle.page_model.specs.Pages.Slot). Rattle.page_model.specs.Placement.filling_by v (Rattle.std.specs.Prelude.get_or xs (Rattle.flat_state.specs.PageNames.number_of v) Rattle.page_model.specs.Pages.no_slot).filling) s
 
 pub begins_due : (k : Kernel) (found : Holdings) (image : ℕ) (name : List ℕ) (facts : Image) → Numbered k → k.next_sid ≡ k.next_pid → DueStand k.place
     → DueStand (begin_step k found image name facts).place

@@ -122,10 +122,9 @@ apart_from p ps sid b next _ m = tt
 
 none_found : (size : ℕ) (hs found : Holdings) → place_all size hs [] ≡ Ok found → hs ≡ found
 unfolding place_all
-none_found size hs found e = go e
-  where
-    go : (let x : Rattle.std.proofs.Common.Result Holdings ℕ = Ok hs in x) ≡ Ok found → hs ≡ found
-    go e = cc
+none_found size hs found e =
+    let go : (let x : Rattle.std.proofs.Common.Result Holdings ℕ = Ok hs in x) ≡ Ok found → hs ≡ found = λ e. cc in
+    go e
 
 -- What is due, and each transfer's pages.
 
@@ -197,29 +196,17 @@ pub lend_lives : (images : List NamedImage) (k : Kernel) (flat : FlatState) (pid
     → IsNumbered flat → process_of flat pid ≡ Some q → q.holding ≡ Holds s → SameTables k flat
     → (lives (change_step (facts_of images) k pid regs e (Lend flat.next_pid)).processes pid ≡ true) × (lives (change_step (facts_of images) k pid regs e (Lend flat.next_pid)).processes flat.next_pid ≡ true)
 lend_lives images k flat pid regs e q s nums f h t =
+    let g : Stepping k flat pid q s = stepping k flat pid q s t f h in
+    let kp : Proc = record g.proc { regs = regs } in
+    let kn : Proc = child_proc kp flat.next_pid New in
+    let kept_found : numbered kept_pid kp.pid k.processes ≡ Some g.proc = ap (λ (m : ℕ). numbered kept_pid m k.processes) g.pid_is ∙ g.kept in
+    let child_other : flat.next_pid ≢ kp.pid = λ i. none_some q (sym (next_pid_none flat nums) ∙ ap (λ (m : ℕ). numbered pid_of m flat.processes) (i ∙ g.pid_is) ∙ g.found) in
+    let parent_kept : numbered kept_pid pid (with_proc k.processes kp ++ kn ∷ []) ≡ Some kp =
+    pushed_found kept_pid pid (with_proc k.processes kp) kn kp (ap (λ (m : ℕ). numbered kept_pid m (with_proc k.processes kp)) (sym g.pid_is) ∙ with_at k.processes kp g.proc kept_found) in
+    let child_kept : numbered kept_pid flat.next_pid (with_proc k.processes kp ++ kn ∷ []) ≡ Some kn =
+    pushed_new kept_pid flat.next_pid (with_proc k.processes kp) kn (with_not k.processes kp flat.next_pid child_other ∙ kept_none k flat flat.next_pid t.processes (next_pid_none flat nums)) refl in
     subst (λ (x : Kernel). (lives x.processes pid ≡ true) × (lives x.processes flat.next_pid ≡ true)) (sym (step_is (facts_of images) k pid regs e (Lend flat.next_pid) g.proc (HoldsSpace s.sid) g.kept g.life))
     (ap lives_in parent_kept ∙ ap has_life g.life, ap lives_in child_kept)
-  where
-    g : Stepping k flat pid q s
-    g = stepping k flat pid q s t f h
-
-    kp : Proc
-    kp = record g.proc { regs = regs }
-
-    kn : Proc
-    kn = child_proc kp flat.next_pid New
-
-    kept_found : numbered kept_pid kp.pid k.processes ≡ Some g.proc
-    kept_found = ap (λ (m : ℕ). numbered kept_pid m k.processes) g.pid_is ∙ g.kept
-
-    child_other : flat.next_pid ≢ kp.pid
-    child_other i = none_some q (sym (next_pid_none flat nums) ∙ ap (λ (m : ℕ). numbered pid_of m flat.processes) (i ∙ g.pid_is) ∙ g.found)
-
-    parent_kept : numbered kept_pid pid (with_proc k.processes kp ++ kn ∷ []) ≡ Some kp
-    parent_kept = pushed_found kept_pid pid (with_proc k.processes kp) kn kp (ap (λ (m : ℕ). numbered kept_pid m (with_proc k.processes kp)) (sym g.pid_is) ∙ with_at k.processes kp g.proc kept_found)
-
-    child_kept : numbered kept_pid flat.next_pid (with_proc k.processes kp ++ kn ∷ []) ≡ Some kn
-    child_kept = pushed_new kept_pid flat.next_pid (with_proc k.processes kp) kn (with_not k.processes kp flat.next_pid child_other ∙ kept_none k flat flat.next_pid t.processes (next_pid_none flat nums)) refl
 
 -- sound and numbered after the change, with the space that passes
 record Passed (size : ℕ) (images : List NamedImage) (k : Kernel) (pid sid : ℕ) (b : Bool) (e : Entry) (change : Change) (l : Kernel) : Type 0 where
@@ -266,56 +253,34 @@ own_stood : (size : ℕ) (images : List NamedImage) (k : Kernel) (before : Holdi
     → is_borrower flat.processes pid ≡ b → KeepsSpace b change
     → Prepared size images k before image flat → Names size images k before flat pid change → Acts k flat pid q s → ReadySpace k.place s.sid b change → HaveParts k.place.transfers
     → Stood size images image (apply_change images flat pid regs change) (keeps_step (facts_of images) k pid regs e change)
-own_stood size images k before image flat pid regs e q s b change w o x n a ready parts = record {
-  sound = passed.sound;
-  numbered = passed.numbered;
-  coupled = own_coupled size images k before image flat pid regs e q s b change w o x n a settled held.forgets;
-  stands = own_stands images k flat pid regs e q s change a x.clear n.child n.enters t x.stands;
-  rests = rests images k (keeps_step (facts_of images) k pid regs e change) pid s.sid false e change passed.lands x.clear parts held.can held.apart;
-}
-  where
-    c : Coupled k images image flat
-    c = x.coupled
-
-    t : SameTables k flat
-    t = c.tables
-
-    settled : SettlesFor k.place s.sid change
-    settled = settles k.place s.sid b change o ready
-
-    is_ready : ReadyFor k pid change
-    is_ready = coupled_ready k flat pid q s change t a.here a.holds (takes_next k flat change t n.child) (may_reap k flat change t n.child) settled
-
-    g : Stepping k flat pid q s
-    g = stepping k flat pid q s t a.here a.holds
-
-    so : Sound size (record k { holdings = before })
-    so = x.sound
-
-    ow : OneOwner size (lives k.processes) k.place before
-    ow = so.owner
-
-    passed : Passed size images k pid s.sid false e change (keeps_step (facts_of images) k pid regs e change)
-    passed = own_passed size images k flat pid regs e q s change x.numbers a.here a.holds t n.child (record {
+own_stood size images k before image flat pid regs e q s b change w o x n a ready parts =
+    let c : Coupled k images image flat = x.coupled in
+    let t : SameTables k flat = c.tables in
+    let settled : SettlesFor k.place s.sid change = settles k.place s.sid b change o ready in
+    let is_ready : ReadyFor k pid change = coupled_ready k flat pid q s change t a.here a.holds (takes_next k flat change t n.child) (may_reap k flat change t n.child) settled in
+    let g : Stepping k flat pid q s = stepping k flat pid q s t a.here a.holds in
+    let so : Sound size (record k { holdings = before }) = x.sound in
+    let ow : OneOwner size (lives k.processes) k.place before = so.owner in
+    let passed : Passed size images k pid s.sid false e change (keeps_step (facts_of images) k pid regs e change) =
+    own_passed size images k flat pid regs e q s change x.numbers a.here a.holds t n.child (record {
       sound = ready_sound size (facts_of images) k before pid regs e change so x.numbered is_ready n.pieces;
       numbered = flat_numbered (facts_of images) k pid regs e change (takes_next k flat change t n.child) is_ready.alive x.numbered;
       lands = own_lands images k flat pid regs e q s change g;
-    })
-
-    may : MayChange (facts_of images) k pid change
-    may = may_change (facts_of images) k pid change ow.frames x.numbered is_ready
-
-    wants : WantsThese k pid change
-    wants = wants_these k pid change x.numbered is_ready
-
-    life : life_of_proc (numbered (λ (p : Proc). p.pid) pid k.processes) ≡ HoldsSpace s.sid
-    life = ap life_of_proc g.kept ∙ g.life
-
-    held : OwnAllows images k s.sid change
-    held = record {
+    }) in
+    let may : MayChange (facts_of images) k pid change = may_change (facts_of images) k pid change ow.frames x.numbered is_ready in
+    let wants : WantsThese k pid change = wants_these k pid change x.numbered is_ready in
+    let life : life_of_proc (numbered (λ (p : Proc). p.pid) pid k.processes) ≡ HoldsSpace s.sid = ap life_of_proc g.kept ∙ g.life in
+    let held : OwnAllows images k s.sid change = record {
       can = subst (λ (y : Life). CanChange k.place (space_of_life y) (gave_back y) k.next_sid change) life may.can;
       forgets = subst (λ (y : Life). MayForget (facts_of images) k.place (space_of_life y) (gave_back y) k.next_sid change) life may.forgets;
       apart = apart_from k.place k.processes s.sid false k.next_sid change (subst (λ (y : Life). MayAsk k.place k.processes (space_of_life y) (gave_back y) k.next_sid change) life wants.may);
+    } in
+    record {
+      sound = passed.sound;
+      numbered = passed.numbered;
+      coupled = own_coupled size images k before image flat pid regs e q s b change w o x n a settled held.forgets;
+      stands = own_stands images k flat pid regs e q s change a x.clear n.child n.enters t x.stands;
+      rests = rests images k (keeps_step (facts_of images) k pid regs e change) pid s.sid false e change passed.lands x.clear parts held.can held.apart;
     }
 
 -- Who gives its space back.
@@ -398,6 +363,22 @@ back_stood : (size : ℕ) (images : List NamedImage) (k : Kernel) (before : Hold
     → Prepared size images k before image flat → Names size images k before flat pid change → Acts k flat pid q s → HaveParts k.place.transfers
     → Stood size images image (apply_change images flat pid regs change) (back_step (facts_of images) k pid regs e change)
 back_stood size images k before image flat pid regs e q m s change gb is x n a parts =
+    let c : Coupled k images image flat = x.coupled in
+    let t : SameTables k flat = c.tables in
+    let b : Borrowing k flat pid q m s = borrowing k flat pid q m s t a.here a.holds is in
+    let g : Stepping k flat pid q s = b.step in
+    let k1 : Kernel = pass_step k pid m.pid in
+    let sound1 : Sound size (record k1 { holdings = before }) =
+    pass_sound size (record k { holdings = before }) pid m.pid (ap lives_in g.kept ∙ ap has_life g.life) (ap lives_in b.kept ∙ ap has_life b.life) x.sound in
+    let n1 : Numbered k1 = pass_numbered k pid m.pid (ap lives_in g.kept ∙ ap has_life g.life) (ap lives_in b.kept ∙ ap has_life b.life) x.numbered in
+    let ready : ReadyFor k1 pid change = back_ready k flat pid q m s change b gb in
+    let pieces : place_all size before (asked (facts_of images) k1 pid change) ≡ Ok k.holdings = ap (place_all size before) (asks_same images k pid pid m.pid change gb) ∙ n.pieces in
+    let so : Sound size (record k1 { holdings = before }) = sound1 in
+    let ow : OneOwner size (lives k1.processes) k.place before = so.owner in
+    let may : MayChange (facts_of images) k1 pid change = may_change (facts_of images) k1 pid change ow.frames n1 ready in
+    let life : life_of_proc (numbered (λ (p : Proc). p.pid) pid k1.processes) ≡ New =
+    ap (λ (y : Kernel). life_of_proc (numbered (λ (p : Proc). p.pid) pid y.processes)) (back_kernel k flat pid q m s b) ∙ ap life_of_proc (back_proc k flat pid q m s b) in
+    let can0 : CanChange k.place 0 true k.next_sid change = subst (λ (y : Life). CanChange k.place (space_of_life y) (gave_back y) k.next_sid change) life may.can in
     subst (Stood size images image (apply_change images flat pid regs change)) (sym (back_is images k pid m.pid regs e change gb (lender_is k flat pid s.sid m t x.numbers is))) (record {
       sound = ready_sound size (facts_of images) k1 before pid regs e change sound1 n1 ready pieces;
       numbered = flat_numbered (facts_of images) k1 pid regs e change (takes_none k1 change gb) ready.alive n1;
@@ -406,48 +387,6 @@ back_stood size images k before image flat pid regs e q m s change gb is x n a p
       rests = rests images k (change_step (facts_of images) k1 pid regs e change) pid s.sid true e change (back_lands images k flat pid regs e q m s change b gb) x.clear parts (can change gb can0) (apart change gb);
     })
   where
-    c : Coupled k images image flat
-    c = x.coupled
-
-    t : SameTables k flat
-    t = c.tables
-
-    b : Borrowing k flat pid q m s
-    b = borrowing k flat pid q m s t a.here a.holds is
-
-    g : Stepping k flat pid q s
-    g = b.step
-
-    k1 : Kernel
-    k1 = pass_step k pid m.pid
-
-    sound1 : Sound size (record k1 { holdings = before })
-    sound1 = pass_sound size (record k { holdings = before }) pid m.pid (ap lives_in g.kept ∙ ap has_life g.life) (ap lives_in b.kept ∙ ap has_life b.life) x.sound
-
-    n1 : Numbered k1
-    n1 = pass_numbered k pid m.pid (ap lives_in g.kept ∙ ap has_life g.life) (ap lives_in b.kept ∙ ap has_life b.life) x.numbered
-
-    ready : ReadyFor k1 pid change
-    ready = back_ready k flat pid q m s change b gb
-
-    pieces : place_all size before (asked (facts_of images) k1 pid change) ≡ Ok k.holdings
-    pieces = ap (place_all size before) (asks_same images k pid pid m.pid change gb) ∙ n.pieces
-
-    so : Sound size (record k1 { holdings = before })
-    so = sound1
-
-    ow : OneOwner size (lives k1.processes) k.place before
-    ow = so.owner
-
-    may : MayChange (facts_of images) k1 pid change
-    may = may_change (facts_of images) k1 pid change ow.frames n1 ready
-
-    life : life_of_proc (numbered (λ (p : Proc). p.pid) pid k1.processes) ≡ New
-    life = ap (λ (y : Kernel). life_of_proc (numbered (λ (p : Proc). p.pid) pid y.processes)) (back_kernel k flat pid q m s b) ∙ ap life_of_proc (back_proc k flat pid q m s b)
-
-    can0 : CanChange k.place 0 true k.next_sid change
-    can0 = subst (λ (y : Life). CanChange k.place (space_of_life y) (gave_back y) k.next_sid change) life may.can
-
     can : (y : Change) → GivesBack y → CanChange k.place 0 true k.next_sid y → CanChange k.place s.sid true k.next_sid y
     can (Exec image top) gb z = (z.0, λ w. absurd cc)
     can (End status) gb z = λ w. absurd cc
@@ -491,45 +430,16 @@ no_pieces size hs = record { pieces = []; placed = refl }
 pub change_kept : (size : ℕ) (images : List NamedImage) (m : KernelState) (pid : ℕ) (regs : Regs) (e : Entry) (change : Change) → ImagesFit images
     → Invariant size images m
     → MayComplete size images m pid change → Invariant size images (state_after images m (ChangeUnit pid regs e change))
-change_kept size images m pid regs e change fits i may = record {
-  sound = stood.sound;
-  numbered = stood.numbered;
-  coupled = stood.coupled;
-  stands = stood.stands;
-  dues = (stood.rests).dues;
-  parts = (stood.rests).parts;
-  numbers = changes_numbered images m.flat pid regs change may.process may.space acts.here acts.holds may.child i.numbers;
-  lenders = changes_lent images m.flat pid regs change may.process may.space acts.here acts.holds may.child i.numbers i.lenders;
-  room = i.room;
-  found = no_pieces size l.holdings;
-}
-  where
-    k : Kernel
-    k = with_found m
-
-    acts : Acts m.kernel m.flat pid may.process may.space
-    acts = may.acts
-
-    acts_now : Acts k m.flat pid may.process may.space
-    acts_now = record { here = acts.here; holds = acts.holds; resident = acts.resident }
-
-    so : Sound size m.kernel
-    so = i.sound
-
-    nb : Numbered m.kernel
-    nb = i.numbered
-
-    st : Stands images m.kernel m.flat
-    st = i.stands
-
-    c : Coupled m.kernel images m.image m.flat
-    c = i.coupled
-
-    found : WereFound size m.kernel.holdings m.found
-    found = i.found
-
-    x : Prepared size images k m.kernel.holdings m.image m.flat
-    x = record {
+change_kept size images m pid regs e change fits i may =
+    let k : Kernel = with_found m in
+    let acts : Acts m.kernel m.flat pid may.process may.space = may.acts in
+    let acts_now : Acts k m.flat pid may.process may.space = record { here = acts.here; holds = acts.holds; resident = acts.resident } in
+    let so : Sound size m.kernel = i.sound in
+    let nb : Numbered m.kernel = i.numbered in
+    let st : Stands images m.kernel m.flat = i.stands in
+    let c : Coupled m.kernel images m.image m.flat = i.coupled in
+    let found : WereFound size m.kernel.holdings m.found = i.found in
+    let x : Prepared size images k m.kernel.holdings m.image m.flat = record {
       fits = fits;
       sound = record { owner = so.owner; tokens = so.tokens; hands = so.hands; few_transfers = so.few_transfers };
       numbered = record { spaces_differ = nb.spaces_differ; spaces_below = nb.spaces_below; pids_differ = nb.pids_differ; pids_below = nb.pids_below; residents = nb.residents };
@@ -537,18 +447,23 @@ change_kept size images m pid regs e change fits i may = record {
       stands = record { starts = st.starts; texts = st.texts; out = st.out };
       numbers = i.numbers;
       clear = may.clear;
+    } in
+    let b : Bool = has_lender m.kernel.processes pid in
+    let borrows : is_borrower m.flat.processes pid ≡ b = sym (borrows_is m.kernel m.flat pid c.tables) in
+    let l : Kernel = passing_change b (facts_of images) k pid regs e change in
+    let stood : Stood size images m.image (apply_change images m.flat pid regs change) l =
+    either_stood size images k m.kernel.holdings m.image m.flat pid regs e may.process may.space b change borrows
+    (λ y. lender_found m.flat pid may.process may.space acts.here acts.holds (borrows ∙ y) i.numbers i.lenders)
+    x (record { child = may.child; enters = may.enters; pieces = may.pieces }) acts_now may.ready i.parts in
+    record {
+      sound = stood.sound;
+      numbered = stood.numbered;
+      coupled = stood.coupled;
+      stands = stood.stands;
+      dues = (stood.rests).dues;
+      parts = (stood.rests).parts;
+      numbers = changes_numbered images m.flat pid regs change may.process may.space acts.here acts.holds may.child i.numbers;
+      lenders = changes_lent images m.flat pid regs change may.process may.space acts.here acts.holds may.child i.numbers i.lenders;
+      room = i.room;
+      found = no_pieces size l.holdings;
     }
-
-    b : Bool
-    b = has_lender m.kernel.processes pid
-
-    borrows : is_borrower m.flat.processes pid ≡ b
-    borrows = sym (borrows_is m.kernel m.flat pid c.tables)
-
-    l : Kernel
-    l = passing_change b (facts_of images) k pid regs e change
-
-    stood : Stood size images m.image (apply_change images m.flat pid regs change) l
-    stood = either_stood size images k m.kernel.holdings m.image m.flat pid regs e may.process may.space b change borrows
-        (λ y. lender_found m.flat pid may.process may.space acts.here acts.holds (borrows ∙ y) i.numbers i.lenders)
-        x (record { child = may.child; enters = may.enters; pieces = may.pieces }) acts_now may.ready i.parts

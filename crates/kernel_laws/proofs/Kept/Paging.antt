@@ -50,21 +50,16 @@ read_allowed size images m q i enter reads due shared some few =
 
 pub put_allowed : (size : ℕ) (images : List NamedImage) (m : KernelState) (pid sid : ℕ) (q : Page) (n : ℕ) → Invariant size images m
     → put_out_unit m.kernel.place pid sid ≡ entries.Put q n → MayPut m.kernel.place q n
-put_allowed size images m pid sid q n i e = record {
-  first = can.0;
-  seats = can.1;
-  pages = subst (CanBegin p) e (unit_case (CanBegin p) p pid sid (λ t ts h. tt) (λ v h j d. out.run_some p v) (λ h j. tt));
-  few = subst (λ (x : Entry). length (Placement.transfers (place_entry [] 0 p x)) ≤ 16) e (unit_few [] 0 p pid sid so.few_transfers);
-}
-  where
-    p : Placement
-    p = m.kernel.place
-
-    so : Sound size m.kernel
-    so = i.sound
-
-    can : HasSeat p q × EachPage (HasSeat p) (pages_from q (number_of q) n)
-    can = subst (CanPlace p) e (unit_can p pid sid)
+put_allowed size images m pid sid q n i e =
+    let p : Placement = m.kernel.place in
+    let so : Sound size m.kernel = i.sound in
+    let can : HasSeat p q × EachPage (HasSeat p) (pages_from q (number_of q) n) = subst (CanPlace p) e (unit_can p pid sid) in
+    record {
+      first = can.0;
+      seats = can.1;
+      pages = subst (CanBegin p) e (unit_case (CanBegin p) p pid sid (λ t ts h. tt) (λ v h j d. out.run_some p v) (λ h j. tt));
+      few = subst (λ (x : Entry). length (Placement.transfers (place_entry [] 0 p x)) ≤ 16) e (unit_few [] 0 p pid sid so.few_transfers);
+    }
 
 -- Serving a page.
 

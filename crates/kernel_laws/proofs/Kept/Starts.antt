@@ -43,38 +43,31 @@ kept_pids (p ∷ ps) = ap (λ (l : List ℕ). p.pid ∷ l) (kept_pids ps)
 
 pub start_kept : (A : Inputs) (first : List Starting) (hs : Holdings) (frames : List (List ℕ)) (image : List ℕ) → CanStart A first hs frames image
     → Invariant A.swap_blocks A.images (started A first hs frames image)
-start_kept A first hs frames image c = record {
-  sound = record {
-    owner = alive_owner A.swap_blocks (is_started 1 first) (lives k.processes) p hs (λ n. starts_live A.images A.first first 1 n c.starting) (start_found A.swap_blocks facts first A.frames hs c.pieces);
-    tokens = c.tokens ∙ sym (length-replicate A.frames None);
-    hands = start_hands facts first A.frames c.some;
-    few_transfers = omega arith;
-  };
-  numbered = record {
-    spaces_differ = (start_numbers facts first A.frames).0;
-    spaces_below = subst (λ (m : ℕ). AllBelow m (map space_number p.spaces)) (let e = starting_count A.images A.first first c.starting in let z : 1 + length first ≡ length A.first + 1 = omega arith in z) (start_numbers facts first A.frames).1;
-    pids_differ = subst AllDistinct (sym (kept_pids (start_state A).processes)) n.pids;
-    pids_below = subst (AllBelow (start_state A).next_pid) (sym (kept_pids (start_state A).processes)) n.pids_below;
-    residents = λ m a. started_in 1 m first (sym (starts_live A.images A.first first 1 m c.starting) ∙ a);
-  };
-  coupled = start_coupled_all A first hs frames image c.starting c.images;
-  stands = start_beside A first hs frames c.starting c.images;
-  dues = start_due facts first A.frames;
-  parts = tt;
-  numbers = start_numbered A;
-  lenders = start_lent A;
-  room = c.room;
-  found = no_pieces A.swap_blocks hs;
-}
-  where
-    facts : List Image
-    facts = map (λ (named : NamedImage). named.image.facts) A.images
-
-    p : Placement
-    p = start_placement facts first A.frames
-
-    k : Kernel
-    k = start_kernel A first hs frames
-
-    n : IsNumbered (start_state A)
-    n = start_numbered A
+start_kept A first hs frames image c =
+    let facts : List Image = map (λ (named : NamedImage). named.image.facts) A.images in
+    let p : Placement = start_placement facts first A.frames in
+    let k : Kernel = start_kernel A first hs frames in
+    let n : IsNumbered (start_state A) = start_numbered A in
+    record {
+      sound = record {
+        owner = alive_owner A.swap_blocks (is_started 1 first) (lives k.processes) p hs (λ n. starts_live A.images A.first first 1 n c.starting) (start_found A.swap_blocks facts first A.frames hs c.pieces);
+        tokens = c.tokens ∙ sym (length-replicate A.frames None);
+        hands = start_hands facts first A.frames c.some;
+        few_transfers = omega arith;
+      };
+      numbered = record {
+        spaces_differ = (start_numbers facts first A.frames).0;
+        spaces_below = subst (λ (m : ℕ). AllBelow m (map space_number p.spaces)) (let e = starting_count A.images A.first first c.starting in let z : 1 + length first ≡ length A.first + 1 = omega arith in z) (start_numbers facts first A.frames).1;
+        pids_differ = subst AllDistinct (sym (kept_pids (start_state A).processes)) n.pids;
+        pids_below = subst (AllBelow (start_state A).next_pid) (sym (kept_pids (start_state A).processes)) n.pids_below;
+        residents = λ m a. started_in 1 m first (sym (starts_live A.images A.first first 1 m c.starting) ∙ a);
+      };
+      coupled = start_coupled_all A first hs frames image c.starting c.images;
+      stands = start_beside A first hs frames c.starting c.images;
+      dues = start_due facts first A.frames;
+      parts = tt;
+      numbers = start_numbered A;
+      lenders = start_lent A;
+      room = c.room;
+      found = no_pieces A.swap_blocks hs;
+    }

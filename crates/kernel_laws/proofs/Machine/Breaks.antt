@@ -63,13 +63,11 @@ resized_old v m n bytes l a b = elim (cases_le m n) [
 pub resized_new : (v m n : ℕ) (bytes : List ℕ) → length bytes ≡ 1024 * n → n ≤ v → v < m → page_at v (resized_bytes m bytes) ≡ zeros
 unfolding zeros
 resized_new v m n bytes l a b =
+    let at : length bytes + (1024 * v - length bytes) ≡ 1024 * v = omega arith in
     ap (λ (xs : List ℕ). take 1024 (drop (1024 * v) (xs ++ replicate (1024 * m - length bytes) 0))) (take_all (1024 * m) bytes (omega arith))
     ∙ subst (λ (x : ℕ). take 1024 (drop x (bytes ++ replicate (1024 * m - length bytes) 0)) ≡ replicate 1024 0) at
     (ap (take 1024) (drop-append-add bytes (replicate (1024 * m - length bytes) 0) (1024 * v - length bytes) ∙ drop-replicate (1024 * v - length bytes) (1024 * m - length bytes) 0)
     ∙ take-replicate 1024 (1024 * m - length bytes - (1024 * v - length bytes)) 0 (omega arith))
-  where
-    at : length bytes + (1024 * v - length bytes) ≡ 1024 * v
-    at = omega arith
 
 -- Blocks that are given back.
 
@@ -98,14 +96,12 @@ cut_image d t (Some x) = refl
 
 resized_image : (p : Placement) (sid d t n : ℕ) → image_of (resize p sid d t) n ≡ image_of p n
 resized_image p sid d t n =
-    now ∙ image_kept p (drop_all p (dropped_pages p sid d t)) (drop_all_shaped (dropped_pages p sid d t) p) n
-  where
-    now : image_of (resize p sid d t) n ≡ image_of (drop_all p (dropped_pages p sid d t)) n
-    now = elim (cases_eq n sid) [
+    let now : image_of (resize p sid d t) n ≡ image_of (drop_all p (dropped_pages p sid d t)) n = elim (cases_eq n sid) [
       | inl e ↦ subst (λ (m : ℕ). image_of (resize p sid d t) m ≡ image_of (drop_all p (dropped_pages p sid d t)) m) (sym e)
           (ap image_in (resized_own p sid d t) ∙ cut_image d t (numbered space_number sid (drop_all p (dropped_pages p sid d t)).spaces))
       | inr m ↦ ap image_in (resized_other p sid d t n m)
-    ]
+    ] in
+    now ∙ image_kept p (drop_all p (dropped_pages p sid d t)) (drop_all_shaped (dropped_pages p sid d t) p) n
 
 resized_file : (images : List NamedImage) (p : Placement) (sid d t : ℕ) (w : Page) → file_of images (resize p sid d t) w ≡ file_of images p w
 resized_file images p sid d t (Data n v) = ap (λ (i : ℕ). page_at v (data_of (image_numbered images i))) (resized_image p sid d t n)
@@ -133,6 +129,35 @@ pub resize_coupled_step : (k : Kernel) (images : List NamedImage) (image : List 
     → process_of flat pid ≡ Some q → q.holding ≡ Holds s → is_out k.place pid ≡ false → Coupled k images image flat
     → Coupled (change_step (facts_of images) k pid regs e (Resize d t)) images image (apply_change images flat pid regs (Resize d t))
 resize_coupled_step k images image flat pid regs e d t q s nums outs due f h out c =
+    let kept_found : numbered kept_pid kp.pid k.processes ≡ Some g.proc = ap (λ (n : ℕ). numbered kept_pid n k.processes) g.pid_is ∙ g.kept in
+    let outline : outline_kept kp ≡ outline_of fp =
+    outline_is g.proc.pid q.pid g.proc.parent q.parent g.proc.life (HoldsSpace s.sid) g.proc.asleep q.asleep (g.pid_is ∙ sym g.pid_was) g.parent g.life g.asleep in
+    let fits : AllFit after l.place = λ n. elim (cases_eq n s.sid) [
+      | inl i ↦ subst (λ (m : ℕ). Fits (numbered sid_of m (spaces_of after)) (numbered space_number m l.place.spaces)) (sym i)
+          (subst (λ (x : Option Space). Fits x (numbered space_number s.sid l.place.spaces)) (sym own)
+          (subst (Fits (Some z)) (sym (resized_own k.place s.sid d t)) (fit_cut s (numbered space_number s.sid dropped.spaces) d t (fit_shaped k.place dropped (Some s) s.sid shaped own_fits))))
+      | inr m ↦ subst (λ (x : Option Space). Fits x (numbered space_number n l.place.spaces)) (sym (other n m))
+          (subst (Fits (numbered sid_of n (spaces_of flat))) (sym (resized_other k.place s.sid d t n m)) (fit_shaped k.place dropped (numbered sid_of n (spaces_of flat)) n shaped (all n)))
+    ] in
+    let u_same : (n : ℕ) → u_stored l image n ≡ u_stored k image n = λ n.
+    ap (stored_at image) (block_kept (owners.Stack s.sid) (owners.U n) (length (pieces (2 * t))) 0 (kept (owners.Data s.sid) (length (pieces (2 * d))) k.holdings) (λ i. absurd cc)
+    ∙ block_kept (owners.Data s.sid) (owners.U n) (length (pieces (2 * d))) 0 k.holdings (λ i. absurd cc)) in
+    let same : (w : Page) → IsThere l.place w → IsThere k.place w → SameBytes (beside_kernel k images image flat) (beside_kernel l images image after) w = λ w there then'.
+    record { frames = refl; swap = ap (stored_at image) (block w there); file = resized_file images k.place s.sid d t w; start = refl; memory = memory w there then' } in
+    let residents : l.place.residents ≡ k.place.residents = shaped.residents in
+    let out_same : (n : ℕ) → is_out l.place n ≡ is_out k.place n = λ n. ap (λ (rs : List Residence). (residence_of rs n).out) residents in
+    let regs_now : (n : ℕ) → RegsAt l image after n = λ n. elim (cases_eq n q.pid) [
+      | inl i ↦ subst (RegsAt l image after) (sym i) (regs_in_record l image after q.pid fp kp (out_same q.pid ∙ ap (is_out k.place) g.pid_was ∙ out) (replaced_at flat.processes q fp found)
+          (ap (λ (m : ℕ). numbered kept_pid m l.processes) (g.pid_was ∙ sym g.pid_is) ∙ with_at k.processes kp g.proc kept_found) refl)
+      | inr m ↦ regs_carried k l images image image flat after n c outs (record {
+        flat_was = λ a ea. (a, sym (replaced_not flat.processes fp n m) ∙ ea, refl, refl);
+        kept_was = λ b eb. (b, sym (with_not k.processes kp n (λ i. m (i ∙ g.pid_is ∙ sym g.pid_was))) ∙ eb, refl);
+        out = out_same n;
+        held_by = λ x y ex hx. let d' : y.sid ≢ s.sid = other_space flat q.pid n q x s y nums (λ i. m (sym i)) found ex h hx in
+            let z = resized_sizes k.place s.sid d t y.sid d' in
+            (u_same n, z.0, z.1);
+      })
+    ] in
     subst (λ (x : Kernel). Coupled x images image (apply_change images flat pid regs (Resize d t))) (sym (step_is (facts_of images) k pid regs e (Resize d t) g.proc (HoldsSpace s.sid) g.kept g.life))
     (subst (Coupled l images image) (sym (applied images flat pid regs (Resize d t) q s f h))
     (coupled_of l images image after (tables_of l after (with_replaced k.processes flat.processes kp fp c.tables.processes nums.pids outline) c.tables.next_pid c.tables.next_sid fits)
@@ -159,12 +184,6 @@ resize_coupled_step k images image flat pid regs e d t q s nums outs due f h out
     found : numbered pid_of fp.pid flat.processes ≡ Some q
     found = ap (λ (n : ℕ). numbered pid_of n flat.processes) g.pid_was ∙ g.found
 
-    kept_found : numbered kept_pid kp.pid k.processes ≡ Some g.proc
-    kept_found = ap (λ (n : ℕ). numbered kept_pid n k.processes) g.pid_is ∙ g.kept
-
-    outline : outline_kept kp ≡ outline_of fp
-    outline = outline_is g.proc.pid q.pid g.proc.parent q.parent g.proc.life (HoldsSpace s.sid) g.proc.asleep q.asleep (g.pid_is ∙ sym g.pid_was) g.parent g.life g.asleep
-
     held_here : HeldAt flat.processes fp s
     held_here = held_at flat.processes q fp s found h nums.sids
 
@@ -188,15 +207,6 @@ resize_coupled_step k images image flat pid regs e d t q s nums outs due f h out
 
     shaped : Shaped k.place dropped
     shaped = drop_all_shaped (dropped_pages k.place s.sid d t) k.place
-
-    fits : AllFit after l.place
-    fits n = elim (cases_eq n s.sid) [
-      | inl i ↦ subst (λ (m : ℕ). Fits (numbered sid_of m (spaces_of after)) (numbered space_number m l.place.spaces)) (sym i)
-          (subst (λ (x : Option Space). Fits x (numbered space_number s.sid l.place.spaces)) (sym own)
-          (subst (Fits (Some z)) (sym (resized_own k.place s.sid d t)) (fit_cut s (numbered space_number s.sid dropped.spaces) d t (fit_shaped k.place dropped (Some s) s.sid shaped own_fits))))
-      | inr m ↦ subst (λ (x : Option Space). Fits x (numbered space_number n l.place.spaces)) (sym (other n m))
-          (subst (Fits (numbered sid_of n (spaces_of flat))) (sym (resized_other k.place s.sid d t n m)) (fit_shaped k.place dropped (numbered sid_of n (spaces_of flat)) n shaped (all n)))
-    ]
 
     -- bytes
     data_length : length s.data_bytes ≡ 1024 * length (slots_of k.place (Data s.sid 0))
@@ -227,10 +237,6 @@ resize_coupled_step k images image flat pid regs e d t q s nums outs due f h out
     block (Text n v) there = block_kept (owners.Stack s.sid) (owners.Text n) (length (pieces (2 * t))) v (kept (owners.Data s.sid) (length (pieces (2 * d))) k.holdings) (λ i. absurd cc)
         ∙ block_kept (owners.Data s.sid) (owners.Text n) (length (pieces (2 * d))) v k.holdings (λ i. absurd cc)
 
-    u_same : (n : ℕ) → u_stored l image n ≡ u_stored k image n
-    u_same n = ap (stored_at image) (block_kept (owners.Stack s.sid) (owners.U n) (length (pieces (2 * t))) 0 (kept (owners.Data s.sid) (length (pieces (2 * d))) k.holdings) (λ i. absurd cc)
-        ∙ block_kept (owners.Data s.sid) (owners.U n) (length (pieces (2 * d))) 0 k.holdings (λ i. absurd cc))
-
     memory : (w : Page) → IsThere l.place w → IsThere k.place w → memory_of images after w ≡ memory_of images flat w
     memory (Data n v) there then' = elim (cases_eq n s.sid) [
       | inl i ↦ ap (λ (m : ℕ). memory_of images after (Data m v)) i ∙ ap (λ (x : Option Space). page_at v (data_bytes_in x)) own
@@ -246,9 +252,6 @@ resize_coupled_step k images image flat pid regs e d t q s nums outs due f h out
     ]
     memory (Text n v) there then' = refl
 
-    same : (w : Page) → IsThere l.place w → IsThere k.place w → SameBytes (beside_kernel k images image flat) (beside_kernel l images image after) w
-    same w there then' = record { frames = refl; swap = ap (stored_at image) (block w there); file = resized_file images k.place s.sid d t w; start = refl; memory = memory w there then' }
-
     new : (w : Page) → IsThere l.place w → length (slots_of k.place w) ≤ number_of w → zeros ≡ memory_of images after w
     new (Data n v) there past = elim (cases_eq n s.sid) [
       | inl i ↦ sym (ap (λ (m : ℕ). memory_of images after (Data m v)) i ∙ ap (λ (x : Option Space). page_at v (data_bytes_in x)) own
@@ -262,23 +265,3 @@ resize_coupled_step k images image flat pid regs e d t q s nums outs due f h out
     ]
     new (Text n v) there past = absurd (let w : v < length (slots_of l.place (Text n v)) = there in let z : length (slots_of dropped (Text n v)) ≡ length (slots_of k.place (Text n v)) = sizes_kept k.place dropped shaped (Text n v) in
         let y : length (slots_of l.place (Text n v)) ≡ length (slots_of dropped (Text n v)) = refl in omega arith)
-
-    residents : l.place.residents ≡ k.place.residents
-    residents = shaped.residents
-
-    out_same : (n : ℕ) → is_out l.place n ≡ is_out k.place n
-    out_same n = ap (λ (rs : List Residence). (residence_of rs n).out) residents
-
-    regs_now : (n : ℕ) → RegsAt l image after n
-    regs_now n = elim (cases_eq n q.pid) [
-      | inl i ↦ subst (RegsAt l image after) (sym i) (regs_in_record l image after q.pid fp kp (out_same q.pid ∙ ap (is_out k.place) g.pid_was ∙ out) (replaced_at flat.processes q fp found)
-          (ap (λ (m : ℕ). numbered kept_pid m l.processes) (g.pid_was ∙ sym g.pid_is) ∙ with_at k.processes kp g.proc kept_found) refl)
-      | inr m ↦ regs_carried k l images image image flat after n c outs (record {
-        flat_was = λ a ea. (a, sym (replaced_not flat.processes fp n m) ∙ ea, refl, refl);
-        kept_was = λ b eb. (b, sym (with_not k.processes kp n (λ i. m (i ∙ g.pid_is ∙ sym g.pid_was))) ∙ eb, refl);
-        out = out_same n;
-        held_by = λ x y ex hx. let d' : y.sid ≢ s.sid = other_space flat q.pid n q x s y nums (λ i. m (sym i)) found ex h hx in
-            let z = resized_sizes k.place s.sid d t y.sid d' in
-            (u_same n, z.0, z.1);
-      })
-    ]

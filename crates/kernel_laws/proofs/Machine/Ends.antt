@@ -242,28 +242,23 @@ end_kept true ks p status n b d e = record {
   own = λ i. none_some b (sym (removed_is kept_pid p.pid (orphaned_procs ks p.pid)) ∙ ap (λ (m : ℕ). numbered kept_pid m (without_proc (orphaned_procs ks p.pid) p.pid)) (sym i) ∙ e);
   other = λ m. orphan_kept ks p.pid n b d (sym (removed_not kept_pid n p.pid (orphaned_procs ks p.pid) m) ∙ e);
 }
-end_kept false ks p status n b d e = record {
-  own = λ i. ap (λ (x : Proc). x.regs) (sym w.2) ∙ ap (λ (x : Proc). x.regs) (sym v.2) ∙ ap (λ (t : Bool). (cond t z v.0).regs) (ap (λ (m : ℕ). m == p.pid) (has_number kept_pid n (orphaned_procs ks p.pid) v.0 v.1 ∙ i) ∙ eq_self p.pid);
-  other = λ m. let y = orphan_kept ks p.pid n v.0 d v.1 in (
-    y.0,
-    y.1,
-    ap (λ (x : Proc). x.regs) (sym w.2) ∙ ap (λ (x : Proc). x.regs) (sym v.2) ∙ ap (λ (t : Bool). (cond t z v.0).regs) (ne_eqb v.0.pid p.pid (λ i. m (sym (has_number kept_pid n (orphaned_procs ks p.pid) v.0 v.1) ∙ i))) ∙ y.2,
-  );
-}
-  where
-    z : Proc
-    z = record p { life = Ended status }
-
-    wake : Proc → Proc
-    wake q = record q { asleep = cond (q.pid == p.parent) false q.asleep }
-
-    w : (y : Proc) × (numbered kept_pid n (with_proc (orphaned_procs ks p.pid) z) ≡ Some y) × ((let x : Proc = record y { asleep = cond (y.pid == p.parent) false y.asleep } in x) ≡ b)
-    w = mapped_some (λ (q : Proc). record q { asleep = cond (q.pid == p.parent) false q.asleep }) (numbered kept_pid n (with_proc (orphaned_procs ks p.pid) z)) b
-        (sym (numbered_map kept_pid (λ (q : Proc). record q { asleep = cond (q.pid == p.parent) false q.asleep }) (λ x. refl) n (with_proc (orphaned_procs ks p.pid) z)) ∙ e)
-
-    v : (y : Proc) × (numbered kept_pid n (orphaned_procs ks p.pid) ≡ Some y) × (cond (y.pid == p.pid) z y ≡ w.0)
-    v = mapped_some (λ (q : Proc). cond (q.pid == z.pid) z q) (numbered kept_pid n (orphaned_procs ks p.pid)) w.0
-        (sym (numbered_map kept_pid (λ (q : Proc). cond (q.pid == z.pid) z q) (with_number z) n (orphaned_procs ks p.pid)) ∙ w.1)
+end_kept false ks p status n b d e =
+    let z : Proc = record p { life = Ended status } in
+    let wake : Proc → Proc = λ q. record q { asleep = cond (q.pid == p.parent) false q.asleep } in
+    let w : (y : Proc) × (numbered kept_pid n (with_proc (orphaned_procs ks p.pid) z) ≡ Some y) × ((let x : Proc = record y { asleep = cond (y.pid == p.parent) false y.asleep } in x) ≡ b) =
+    mapped_some (λ (q : Proc). record q { asleep = cond (q.pid == p.parent) false q.asleep }) (numbered kept_pid n (with_proc (orphaned_procs ks p.pid) z)) b
+    (sym (numbered_map kept_pid (λ (q : Proc). record q { asleep = cond (q.pid == p.parent) false q.asleep }) (λ x. refl) n (with_proc (orphaned_procs ks p.pid) z)) ∙ e) in
+    let v : (y : Proc) × (numbered kept_pid n (orphaned_procs ks p.pid) ≡ Some y) × (cond (y.pid == p.pid) z y ≡ w.0) =
+    mapped_some (λ (q : Proc). cond (q.pid == z.pid) z q) (numbered kept_pid n (orphaned_procs ks p.pid)) w.0
+    (sym (numbered_map kept_pid (λ (q : Proc). cond (q.pid == z.pid) z q) (with_number z) n (orphaned_procs ks p.pid)) ∙ w.1) in
+    record {
+      own = λ i. ap (λ (x : Proc). x.regs) (sym w.2) ∙ ap (λ (x : Proc). x.regs) (sym v.2) ∙ ap (λ (t : Bool). (cond t z v.0).regs) (ap (λ (m : ℕ). m == p.pid) (has_number kept_pid n (orphaned_procs ks p.pid) v.0 v.1 ∙ i) ∙ eq_self p.pid);
+      other = λ m. let y = orphan_kept ks p.pid n v.0 d v.1 in (
+        y.0,
+        y.1,
+        ap (λ (x : Proc). x.regs) (sym w.2) ∙ ap (λ (x : Proc). x.regs) (sym v.2) ∙ ap (λ (t : Bool). (cond t z v.0).regs) (ne_eqb v.0.pid p.pid (λ i. m (sym (has_number kept_pid n (orphaned_procs ks p.pid) v.0 v.1) ∙ i))) ∙ y.2,
+      );
+    }
 
 -- Spaces after the end.
 
@@ -355,7 +350,23 @@ pub end_core : (k : Kernel) (images : List NamedImage) (image : List ℕ) (flat 
     → Leaving k flat after pid sid borrowed → AllFit flat k.place
     → CouplesPages k.place (beside_kernel k images image flat)
     → AllFit after (end_kernel k pid sid borrowed ps journal).place × CouplesPages (end_kernel k pid sid borrowed ps journal).place (beside_kernel (end_kernel k pid sid borrowed ps journal) images image after)
-end_core k images image flat after pid sid borrowed ps journal a all pages = (fits, coupled)
+end_core k images image flat after pid sid borrowed ps journal a all pages =
+    let no_copy : (w : Page) → NoCopy (due_at p1.due w) = λ w. subst (λ (ds : List Due). NoCopy (due_at ds w)) (sym (g.due ∙ a.due)) tt in
+    let coupled : CouplesPages l.place (beside_kernel l images image after) = still_coupled p1 l.place (beside_kernel l images image after) (λ w. refl) refl refl
+    (other_coupled p1 (beside_kernel k images image flat) (beside_kernel l images image after)
+    (unless_coupled borrowed k.place sid (beside_kernel k images image flat) a.frames a.settled pages) no_copy refl others (λ i v. refl)) in
+    let kept_fits : (m : ℕ) → (borrowed ≡ false → m ≢ sid) → Fits (numbered sid_of m (spaces_of after)) (numbered space_number m l.place.spaces) = λ m d.
+    subst (λ (o : Option Space). Fits o (numbered space_number m l.place.spaces)) (sym (a.other m d))
+    (fit_shapes (numbered sid_of m (spaces_of flat)) (numbered space_number m k.place.spaces) (numbered space_number m l.place.spaces) (g.other m d) (all m)) in
+    let fits : AllFit after l.place = λ m. elim (cases_Bool borrowed) [
+      | inl t ↦ kept_fits m (λ e. absurd (let j : true ≡ false = sym t ∙ e in cc))
+      | inr t ↦ elim (cases_eq m sid) [
+        | inl i ↦ subst (λ (n : ℕ). Fits (numbered sid_of n (spaces_of after)) (numbered space_number n l.place.spaces)) (sym i)
+            (subst (λ (o : Option Space). Fits o (numbered space_number sid l.place.spaces)) (sym (a.gone t)) (subst (Fits None) (sym (g.own t)) tt))
+        | inr d ↦ kept_fits m (λ e. d)
+      ]
+    ] in
+    (fits, coupled)
   where
     l : Kernel
     l = end_kernel k pid sid borrowed ps journal
@@ -368,9 +379,6 @@ end_core k images image flat after pid sid borrowed ps journal a all pages = (fi
 
     aside : TextAside p1
     aside i v z = let x = a.aside i v z in record { unsaved = x.unsaved; rests = x.rests }
-
-    no_copy : (w : Page) → NoCopy (due_at p1.due w)
-    no_copy w = subst (λ (ds : List Due). NoCopy (due_at ds w)) (sym (g.due ∙ a.due)) tt
 
     not_u : (w : Page) → owners.U pid ≢ owner_of w
     not_u (Data m v) e = cc
@@ -393,25 +401,6 @@ end_core k images image flat after pid sid borrowed ps journal a all pages = (fi
     others (Stack m v) there = record { file = refl; start = refl; memory = ap (λ (o : Option Space). page_at v (stack_bytes_in o)) (a.other m (gone_stack k.place p1 borrowed sid m v g there)); swap = swap_of (Stack m v) there }
     others (Text m v) there = record { file = refl; start = refl; memory = refl; swap = swap_of (Text m v) there }
 
-    coupled : CouplesPages l.place (beside_kernel l images image after)
-    coupled = still_coupled p1 l.place (beside_kernel l images image after) (λ w. refl) refl refl
-        (other_coupled p1 (beside_kernel k images image flat) (beside_kernel l images image after)
-        (unless_coupled borrowed k.place sid (beside_kernel k images image flat) a.frames a.settled pages) no_copy refl others (λ i v. refl))
-
-    kept_fits : (m : ℕ) → (borrowed ≡ false → m ≢ sid) → Fits (numbered sid_of m (spaces_of after)) (numbered space_number m l.place.spaces)
-    kept_fits m d = subst (λ (o : Option Space). Fits o (numbered space_number m l.place.spaces)) (sym (a.other m d))
-        (fit_shapes (numbered sid_of m (spaces_of flat)) (numbered space_number m k.place.spaces) (numbered space_number m l.place.spaces) (g.other m d) (all m))
-
-    fits : AllFit after l.place
-    fits m = elim (cases_Bool borrowed) [
-      | inl t ↦ kept_fits m (λ e. absurd (let j : true ≡ false = sym t ∙ e in cc))
-      | inr t ↦ elim (cases_eq m sid) [
-        | inl i ↦ subst (λ (n : ℕ). Fits (numbered sid_of n (spaces_of after)) (numbered space_number n l.place.spaces)) (sym i)
-            (subst (λ (o : Option Space). Fits o (numbered space_number sid l.place.spaces)) (sym (a.gone t)) (subst (Fits None) (sym (g.own t)) tt))
-        | inr d ↦ kept_fits m (λ e. d)
-      ]
-    ]
-
 pub left_is : (b : Bool) (F : FlatState) (pid parent : ℕ)
     → left b F pid parent ≡ (let x : FlatState = record F { processes = left_flat b F.processes pid parent } in x)
 left_is true F pid parent = refl
@@ -424,88 +413,43 @@ pub end_coupled_step : (size : ℕ) (k : Kernel) (images : List NamedImage) (ima
     → process_of flat pid ≡ Some q → q.holding ≡ Holds s → is_borrower flat.processes pid ≡ false → IsSettled k.place s.sid → MayForget (facts_of images) k.place s.sid false k.next_sid (End status) → Coupled k images image flat
     → Coupled (change_step (facts_of images) k pid regs e (End status)) images image (apply_change images flat pid regs (End status))
 end_coupled_step size k images image flat pid regs e status q s so nums outs due f h own_space settled forget c =
-    subst (λ (x : Kernel). Coupled x images image (apply_change images flat pid regs (End status))) (sym (step_is (facts_of images) k pid regs e (End status) g.proc (HoldsSpace s.sid) g.kept g.life))
-    (subst (Coupled (by_life (facts_of images) k kp (HoldsSpace s.sid) e (End status)) images image) (sym (applied images flat pid regs (End status) q s f h))
-    (subst (Coupled l images image) (sym (left_is (q.parent == 0) (orphaned (Rattle.flat_state.specs.Change.given_back (with_process flat fp) q.pid s) q.pid) q.pid q.parent))
-    (subst (λ (xs : List Process). Coupled l images image (record flat { processes = left_flat (q.parent == 0) (orphans q.pid xs) q.pid q.parent }))
-    (sym (returned_none (replaced flat.processes fp) q.pid s (borrower_replaced flat.processes fp q.pid refl (ap (is_borrower flat.processes) g.pid_was ∙ own_space))))
-    (coupled_of l images image after (tables_of l after outlines c.tables.next_pid c.tables.next_sid core.0) core.1 regs_now))))
-  where
-    g : Stepping k flat pid q s
-    g = stepping k flat pid q s c.tables f h
-
-    kp : Proc
-    kp = record g.proc { regs = regs }
-
-    fp : Process
-    fp = record q { regs = regs; holding = Zombie status }
-
-    rs : List Process
-    rs = replaced flat.processes fp
-
-    after : FlatState
-    after = record flat { processes = left_flat (q.parent == 0) (orphans q.pid rs) q.pid q.parent }
-
-    l : Kernel
-    l = end_kernel k kp.pid s.sid false (left_procs (kp.parent == 0) (orphaned_procs k.processes kp.pid) kp status) (append k.journal e)
-
-    pids : kp.pid ≡ q.pid
-    pids = g.pid_is ∙ sym g.pid_was
-
-    found : numbered pid_of fp.pid flat.processes ≡ Some q
-    found = ap (λ (m : ℕ). numbered pid_of m flat.processes) g.pid_was ∙ g.found
-
-    kept_found : numbered kept_pid kp.pid k.processes ≡ Some g.proc
-    kept_found = ap (λ (m : ℕ). numbered kept_pid m k.processes) g.pid_is ∙ g.kept
-
-    lonely_kept : kp.parent ≢ kp.pid
-    lonely_kept i = not_own_parent flat pid q nums f (sym g.parent ∙ i ∙ g.pid_is)
-
-    both : map outline_kept (with_proc k.processes (record kp { life = Ended status })) ≡ map outline_of rs
-    both = with_replaced k.processes flat.processes (record kp { life = Ended status }) fp c.tables.processes nums.pids
-        (outline_is g.proc.pid q.pid g.proc.parent q.parent (Ended status) (Ended status) g.proc.asleep q.asleep pids g.parent refl g.asleep)
-
-    distinct_kept : AllDistinct (map kept_pid k.processes)
-    distinct_kept = subst AllDistinct (sym (pids_same k.processes flat.processes c.tables.processes)) nums.pids
-
-    outlines : map outline_kept l.processes ≡ map outline_of after.processes
-    outlines = ended_outlines k.processes rs kp g.proc status distinct_kept kept_found lonely_kept lonely_kept both
-        ∙ ap (λ (m : ℕ). map outline_of (left_flat (kp.parent == 0) (orphans m rs) m kp.parent)) pids ∙ ap (λ (m : ℕ). map outline_of (left_flat (m == 0) (orphans q.pid rs) q.pid m)) g.parent
-
+    let g : Stepping k flat pid q s = stepping k flat pid q s c.tables f h in
+    let kp : Proc = record g.proc { regs = regs } in
+    let fp : Process = record q { regs = regs; holding = Zombie status } in
+    let rs : List Process = replaced flat.processes fp in
+    let after : FlatState = record flat { processes = left_flat (q.parent == 0) (orphans q.pid rs) q.pid q.parent } in
+    let l : Kernel = end_kernel k kp.pid s.sid false (left_procs (kp.parent == 0) (orphaned_procs k.processes kp.pid) kp status) (append k.journal e) in
+    let pids : kp.pid ≡ q.pid = g.pid_is ∙ sym g.pid_was in
+    let found : numbered pid_of fp.pid flat.processes ≡ Some q = ap (λ (m : ℕ). numbered pid_of m flat.processes) g.pid_was ∙ g.found in
+    let kept_found : numbered kept_pid kp.pid k.processes ≡ Some g.proc = ap (λ (m : ℕ). numbered kept_pid m k.processes) g.pid_is ∙ g.kept in
+    let lonely_kept : kp.parent ≢ kp.pid = λ i. not_own_parent flat pid q nums f (sym g.parent ∙ i ∙ g.pid_is) in
+    let both : map outline_kept (with_proc k.processes (record kp { life = Ended status })) ≡ map outline_of rs =
+    with_replaced k.processes flat.processes (record kp { life = Ended status }) fp c.tables.processes nums.pids
+    (outline_is g.proc.pid q.pid g.proc.parent q.parent (Ended status) (Ended status) g.proc.asleep q.asleep pids g.parent refl g.asleep) in
+    let distinct_kept : AllDistinct (map kept_pid k.processes) = subst AllDistinct (sym (pids_same k.processes flat.processes c.tables.processes)) nums.pids in
+    let outlines : map outline_kept l.processes ≡ map outline_of after.processes = ended_outlines k.processes rs kp g.proc status distinct_kept kept_found lonely_kept lonely_kept both
+    ∙ ap (λ (m : ℕ). map outline_of (left_flat (kp.parent == 0) (orphans m rs) m kp.parent)) pids ∙ ap (λ (m : ℕ). map outline_of (left_flat (m == 0) (orphans q.pid rs) q.pid m)) g.parent in
     -- the spaces of the others
-    pids_of_both : map pid_of rs ≡ map pid_of flat.processes
-    pids_of_both = sym (pids_same (with_proc k.processes (record kp { life = Ended status })) rs both) ∙ with_pids k.processes (record kp { life = Ended status }) ∙ pids_same k.processes flat.processes c.tables.processes
-
-    distinct : AllDistinct (map pid_of rs)
-    distinct = subst AllDistinct (sym pids_of_both) nums.pids
-
-    spaces : spaces_of after ≡ held rs
-    spaces = end_held (q.parent == 0) rs fp q.pid q.parent distinct (replaced_at flat.processes q fp found) refl
-
-    held_here : HeldAt flat.processes fp s
-    held_here = held_at flat.processes q fp s found h nums.sids
-
-    o : OneOwner size (lives k.processes) k.place k.holdings
-    o = so.owner
-
-    leaves : Leaving k flat after kp.pid s.sid false
-    leaves = record {
+    let pids_of_both : map pid_of rs ≡ map pid_of flat.processes =
+    sym (pids_same (with_proc k.processes (record kp { life = Ended status })) rs both) ∙ with_pids k.processes (record kp { life = Ended status }) ∙ pids_same k.processes flat.processes c.tables.processes in
+    let distinct : AllDistinct (map pid_of rs) = subst AllDistinct (sym pids_of_both) nums.pids in
+    let spaces : spaces_of after ≡ held rs = end_held (q.parent == 0) rs fp q.pid q.parent distinct (replaced_at flat.processes q fp found) refl in
+    let held_here : HeldAt flat.processes fp s = held_at flat.processes q fp s found h nums.sids in
+    let o : OneOwner size (lives k.processes) k.place k.holdings = so.owner in
+    let leaves : Leaving k flat after kp.pid s.sid false = record {
       frames = o.frames;
       due = due;
       settled = λ i. settled;
       aside = place_change_aside (facts_of images) k.place kp.pid s.sid false k.next_sid 0 (End status) o.aside forget;
       other = λ m d. ap (numbered sid_of m) spaces ∙ held_other flat.processes fp s m held_here (d refl) refl;
       gone = λ i. ap (numbered sid_of s.sid) spaces ∙ held_now flat.processes fp s held_here;
-    }
-
-    core : AllFit after l.place × CouplesPages l.place (beside_kernel l images image after)
-    core = end_core k images image flat after kp.pid s.sid false (left_procs (kp.parent == 0) (orphaned_procs k.processes kp.pid) kp status) (append k.journal e) leaves c.tables.spaces c.pages
-
-    gone : Gone k.place (give_up_unless false k.place s.sid) false s.sid
-    gone = gone_unless false k.place s.sid
-
-    regs_now : (m : ℕ) → RegsAt l image after m
-    regs_now m = elim (cases_eq m kp.pid) [
+    } in
+    let core : AllFit after l.place × CouplesPages l.place (beside_kernel l images image after) =
+    end_core k images image flat after kp.pid s.sid false (left_procs (kp.parent == 0) (orphaned_procs k.processes kp.pid) kp status) (append k.journal e) leaves c.tables.spaces c.pages in
+    let gone : Gone k.place (give_up_unless false k.place s.sid) false s.sid = gone_unless false k.place s.sid in
+    let regs_now : (m : ℕ) → RegsAt l image after m = λ m.
+    let u_number : (a b : ℕ) → owners.U a ≡ owners.U b → a ≡ b = λ a b i. cc in
+    elim (cases_eq m kp.pid) [
       | inl i ↦ λ a b ea eb.
           let w : WasFlat rs m a = end_was (q.parent == 0) rs q.pid q.parent m a distinct ea in
           let x : WasKept k.processes kp m b = end_kept (kp.parent == 0) k.processes kp status m b distinct_kept eb in
@@ -526,7 +470,10 @@ end_coupled_step size k images image flat pid regs e status q s so nums outs due
               sizes.1,
             );
       })
-    ]
-      where
-        u_number : (a b : ℕ) → owners.U a ≡ owners.U b → a ≡ b
-        u_number a b i = cc
+    ] in
+    subst (λ (x : Kernel). Coupled x images image (apply_change images flat pid regs (End status))) (sym (step_is (facts_of images) k pid regs e (End status) g.proc (HoldsSpace s.sid) g.kept g.life))
+    (subst (Coupled (by_life (facts_of images) k kp (HoldsSpace s.sid) e (End status)) images image) (sym (applied images flat pid regs (End status) q s f h))
+    (subst (Coupled l images image) (sym (left_is (q.parent == 0) (orphaned (Rattle.flat_state.specs.Change.given_back (with_process flat fp) q.pid s) q.pid) q.pid q.parent))
+    (subst (λ (xs : List Process). Coupled l images image (record flat { processes = left_flat (q.parent == 0) (orphans q.pid xs) q.pid q.parent }))
+    (sym (returned_none (replaced flat.processes fp) q.pid s (borrower_replaced flat.processes fp q.pid refl (ap (is_borrower flat.processes) g.pid_was ∙ own_space))))
+    (coupled_of l images image after (tables_of l after outlines c.tables.next_pid c.tables.next_sid core.0) core.1 regs_now))))

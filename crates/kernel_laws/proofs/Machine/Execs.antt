@@ -98,7 +98,38 @@ pub exec_core : (k : Kernel) (images : List NamedImage) (image : List ℕ) (flat
     → AllFit flat k.place → CouplesPages k.place (beside_kernel k images image flat)
     → AllFit after (exec_kernel k next sid borrowed number (Some named.image.facts) top ps journal).place
     × CouplesPages (exec_kernel k next sid borrowed number (Some named.image.facts) top ps journal).place (beside_kernel (exec_kernel k next sid borrowed number (Some named.image.facts) top ps journal) images image after)
-exec_core k images image flat after next sid number borrowed named top ps journal a all pages = (fits, coupled)
+exec_core k images image flat after next sid number borrowed named top ps journal a all pages =
+    let entered_pages : CouplesPages p1 c1 = enter_coupled k.place next number facts b c1 pages a.new a.due same datas start (λ i v. refl) in
+    -- without the old space
+    let left_pages : CouplesPages l.place c1 =
+    unless_coupled borrowed p1 sid c1 (enter_image_owner k.place next number (Some named.image.facts) a.frames a.new) (λ e. enter_settled k.place next number sid (Some named.image.facts) a.frames a.new (a.settled e)) entered_pages in
+    let coupled : CouplesPages l.place (beside_kernel l images image after) = other_coupled l.place c1 (beside_kernel l images image after) left_pages no_copy refl others (λ i v. refl) in
+    -- tables
+    let sized : IsSized z x = record {
+      image = refl;
+      data_size = let f : DataFits named.image = a.fits in f.size ∙ ap (λ (m : ℕ). 1024 * m) (sym (unfilled_length facts 0 (data_pages_of facts)));
+      stack_size = a.whole;
+    } in
+    let kept_fits : (m : ℕ) → m ≢ next → (borrowed ≡ false → m ≢ sid) → Fits (numbered sid_of m (spaces_of after)) (numbered space_number m l.place.spaces) = λ m n d.
+    subst (λ (o : Option Space). Fits o (numbered space_number m l.place.spaces)) (sym (a.other m n d))
+    (fit_shapes (numbered sid_of m (spaces_of flat)) (numbered space_number m p1.spaces) (numbered space_number m l.place.spaces) (g.other m d)
+    (subst (Fits (numbered sid_of m (spaces_of flat))) (sym (place_other m n)) (all m))) in
+    let new_fits : Fits (numbered sid_of next (spaces_of after)) (numbered space_number next l.place.spaces) =
+    subst (λ (o : Option Space). Fits o (numbered space_number next l.place.spaces)) (sym a.own)
+    (fit_shapes (Some z) (numbered space_number next p1.spaces) (numbered space_number next l.place.spaces) (g.other next a.apart) (subst (Fits (Some z)) (sym place_own) sized)) in
+    let gone_fits : borrowed ≡ false → Fits (numbered sid_of sid (spaces_of after)) (numbered space_number sid l.place.spaces) = λ e.
+    subst (λ (o : Option Space). Fits o (numbered space_number sid l.place.spaces)) (sym (a.gone e)) (subst (Fits None) (sym (g.own e)) tt) in
+    let fits : AllFit after l.place = λ m. elim (cases_eq m next) [
+      | inl i ↦ subst (λ (n : ℕ). Fits (numbered sid_of n (spaces_of after)) (numbered space_number n l.place.spaces)) (sym i) new_fits
+      | inr n ↦ elim (cases_Bool borrowed) [
+        | inl t ↦ kept_fits m n (λ e. absurd (let j : true ≡ false = sym t ∙ e in cc))
+        | inr t ↦ elim (cases_eq m sid) [
+          | inl i ↦ subst (λ (n : ℕ). Fits (numbered sid_of n (spaces_of after)) (numbered space_number n l.place.spaces)) (sym i) (gone_fits t)
+          | inr d ↦ kept_fits m n (λ e. d)
+        ]
+      ]
+    ] in
+    (fits, coupled)
   where
     l : Kernel
     l = exec_kernel k next sid borrowed number (Some named.image.facts) top ps journal
@@ -189,13 +220,6 @@ exec_core k images image flat after next sid number borrowed named top ps journa
     start = start_new k.starts (record { page = Stack next 0; bytes = top }) (a.starts (Stack next 0) (ap (λ (ds : List Due). is_start (due_at ds (Stack next 0))) a.due))
         ∙ sym (ap (λ (o : Option Space). page_at 0 (stack_bytes_in o)) both_own ∙ take_all 1024 top (let h = a.whole in omega arith))
 
-    entered_pages : CouplesPages p1 c1
-    entered_pages = enter_coupled k.place next number facts b c1 pages a.new a.due same datas start (λ i v. refl)
-
-    -- without the old space
-    left_pages : CouplesPages l.place c1
-    left_pages = unless_coupled borrowed p1 sid c1 (enter_image_owner k.place next number (Some named.image.facts) a.frames a.new) (λ e. enter_settled k.place next number sid (Some named.image.facts) a.frames a.new (a.settled e)) entered_pages
-
     no_copy : (w : Page) → NoCopy (due_at l.place.due w)
     no_copy w = subst (λ (ds : List Due). NoCopy (due_at ds w)) (sym g.due) (go (same_page (Stack next 0) w))
       where
@@ -229,41 +253,6 @@ exec_core k images image flat after next sid number borrowed named top ps journa
       swap = swap_of (Stack m v) there;
     }
     others (Text m v) there = record { file = refl; start = refl; memory = refl; swap = swap_of (Text m v) there }
-
-    coupled : CouplesPages l.place (beside_kernel l images image after)
-    coupled = other_coupled l.place c1 (beside_kernel l images image after) left_pages no_copy refl others (λ i v. refl)
-
-    -- tables
-    sized : IsSized z x
-    sized = record {
-      image = refl;
-      data_size = let f : DataFits named.image = a.fits in f.size ∙ ap (λ (m : ℕ). 1024 * m) (sym (unfilled_length facts 0 (data_pages_of facts)));
-      stack_size = a.whole;
-    }
-
-    kept_fits : (m : ℕ) → m ≢ next → (borrowed ≡ false → m ≢ sid) → Fits (numbered sid_of m (spaces_of after)) (numbered space_number m l.place.spaces)
-    kept_fits m n d = subst (λ (o : Option Space). Fits o (numbered space_number m l.place.spaces)) (sym (a.other m n d))
-        (fit_shapes (numbered sid_of m (spaces_of flat)) (numbered space_number m p1.spaces) (numbered space_number m l.place.spaces) (g.other m d)
-        (subst (Fits (numbered sid_of m (spaces_of flat))) (sym (place_other m n)) (all m)))
-
-    new_fits : Fits (numbered sid_of next (spaces_of after)) (numbered space_number next l.place.spaces)
-    new_fits = subst (λ (o : Option Space). Fits o (numbered space_number next l.place.spaces)) (sym a.own)
-        (fit_shapes (Some z) (numbered space_number next p1.spaces) (numbered space_number next l.place.spaces) (g.other next a.apart) (subst (Fits (Some z)) (sym place_own) sized))
-
-    gone_fits : borrowed ≡ false → Fits (numbered sid_of sid (spaces_of after)) (numbered space_number sid l.place.spaces)
-    gone_fits e = subst (λ (o : Option Space). Fits o (numbered space_number sid l.place.spaces)) (sym (a.gone e)) (subst (Fits None) (sym (g.own e)) tt)
-
-    fits : AllFit after l.place
-    fits m = elim (cases_eq m next) [
-      | inl i ↦ subst (λ (n : ℕ). Fits (numbered sid_of n (spaces_of after)) (numbered space_number n l.place.spaces)) (sym i) new_fits
-      | inr n ↦ elim (cases_Bool borrowed) [
-        | inl t ↦ kept_fits m n (λ e. absurd (let j : true ≡ false = sym t ∙ e in cc))
-        | inr t ↦ elim (cases_eq m sid) [
-          | inl i ↦ subst (λ (n : ℕ). Fits (numbered sid_of n (spaces_of after)) (numbered space_number n l.place.spaces)) (sym i) (gone_fits t)
-          | inr d ↦ kept_fits m n (λ e. d)
-        ]
-      ]
-    ]
 
 -- Spaces that nobody lent.
 
@@ -304,57 +293,22 @@ pub exec_coupled_step : (size : ℕ) (before : Holdings) (k : Kernel) (images : 
     → image_numbered images number ≡ Some named → DataFits named.image → length top ≡ 1024 → Coupled k images image flat
     → Coupled (change_step (facts_of images) k pid regs e (Exec number top)) images image (apply_change images flat pid regs (Exec number top))
 exec_coupled_step size before k images image flat pid regs e number top named q s so nums outs due starts f h own_space out settled forget im fit whole c =
-    subst (λ (x : Kernel). Coupled x images image (apply_change images flat pid regs (Exec number top))) (sym (step_is (facts_of images) k pid regs e (Exec number top) g.proc (HoldsSpace s.sid) g.kept g.life))
-    (subst (Coupled (by_life (facts_of images) k (record g.proc { regs = regs }) (HoldsSpace s.sid) e (Exec number top)) images image) (sym (applied images flat pid regs (Exec number top) q s f h))
-    (image_known images number named (λ (f : Option Image) (o : Option NamedImage). Coupled (exec_kernel k k.next_sid s.sid false number f top (with_proc k.processes (record g.proc { regs = regs; life = HoldsSpace k.next_sid })) (append k.journal e)) images image (entered flat (record q { regs = regs }) s number o top)) im
-    (subst (λ (m : ℕ). Coupled (exec_kernel k m s.sid false number (Some named.image.facts) top (with_proc k.processes (record g.proc { regs = regs; life = HoldsSpace m })) (append k.journal e)) images image (entered flat (record q { regs = regs }) s number (Some named) top)) (sym c.tables.next_sid)
-    (subst (λ (xs : List Process). Coupled l images image (record flat { processes = xs; next_sid = n + 1 })) (sym (returned_none (replaced flat.processes fp) q.pid s (borrower_replaced flat.processes fp q.pid refl (ap (is_borrower flat.processes) g.pid_was ∙ own_space))))
-    (coupled_of l images image after (tables_of l after outlines c.tables.next_pid refl core.0) core.1 regs_now)))))
-  where
-    g : Stepping k flat pid q s
-    g = stepping k flat pid q s c.tables f h
-
-    n : ℕ
-    n = flat.next_sid
-
-    z : Space
-    z = space_with n number named.image top
-
-    kp : Proc
-    kp = record g.proc { regs = regs; life = HoldsSpace n }
-
-    fp : Process
-    fp = record q { regs = regs; holding = Holds z }
-
-    after : FlatState
-    after = record flat { processes = replaced flat.processes fp; next_sid = n + 1 }
-
-    l : Kernel
-    l = exec_kernel k n s.sid false number (Some named.image.facts) top (with_proc k.processes kp) (append k.journal e)
-
-    pids : kp.pid ≡ fp.pid
-    pids = g.pid_is ∙ sym g.pid_was
-
-    found : numbered pid_of fp.pid flat.processes ≡ Some q
-    found = ap (λ (m : ℕ). numbered pid_of m flat.processes) g.pid_was ∙ g.found
-
-    kept_found : numbered kept_pid kp.pid k.processes ≡ Some g.proc
-    kept_found = ap (λ (m : ℕ). numbered kept_pid m k.processes) g.pid_is ∙ g.kept
-
-    outlines : map outline_kept l.processes ≡ map outline_of after.processes
-    outlines = with_replaced k.processes flat.processes kp fp c.tables.processes nums.pids (outline_is g.proc.pid q.pid g.proc.parent q.parent (HoldsSpace n) (HoldsSpace n) g.proc.asleep q.asleep pids g.parent refl g.asleep)
-
-    held_here : HeldAt flat.processes fp s
-    held_here = held_at flat.processes q fp s found h nums.sids
-
-    apart : n ≢ s.sid
-    apart i = holds_there flat.processes q.pid q s found h (ap (λ (m : ℕ). numbered sid_of m (held flat.processes)) (sym i) ∙ next_sid_none flat nums)
-
-    o : OneOwner size (lives k.processes) k.place before
-    o = so.owner
-
-    enters : Entering k images flat after n s.sid number false named top
-    enters = record {
+    let g : Stepping k flat pid q s = stepping k flat pid q s c.tables f h in
+    let n : ℕ = flat.next_sid in
+    let z : Space = space_with n number named.image top in
+    let kp : Proc = record g.proc { regs = regs; life = HoldsSpace n } in
+    let fp : Process = record q { regs = regs; holding = Holds z } in
+    let after : FlatState = record flat { processes = replaced flat.processes fp; next_sid = n + 1 } in
+    let l : Kernel = exec_kernel k n s.sid false number (Some named.image.facts) top (with_proc k.processes kp) (append k.journal e) in
+    let pids : kp.pid ≡ fp.pid = g.pid_is ∙ sym g.pid_was in
+    let found : numbered pid_of fp.pid flat.processes ≡ Some q = ap (λ (m : ℕ). numbered pid_of m flat.processes) g.pid_was ∙ g.found in
+    let kept_found : numbered kept_pid kp.pid k.processes ≡ Some g.proc = ap (λ (m : ℕ). numbered kept_pid m k.processes) g.pid_is ∙ g.kept in
+    let outlines : map outline_kept l.processes ≡ map outline_of after.processes =
+    with_replaced k.processes flat.processes kp fp c.tables.processes nums.pids (outline_is g.proc.pid q.pid g.proc.parent q.parent (HoldsSpace n) (HoldsSpace n) g.proc.asleep q.asleep pids g.parent refl g.asleep) in
+    let held_here : HeldAt flat.processes fp s = held_at flat.processes q fp s found h nums.sids in
+    let apart : n ≢ s.sid = λ i. holds_there flat.processes q.pid q s found h (ap (λ (m : ℕ). numbered sid_of m (held flat.processes)) (sym i) ∙ next_sid_none flat nums) in
+    let o : OneOwner size (lives k.processes) k.place before = so.owner in
+    let enters : Entering k images flat after n s.sid number false named top = record {
       frames = o.frames;
       due = due;
       starts = starts;
@@ -370,22 +324,13 @@ exec_coupled_step size before k images image flat pid regs e number top named q 
       own = held_new flat.processes fp s n held_here (next_sid_none flat nums) ∙ numbered_hit sid_of n z [] refl;
       other = λ m a b. held_other flat.processes fp s m held_here (b refl) (numbered_miss sid_of m z [] (λ i. a (sym i)));
       gone = λ i. held_now flat.processes fp s held_here ∙ numbered_miss sid_of s.sid z [] apart;
-    }
-
-    core : AllFit after l.place × CouplesPages l.place (beside_kernel l images image after)
-    core = exec_core k images image flat after n s.sid number false named top (with_proc k.processes kp) (append k.journal e) enters c.tables.spaces c.pages
-
-    p1 : Placement
-    p1 = enter_space k.place n number named.image.facts
-
-    left : Gone p1 l.place false s.sid
-    left = gone_unless false p1 s.sid
-
-    out_same : (m : ℕ) → is_out l.place m ≡ is_out k.place m
-    out_same m = ap (λ (rs : List Residence). (residence_of rs m).out) left.residents
-
-    regs_now : (m : ℕ) → RegsAt l image after m
-    regs_now m = elim (cases_eq m q.pid) [
+    } in
+    let core : AllFit after l.place × CouplesPages l.place (beside_kernel l images image after) =
+    exec_core k images image flat after n s.sid number false named top (with_proc k.processes kp) (append k.journal e) enters c.tables.spaces c.pages in
+    let p1 : Placement = enter_space k.place n number named.image.facts in
+    let left : Gone p1 l.place false s.sid = gone_unless false p1 s.sid in
+    let out_same : (m : ℕ) → is_out l.place m ≡ is_out k.place m = λ m. ap (λ (rs : List Residence). (residence_of rs m).out) left.residents in
+    let regs_now : (m : ℕ) → RegsAt l image after m = λ m. elim (cases_eq m q.pid) [
       | inl i ↦ subst (RegsAt l image after) (sym i) (regs_in_record l image after q.pid fp kp (out_same q.pid ∙ ap (is_out k.place) g.pid_was ∙ out) (replaced_at flat.processes q fp found)
           (ap (λ (y : ℕ). numbered kept_pid y (with_proc k.processes kp)) (sym pids) ∙ with_at k.processes kp g.proc kept_found) refl)
       | inr d ↦ regs_carried k l images image image flat after m c outs (record {
@@ -399,4 +344,10 @@ exec_coupled_step size before k images image flat pid regs e number top named q 
             let old : numbered space_number t.sid p1.spaces ≡ numbered space_number t.sid k.place.spaces = added_other t.sid k.place.spaces (new_pages n number named.image.facts) (λ y. not_n (sym y)) in
             (ap (stored_at image) (unless_u false k.holdings s.sid (image_of k.place s.sid) (sharers l.place (image_of k.place s.sid)) m), sizes.0 ∙ ap (λ (x : Option SpacePages). length (data_in x)) old, sizes.1 ∙ ap (λ (x : Option SpacePages). length (stack_in x)) old);
       })
-    ]
+    ] in
+    subst (λ (x : Kernel). Coupled x images image (apply_change images flat pid regs (Exec number top))) (sym (step_is (facts_of images) k pid regs e (Exec number top) g.proc (HoldsSpace s.sid) g.kept g.life))
+    (subst (Coupled (by_life (facts_of images) k (record g.proc { regs = regs }) (HoldsSpace s.sid) e (Exec number top)) images image) (sym (applied images flat pid regs (Exec number top) q s f h))
+    (image_known images number named (λ (f : Option Image) (o : Option NamedImage). Coupled (exec_kernel k k.next_sid s.sid false number f top (with_proc k.processes (record g.proc { regs = regs; life = HoldsSpace k.next_sid })) (append k.journal e)) images image (entered flat (record q { regs = regs }) s number o top)) im
+    (subst (λ (m : ℕ). Coupled (exec_kernel k m s.sid false number (Some named.image.facts) top (with_proc k.processes (record g.proc { regs = regs; life = HoldsSpace m })) (append k.journal e)) images image (entered flat (record q { regs = regs }) s number (Some named) top)) (sym c.tables.next_sid)
+    (subst (λ (xs : List Process). Coupled l images image (record flat { processes = xs; next_sid = n + 1 })) (sym (returned_none (replaced flat.processes fp) q.pid s (borrower_replaced flat.processes fp q.pid refl (ap (is_borrower flat.processes) g.pid_was ∙ own_space))))
+    (coupled_of l images image after (tables_of l after outlines c.tables.next_pid refl core.0) core.1 regs_now)))))

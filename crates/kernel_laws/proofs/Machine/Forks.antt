@@ -98,6 +98,58 @@ pub fork_coupled_step : (k : Kernel) (images : List NamedImage) (image : List �
     → process_of flat pid ≡ Some q → q.holding ≡ Holds s → is_out k.place pid ≡ false → Coupled k images image flat
     → Coupled (change_step (facts_of images) k pid regs e (Fork flat.next_pid)) images image (apply_change images flat pid regs (Fork flat.next_pid))
 fork_coupled_step k images image flat pid regs e q s nums outs due f h out c =
+    let kc : Proc = child_proc kp flat.next_pid (HoldsSpace n) in
+    let pids : kp.pid ≡ fp.pid = g.pid_is ∙ sym g.pid_was in
+    let kept_found : numbered kept_pid kp.pid k.processes ≡ Some g.proc = ap (λ (m : ℕ). numbered kept_pid m k.processes) g.pid_is ∙ g.kept in
+    let outline : outline_kept kp ≡ outline_of fp =
+    outline_is g.proc.pid q.pid g.proc.parent q.parent g.proc.life (Rattle.kernel_model.specs.Kernel.life_of q.holding) g.proc.asleep q.asleep pids g.parent (g.life ∙ sym (ap Rattle.kernel_model.specs.Kernel.life_of h)) g.asleep in
+    let child_outline : outline_kept kc ≡ outline_of ch = outline_is flat.next_pid flat.next_pid kp.pid fp.pid (HoldsSpace n) (HoldsSpace n) false false refl pids refl refl in
+    let outlines : map outline_kept l.processes ≡ map outline_of after.processes =
+    map_pushed outline_kept (with_proc k.processes kp) kc ∙ ap (λ (x : List Outline). x ++ outline_kept kc ∷ []) (with_replaced k.processes flat.processes kp fp c.tables.processes nums.pids outline)
+    ∙ ap (λ (x : Outline). map outline_of (replaced flat.processes fp) ++ x ∷ []) child_outline ∙ sym (map_pushed outline_of (replaced flat.processes fp) ch) in
+    let own : numbered sid_of n (spaces_of after) ≡ Some z = ap (numbered sid_of n) spaces ∙ pushed_new sid_of n (held flat.processes) z (next_sid_none flat nums) refl in
+    let was : numbered sid_of s.sid (spaces_of flat) ≡ Some s = held_own flat.processes fp s (held_at flat.processes q fp s found h nums.sids) in
+    let own_fits : Fits (Some s) (numbered space_number s.sid k.place.spaces) = subst (λ (x : Option Space). Fits x (numbered space_number s.sid k.place.spaces)) was (all s.sid) in
+    let place_own : numbered space_number n l.place.spaces ≡ Some x = added_same n k.place.spaces x refl new in
+    let sized : IsSized z x = record {
+      image = fit_image s (numbered space_number s.sid k.place.spaces) own_fits;
+      data_size = fit_data (Some s) (numbered space_number s.sid k.place.spaces) own_fits ∙ ap (λ (m : ℕ). 1024 * m) (sym (map_length (slots_of k.place (Data s.sid 0))));
+      stack_size = fit_stack (Some s) (numbered space_number s.sid k.place.spaces) own_fits ∙ ap (λ (m : ℕ). 1024 * m) (sym (map_length (slots_of k.place (Stack s.sid 0))));
+    } in
+    let fits : AllFit after l.place = λ m. elim (cases_eq m n) [
+      | inl i ↦ subst (λ (y : ℕ). Fits (numbered sid_of y (spaces_of after)) (numbered space_number y l.place.spaces)) (sym i)
+          (subst (λ (y : Option Space). Fits y (numbered space_number n l.place.spaces)) (sym own) (subst (Fits (Some z)) (sym place_own) sized))
+      | inr d ↦ subst (λ (y : Option Space). Fits y (numbered space_number m l.place.spaces)) (sym (other m d)) (subst (Fits (numbered sid_of m (spaces_of flat))) (sym (place_other m d)) (all m))
+    ] in
+    let datas : (v : ℕ) → Copies (beside_kernel k images image flat) (beside_kernel l images image after) (Data n v) (Data s.sid v) = λ v. record {
+      memory = ap (λ (o : Option Space). page_at v (data_bytes_in o)) own ∙ sym (ap (λ (o : Option Space). page_at v (data_bytes_in o)) was);
+      file = ap (λ (o : Option SpacePages). page_at v (data_of (image_numbered images (image_in o)))) place_own;
+    } in
+    let stacks : (v : ℕ) → Copies (beside_kernel k images image flat) (beside_kernel l images image after) (Stack n v) (Stack s.sid v) = λ v.
+    record { memory = ap (λ (o : Option Space). page_at v (stack_bytes_in o)) own ∙ sym (ap (λ (o : Option Space). page_at v (stack_bytes_in o)) was); file = refl } in
+    -- registers
+    let out_same : (m : ℕ) → is_out l.place m ≡ is_out k.place m = λ m. out_begun k.place.residents flat.next_pid (length (append k.journal e)) m in
+    let child_other : flat.next_pid ≢ q.pid = λ i. none_some q (sym (next_pid_none flat nums) ∙ ap (λ (m : ℕ). numbered pid_of m flat.processes) (i ∙ g.pid_was) ∙ g.found) in
+    let child_flat : numbered pid_of flat.next_pid after.processes ≡ Some ch =
+    pushed_new pid_of flat.next_pid (replaced flat.processes fp) ch (replaced_not flat.processes fp flat.next_pid child_other ∙ next_pid_none flat nums) refl in
+    let child_kept : numbered kept_pid flat.next_pid l.processes ≡ Some kc = pushed_new kept_pid flat.next_pid (with_proc k.processes kp) kc
+    (with_not k.processes kp flat.next_pid (λ i. child_other (i ∙ pids)) ∙ kept_none k flat flat.next_pid c.tables.processes (next_pid_none flat nums)) refl in
+    let regs_now : (m : ℕ) → RegsAt l image after m = λ m. elim (cases_eq m q.pid) [
+      | inl i ↦ subst (RegsAt l image after) (sym i) (regs_in_record l image after q.pid fp kp (out_same q.pid ∙ ap (is_out k.place) g.pid_was ∙ out)
+          (pushed_found pid_of q.pid (replaced flat.processes fp) ch fp (replaced_at flat.processes q fp found))
+          (pushed_found kept_pid q.pid (with_proc k.processes kp) kc kp (ap (λ (y : ℕ). numbered kept_pid y (with_proc k.processes kp)) (sym pids) ∙ with_at k.processes kp g.proc kept_found)) refl)
+      | inr d ↦ elim (cases_eq m flat.next_pid) [
+        | inl i ↦ subst (RegsAt l image after) (sym i) (regs_in_record l image after flat.next_pid ch kc (out_same flat.next_pid ∙ next_in flat k.place nums outs) child_flat child_kept (ap (λ (y : ℕ). with_results regs y 1) pids))
+        | inr i ↦ regs_carried k l images image image flat after m c outs (record {
+          flat_was = λ a ea. (a, sym (replaced_not flat.processes fp m d) ∙ sym (pushed_old pid_of m (replaced flat.processes fp) ch (λ y. i (sym y))) ∙ ea, refl, refl);
+          kept_was = λ b eb. (b, sym (with_not k.processes kp m (λ y. d (y ∙ pids))) ∙ sym (pushed_old kept_pid m (with_proc k.processes kp) kc (λ y. i (sym y))) ∙ eb, refl);
+          out = out_same m;
+          held_by = λ a t ea ht.
+              let d' : t.sid ≢ n = λ y. holds_there flat.processes m a t ea ht (ap (λ (u : ℕ). numbered sid_of u (held flat.processes)) y ∙ next_sid_none flat nums) in
+              (refl, ap (λ (o : Option SpacePages). length (data_in o)) (place_other t.sid d'), ap (λ (o : Option SpacePages). length (stack_in o)) (place_other t.sid d'));
+        })
+      ]
+    ] in
     subst (λ (x : Kernel). Coupled x images image (apply_change images flat pid regs (Fork flat.next_pid))) (sym (step_is (facts_of images) k pid regs e (Fork flat.next_pid) g.proc (HoldsSpace s.sid) g.kept g.life))
     (subst (Coupled (by_life (facts_of images) k kp (HoldsSpace s.sid) e (Fork flat.next_pid)) images image) (sym (applied images flat pid regs (Fork flat.next_pid) q s f h))
     (subst (λ (m : ℕ). Coupled (forked_kernel k kp s.sid flat.next_pid m e) images image after) (sym c.tables.next_sid)
@@ -123,52 +175,24 @@ fork_coupled_step k images image flat pid regs e q s nums outs due f h out c =
     ch : Process
     ch = child_of fp flat.next_pid z
 
-    kc : Proc
-    kc = child_proc kp flat.next_pid (HoldsSpace n)
-
     after : FlatState
     after = forked flat fp s flat.next_pid
 
     l : Kernel
     l = forked_kernel k kp s.sid flat.next_pid n e
 
-    pids : kp.pid ≡ fp.pid
-    pids = g.pid_is ∙ sym g.pid_was
-
     found : numbered pid_of fp.pid flat.processes ≡ Some q
     found = ap (λ (m : ℕ). numbered pid_of m flat.processes) g.pid_was ∙ g.found
-
-    kept_found : numbered kept_pid kp.pid k.processes ≡ Some g.proc
-    kept_found = ap (λ (m : ℕ). numbered kept_pid m k.processes) g.pid_is ∙ g.kept
-
-    outline : outline_kept kp ≡ outline_of fp
-    outline = outline_is g.proc.pid q.pid g.proc.parent q.parent g.proc.life (Rattle.kernel_model.specs.Kernel.life_of q.holding) g.proc.asleep q.asleep pids g.parent (g.life ∙ sym (ap Rattle.kernel_model.specs.Kernel.life_of h)) g.asleep
-
-    child_outline : outline_kept kc ≡ outline_of ch
-    child_outline = outline_is flat.next_pid flat.next_pid kp.pid fp.pid (HoldsSpace n) (HoldsSpace n) false false refl pids refl refl
-
-    outlines : map outline_kept l.processes ≡ map outline_of after.processes
-    outlines = map_pushed outline_kept (with_proc k.processes kp) kc ∙ ap (λ (x : List Outline). x ++ outline_kept kc ∷ []) (with_replaced k.processes flat.processes kp fp c.tables.processes nums.pids outline)
-        ∙ ap (λ (x : Outline). map outline_of (replaced flat.processes fp) ++ x ∷ []) child_outline ∙ sym (map_pushed outline_of (replaced flat.processes fp) ch)
 
     -- spaces
     spaces : spaces_of after ≡ held flat.processes ++ z ∷ []
     spaces = held-append (replaced flat.processes fp) (ch ∷ []) ∙ ap (λ (xs : List Space). xs ++ z ∷ []) (same_held flat.processes q fp found refl)
 
-    own : numbered sid_of n (spaces_of after) ≡ Some z
-    own = ap (numbered sid_of n) spaces ∙ pushed_new sid_of n (held flat.processes) z (next_sid_none flat nums) refl
-
     other : (m : ℕ) → m ≢ n → numbered sid_of m (spaces_of after) ≡ numbered sid_of m (spaces_of flat)
     other m d = ap (numbered sid_of m) spaces ∙ pushed_old sid_of m (held flat.processes) z (λ i. d (sym i))
 
-    was : numbered sid_of s.sid (spaces_of flat) ≡ Some s
-    was = held_own flat.processes fp s (held_at flat.processes q fp s found h nums.sids)
-
     all : AllFit flat k.place
     all = c.tables.spaces
-
-    own_fits : Fits (Some s) (numbered space_number s.sid k.place.spaces)
-    own_fits = subst (λ (x : Option Space). Fits x (numbered space_number s.sid k.place.spaces)) was (all s.sid)
 
     new : IsNew k.place n
     new = next_new flat k.place nums all
@@ -176,25 +200,8 @@ fork_coupled_step k images image flat pid regs e q s nums outs due f h out c =
     x : SpacePages
     x = record { sid = n; image = image_of k.place s.sid; data_pages = map child_slot (slots_of k.place (Data s.sid 0)); stack_pages = map child_slot (slots_of k.place (Stack s.sid 0)) }
 
-    place_own : numbered space_number n l.place.spaces ≡ Some x
-    place_own = added_same n k.place.spaces x refl new
-
     place_other : (m : ℕ) → m ≢ n → numbered space_number m l.place.spaces ≡ numbered space_number m k.place.spaces
     place_other m d = added_other m k.place.spaces x (λ i. d (sym i))
-
-    sized : IsSized z x
-    sized = record {
-      image = fit_image s (numbered space_number s.sid k.place.spaces) own_fits;
-      data_size = fit_data (Some s) (numbered space_number s.sid k.place.spaces) own_fits ∙ ap (λ (m : ℕ). 1024 * m) (sym (map_length (slots_of k.place (Data s.sid 0))));
-      stack_size = fit_stack (Some s) (numbered space_number s.sid k.place.spaces) own_fits ∙ ap (λ (m : ℕ). 1024 * m) (sym (map_length (slots_of k.place (Stack s.sid 0))));
-    }
-
-    fits : AllFit after l.place
-    fits m = elim (cases_eq m n) [
-      | inl i ↦ subst (λ (y : ℕ). Fits (numbered sid_of y (spaces_of after)) (numbered space_number y l.place.spaces)) (sym i)
-          (subst (λ (y : Option Space). Fits y (numbered space_number n l.place.spaces)) (sym own) (subst (Fits (Some z)) (sym place_own) sized))
-      | inr d ↦ subst (λ (y : Option Space). Fits y (numbered space_number m l.place.spaces)) (sym (other m d)) (subst (Fits (numbered sid_of m (spaces_of flat))) (sym (place_other m d)) (all m))
-    ]
 
     -- bytes
     old_data : (m v : ℕ) → IsThere k.place (Data m v) → m ≢ n
@@ -213,44 +220,3 @@ fork_coupled_step k images image flat pid regs e q s nums outs due f h out c =
     }
     same (Stack m v) there = let d = old_stack m v there in record { frames = refl; swap = refl; file = refl; start = refl; memory = ap (λ (o : Option Space). page_at v (stack_bytes_in o)) (other m d) }
     same (Text m v) there = record { frames = refl; swap = refl; file = refl; start = refl; memory = refl }
-
-    datas : (v : ℕ) → Copies (beside_kernel k images image flat) (beside_kernel l images image after) (Data n v) (Data s.sid v)
-    datas v = record {
-      memory = ap (λ (o : Option Space). page_at v (data_bytes_in o)) own ∙ sym (ap (λ (o : Option Space). page_at v (data_bytes_in o)) was);
-      file = ap (λ (o : Option SpacePages). page_at v (data_of (image_numbered images (image_in o)))) place_own;
-    }
-
-    stacks : (v : ℕ) → Copies (beside_kernel k images image flat) (beside_kernel l images image after) (Stack n v) (Stack s.sid v)
-    stacks v = record { memory = ap (λ (o : Option Space). page_at v (stack_bytes_in o)) own ∙ sym (ap (λ (o : Option Space). page_at v (stack_bytes_in o)) was); file = refl }
-
-    -- registers
-    out_same : (m : ℕ) → is_out l.place m ≡ is_out k.place m
-    out_same m = out_begun k.place.residents flat.next_pid (length (append k.journal e)) m
-
-    child_other : flat.next_pid ≢ q.pid
-    child_other i = none_some q (sym (next_pid_none flat nums) ∙ ap (λ (m : ℕ). numbered pid_of m flat.processes) (i ∙ g.pid_was) ∙ g.found)
-
-    child_flat : numbered pid_of flat.next_pid after.processes ≡ Some ch
-    child_flat = pushed_new pid_of flat.next_pid (replaced flat.processes fp) ch (replaced_not flat.processes fp flat.next_pid child_other ∙ next_pid_none flat nums) refl
-
-    child_kept : numbered kept_pid flat.next_pid l.processes ≡ Some kc
-    child_kept = pushed_new kept_pid flat.next_pid (with_proc k.processes kp) kc
-        (with_not k.processes kp flat.next_pid (λ i. child_other (i ∙ pids)) ∙ kept_none k flat flat.next_pid c.tables.processes (next_pid_none flat nums)) refl
-
-    regs_now : (m : ℕ) → RegsAt l image after m
-    regs_now m = elim (cases_eq m q.pid) [
-      | inl i ↦ subst (RegsAt l image after) (sym i) (regs_in_record l image after q.pid fp kp (out_same q.pid ∙ ap (is_out k.place) g.pid_was ∙ out)
-          (pushed_found pid_of q.pid (replaced flat.processes fp) ch fp (replaced_at flat.processes q fp found))
-          (pushed_found kept_pid q.pid (with_proc k.processes kp) kc kp (ap (λ (y : ℕ). numbered kept_pid y (with_proc k.processes kp)) (sym pids) ∙ with_at k.processes kp g.proc kept_found)) refl)
-      | inr d ↦ elim (cases_eq m flat.next_pid) [
-        | inl i ↦ subst (RegsAt l image after) (sym i) (regs_in_record l image after flat.next_pid ch kc (out_same flat.next_pid ∙ next_in flat k.place nums outs) child_flat child_kept (ap (λ (y : ℕ). with_results regs y 1) pids))
-        | inr i ↦ regs_carried k l images image image flat after m c outs (record {
-          flat_was = λ a ea. (a, sym (replaced_not flat.processes fp m d) ∙ sym (pushed_old pid_of m (replaced flat.processes fp) ch (λ y. i (sym y))) ∙ ea, refl, refl);
-          kept_was = λ b eb. (b, sym (with_not k.processes kp m (λ y. d (y ∙ pids))) ∙ sym (pushed_old kept_pid m (with_proc k.processes kp) kc (λ y. i (sym y))) ∙ eb, refl);
-          out = out_same m;
-          held_by = λ a t ea ht.
-              let d' : t.sid ≢ n = λ y. holds_there flat.processes m a t ea ht (ap (λ (u : ℕ). numbered sid_of u (held flat.processes)) y ∙ next_sid_none flat nums) in
-              (refl, ap (λ (o : Option SpacePages). length (data_in o)) (place_other t.sid d'), ap (λ (o : Option SpacePages). length (stack_in o)) (place_other t.sid d'));
-        })
-      ]
-    ]

@@ -58,21 +58,16 @@ none_kept None (Some x) e h = absurd cc
 none_kept (Some y) (Some x) e h = absurd cc
 
 gone : (p : Placement) (sid : ℕ) → Gone p (give_up p sid) false sid
-gone p sid = record {
-  other = λ n d. text.spaces n ∙ ap shape_in (removed_other sid n dropped.spaces (d refl)) ∙ drop.spaces n;
-  own = λ e. none_kept (numbered space_number sid (remove_space dropped sid).spaces) (numbered space_number sid (give_up p sid).spaces) (text.spaces sid) (removed_same sid dropped.spaces);
-  residents = text.residents ∙ drop.residents;
-  due = leave_text_due (remove_space dropped sid) (image_of p sid) ∙ (drop_all_rest (pages_of_space p sid) p).1;
-}
-  where
-    dropped : Placement
-    dropped = drop_all p (pages_of_space p sid)
-
-    drop : Shaped p dropped
-    drop = drop_all_shaped (pages_of_space p sid) p
-
-    text : Shaped (remove_space dropped sid) (give_up p sid)
-    text = leave_text_shaped (remove_space dropped sid) (image_of p sid)
+gone p sid =
+    let dropped : Placement = drop_all p (pages_of_space p sid) in
+    let drop : Shaped p dropped = drop_all_shaped (pages_of_space p sid) p in
+    let text : Shaped (remove_space dropped sid) (give_up p sid) = leave_text_shaped (remove_space dropped sid) (image_of p sid) in
+    record {
+      other = λ n d. text.spaces n ∙ ap shape_in (removed_other sid n dropped.spaces (d refl)) ∙ drop.spaces n;
+      own = λ e. none_kept (numbered space_number sid (remove_space dropped sid).spaces) (numbered space_number sid (give_up p sid).spaces) (text.spaces sid) (removed_same sid dropped.spaces);
+      residents = text.residents ∙ drop.residents;
+      due = leave_text_due (remove_space dropped sid) (image_of p sid) ∙ (drop_all_rest (pages_of_space p sid) p).1;
+    }
 
 pub gone_unless : (borrowed : Bool) (p : Placement) (sid : ℕ) → Gone p (give_up_unless borrowed p sid) borrowed sid
 gone_unless true p sid = record { other = λ n d. refl; own = λ e. absurd cc; residents = refl; due = refl }
@@ -88,34 +83,27 @@ gone_stack p q borrowed sid m v g there b e = absurd (let w : v < length (slots_
 -- Pages.
 
 removed_keeps : (p : Placement) (sid : ℕ) (b : Bytes) → CouplesPages p b → CouplesPages (remove_space (drop_all p (pages_of_space p sid)) sid) b
-removed_keeps p sid b k = changed_coupled p q b b k one k.text (λ i v. ap (λ (ds : List Due). due_at ds (Text i v)) rest.1 ∙ k.text_due i v)
-  where
-    dropped : Placement
-    dropped = drop_all p (pages_of_space p sid)
-
-    q : Placement
-    q = remove_space dropped sid
-
-    rest : (dropped.transfers ≡ p.transfers) × (dropped.due ≡ p.due)
-    rest = drop_all_rest (pages_of_space p sid) p
-
-    one : (w : Page) → IsThere q w → (IsThere p w × Unmoved p q b b w) ⊎ Keeps q b w
-    one w there =
-        let r = removed_there dropped sid w there in
-        inl (
-          (let e = drop_all_length (pages_of_space p sid) p w in let h = ap length r.2 in omega arith),
-          record {
-            slot = ap (λ (xs : List Slot). get_or xs (number_of w) no_slot) r.2 ∙ drop_all_other (pages_of_space p sid) p w (each_page_append (λ x. w ≢ x) (data_from sid 0 (data_count p sid)) (stack_from sid 0 (stack_count p sid))
-                (apart_data sid 0 (data_count p sid) w (λ v l. r.0 v)) (apart_stack sid 0 (stack_count p sid) w (λ v l. r.1 v)));
-            due = ap (λ (ds : List Due). due_at ds w) rest.1;
-            frames = λ g e. (refl, ap (λ (ts : List Transfer). errand_at (parts_of ts) g) rest.0);
-            swap = refl;
-            file = refl;
-            start = refl;
-            memory = refl;
-            copied = inl (λ x. refl);
-          },
-        )
+removed_keeps p sid b k =
+    let dropped : Placement = drop_all p (pages_of_space p sid) in
+    let q : Placement = remove_space dropped sid in
+    let rest : (dropped.transfers ≡ p.transfers) × (dropped.due ≡ p.due) = drop_all_rest (pages_of_space p sid) p in
+    let one : (w : Page) → IsThere q w → (IsThere p w × Unmoved p q b b w) ⊎ Keeps q b w = λ w there.
+    let r = removed_there dropped sid w there in
+    inl (
+      (let e = drop_all_length (pages_of_space p sid) p w in let h = ap length r.2 in omega arith),
+      record {
+        slot = ap (λ (xs : List Slot). get_or xs (number_of w) no_slot) r.2 ∙ drop_all_other (pages_of_space p sid) p w (each_page_append (λ x. w ≢ x) (data_from sid 0 (data_count p sid)) (stack_from sid 0 (stack_count p sid))
+            (apart_data sid 0 (data_count p sid) w (λ v l. r.0 v)) (apart_stack sid 0 (stack_count p sid) w (λ v l. r.1 v)));
+        due = ap (λ (ds : List Due). due_at ds w) rest.1;
+        frames = λ g e. (refl, ap (λ (ts : List Transfer). errand_at (parts_of ts) g) rest.0);
+        swap = refl;
+        file = refl;
+        start = refl;
+        memory = refl;
+        copied = inl (λ x. refl);
+      },
+    ) in
+    changed_coupled p q b b k one k.text (λ i v. ap (λ (ds : List Due). due_at ds (Text i v)) rest.1 ∙ k.text_due i v)
 
 pub unless_coupled : (borrowed : Bool) (p : Placement) (sid : ℕ) (b : Bytes) → OwnsFrames p → (borrowed ≡ false → IsSettled p sid) → CouplesPages p b
     → CouplesPages (give_up_unless borrowed p sid) b
@@ -149,27 +137,26 @@ aside_keeps p b c image v k f m t there a = elim a.rests [
 pub other_coupled : (p : Placement) (b c : Bytes) → CouplesPages p b → ((w : Page) → NoCopy (due_at p.due w)) → c.frames ≡ b.frames
     → ((w : Page) → IsThere p w → OtherBytes p b c w)
     → ((image v : ℕ) → c.file (Text image v) ≡ c.memory (Text image v)) → CouplesPages p c
-other_coupled p b c k due f h text = changed_coupled p p b c k one text k.text_due
-  where
-    one : (w : Page) → IsThere p w → (IsThere p w × Unmoved p p b c w) ⊎ Keeps p c w
-    one w there =
-        let o : OtherBytes p b c w = h w there in
-        elim o.swap [
-          | inl s ↦ inl (
-            there,
-            record {
-              slot = refl;
-              due = refl;
-              frames = λ g e. (ap (λ (fs : List (List ℕ)). at_frame fs g []) f, refl);
-              swap = s;
-              file = o.file;
-              start = o.start;
-              memory = o.memory;
-              copied = inr (due w);
-            },
-          )
-          | inr a ↦ inr (subst (Keeps p c) (sym a.2) (aside_keeps p b c a.0 a.1 k f (subst (λ (x : Page). c.memory x ≡ b.memory x) a.2 o.memory) (text a.0 a.1) (subst (IsThere p) a.2 there) a.3))
-        ]
+other_coupled p b c k due f h text =
+    let one : (w : Page) → IsThere p w → (IsThere p w × Unmoved p p b c w) ⊎ Keeps p c w = λ w there.
+    let o : OtherBytes p b c w = h w there in
+    elim o.swap [
+      | inl s ↦ inl (
+        there,
+        record {
+          slot = refl;
+          due = refl;
+          frames = λ g e. (ap (λ (fs : List (List ℕ)). at_frame fs g []) f, refl);
+          swap = s;
+          file = o.file;
+          start = o.start;
+          memory = o.memory;
+          copied = inr (due w);
+        },
+      )
+      | inr a ↦ inr (subst (Keeps p c) (sym a.2) (aside_keeps p b c a.0 a.1 k f (subst (λ (x : Page). c.memory x ≡ b.memory x) a.2 o.memory) (text a.0 a.1) (subst (IsThere p) a.2 there) a.3))
+    ] in
+    changed_coupled p p b c k one text k.text_due
 
 -- Blocks.
 

@@ -65,6 +65,47 @@ pub lend_coupled_step : (k : Kernel) (images : List NamedImage) (image : List �
     → OutHold k.place flat → process_of flat pid ≡ Some q → q.holding ≡ Holds s
     → is_out k.place pid ≡ false → Coupled k images image flat → Coupled (pass_step (change_step (facts_of images) k pid regs e (Lend flat.next_pid)) pid flat.next_pid) images image (apply_change images flat pid regs (Lend flat.next_pid))
 lend_coupled_step k images image flat pid regs e q s nums outs f h out c =
+    let ch : Process = child_of (record q { regs = regs }) child s in
+    let after : FlatState = lent flat (record q { regs = regs }) s child in
+    let found : numbered pid_of fp.pid flat.processes ≡ Some q = ap (λ (m : ℕ). numbered pid_of m flat.processes) g.pid_was ∙ g.found in
+    let kept_found : numbered kept_pid kp.pid k.processes ≡ Some g.proc = ap (λ (m : ℕ). numbered kept_pid m k.processes) g.pid_is ∙ g.kept in
+    let parent_kept : numbered kept_pid pid k1.processes ≡ Some kp =
+    pushed_found kept_pid pid (with_proc k.processes kp) kn kp (ap (λ (m : ℕ). numbered kept_pid m (with_proc k.processes kp)) (sym g.pid_is) ∙ with_at k.processes kp g.proc kept_found) in
+    let child_kept : numbered kept_pid child k1.processes ≡ Some kn =
+    pushed_new kept_pid child (with_proc k.processes kp) kn (with_not k.processes kp child (λ i. child_other (i ∙ pids)) ∙ no_child) refl in
+    let outlines : map outline_kept l.processes ≡ map outline_of after.processes = map_pushed outline_kept (with_proc k.processes kl) kc
+    ∙ ap (λ (x : List Outline). x ++ outline_kept kc ∷ []) (with_replaced k.processes flat.processes kl fp c.tables.processes nums.pids
+    (outline_is g.proc.pid q.pid g.proc.parent q.parent (LendsSpace s.sid child) (LendsSpace s.sid child) g.proc.asleep q.asleep pids g.parent refl g.asleep))
+    ∙ ap (λ (x : Outline). map outline_of (replaced flat.processes fp) ++ x ∷ []) (outline_is child child kp.pid fp.pid (HoldsSpace s.sid) (HoldsSpace s.sid) false false refl pids refl refl)
+    ∙ sym (map_pushed outline_of (replaced flat.processes fp) ch) in
+    -- the space is the child's now
+    let held_here : HeldAt flat.processes fp s = held_at flat.processes q fp s found h nums.sids in
+    let list : spaces_of after ≡ held (replaced flat.processes fp) ++ s ∷ [] = held-append (replaced flat.processes fp) (ch ∷ []) in
+    let spaces : (n : ℕ) → numbered sid_of n (spaces_of after) ≡ numbered sid_of n (spaces_of flat) = λ n. elim (cases_eq n s.sid) [
+      | inl i ↦ subst (λ (m : ℕ). numbered sid_of m (spaces_of after) ≡ numbered sid_of m (spaces_of flat)) (sym i)
+          (ap (numbered sid_of s.sid) list ∙ pushed_new sid_of s.sid (held (replaced flat.processes fp)) s (held_now flat.processes fp s held_here) refl ∙ sym (held_own flat.processes fp s held_here))
+      | inr d ↦ ap (numbered sid_of n) list ∙ pushed_old sid_of n (held (replaced flat.processes fp)) s (λ i. d (sym i)) ∙ held_other flat.processes fp s n held_here d refl
+    ] in
+    let all : AllFit flat k.place = c.tables.spaces in
+    let fits : AllFit after l.place = λ n. subst (λ (o : Option Space). Fits o (numbered space_number n k.place.spaces)) (sym (spaces n)) (all n) in
+    -- registers
+    let out_same : (m : ℕ) → is_out l.place m ≡ is_out k.place m = λ m. out_begun k.place.residents child (length (append k.journal e)) m in
+    let regs_now : (m : ℕ) → RegsAt l image after m = λ m. elim (cases_eq m q.pid) [
+      | inl i ↦ subst (RegsAt l image after) (sym i) (regs_in_record l image after q.pid fp kl (out_same q.pid ∙ ap (is_out k.place) g.pid_was ∙ out)
+          (pushed_found pid_of q.pid (replaced flat.processes fp) ch fp (replaced_at flat.processes q fp found))
+          (pushed_found kept_pid q.pid (with_proc k.processes kl) kc kl (ap (λ (y : ℕ). numbered kept_pid y (with_proc k.processes kl)) (sym pids) ∙ with_at k.processes kl g.proc kept_found)) refl)
+      | inr d ↦ elim (cases_eq m child) [
+        | inl i ↦ subst (RegsAt l image after) (sym i) (regs_in_record l image after child ch kc (out_same child ∙ next_in flat k.place nums outs)
+            (pushed_new pid_of child (replaced flat.processes fp) ch (replaced_not flat.processes fp child child_other ∙ next_pid_none flat nums) refl)
+            (pushed_new kept_pid child (with_proc k.processes kl) kc (with_not k.processes kl child (λ y. child_other (y ∙ pids)) ∙ no_child) refl) (ap (λ (y : ℕ). with_results regs y 1) pids))
+        | inr i ↦ regs_carried k l images image image flat after m c outs (record {
+          flat_was = λ a ea. (a, sym (replaced_not flat.processes fp m d) ∙ sym (pushed_old pid_of m (replaced flat.processes fp) ch (λ y. i (sym y))) ∙ ea, refl, refl);
+          kept_was = λ b eb. (b, sym (with_not k.processes kl m (λ y. d (y ∙ pids))) ∙ sym (pushed_old kept_pid m (with_proc k.processes kl) kc (λ y. i (sym y))) ∙ eb, refl);
+          out = out_same m;
+          held_by = λ a t ea ht. (refl, refl, refl);
+        })
+      ]
+    ] in
     subst (λ (x : Kernel). Coupled (pass_step x pid flat.next_pid) images image (apply_change images flat pid regs (Lend flat.next_pid))) (sym (step_is (facts_of images) k pid regs e (Lend flat.next_pid) g.proc (HoldsSpace s.sid) g.kept g.life))
     (subst (Coupled (pass_step k1 pid flat.next_pid) images image) (sym (applied images flat pid regs (Lend flat.next_pid) q s f h))
     (subst (λ (x : Kernel). Coupled x images image after) (sym (pass_is k1 pid flat.next_pid kp kn (HoldsSpace s.sid) New parent_kept g.life child_kept refl))
@@ -95,12 +136,6 @@ lend_coupled_step k images image flat pid regs e q s nums outs f h out c =
     fp : Process
     fp = record q { regs = regs; holding = Lends s.sid child }
 
-    ch : Process
-    ch = child_of (record q { regs = regs }) child s
-
-    after : FlatState
-    after = lent flat (record q { regs = regs }) s child
-
     k1 : Kernel
     k1 = by_life (facts_of images) k kp (HoldsSpace s.sid) e (Lend child)
 
@@ -110,79 +145,18 @@ lend_coupled_step k images image flat pid regs e q s nums outs f h out c =
     pids : kp.pid ≡ fp.pid
     pids = g.pid_is ∙ sym g.pid_was
 
-    found : numbered pid_of fp.pid flat.processes ≡ Some q
-    found = ap (λ (m : ℕ). numbered pid_of m flat.processes) g.pid_was ∙ g.found
-
-    kept_found : numbered kept_pid kp.pid k.processes ≡ Some g.proc
-    kept_found = ap (λ (m : ℕ). numbered kept_pid m k.processes) g.pid_is ∙ g.kept
-
     child_other : child ≢ q.pid
     child_other i = none_some q (sym (next_pid_none flat nums) ∙ ap (λ (m : ℕ). numbered pid_of m flat.processes) (i ∙ g.pid_was) ∙ g.found)
 
     no_child : numbered kept_pid child k.processes ≡ None
     no_child = kept_none k flat child c.tables.processes (next_pid_none flat nums)
 
-    parent_kept : numbered kept_pid pid k1.processes ≡ Some kp
-    parent_kept = pushed_found kept_pid pid (with_proc k.processes kp) kn kp (ap (λ (m : ℕ). numbered kept_pid m (with_proc k.processes kp)) (sym g.pid_is) ∙ with_at k.processes kp g.proc kept_found)
-
-    child_kept : numbered kept_pid child k1.processes ≡ Some kn
-    child_kept = pushed_new kept_pid child (with_proc k.processes kp) kn (with_not k.processes kp child (λ i. child_other (i ∙ pids)) ∙ no_child) refl
-
     processes : map (passed s.sid pid child New) k1.processes ≡ l.processes
     processes = ap (λ (m : ℕ). map (passed s.sid m child New) k1.processes) (sym g.pid_is) ∙ map_pushed (passed s.sid kp.pid child New) (with_proc k.processes kp) kn
         ∙ ap (λ (xs : List Proc). xs ++ passed s.sid kp.pid child New kn ∷ []) (passed_list k.processes kp s.sid child (none_absent kept_pid child k.processes no_child))
         ∙ ap (λ (x : Proc). with_proc k.processes kl ++ x ∷ []) (passed_child kp s.sid child (λ i. child_other (i ∙ pids)))
 
-    outlines : map outline_kept l.processes ≡ map outline_of after.processes
-    outlines = map_pushed outline_kept (with_proc k.processes kl) kc
-        ∙ ap (λ (x : List Outline). x ++ outline_kept kc ∷ []) (with_replaced k.processes flat.processes kl fp c.tables.processes nums.pids
-        (outline_is g.proc.pid q.pid g.proc.parent q.parent (LendsSpace s.sid child) (LendsSpace s.sid child) g.proc.asleep q.asleep pids g.parent refl g.asleep))
-        ∙ ap (λ (x : Outline). map outline_of (replaced flat.processes fp) ++ x ∷ []) (outline_is child child kp.pid fp.pid (HoldsSpace s.sid) (HoldsSpace s.sid) false false refl pids refl refl)
-        ∙ sym (map_pushed outline_of (replaced flat.processes fp) ch)
-
-    -- the space is the child's now
-    held_here : HeldAt flat.processes fp s
-    held_here = held_at flat.processes q fp s found h nums.sids
-
-    list : spaces_of after ≡ held (replaced flat.processes fp) ++ s ∷ []
-    list = held-append (replaced flat.processes fp) (ch ∷ [])
-
-    spaces : (n : ℕ) → numbered sid_of n (spaces_of after) ≡ numbered sid_of n (spaces_of flat)
-    spaces n = elim (cases_eq n s.sid) [
-      | inl i ↦ subst (λ (m : ℕ). numbered sid_of m (spaces_of after) ≡ numbered sid_of m (spaces_of flat)) (sym i)
-          (ap (numbered sid_of s.sid) list ∙ pushed_new sid_of s.sid (held (replaced flat.processes fp)) s (held_now flat.processes fp s held_here) refl ∙ sym (held_own flat.processes fp s held_here))
-      | inr d ↦ ap (numbered sid_of n) list ∙ pushed_old sid_of n (held (replaced flat.processes fp)) s (λ i. d (sym i)) ∙ held_other flat.processes fp s n held_here d refl
-    ]
-
-    all : AllFit flat k.place
-    all = c.tables.spaces
-
-    fits : AllFit after l.place
-    fits n = subst (λ (o : Option Space). Fits o (numbered space_number n k.place.spaces)) (sym (spaces n)) (all n)
-
     file_of_same : (w : Page) → Rattle.kernel_model.specs.Coupled.file_of images l.place w ≡ Rattle.kernel_model.specs.Coupled.file_of images k.place w
     file_of_same (Data n v) = refl
     file_of_same (Stack n v) = refl
     file_of_same (Text n v) = refl
-
-    -- registers
-    out_same : (m : ℕ) → is_out l.place m ≡ is_out k.place m
-    out_same m = out_begun k.place.residents child (length (append k.journal e)) m
-
-    regs_now : (m : ℕ) → RegsAt l image after m
-    regs_now m = elim (cases_eq m q.pid) [
-      | inl i ↦ subst (RegsAt l image after) (sym i) (regs_in_record l image after q.pid fp kl (out_same q.pid ∙ ap (is_out k.place) g.pid_was ∙ out)
-          (pushed_found pid_of q.pid (replaced flat.processes fp) ch fp (replaced_at flat.processes q fp found))
-          (pushed_found kept_pid q.pid (with_proc k.processes kl) kc kl (ap (λ (y : ℕ). numbered kept_pid y (with_proc k.processes kl)) (sym pids) ∙ with_at k.processes kl g.proc kept_found)) refl)
-      | inr d ↦ elim (cases_eq m child) [
-        | inl i ↦ subst (RegsAt l image after) (sym i) (regs_in_record l image after child ch kc (out_same child ∙ next_in flat k.place nums outs)
-            (pushed_new pid_of child (replaced flat.processes fp) ch (replaced_not flat.processes fp child child_other ∙ next_pid_none flat nums) refl)
-            (pushed_new kept_pid child (with_proc k.processes kl) kc (with_not k.processes kl child (λ y. child_other (y ∙ pids)) ∙ no_child) refl) (ap (λ (y : ℕ). with_results regs y 1) pids))
-        | inr i ↦ regs_carried k l images image image flat after m c outs (record {
-          flat_was = λ a ea. (a, sym (replaced_not flat.processes fp m d) ∙ sym (pushed_old pid_of m (replaced flat.processes fp) ch (λ y. i (sym y))) ∙ ea, refl, refl);
-          kept_was = λ b eb. (b, sym (with_not k.processes kl m (λ y. d (y ∙ pids))) ∙ sym (pushed_old kept_pid m (with_proc k.processes kl) kc (λ y. i (sym y))) ∙ eb, refl);
-          out = out_same m;
-          held_by = λ a t ea ht. (refl, refl, refl);
-        })
-      ]
-    ]

@@ -74,18 +74,8 @@ pub record SameButStart (b c : Bytes) (v : Page) : Type 0 where
 
 -- a valid page asks for no bytes that are kept for it
 pub forgot_coupled : (p : Placement) (v : Page) (f : ℕ) (b c : Bytes) → state_of p v ≡ Valid f → SameButStart b c v → CouplesPages p b → CouplesPages p c
-forgot_coupled p v f b c e s k = changed_coupled p p b c k one (λ i n. s.file (Text i n) ∙ k.text i n ∙ sym (s.memory (Text i n))) k.text_due
-  where
-    frame : (g : ℕ) → bytes_in c g ≡ bytes_in b g
-    frame g = ap (λ (fs : List (List ℕ)). at_frame fs g []) s.frames
-
-    here : IsThere p v → Keeps p c v
-    here there =
-        let was : IsInFrame b (is_dirty p v) f v = keeps_at p b v (Valid f) k there e in
-        subst (KeepsBy p c v) (sym e) (record { here = frame f ∙ was.here ∙ sym (s.memory v); there = λ d. s.swap v ∙ was.there d ∙ sym (s.memory v) })
-
-    one : (w : Page) → IsThere p w → (IsThere p w × Rattle.page_laws.proofs.Bytes.Couples.Unmoved p p b c w) ⊎ Keeps p c w
-    one w there = elim (page_cases w v) [
+forgot_coupled p v f b c e s k =
+    let one : (w : Page) → IsThere p w → (IsThere p w × Rattle.page_laws.proofs.Bytes.Couples.Unmoved p p b c w) ⊎ Keeps p c w = λ w there. elim (page_cases w v) [
       | inl h ↦ inr (subst (Keeps p c) (sym h) (here (subst (IsThere p) h there)))
       | inr n ↦ inl (
         there,
@@ -100,7 +90,16 @@ forgot_coupled p v f b c e s k = changed_coupled p p b c k one (λ i n. s.file (
           copied = inl s.memory;
         },
       )
-    ]
+    ] in
+    changed_coupled p p b c k one (λ i n. s.file (Text i n) ∙ k.text i n ∙ sym (s.memory (Text i n))) k.text_due
+  where
+    frame : (g : ℕ) → bytes_in c g ≡ bytes_in b g
+    frame g = ap (λ (fs : List (List ℕ)). at_frame fs g []) s.frames
+
+    here : IsThere p v → Keeps p c v
+    here there =
+        let was : IsInFrame b (is_dirty p v) f v = keeps_at p b v (Valid f) k there e in
+        subst (KeepsBy p c v) (sym e) (record { here = frame f ∙ was.here ∙ sym (s.memory v); there = λ d. s.swap v ∙ was.there d ∙ sym (s.memory v) })
 
 -- the files' pages, where each space has the image that it had
 pub file_same : (images : List NamedImage) (p q : Placement) → Shaped p q → (w : Page) → file_of images q w ≡ file_of images p w

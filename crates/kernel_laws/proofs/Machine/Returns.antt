@@ -108,6 +108,8 @@ pub record Borrowing (k : Kernel) (flat : FlatState) (pid : ℕ) (q m : Process)
 pub borrowing : (k : Kernel) (flat : FlatState) (pid : ℕ) (q m : Process) (s : Space) → SameTables k flat → process_of flat pid ≡ Some q
     → q.holding ≡ Holds s → IsLender flat pid s.sid m → Borrowing k flat pid q m s
 borrowing k flat pid q m s c f h a =
+    let differs : m ≡ q → ⊥ = λ i.
+    let j : Lends s.sid pid ≡ Holds s = sym a.holding ∙ ap (λ (x : Process). x.holding) i ∙ h in cc in
     let g : Stepping k flat pid q s = stepping k flat pid q s c f h in
     let at : numbered pid_of m.pid flat.processes ≡ Some m = sym (found_is flat.processes m.pid) ∙ a.found in
     let p : (p : Proc) × (numbered kept_pid m.pid k.processes ≡ Some p) = kept_at k.processes flat.processes c.processes m.pid m at in
@@ -122,9 +124,6 @@ borrowing k flat pid q m s c f h a =
       life = ap (λ (x : Outline). x.life) o ∙ ap life_of a.holding;
       apart = λ i. differs (same_Some m q (sym at ∙ ap (λ (n : ℕ). numbered pid_of n flat.processes) (i ∙ g.pid_was) ∙ g.found));
     }
-  where
-    differs : m ≡ q → ⊥
-    differs i = let j : Lends s.sid pid ≡ Holds s = sym a.holding ∙ ap (λ (x : Process). x.holding) i ∙ h in cc
 
 -- the machine once the space went back: the borrower has none
 pub back_kernel : (k : Kernel) (flat : FlatState) (pid : ℕ) (q m : Process) (s : Space) → Borrowing k flat pid q m s
@@ -151,43 +150,30 @@ pub back : (k : Kernel) (flat : FlatState) (pid : ℕ) (q m fp : Process) (kp : 
     → IsLender flat pid s.sid m → (a : Borrowing k flat pid q m s)
     → fp.pid ≡ q.pid → lends_to q.pid fp.holding ≡ false
     → kp.pid ≡ a.step.proc.pid → outline_kept kp ≡ outline_of fp → Back k flat pid q m fp kp s
-back k flat pid q m fp kp s nums c is a fpid holds kpid o = record {
-  distinct = distinct;
-  distinct_both = subst AllDistinct (sym (replaced_pids (replaced flat.processes fp) m (record m { holding = Holds s }) lender_found)) distinct;
-  lender_found = lender_found;
-  returned = returned_is (replaced flat.processes fp) m q.pid s distinct lender_found (ap (lends_to q.pid) is.holding ∙ ap (λ (n : ℕ). n == q.pid) (sym g.pid_was) ∙ eq_self q.pid) only;
-  outlines = ap (λ (n : ℕ). map outline_kept (with_proc (map (passes s.sid n m.pid) k.processes) kp)) (sym (kpid ∙ g.pid_is))
-      ∙ ap (λ (n : ℕ). map outline_kept (with_proc (map (passes s.sid kp.pid n) k.processes) kp)) (sym a.pid_is)
-      ∙ ap (map outline_kept) (passed_back k.processes kp a.lender s.sid apart_kept (only_at k.processes a.lender distinct_kept (ap (λ (n : ℕ). numbered kept_pid n k.processes) a.pid_is ∙ a.kept)))
-      ∙ with_replaced (with_proc k.processes kp) (replaced flat.processes fp) (record a.lender { life = HoldsSpace s.sid }) (record m { holding = Holds s })
-      (with_replaced k.processes flat.processes kp fp c.processes nums.pids o) distinct
-      (ap (λ (x : Outline). let y : Outline = record x { life = HoldsSpace s.sid } in y) a.outline);
-}
-  where
-    g : Stepping k flat pid q s
-    g = a.step
-
-    found : numbered pid_of fp.pid flat.processes ≡ Some q
-    found = ap (λ (n : ℕ). numbered pid_of n flat.processes) (fpid ∙ g.pid_was) ∙ g.found
-
-    distinct : AllDistinct (map pid_of (replaced flat.processes fp))
-    distinct = subst AllDistinct (sym (replaced_pids flat.processes q fp found)) nums.pids
-
-    distinct_kept : AllDistinct (map kept_pid k.processes)
-    distinct_kept = subst AllDistinct (sym (pids_same k.processes flat.processes c.processes)) nums.pids
-
-    lender_found : numbered pid_of m.pid (replaced flat.processes fp) ≡ Some m
-    lender_found = replaced_not flat.processes fp m.pid (λ i. a.apart (i ∙ fpid)) ∙ a.found
-
-    apart_kept : a.lender.pid ≢ kp.pid
-    apart_kept i = a.apart (sym a.pid_is ∙ i ∙ kpid ∙ g.pid_is ∙ sym g.pid_was)
-
-    only : (x : Process) → numbered pid_of x.pid (replaced flat.processes fp) ≡ Some x → lends_to q.pid x.holding ≡ true → x.pid ≡ m.pid
-    only x e l = elim (cases_eq x.pid fp.pid) [
+back k flat pid q m fp kp s nums c is a fpid holds kpid o =
+    let g : Stepping k flat pid q s = a.step in
+    let found : numbered pid_of fp.pid flat.processes ≡ Some q = ap (λ (n : ℕ). numbered pid_of n flat.processes) (fpid ∙ g.pid_was) ∙ g.found in
+    let distinct : AllDistinct (map pid_of (replaced flat.processes fp)) = subst AllDistinct (sym (replaced_pids flat.processes q fp found)) nums.pids in
+    let distinct_kept : AllDistinct (map kept_pid k.processes) = subst AllDistinct (sym (pids_same k.processes flat.processes c.processes)) nums.pids in
+    let lender_found : numbered pid_of m.pid (replaced flat.processes fp) ≡ Some m = replaced_not flat.processes fp m.pid (λ i. a.apart (i ∙ fpid)) ∙ a.found in
+    let apart_kept : a.lender.pid ≢ kp.pid = λ i. a.apart (sym a.pid_is ∙ i ∙ kpid ∙ g.pid_is ∙ sym g.pid_was) in
+    let only : (x : Process) → numbered pid_of x.pid (replaced flat.processes fp) ≡ Some x → lends_to q.pid x.holding ≡ true → x.pid ≡ m.pid = λ x e l. elim (cases_eq x.pid fp.pid) [
       | inl i ↦ absurd (let same : fp ≡ x = same_Some fp x (sym (replaced_at flat.processes q fp found) ∙ ap (λ (n : ℕ). numbered pid_of n (replaced flat.processes fp)) (sym i) ∙ e) in
           let z : false ≡ true = sym holds ∙ ap (λ (y : Process). lends_to q.pid y.holding) same ∙ l in cc)
       | inr n ↦ is.only x (found_is flat.processes x.pid ∙ sym (replaced_not flat.processes fp x.pid n) ∙ e) (ap (λ (y : ℕ). lends_to y x.holding) (sym g.pid_was) ∙ l)
-    ]
+    ] in
+    record {
+      distinct = distinct;
+      distinct_both = subst AllDistinct (sym (replaced_pids (replaced flat.processes fp) m (record m { holding = Holds s }) lender_found)) distinct;
+      lender_found = lender_found;
+      returned = returned_is (replaced flat.processes fp) m q.pid s distinct lender_found (ap (lends_to q.pid) is.holding ∙ ap (λ (n : ℕ). n == q.pid) (sym g.pid_was) ∙ eq_self q.pid) only;
+      outlines = ap (λ (n : ℕ). map outline_kept (with_proc (map (passes s.sid n m.pid) k.processes) kp)) (sym (kpid ∙ g.pid_is))
+          ∙ ap (λ (n : ℕ). map outline_kept (with_proc (map (passes s.sid kp.pid n) k.processes) kp)) (sym a.pid_is)
+          ∙ ap (map outline_kept) (passed_back k.processes kp a.lender s.sid apart_kept (only_at k.processes a.lender distinct_kept (ap (λ (n : ℕ). numbered kept_pid n k.processes) a.pid_is ∙ a.kept)))
+          ∙ with_replaced (with_proc k.processes kp) (replaced flat.processes fp) (record a.lender { life = HoldsSpace s.sid }) (record m { holding = Holds s })
+          (with_replaced k.processes flat.processes kp fp c.processes nums.pids o) distinct
+          (ap (λ (x : Outline). let y : Outline = record x { life = HoldsSpace s.sid } in y) a.outline);
+    }
 
 -- what the processes are once both gave way
 flat_both : (k : Kernel) (flat : FlatState) (pid : ℕ) (q m fp : Process) (s : Space) (n : ℕ) (a : Process) → Borrowing k flat pid q m s
@@ -214,73 +200,28 @@ pub exec_back : (size : ℕ) (before : Holdings) (k : Kernel) (images : List Nam
     → k.place.due ≡ [] → KeepsStarts k → process_of flat pid ≡ Some q → q.holding ≡ Holds s → IsLender flat pid s.sid m → is_out k.place pid ≡ false → image_numbered images number ≡ Some named → DataFits named.image → length top ≡ 1024
     → Coupled k images image flat → Coupled (change_step (facts_of images) (pass_step k pid m.pid) pid regs e (Exec number top)) images image (apply_change images flat pid regs (Exec number top))
 exec_back size before k images image flat pid regs e number top named q m s so nums outs due starts f h is out im fit whole c =
-    subst (λ (x : Kernel). Coupled (change_step (facts_of images) x pid regs e (Exec number top)) images image (apply_change images flat pid regs (Exec number top))) (sym (back_kernel k flat pid q m s a))
-    (subst (λ (x : Kernel). Coupled x images image (apply_change images flat pid regs (Exec number top))) (sym (step_is (facts_of images) k1 pid regs e (Exec number top) (record g.proc { life = New }) New (back_proc k flat pid q m s a) refl))
-    (subst (Coupled (by_life (facts_of images) k1 (record g.proc { regs = regs; life = New }) New e (Exec number top)) images image) (sym (applied images flat pid regs (Exec number top) q s f h))
-    (image_known images number named (λ (f : Option Image) (o : Option NamedImage). Coupled (exec_kernel k k.next_sid 0 true number f top (with_proc k1.processes (record g.proc { regs = regs; life = HoldsSpace k.next_sid })) (append k.journal e)) images image (entered flat (record q { regs = regs }) s number o top)) im
-    (subst (λ (y : ℕ). Coupled (exec_kernel k y 0 true number (Some named.image.facts) top (with_proc k1.processes (record g.proc { regs = regs; life = HoldsSpace y })) (append k.journal e)) images image (entered flat (record q { regs = regs }) s number (Some named) top)) (sym c.tables.next_sid)
-    (subst (λ (xs : List Process). Coupled l images image (record flat { processes = xs; next_sid = n + 1 })) (sym b.returned)
-    (coupled_of l images image after (tables_of l after b.outlines c.tables.next_pid refl core.0) core.1 regs_now))))))
-  where
-    a : Borrowing k flat pid q m s
-    a = borrowing k flat pid q m s c.tables f h is
-
-    g : Stepping k flat pid q s
-    g = a.step
-
-    k1 : Kernel
-    k1 = record k { processes = map (passes s.sid pid m.pid) k.processes }
-
-    n : ℕ
-    n = flat.next_sid
-
-    z : Space
-    z = space_with n number named.image top
-
-    kp : Proc
-    kp = record g.proc { regs = regs; life = HoldsSpace n }
-
-    fp : Process
-    fp = record q { regs = regs; holding = Holds z }
-
-    mp : Process
-    mp = record m { holding = Holds s }
-
-    b : Back k flat pid q m fp kp s
-    b = back k flat pid q m fp kp s nums c.tables is a refl refl refl (outline_is g.proc.pid q.pid g.proc.parent q.parent (HoldsSpace n) (HoldsSpace n) g.proc.asleep q.asleep pids g.parent refl g.asleep)
-      where
-        pids : g.proc.pid ≡ q.pid
-        pids = g.pid_is ∙ sym g.pid_was
-
-    r1 : List Process
-    r1 = replaced flat.processes fp
-
-    after : FlatState
-    after = record flat { processes = replaced r1 mp; next_sid = n + 1 }
-
-    l : Kernel
-    l = exec_kernel k n 0 true number (Some named.image.facts) top (with_proc k1.processes kp) (append k.journal e)
-
-    pids : kp.pid ≡ fp.pid
-    pids = g.pid_is ∙ sym g.pid_was
-
-    found : numbered pid_of fp.pid flat.processes ≡ Some q
-    found = ap (λ (y : ℕ). numbered pid_of y flat.processes) g.pid_was ∙ g.found
-
-    held_here : HeldAt flat.processes fp s
-    held_here = held_at flat.processes q fp s found h nums.sids
-
-    apart : n ≢ s.sid
-    apart i = holds_there flat.processes q.pid q s found h (ap (λ (y : ℕ). numbered sid_of y (held flat.processes)) (sym i) ∙ next_sid_none flat nums)
-
-    gain : (numbered sid_of s.sid (spaces_of after) ≡ Some s) × ((y : ℕ) → y ≢ s.sid → numbered sid_of y (spaces_of after) ≡ numbered sid_of y (held r1))
-    gain = held_gain r1 m mp s b.lender_found (ap space_held is.holding) refl (held_now flat.processes fp s held_here ∙ numbered_miss sid_of s.sid z [] apart)
-
-    o : OneOwner size (lives k.processes) k.place before
-    o = so.owner
-
-    enters : Entering k images flat after n 0 number true named top
-    enters = record {
+    let a : Borrowing k flat pid q m s = borrowing k flat pid q m s c.tables f h is in
+    let g : Stepping k flat pid q s = a.step in
+    let k1 : Kernel = record k { processes = map (passes s.sid pid m.pid) k.processes } in
+    let n : ℕ = flat.next_sid in
+    let z : Space = space_with n number named.image top in
+    let kp : Proc = record g.proc { regs = regs; life = HoldsSpace n } in
+    let fp : Process = record q { regs = regs; holding = Holds z } in
+    let mp : Process = record m { holding = Holds s } in
+    let b : Back k flat pid q m fp kp s =
+    let pids : g.proc.pid ≡ q.pid = g.pid_is ∙ sym g.pid_was in
+    back k flat pid q m fp kp s nums c.tables is a refl refl refl (outline_is g.proc.pid q.pid g.proc.parent q.parent (HoldsSpace n) (HoldsSpace n) g.proc.asleep q.asleep pids g.parent refl g.asleep) in
+    let r1 : List Process = replaced flat.processes fp in
+    let after : FlatState = record flat { processes = replaced r1 mp; next_sid = n + 1 } in
+    let l : Kernel = exec_kernel k n 0 true number (Some named.image.facts) top (with_proc k1.processes kp) (append k.journal e) in
+    let pids : kp.pid ≡ fp.pid = g.pid_is ∙ sym g.pid_was in
+    let found : numbered pid_of fp.pid flat.processes ≡ Some q = ap (λ (y : ℕ). numbered pid_of y flat.processes) g.pid_was ∙ g.found in
+    let held_here : HeldAt flat.processes fp s = held_at flat.processes q fp s found h nums.sids in
+    let apart : n ≢ s.sid = λ i. holds_there flat.processes q.pid q s found h (ap (λ (y : ℕ). numbered sid_of y (held flat.processes)) (sym i) ∙ next_sid_none flat nums) in
+    let gain : (numbered sid_of s.sid (spaces_of after) ≡ Some s) × ((y : ℕ) → y ≢ s.sid → numbered sid_of y (spaces_of after) ≡ numbered sid_of y (held r1)) =
+    held_gain r1 m mp s b.lender_found (ap space_held is.holding) refl (held_now flat.processes fp s held_here ∙ numbered_miss sid_of s.sid z [] apart) in
+    let o : OneOwner size (lives k.processes) k.place before = so.owner in
+    let enters : Entering k images flat after n 0 number true named top = record {
       frames = o.frames;
       due = due;
       starts = starts;
@@ -298,19 +239,13 @@ exec_back size before k images image flat pid regs e number top named q m s so n
         | inr j ↦ gain.1 y j ∙ held_other flat.processes fp s y held_here j (numbered_miss sid_of y z [] (λ i. d (sym i)))
       ];
       gone = λ i. absurd cc;
-    }
-
-    core : AllFit after l.place × CouplesPages l.place (beside_kernel l images image after)
-    core = exec_core k images image flat after n 0 number true named top (with_proc k1.processes kp) (append k.journal e) enters c.tables.spaces c.pages
-
-    own_flat : numbered pid_of q.pid after.processes ≡ Some fp
-    own_flat = replaced_not r1 mp q.pid (λ i. a.apart (sym i)) ∙ replaced_at flat.processes q fp found
-
-    own_kept : numbered kept_pid q.pid l.processes ≡ Some kp
-    own_kept = ap (λ (y : ℕ). numbered kept_pid y (with_proc k1.processes kp)) (sym pids) ∙ with_at k1.processes kp (record g.proc { life = New }) (ap (λ (y : ℕ). numbered kept_pid y k1.processes) g.pid_is ∙ back_proc k flat pid q m s a)
-
-    regs_now : (y : ℕ) → RegsAt l image after y
-    regs_now y = elim (cases_eq y q.pid) [
+    } in
+    let core : AllFit after l.place × CouplesPages l.place (beside_kernel l images image after) =
+    exec_core k images image flat after n 0 number true named top (with_proc k1.processes kp) (append k.journal e) enters c.tables.spaces c.pages in
+    let own_flat : numbered pid_of q.pid after.processes ≡ Some fp = replaced_not r1 mp q.pid (λ i. a.apart (sym i)) ∙ replaced_at flat.processes q fp found in
+    let own_kept : numbered kept_pid q.pid l.processes ≡ Some kp =
+    ap (λ (y : ℕ). numbered kept_pid y (with_proc k1.processes kp)) (sym pids) ∙ with_at k1.processes kp (record g.proc { life = New }) (ap (λ (y : ℕ). numbered kept_pid y k1.processes) g.pid_is ∙ back_proc k flat pid q m s a) in
+    let regs_now : (y : ℕ) → RegsAt l image after y = λ y. elim (cases_eq y q.pid) [
       | inl i ↦ subst (RegsAt l image after) (sym i) (regs_in_record l image after q.pid fp kp (ap (is_out k.place) g.pid_was ∙ out) own_flat own_kept refl)
       | inr d ↦ regs_carried k l images image image flat after y c outs (record {
         flat_was = λ x ex. flat_both k flat pid q m fp s y x a b.lender_found d ex is;
@@ -321,7 +256,14 @@ exec_back size before k images image flat pid regs e number top named q m s so n
             let old : numbered space_number t.sid l.place.spaces ≡ numbered space_number t.sid k.place.spaces = added_other t.sid k.place.spaces (new_pages n number named.image.facts) (λ i. not_n (sym i)) in
             (refl, ap (λ (w : Option SpacePages). length (data_in w)) old, ap (λ (w : Option SpacePages). length (stack_in w)) old);
       })
-    ]
+    ] in
+    subst (λ (x : Kernel). Coupled (change_step (facts_of images) x pid regs e (Exec number top)) images image (apply_change images flat pid regs (Exec number top))) (sym (back_kernel k flat pid q m s a))
+    (subst (λ (x : Kernel). Coupled x images image (apply_change images flat pid regs (Exec number top))) (sym (step_is (facts_of images) k1 pid regs e (Exec number top) (record g.proc { life = New }) New (back_proc k flat pid q m s a) refl))
+    (subst (Coupled (by_life (facts_of images) k1 (record g.proc { regs = regs; life = New }) New e (Exec number top)) images image) (sym (applied images flat pid regs (Exec number top) q s f h))
+    (image_known images number named (λ (f : Option Image) (o : Option NamedImage). Coupled (exec_kernel k k.next_sid 0 true number f top (with_proc k1.processes (record g.proc { regs = regs; life = HoldsSpace k.next_sid })) (append k.journal e)) images image (entered flat (record q { regs = regs }) s number o top)) im
+    (subst (λ (y : ℕ). Coupled (exec_kernel k y 0 true number (Some named.image.facts) top (with_proc k1.processes (record g.proc { regs = regs; life = HoldsSpace y })) (append k.journal e)) images image (entered flat (record q { regs = regs }) s number (Some named) top)) (sym c.tables.next_sid)
+    (subst (λ (xs : List Process). Coupled l images image (record flat { processes = xs; next_sid = n + 1 })) (sym b.returned)
+    (coupled_of l images image after (tables_of l after b.outlines c.tables.next_pid refl core.0) core.1 regs_now))))))
 
 -- A process that borrowed its space ends.
 pub end_back : (size : ℕ) (k : Kernel) (images : List NamedImage) (image : List ℕ) (flat : FlatState) (pid : ℕ) (regs : Regs) (e : Entry) (status : ℕ) (q m : Process) (s : Space)
@@ -330,89 +272,34 @@ pub end_back : (size : ℕ) (k : Kernel) (images : List NamedImage) (image : Lis
     → process_of flat pid ≡ Some q → q.holding ≡ Holds s → IsLender flat pid s.sid m → Coupled k images image flat
     → Coupled (change_step (facts_of images) (pass_step k pid m.pid) pid regs e (End status)) images image (apply_change images flat pid regs (End status))
 end_back size k images image flat pid regs e status q m s so nums outs due f h is c =
-    subst (λ (x : Kernel). Coupled (change_step (facts_of images) x pid regs e (End status)) images image (apply_change images flat pid regs (End status))) (sym (back_kernel k flat pid q m s a))
-    (subst (λ (x : Kernel). Coupled x images image (apply_change images flat pid regs (End status))) (sym (step_is (facts_of images) k1 pid regs e (End status) (record g.proc { life = New }) New (back_proc k flat pid q m s a) refl))
-    (subst (Coupled (by_life (facts_of images) k1 kp New e (End status)) images image) (sym (applied images flat pid regs (End status) q s f h))
-    (subst (Coupled l images image) (sym (left_is (q.parent == 0) (orphaned (Rattle.flat_state.specs.Change.given_back (with_process flat fp) q.pid s) q.pid) q.pid q.parent))
-    (subst (λ (xs : List Process). Coupled l images image (record flat { processes = left_flat (q.parent == 0) (orphans q.pid xs) q.pid q.parent })) (sym b.returned)
-    (coupled_of l images image after (tables_of l after outlines c.tables.next_pid c.tables.next_sid core.0) core.1 regs_now)))))
-  where
-    a : Borrowing k flat pid q m s
-    a = borrowing k flat pid q m s c.tables f h is
-
-    g : Stepping k flat pid q s
-    g = a.step
-
-    k1 : Kernel
-    k1 = record k { processes = map (passes s.sid pid m.pid) k.processes }
-
-    kp : Proc
-    kp = record g.proc { regs = regs; life = New }
-
-    kz : Proc
-    kz = record kp { life = Ended status }
-
-    fp : Process
-    fp = record q { regs = regs; holding = Zombie status }
-
-    mp : Process
-    mp = record m { holding = Holds s }
-
-    pids : kp.pid ≡ q.pid
-    pids = g.pid_is ∙ sym g.pid_was
-
-    b : Back k flat pid q m fp kz s
-    b = back k flat pid q m fp kz s nums c.tables is a refl refl refl (outline_is g.proc.pid q.pid g.proc.parent q.parent (Ended status) (Ended status) g.proc.asleep q.asleep pids g.parent refl g.asleep)
-
-    r1 : List Process
-    r1 = replaced flat.processes fp
-
-    rs : List Process
-    rs = replaced r1 mp
-
-    after : FlatState
-    after = record flat { processes = left_flat (q.parent == 0) (orphans q.pid rs) q.pid q.parent }
-
-    l : Kernel
-    l = end_kernel k kp.pid 0 true (left_procs (kp.parent == 0) (orphaned_procs k1.processes kp.pid) kp status) (append k.journal e)
-
-    found : numbered pid_of fp.pid flat.processes ≡ Some q
-    found = ap (λ (y : ℕ). numbered pid_of y flat.processes) g.pid_was ∙ g.found
-
-    own_flat : numbered pid_of q.pid rs ≡ Some fp
-    own_flat = replaced_not r1 mp q.pid (λ i. a.apart (sym i)) ∙ replaced_at flat.processes q fp found
-
-    own_kept : numbered kept_pid kp.pid k1.processes ≡ Some (record g.proc { life = New })
-    own_kept = ap (λ (y : ℕ). numbered kept_pid y k1.processes) g.pid_is ∙ back_proc k flat pid q m s a
-
-    passed_pids : (ks : List Proc) → map kept_pid (map (passes s.sid pid m.pid) ks) ≡ map kept_pid ks
-    passed_pids [] = refl
-    passed_pids (x ∷ ks) = ap (λ (y : List ℕ). x.pid ∷ y) (passed_pids ks)
-
-    distinct_kept : AllDistinct (map kept_pid k1.processes)
-    distinct_kept = subst AllDistinct (sym (passed_pids k.processes ∙ pids_same k.processes flat.processes c.tables.processes)) nums.pids
-
-    lonely_kept : kp.parent ≢ kp.pid
-    lonely_kept i = not_own_parent flat pid q nums f (sym g.parent ∙ i ∙ g.pid_is)
-
-    outlines : map outline_kept l.processes ≡ map outline_of after.processes
-    outlines = ended_outlines k1.processes rs kp (record g.proc { life = New }) status distinct_kept own_kept lonely_kept lonely_kept b.outlines
-        ∙ ap (λ (y : ℕ). map outline_of (left_flat (kp.parent == 0) (orphans y rs) y kp.parent)) pids ∙ ap (λ (y : ℕ). map outline_of (left_flat (y == 0) (orphans q.pid rs) q.pid y)) g.parent
-
-    spaces : spaces_of after ≡ held rs
-    spaces = end_held (q.parent == 0) rs fp q.pid q.parent b.distinct_both own_flat refl
-
-    held_here : HeldAt flat.processes fp s
-    held_here = held_at flat.processes q fp s found h nums.sids
-
-    gain : (numbered sid_of s.sid (held rs) ≡ Some s) × ((y : ℕ) → y ≢ s.sid → numbered sid_of y (held rs) ≡ numbered sid_of y (held r1))
-    gain = held_gain r1 m mp s b.lender_found (ap space_held is.holding) refl (held_now flat.processes fp s held_here)
-
-    o : OneOwner size (lives k.processes) k.place k.holdings
-    o = so.owner
-
-    leaves : Leaving k flat after kp.pid 0 true
-    leaves = record {
+    let a : Borrowing k flat pid q m s = borrowing k flat pid q m s c.tables f h is in
+    let g : Stepping k flat pid q s = a.step in
+    let k1 : Kernel = record k { processes = map (passes s.sid pid m.pid) k.processes } in
+    let kp : Proc = record g.proc { regs = regs; life = New } in
+    let kz : Proc = record kp { life = Ended status } in
+    let fp : Process = record q { regs = regs; holding = Zombie status } in
+    let mp : Process = record m { holding = Holds s } in
+    let pids : kp.pid ≡ q.pid = g.pid_is ∙ sym g.pid_was in
+    let b : Back k flat pid q m fp kz s =
+    back k flat pid q m fp kz s nums c.tables is a refl refl refl (outline_is g.proc.pid q.pid g.proc.parent q.parent (Ended status) (Ended status) g.proc.asleep q.asleep pids g.parent refl g.asleep) in
+    let r1 : List Process = replaced flat.processes fp in
+    let rs : List Process = replaced r1 mp in
+    let after : FlatState = record flat { processes = left_flat (q.parent == 0) (orphans q.pid rs) q.pid q.parent } in
+    let l : Kernel = end_kernel k kp.pid 0 true (left_procs (kp.parent == 0) (orphaned_procs k1.processes kp.pid) kp status) (append k.journal e) in
+    let found : numbered pid_of fp.pid flat.processes ≡ Some q = ap (λ (y : ℕ). numbered pid_of y flat.processes) g.pid_was ∙ g.found in
+    let own_flat : numbered pid_of q.pid rs ≡ Some fp = replaced_not r1 mp q.pid (λ i. a.apart (sym i)) ∙ replaced_at flat.processes q fp found in
+    let own_kept : numbered kept_pid kp.pid k1.processes ≡ Some (record g.proc { life = New }) = ap (λ (y : ℕ). numbered kept_pid y k1.processes) g.pid_is ∙ back_proc k flat pid q m s a in
+    let distinct_kept : AllDistinct (map kept_pid k1.processes) = subst AllDistinct (sym (passed_pids k.processes ∙ pids_same k.processes flat.processes c.tables.processes)) nums.pids in
+    let lonely_kept : kp.parent ≢ kp.pid = λ i. not_own_parent flat pid q nums f (sym g.parent ∙ i ∙ g.pid_is) in
+    let outlines : map outline_kept l.processes ≡ map outline_of after.processes =
+    ended_outlines k1.processes rs kp (record g.proc { life = New }) status distinct_kept own_kept lonely_kept lonely_kept b.outlines
+    ∙ ap (λ (y : ℕ). map outline_of (left_flat (kp.parent == 0) (orphans y rs) y kp.parent)) pids ∙ ap (λ (y : ℕ). map outline_of (left_flat (y == 0) (orphans q.pid rs) q.pid y)) g.parent in
+    let spaces : spaces_of after ≡ held rs = end_held (q.parent == 0) rs fp q.pid q.parent b.distinct_both own_flat refl in
+    let held_here : HeldAt flat.processes fp s = held_at flat.processes q fp s found h nums.sids in
+    let gain : (numbered sid_of s.sid (held rs) ≡ Some s) × ((y : ℕ) → y ≢ s.sid → numbered sid_of y (held rs) ≡ numbered sid_of y (held r1)) =
+    held_gain r1 m mp s b.lender_found (ap space_held is.holding) refl (held_now flat.processes fp s held_here) in
+    let o : OneOwner size (lives k.processes) k.place k.holdings = so.owner in
+    let leaves : Leaving k flat after kp.pid 0 true = record {
       frames = o.frames;
       due = due;
       settled = λ i. absurd cc;
@@ -422,13 +309,12 @@ end_back size k images image flat pid regs e status q m s so nums outs due f h i
         | inr j ↦ gain.1 y j ∙ held_other flat.processes fp s y held_here j refl
       ];
       gone = λ i. absurd cc;
-    }
-
-    core : AllFit after l.place × CouplesPages l.place (beside_kernel l images image after)
-    core = end_core k images image flat after kp.pid 0 true (left_procs (kp.parent == 0) (orphaned_procs k1.processes kp.pid) kp status) (append k.journal e) leaves c.tables.spaces c.pages
-
-    regs_now : (y : ℕ) → RegsAt l image after y
-    regs_now y = elim (cases_eq y kp.pid) [
+    } in
+    let core : AllFit after l.place × CouplesPages l.place (beside_kernel l images image after) =
+    end_core k images image flat after kp.pid 0 true (left_procs (kp.parent == 0) (orphaned_procs k1.processes kp.pid) kp status) (append k.journal e) leaves c.tables.spaces c.pages in
+    let regs_now : (y : ℕ) → RegsAt l image after y = λ y.
+    let u_number : (i j : ℕ) → owners.U i ≡ owners.U j → i ≡ j = λ i j t. cc in
+    elim (cases_eq y kp.pid) [
       | inl i ↦ λ x v ex ev.
           let w : WasFlat rs y x = end_was (q.parent == 0) rs q.pid q.parent y x b.distinct_both ex in
           let u : WasKept k1.processes kp y v = end_kept (kp.parent == 0) k1.processes kp status y v distinct_kept ev in
@@ -446,7 +332,14 @@ end_back size k images image flat pid regs e status q m s so nums outs due f h i
         out = out_ended k.place.residents kp.pid y d;
         held_by = λ x t ex hx. (ap (stored_at image) (block_kept (owners.U kp.pid) (owners.U y) 0 0 k.holdings (λ i. absurd (d (u_number y kp.pid (sym i))))), refl, refl);
       })
-    ]
-      where
-        u_number : (i j : ℕ) → owners.U i ≡ owners.U j → i ≡ j
-        u_number i j t = cc
+    ] in
+    subst (λ (x : Kernel). Coupled (change_step (facts_of images) x pid regs e (End status)) images image (apply_change images flat pid regs (End status))) (sym (back_kernel k flat pid q m s a))
+    (subst (λ (x : Kernel). Coupled x images image (apply_change images flat pid regs (End status))) (sym (step_is (facts_of images) k1 pid regs e (End status) (record g.proc { life = New }) New (back_proc k flat pid q m s a) refl))
+    (subst (Coupled (by_life (facts_of images) k1 kp New e (End status)) images image) (sym (applied images flat pid regs (End status) q s f h))
+    (subst (Coupled l images image) (sym (left_is (q.parent == 0) (orphaned (Rattle.flat_state.specs.Change.given_back (with_process flat fp) q.pid s) q.pid) q.pid q.parent))
+    (subst (λ (xs : List Process). Coupled l images image (record flat { processes = left_flat (q.parent == 0) (orphans q.pid xs) q.pid q.parent })) (sym b.returned)
+    (coupled_of l images image after (tables_of l after outlines c.tables.next_pid c.tables.next_sid core.0) core.1 regs_now)))))
+  where
+    passed_pids : (ks : List Proc) → map kept_pid (map (passes s.sid pid m.pid) ks) ≡ map kept_pid ks
+    passed_pids [] = refl
+    passed_pids (x ∷ ks) = ap (λ (y : List ℕ). x.pid ∷ y) (passed_pids ks)

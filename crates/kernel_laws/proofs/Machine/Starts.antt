@@ -112,7 +112,19 @@ page_whole name l = length-append (replicate (1024 - length (argument_area (name
 pub start_coupled_all : (A : Inputs) (first : List Starting) (hs : Holdings) (frames : List (List ℕ)) (image : List ℕ)
     → AreStarting A.images A.first first → ImagesFit A.images
     → Coupled (start_kernel A first hs frames) A.images image (start_state A)
-start_coupled_all A first hs frames image a fit = coupled_of k A.images image flat (tables_of k flat (start_outlines flat.processes) refl refl fits)
+start_coupled_all A first hs frames image a fit =
+    let fits : AllFit flat k.place = λ sid. elim (at sid) [
+      | inl z ↦ subst (λ (o : Option Space). Fits o (numbered space_number sid k.place.spaces)) (sym z.0) (subst (Fits None) (sym z.1) tt)
+      | inr s ↦ (let f : ImageFits s.named = fit s.number s.named s.image in
+          let d : DataFits s.named.image = f.data in
+          let sized : IsSized (new_space sid s.number s.named.image (s.named.name ∷ [])) (new_pages sid s.number s.named.image.facts) = record {
+            image = refl;
+            data_size = d.size ∙ ap (λ (m : ℕ). 1024 * m) (sym (unfilled_length s.named.image.facts 0 (data_pages_of s.named.image.facts)));
+            stack_size = page_whole s.named.name f.name;
+          } in
+          subst (λ (o : Option Space). Fits o (numbered space_number sid k.place.spaces)) (sym s.flat) (subst (Fits (Some (new_space sid s.number s.named.image (s.named.name ∷ [])))) (sym s.pages) sized))
+    ] in
+    coupled_of k A.images image flat (tables_of k flat (start_outlines flat.processes) refl refl fits)
     (record { each = each; text = λ i v. refl; text_due = λ i v. due_stacks first 1 (Text i v) (λ sid e. cc) })
     (λ n q p eq ep. subst (λ (o : Bool). Rattle.kernel_model.specs.Coupled.KeepsRegs k image o q p.regs (Rattle.page_model.specs.Place.space_of_holding q.holding)) (sym (all_in first 1 n))
     (let same : kept_of q ≡ p = same_Some (kept_of q) p (ap (image_by kept_of) (sym eq) ∙ sym (numbered_image kept_of pid_of kept_pid (λ x. refl) n flat.processes) ∙ ep) in ap (λ (x : Proc). x.regs) (sym same)))
@@ -128,19 +140,6 @@ start_coupled_all A first hs frames image a fit = coupled_of k A.images image fl
 
     at : (sid : ℕ) → NoneAt (spaces_of flat) k.place.spaces sid ⊎ StartAt A.images (spaces_of flat) k.place.spaces k.place.due sid
     at sid = start_at A.images A.first first 1 sid a
-
-    fits : AllFit flat k.place
-    fits sid = elim (at sid) [
-      | inl z ↦ subst (λ (o : Option Space). Fits o (numbered space_number sid k.place.spaces)) (sym z.0) (subst (Fits None) (sym z.1) tt)
-      | inr s ↦ (let f : ImageFits s.named = fit s.number s.named s.image in
-          let d : DataFits s.named.image = f.data in
-          let sized : IsSized (new_space sid s.number s.named.image (s.named.name ∷ [])) (new_pages sid s.number s.named.image.facts) = record {
-            image = refl;
-            data_size = d.size ∙ ap (λ (m : ℕ). 1024 * m) (sym (unfilled_length s.named.image.facts 0 (data_pages_of s.named.image.facts)));
-            stack_size = page_whole s.named.name f.name;
-          } in
-          subst (λ (o : Option Space). Fits o (numbered space_number sid k.place.spaces)) (sym s.flat) (subst (Fits (Some (new_space sid s.number s.named.image (s.named.name ∷ [])))) (sym s.pages) sized))
-    ]
 
     not_lt : (m n : ℕ) → nat_lt m n ≡ false → n ≤ m
     not_lt m n e = grind (arith, nat_tests)

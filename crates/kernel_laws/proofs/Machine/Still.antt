@@ -30,7 +30,10 @@ pub stay_coupled : (k : Kernel) (images : List NamedImage) (image : List ℕ) (f
     → AllDistinct (map pid_of flat.processes) → numbered pid_of fp.pid flat.processes ≡ Some q
     → numbered kept_pid kp.pid k.processes ≡ Some p → fp.holding ≡ q.holding → outline_kept kp ≡ outline_of fp → kp.regs ≡ fp.regs → is_out k.place fp.pid ≡ false → Coupled k images image flat
     → Coupled (record k { processes = with_proc k.processes kp; journal = journal }) images image (with_process flat fp)
-stay_coupled k images image flat q fp p kp journal d f g h o r out c = coupled_of l images image after
+stay_coupled k images image flat q fp p kp journal d f g h o r out c =
+    let t : SameTables k flat = c.tables in
+    let spaces : held (replaced flat.processes fp) ≡ held flat.processes = same_held flat.processes q fp f h in
+    coupled_of l images image after
     (tables_of l after (with_replaced k.processes flat.processes kp fp t.processes d o) t.next_pid t.next_sid
     (λ sid. subst (λ (xs : List Space). Fits (numbered sid_of sid xs) (numbered space_number sid k.place.spaces)) (sym spaces) (all_fit k flat t sid)))
     (alike_coupled k.place (beside_kernel k images image flat) (beside_kernel l images image after)
@@ -42,12 +45,6 @@ stay_coupled k images image flat q fp p kp journal d f g h o r out c = coupled_o
 
     after : FlatState
     after = with_process flat fp
-
-    t : SameTables k flat
-    t = c.tables
-
-    spaces : held (replaced flat.processes fp) ≡ held flat.processes
-    spaces = same_held flat.processes q fp f h
 
     pids : kp.pid ≡ fp.pid
     pids = ap (λ (x : Outline). x.pid) o
@@ -68,21 +65,23 @@ pub gone_coupled : (k : Kernel) (images : List NamedImage) (image : List ℕ) (f
     → AllDistinct (map pid_of flat.processes)
     → numbered pid_of child flat.processes ≡ Some z → space_held z.holding ≡ [] → Coupled k images image flat
     → Coupled (record k { processes = without_proc k.processes child }) images image (without_process flat child)
-gone_coupled k images image flat child z d f h c = coupled_of l images image after
+gone_coupled k images image flat child z d f h c =
+    let l : Kernel = record k { processes = without_proc k.processes child } in
+    let t : SameTables k flat = c.tables in
+    let regs_now : (n : ℕ) → RegsAt l image after n = λ n a b ea eb. elim (cases_eq n child) [
+      | inl same ↦ none_some a (sym (removed_is pid_of child flat.processes) ∙ ap (λ (m : ℕ). numbered pid_of m after.processes) (sym same) ∙ ea)
+      | inr m ↦ Rattle.kernel_laws.proofs.Machine.Moves.regs_kept k l image image (is_out k.place n) a b.regs (space_of_holding a.holding) (λ z. refl) refl refl
+          (regs_at k images image flat c n a b (sym (removed_not pid_of n child flat.processes m) ∙ ea) (sym (removed_not kept_pid n child k.processes m) ∙ eb))
+    ] in
+    coupled_of l images image after
     (tables_of l after (removed_outlines k.processes flat.processes child t.processes) t.next_pid t.next_sid
     (λ sid. subst (λ (xs : List Space). Fits (numbered sid_of sid xs) (numbered space_number sid k.place.spaces)) (sym spaces) (all_fit k flat t sid)))
     (alike_coupled k.place (beside_kernel k images image flat) (beside_kernel l images image after)
     (λ w. record { frames = refl; swap = refl; file = refl; start = refl; memory = memory_same images flat after (λ sid. ap (numbered sid_of sid) spaces) w }) c.pages)
     regs_now
   where
-    l : Kernel
-    l = record k { processes = without_proc k.processes child }
-
     after : FlatState
     after = without_process flat child
-
-    t : SameTables k flat
-    t = c.tables
 
     spaces : held after.processes ≡ held flat.processes
     spaces = held_filter (λ (x : Process). not (x.pid == child)) flat.processes d
@@ -92,13 +91,6 @@ gone_coupled k images image flat child z d f h c = coupled_of l images image aft
         off : (b : Bool) → not b ≡ false → b ≡ true
         off true e = refl
         off false e = absurd cc
-
-    regs_now : (n : ℕ) → RegsAt l image after n
-    regs_now n a b ea eb = elim (cases_eq n child) [
-      | inl same ↦ none_some a (sym (removed_is pid_of child flat.processes) ∙ ap (λ (m : ℕ). numbered pid_of m after.processes) (sym same) ∙ ea)
-      | inr m ↦ Rattle.kernel_laws.proofs.Machine.Moves.regs_kept k l image image (is_out k.place n) a b.regs (space_of_holding a.holding) (λ z. refl) refl refl
-          (regs_at k images image flat c n a b (sym (removed_not pid_of n child flat.processes m) ∙ ea) (sym (removed_not kept_pid n child k.processes m) ∙ eb))
-    ]
 
 pub outline_is : (a b c d : ℕ) (x y : Rattle.kernel_model.specs.Kernel.Life) (s t : Bool) → a ≡ b → c ≡ d → x ≡ y → s ≡ t
     → (let o : Outline = record { pid = a; parent = c; life = x; asleep = s } in o) ≡ (let o : Outline = record { pid = b; parent = d; life = y; asleep = t } in o)
@@ -138,6 +130,8 @@ pub reap_coupled : (k : Kernel) (images : List NamedImage) (image : List ℕ) (f
     → process_of flat pid ≡ Some q → q.holding ≡ Holds s → is_out k.place pid ≡ false
     → process_of flat child ≡ Some z → z.holding ≡ Zombie status → Coupled k images image flat → Coupled (change_step (facts_of images) k pid regs e (Reap child)) images image (apply_change images flat pid regs (Reap child))
 reap_coupled k images image flat pid regs e child status q z s nums f h out fz hz c =
+    let holder : q ≡ z → ⊥ = λ i.
+    let j : Holds s ≡ Zombie status = sym h ∙ ap (λ (x : Process). x.holding) i ∙ hz in cc in
     let g : Stepping k flat pid q s = stepping k flat pid q s c.tables f h in
     let at : numbered pid_of child flat.processes ≡ Some z = sym (Rattle.kernel_laws.proofs.Flat.Lists.found_is flat.processes child) ∙ fz in
     let other : pid ≢ child = λ i. holder (same_Some q z (sym g.found ∙ ap (λ (n : ℕ). numbered pid_of n flat.processes) i ∙ at)) in
@@ -150,6 +144,3 @@ reap_coupled k images image flat pid regs e child status q z s nums f h out fz h
     (outline_is g.proc.pid q.pid g.proc.parent q.parent g.proc.life (life_of q.holding) g.proc.asleep q.asleep (g.pid_is ∙ sym g.pid_was) g.parent (g.life ∙ sym (ap life_of h)) g.asleep) refl
     (ap (is_out k.place) g.pid_was ∙ out)
     (gone_coupled k images image flat child z nums.pids at (ap space_held hz) c)))
-  where
-    holder : q ≡ z → ⊥
-    holder i = let j : Holds s ≡ Zombie status = sym h ∙ ap (λ (x : Process). x.holding) i ∙ hz in cc

@@ -117,41 +117,26 @@ replaced_outlines ps q p e h =
 pub ran_coupled : (k : Kernel) (images : List NamedImage) (image : List ℕ) (flat : FlatState) (pid : ℕ) (regs : Regs) (e : Entry) (q : Process) (s : Space)
     → process_of flat pid ≡ Some q → q.holding ≡ Holds s → is_out k.place pid ≡ false
     → Coupled k images image flat → Coupled (ran_by k pid regs e) images image (apply_change images flat pid regs Keep)
-ran_coupled k images image flat pid regs e q s f h out c = subst (Coupled l images image) (sym (applied images flat pid regs Keep q s f h))
+ran_coupled k images image flat pid regs e q s f h out c =
+    let l : Kernel = ran_by k pid regs e in
+    let p : Process = record q { regs = regs } in
+    let after : FlatState = with_process flat p in
+    let t : SameTables k flat = c.tables in
+    let at : q.pid ≡ pid = (found_at flat pid q f).0 in
+    let found : numbered pid_of p.pid flat.processes ≡ Some q = found_self flat pid q f in
+    let spaces : held (replaced flat.processes p) ≡ held flat.processes = same_held flat.processes q p found refl in
+    let regs_now : (n : ℕ) → RegsAt l image after n = λ n a b ea eb. elim (cases_eq n pid) [
+      | inl same ↦ (let is : p ≡ a = same_Some p a (sym (replaced_at flat.processes q p found) ∙ ap (λ (m : ℕ). numbered pid_of m (replaced flat.processes p)) (at ∙ sym same) ∙ ea) in
+          subst (λ (o : Bool). KeepsRegs l image o a b.regs (space_of_holding a.holding)) (sym (ap (is_out k.place) same ∙ out))
+          (regs_same pid regs k.processes b (ap (λ (m : ℕ). numbered kept_pid m l.processes) (sym same) ∙ eb) ∙ ap (λ (x : Process). x.regs) is))
+      | inr d ↦ regs_at k images image flat c n a b (sym (replaced_not flat.processes p n (λ i. d (i ∙ at))) ∙ ea) (regs_other pid n regs k.processes b d eb)
+    ] in
+    subst (Coupled l images image) (sym (applied images flat pid regs Keep q s f h))
     (coupled_of l images image after (tables_of l after (regs_outlines pid regs k.processes ∙ t.processes ∙ sym (replaced_outlines flat.processes q p found refl)) t.next_pid t.next_sid
     (λ sid. subst (λ (xs : List Space). Fits (numbered sid_of sid xs) (numbered space_number sid k.place.spaces)) (sym spaces) (all_fit k flat t sid)))
     (alike_coupled k.place (beside_kernel k images image flat) (beside_kernel l images image after)
     (λ w. record { frames = refl; swap = refl; file = refl; start = refl; memory = memory_same images flat after (λ sid. ap (numbered sid_of sid) spaces) w }) c.pages)
     regs_now)
-  where
-    l : Kernel
-    l = ran_by k pid regs e
-
-    p : Process
-    p = record q { regs = regs }
-
-    after : FlatState
-    after = with_process flat p
-
-    t : SameTables k flat
-    t = c.tables
-
-    at : q.pid ≡ pid
-    at = (found_at flat pid q f).0
-
-    found : numbered pid_of p.pid flat.processes ≡ Some q
-    found = found_self flat pid q f
-
-    spaces : held (replaced flat.processes p) ≡ held flat.processes
-    spaces = same_held flat.processes q p found refl
-
-    regs_now : (n : ℕ) → RegsAt l image after n
-    regs_now n a b ea eb = elim (cases_eq n pid) [
-      | inl same ↦ (let is : p ≡ a = same_Some p a (sym (replaced_at flat.processes q p found) ∙ ap (λ (m : ℕ). numbered pid_of m (replaced flat.processes p)) (at ∙ sym same) ∙ ea) in
-          subst (λ (o : Bool). KeepsRegs l image o a b.regs (space_of_holding a.holding)) (sym (ap (is_out k.place) same ∙ out))
-          (regs_same pid regs k.processes b (ap (λ (m : ℕ). numbered kept_pid m l.processes) (sym same) ∙ eb) ∙ ap (λ (x : Process). x.regs) is))
-      | inr d ↦ regs_at k images image flat c n a b (sym (replaced_not flat.processes p n (λ i. d (i ∙ at))) ∙ ea) (regs_other pid n regs k.processes b d eb)
-    ]
 
 -- Who is out.
 
@@ -200,42 +185,20 @@ still_moved p pid out at b k = Rattle.page_laws.proofs.Bytes.Runs.still_coupled 
 pub in_coupled_any : (k : Kernel) (images : List NamedImage) (image : List ℕ) (flat : FlatState) (pid : ℕ) (regs : Regs) (q : Process)
     → process_of flat pid ≡ Some q → is_out k.place pid ≡ true → AreRegs q.regs
     → regs ≡ regs_in (stored_at image (block_in k.holdings (owners.U pid) 0)) → Coupled k images image flat → Coupled (in_step k pid regs) images image flat
-in_coupled_any k images image flat pid regs q f out are is c = coupled_of l images image flat
-    (tables_of l flat (regs_outlines pid regs k.processes ∙ t.processes) t.next_pid t.next_sid (all_fit k flat t))
-    (alike_coupled l.place (beside_kernel k images image flat) (beside_kernel l images image flat) (λ w. record { frames = refl; swap = refl; file = file_of_same w; start = refl; memory = refl })
-    (still_moved k.place pid false (length (append k.journal (entries.SwapIn pid))) (beside_kernel k images image flat) c.pages))
-    regs_now
-  where
-    l : Kernel
-    l = in_step k pid regs
-
-    t : SameTables k flat
-    t = c.tables
-
-    at : q.pid ≡ pid
-    at = (found_at flat pid q f).0
-
-    file_of_same : (w : Page) → Rattle.kernel_model.specs.Coupled.file_of images l.place w ≡ Rattle.kernel_model.specs.Coupled.file_of images k.place w
-    file_of_same (Data sid v) = refl
-    file_of_same (Stack sid v) = refl
-    file_of_same (Text i v) = refl
-
-    now_in : is_out l.place pid ≡ false
-    now_in = elim (out_same k.place.residents pid false (length (append k.journal (entries.SwapIn pid)))) [
+in_coupled_any k images image flat pid regs q f out are is c =
+    let t : SameTables k flat = c.tables in
+    let at : q.pid ≡ pid = (found_at flat pid q f).0 in
+    let now_in : is_out l.place pid ≡ false = elim (out_same k.place.residents pid false (length (append k.journal (entries.SwapIn pid)))) [
       | inl h ↦ h
       | inr h ↦ h.0
-    ]
-
+    ] in
     -- what it held before
-    stored_regs : (p : Proc) → numbered kept_pid pid k.processes ≡ Some p → regs ≡ q.regs
-    stored_regs p e =
-        let old : KeepsRegs k image true q p.regs (space_of_holding q.holding) =
-        subst (λ (o : Bool). KeepsRegs k image o q p.regs (space_of_holding q.holding)) out (regs_at k images image flat c pid q p (found_at flat pid q f).1 e) in
-        is ∙ ap (λ (n : ℕ). regs_in (stored_at image (block_in k.holdings (owners.U n) 0))) (sym at) ∙ ap regs_in old
-        ∙ regs_back_any q.regs (length (slots_of k.place (Data (space_of_holding q.holding) 0))) (length (slots_of k.place (Stack (space_of_holding q.holding) 0))) are
-
-    regs_now : (n : ℕ) → RegsAt l image flat n
-    regs_now n a b ea eb = elim (cases_eq n pid) [
+    let stored_regs : (p : Proc) → numbered kept_pid pid k.processes ≡ Some p → regs ≡ q.regs = λ p e.
+    let old : KeepsRegs k image true q p.regs (space_of_holding q.holding) =
+    subst (λ (o : Bool). KeepsRegs k image o q p.regs (space_of_holding q.holding)) out (regs_at k images image flat c pid q p (found_at flat pid q f).1 e) in
+    is ∙ ap (λ (n : ℕ). regs_in (stored_at image (block_in k.holdings (owners.U n) 0))) (sym at) ∙ ap regs_in old
+    ∙ regs_back_any q.regs (length (slots_of k.place (Data (space_of_holding q.holding) 0))) (length (slots_of k.place (Stack (space_of_holding q.holding) 0))) are in
+    let regs_now : (n : ℕ) → RegsAt l image flat n = λ n a b ea eb. elim (cases_eq n pid) [
       | inl same ↦ (let same_q : q ≡ a = same_Some q a (sym (found_at flat pid q f).1 ∙ ap (λ (m : ℕ). numbered pid_of m flat.processes) (sym same) ∙ ea) in
           let now : numbered kept_pid pid (map (with_regs pid regs) k.processes) ≡ Some b = ap (λ (m : ℕ). numbered kept_pid m l.processes) (sym same) ∙ eb in
           let was : (x : Proc) × (numbered kept_pid pid k.processes ≡ Some x) × (with_regs pid regs x ≡ b) =
@@ -244,22 +207,33 @@ in_coupled_any k images image flat pid regs q f out are is c = coupled_of l imag
           (regs_same pid regs k.processes b now ∙ stored_regs was.0 was.1 ∙ ap (λ (x : Process). x.regs) same_q))
       | inr d ↦ subst (λ (o : Bool). KeepsRegs l image o a b.regs (space_of_holding a.holding)) (sym (out_other k.place.residents pid n false (length (append k.journal (entries.SwapIn pid))) d))
           (regs_kept k l image image (is_out k.place n) a b.regs (space_of_holding a.holding) (λ o. refl) refl refl (regs_at k images image flat c n a b ea (regs_other pid n regs k.processes b d eb)))
-    ]
+    ] in
+    coupled_of l images image flat
+    (tables_of l flat (regs_outlines pid regs k.processes ∙ t.processes) t.next_pid t.next_sid (all_fit k flat t))
+    (alike_coupled l.place (beside_kernel k images image flat) (beside_kernel l images image flat) (λ w. record { frames = refl; swap = refl; file = file_of_same w; start = refl; memory = refl })
+    (still_moved k.place pid false (length (append k.journal (entries.SwapIn pid))) (beside_kernel k images image flat) c.pages))
+    regs_now
+  where
+    l : Kernel
+    l = in_step k pid regs
+
+    file_of_same : (w : Page) → Rattle.kernel_model.specs.Coupled.file_of images l.place w ≡ Rattle.kernel_model.specs.Coupled.file_of images k.place w
+    file_of_same (Data sid v) = refl
+    file_of_same (Stack sid v) = refl
+    file_of_same (Text i v) = refl
 
 -- Going out.
 
 pub u_length : (regs : Regs) (d s : ℕ) → AreRegs regs → length (u_page regs d s) ≡ 1024
 unfolding u_page
 u_length regs d s a =
+    let zeros_length : length {A = ℕ} (replicate 948 0) ≡ 948 = Rattle.std.proofs.lemmas.List.length-replicate {A = ℕ} 948 0 in
     length-append (flat_map word_bytes (regs.r ++ codes_of regs ∷ d ∷ s ∷ [])) (replicate 948 0)
     ∙ (let h = words_length (regs.r ++ codes_of regs ∷ d ∷ s ∷ []) in let n = length-append regs.r (codes_of regs ∷ d ∷ s ∷ []) in let c = a.count in let z = zeros_length in omega arith)
   where
     words_length : (ws : List ℕ) → length (flat_map word_bytes ws) ≡ 4 * length ws
     words_length [] = refl
     words_length (w ∷ ws) = let h = words_length ws in let n = length-append (word_bytes w) (flat_map word_bytes ws) in omega arith
-
-    zeros_length : length {A = ℕ} (replicate 948 0) ≡ 948
-    zeros_length = Rattle.std.proofs.lemmas.List.length-replicate {A = ℕ} 948 0
 
 -- other blocks than those of this u page stay
 u_other : (size : ℕ) (hs : Holdings) (image bytes : List ℕ) (pid x : ℕ) (owner : Owner) (v : ℕ) → IsBook size hs → 512 * size ≤ length image
@@ -296,7 +270,37 @@ pub out_coupled : (size : ℕ) (k : Kernel) (images : List NamedImage) (image : 
     → numbered kept_pid pid k.processes ≡ Some p → has_life p.life ≡ true → AreRegs p.regs
     → IsResident k.place pid → is_out k.place pid ≡ false → Coupled k images image flat
     → Coupled (out_step k pid) images (store_at image (block_in k.holdings (owners.U pid) 0) (u_page p.regs (length (slots_of k.place (Data (space_of_life p.life) 0))) (length (slots_of k.place (Stack (space_of_life p.life) 0))))) flat
-out_coupled size k images image flat pid p so li e alive are resides out c = subst (λ (i : List ℕ). Coupled l images i flat) (sym (ap (λ (o : Option ℕ). store_at image o bytes) block.1))
+out_coupled size k images image flat pid p so li e alive are resides out c =
+    let t : SameTables k flat = c.tables in
+    let o : OneOwner size (lives k.processes) k.place k.holdings = so.owner in
+    let book : IsBook size k.holdings =
+    let w : OwnsBlocks size (lives k.processes) k.place k.holdings = o.blocks in w.book in
+    let bytes : List ℕ = u_page p.regs (length (slots_of k.place (Data (space_of_life p.life) 0))) (length (slots_of k.place (Stack (space_of_life p.life) 0))) in
+    let lb : length bytes ≡ 1024 = u_length p.regs (length (slots_of k.place (Data (space_of_life p.life) 0))) (length (slots_of k.place (Stack (space_of_life p.life) 0))) are in
+    let block : (x : ℕ) × (block_in k.holdings (owners.U pid) 0 ≡ Some x) = some_of (block_in k.holdings (owners.U pid) 0) (u_found size k pid so (ap lives_in e ∙ alive)) in
+    let after : List ℕ = put_blocks image block.0 bytes in
+    let now_out : is_out l.place pid ≡ true = ap (λ (r : Residence). r.out) (moved_own k.place pid true (length (append k.journal (entries.SwapOut pid))) resides) in
+    -- the process by itself: its registers are in its u page, whatever its record has
+    let own : (a : Process) (kept : Regs) → numbered pid_of pid flat.processes ≡ Some a → KeepsRegs l after (is_out l.place pid) a kept (space_of_holding a.holding) = λ a kept ea.
+    let sid_same : (a : Process) → numbered pid_of pid flat.processes ≡ Some a → space_of_life p.life ≡ space_of_holding a.holding = λ a ea.
+    ap (λ (x : Outline). space_of_life x.life) (outline_at k.processes flat.processes t.processes pid p a e ea) ∙ space_same a.holding in
+    let old : p.regs ≡ a.regs = subst (λ (z : Bool). KeepsRegs k image z a p.regs (space_of_holding a.holding)) out (regs_at k images image flat c pid a p ea e) in
+    let i : a.pid ≡ pid = has_number pid_of pid flat.processes a ea in
+    subst (λ (z : Bool). KeepsRegs l after z a kept (space_of_holding a.holding)) (sym now_out)
+    (ap (λ (n : ℕ). stored_at after (block_in k.holdings (owners.U n) 0)) i ∙ ap (stored_at after) block.1 ∙ u_own size k.holdings image bytes pid block.0 book li lb block.1
+    ∙ ap (λ (r : Regs). u_page r (length (slots_of k.place (Data (space_of_life p.life) 0))) (length (slots_of k.place (Stack (space_of_life p.life) 0)))) old
+    ∙ ap (λ (s : ℕ). u_page a.regs (length (slots_of k.place (Data s 0))) (length (slots_of k.place (Stack s 0)))) (sid_same a ea)) in
+    let regs_now : (n : ℕ) → RegsAt l after flat n = λ n a b ea eb.
+    let u_number : (a b : ℕ) → owners.U a ≡ owners.U b → a ≡ b = λ a b h. cc in
+    elim (cases_eq n pid) [
+      | inl same ↦ subst (λ (m : ℕ). KeepsRegs l after (is_out l.place m) a b.regs (space_of_holding a.holding)) (sym same)
+          (own a b.regs (ap (λ (m : ℕ). numbered pid_of m flat.processes) (sym same) ∙ ea))
+      | inr d ↦ (let i : a.pid ≡ n = has_number pid_of n flat.processes a ea in
+          subst (λ (z : Bool). KeepsRegs l after z a b.regs (space_of_holding a.holding)) (sym (out_other k.place.residents pid n true (length (append k.journal (entries.SwapOut pid))) d))
+          (regs_kept k l image after (is_out k.place n) a b.regs (space_of_holding a.holding)
+          (λ z. u_other size k.holdings image bytes pid block.0 (owners.U a.pid) 0 book li lb block.1 (λ h. d (sym i ∙ u_number a.pid pid h))) refl refl (regs_at k images image flat c n a b ea (regs_other pid n cleared k.processes b d eb))))
+    ] in
+    subst (λ (i : List ℕ). Coupled l images i flat) (sym (ap (λ (o : Option ℕ). store_at image o bytes) block.1))
     (coupled_of l images after flat (tables_of l flat (regs_outlines pid cleared k.processes ∙ t.processes) t.next_pid t.next_sid (all_fit k flat t))
     (alike_coupled l.place (beside_kernel k images image flat) (beside_kernel l images after flat)
     (λ w. record { frames = refl; swap = u_other size k.holdings image bytes pid block.0 (owner_of w) (number_of w) book li lb block.1 (not_u w); file = file_of_same w; start = refl; memory = refl })
@@ -305,27 +309,6 @@ out_coupled size k images image flat pid p so li e alive are resides out c = sub
   where
     l : Kernel
     l = out_step k pid
-
-    t : SameTables k flat
-    t = c.tables
-
-    o : OneOwner size (lives k.processes) k.place k.holdings
-    o = so.owner
-
-    book : IsBook size k.holdings
-    book = let w : OwnsBlocks size (lives k.processes) k.place k.holdings = o.blocks in w.book
-
-    bytes : List ℕ
-    bytes = u_page p.regs (length (slots_of k.place (Data (space_of_life p.life) 0))) (length (slots_of k.place (Stack (space_of_life p.life) 0)))
-
-    lb : length bytes ≡ 1024
-    lb = u_length p.regs (length (slots_of k.place (Data (space_of_life p.life) 0))) (length (slots_of k.place (Stack (space_of_life p.life) 0))) are
-
-    block : (x : ℕ) × (block_in k.holdings (owners.U pid) 0 ≡ Some x)
-    block = some_of (block_in k.holdings (owners.U pid) 0) (u_found size k pid so (ap lives_in e ∙ alive))
-
-    after : List ℕ
-    after = put_blocks image block.0 bytes
 
     not_u : (w : Page) → owner_of w ≢ owners.U pid
     not_u (Data sid v) h = cc
@@ -336,35 +319,6 @@ out_coupled size k images image flat pid p so li e alive are resides out c = sub
     file_of_same (Data sid v) = refl
     file_of_same (Stack sid v) = refl
     file_of_same (Text i v) = refl
-
-    now_out : is_out l.place pid ≡ true
-    now_out = ap (λ (r : Residence). r.out) (moved_own k.place pid true (length (append k.journal (entries.SwapOut pid))) resides)
-
-    -- the process by itself: its registers are in its u page, whatever its record has
-    own : (a : Process) (kept : Regs) → numbered pid_of pid flat.processes ≡ Some a → KeepsRegs l after (is_out l.place pid) a kept (space_of_holding a.holding)
-    own a kept ea =
-        let old : p.regs ≡ a.regs = subst (λ (z : Bool). KeepsRegs k image z a p.regs (space_of_holding a.holding)) out (regs_at k images image flat c pid a p ea e) in
-        let i : a.pid ≡ pid = has_number pid_of pid flat.processes a ea in
-        subst (λ (z : Bool). KeepsRegs l after z a kept (space_of_holding a.holding)) (sym now_out)
-        (ap (λ (n : ℕ). stored_at after (block_in k.holdings (owners.U n) 0)) i ∙ ap (stored_at after) block.1 ∙ u_own size k.holdings image bytes pid block.0 book li lb block.1
-        ∙ ap (λ (r : Regs). u_page r (length (slots_of k.place (Data (space_of_life p.life) 0))) (length (slots_of k.place (Stack (space_of_life p.life) 0)))) old
-        ∙ ap (λ (s : ℕ). u_page a.regs (length (slots_of k.place (Data s 0))) (length (slots_of k.place (Stack s 0)))) (sid_same a ea))
-      where
-        sid_same : (a : Process) → numbered pid_of pid flat.processes ≡ Some a → space_of_life p.life ≡ space_of_holding a.holding
-        sid_same a ea = ap (λ (x : Outline). space_of_life x.life) (outline_at k.processes flat.processes t.processes pid p a e ea) ∙ space_same a.holding
-
-    regs_now : (n : ℕ) → RegsAt l after flat n
-    regs_now n a b ea eb = elim (cases_eq n pid) [
-      | inl same ↦ subst (λ (m : ℕ). KeepsRegs l after (is_out l.place m) a b.regs (space_of_holding a.holding)) (sym same)
-          (own a b.regs (ap (λ (m : ℕ). numbered pid_of m flat.processes) (sym same) ∙ ea))
-      | inr d ↦ (let i : a.pid ≡ n = has_number pid_of n flat.processes a ea in
-          subst (λ (z : Bool). KeepsRegs l after z a b.regs (space_of_holding a.holding)) (sym (out_other k.place.residents pid n true (length (append k.journal (entries.SwapOut pid))) d))
-          (regs_kept k l image after (is_out k.place n) a b.regs (space_of_holding a.holding)
-          (λ z. u_other size k.holdings image bytes pid block.0 (owners.U a.pid) 0 book li lb block.1 (λ h. d (sym i ∙ u_number a.pid pid h))) refl refl (regs_at k images image flat c n a b ea (regs_other pid n cleared k.processes b d eb))))
-    ]
-      where
-        u_number : (a b : ℕ) → owners.U a ≡ owners.U b → a ≡ b
-        u_number a b h = cc
 
 -- the image is as long as it was
 pub out_length : (size : ℕ) (k : Kernel) (image : List ℕ) (pid : ℕ) (p : Proc) (d s : ℕ) → Sound size k → 512 * size ≤ length image
@@ -383,23 +337,18 @@ out_length size k image pid p d s so li e alive are =
 pub left_coupled : (k : Kernel) (images : List NamedImage) (image : List ℕ) (flat : FlatState) (pid : ℕ) (regs : Regs) → is_out k.place pid ≡ true
     → Coupled k images image flat
     → Coupled (record k { processes = map (with_regs pid regs) k.processes }) images image flat
-left_coupled k images image flat pid regs out c = coupled_of l images image flat (tables_of l flat (regs_outlines pid regs k.processes ∙ t.processes) t.next_pid t.next_sid (all_fit k flat t)) c.pages regs_now
-  where
-    l : Kernel
-    l = record k { processes = map (with_regs pid regs) k.processes }
-
-    t : SameTables k flat
-    t = c.tables
-
-    regs_now : (n : ℕ) → RegsAt l image flat n
-    regs_now n a b ea eb = elim (cases_eq n pid) [
+left_coupled k images image flat pid regs out c =
+    let l : Kernel = record k { processes = map (with_regs pid regs) k.processes } in
+    let t : SameTables k flat = c.tables in
+    let regs_now : (n : ℕ) → RegsAt l image flat n = λ n a b ea eb. elim (cases_eq n pid) [
       | inl same ↦ (let there : is_out k.place n ≡ true = ap (is_out k.place) same ∙ out in
           let was : (x : Proc) × (numbered kept_pid n k.processes ≡ Some x) × (with_regs pid regs x ≡ b) =
           mapped_some (with_regs pid regs) (numbered kept_pid n k.processes) b (sym (numbered_map kept_pid (with_regs pid regs) (with_regs_pid pid regs) n k.processes) ∙ eb) in
           let old : KeepsRegs k image true a was.0.regs (space_of_holding a.holding) = subst (λ (o : Bool). KeepsRegs k image o a was.0.regs (space_of_holding a.holding)) there (regs_at k images image flat c n a was.0 ea was.1) in
           subst (λ (o : Bool). KeepsRegs l image o a b.regs (space_of_holding a.holding)) (sym there) old)
       | inr d ↦ regs_at k images image flat c n a b ea (regs_other pid n regs k.processes b d eb)
-    ]
+    ] in
+    coupled_of l images image flat (tables_of l flat (regs_outlines pid regs k.processes ∙ t.processes) t.next_pid t.next_sid (all_fit k flat t)) c.pages regs_now
 
 -- the record of who goes out has no registers then
 pub out_record : (k : Kernel) (pid : ℕ) (p : Proc) → proc_of k pid ≡ Some p → proc_of (out_step k pid) pid ≡ Some (record p { regs = cleared })

@@ -48,20 +48,16 @@ own_page i byte xs =
     (ap (take 1024) (drop-set-add (1024 * (i / 1024)) xs (i % 1024) byte) ∙ take-set-lt 1024 (drop (1024 * (i / 1024)) xs) (i % 1024) byte (omega arith))
 
 other_page : (i v byte : ℕ) (xs : List ℕ) → v ≢ i / 1024 → page_at v (set xs i byte) ≡ page_at v xs
-other_page i v byte xs n = elim (lt_or i (1024 * v)) [
-  | inl l ↦ ap (take 1024) (drop-set-lt (1024 * v) xs i byte l)
-  | inr l ↦ above (beyond i v l n)
-]
-  where
-    lt_or : (a b : ℕ) → (a < b) ⊎ (b ≤ a)
-    lt_or a b = grind arith
-
-    beyond : (i v : ℕ) → 1024 * v ≤ i → v ≢ i / 1024 → (j : ℕ) × (1024 * v + j ≡ i) × (1024 ≤ j)
-    beyond i v l n = (i - 1024 * v, omega arith, omega arith)
-
-    above : (j : ℕ) × (1024 * v + j ≡ i) × (1024 ≤ j) → page_at v (set xs i byte) ≡ page_at v xs
-    above j = subst (λ (m : ℕ). take 1024 (drop (1024 * v) (set xs m byte)) ≡ take 1024 (drop (1024 * v) xs)) j.1
-        (ap (take 1024) (drop-set-add (1024 * v) xs j.0 byte) ∙ take-set-le 1024 (drop (1024 * v) xs) j.0 byte j.2)
+other_page i v byte xs n =
+    let lt_or : (a b : ℕ) → (a < b) ⊎ (b ≤ a) = λ a b. grind arith in
+    let beyond : (i v : ℕ) → 1024 * v ≤ i → v ≢ i / 1024 → (j : ℕ) × (1024 * v + j ≡ i) × (1024 ≤ j) = λ i v l n. (i - 1024 * v, omega arith, omega arith) in
+    let above : (j : ℕ) × (1024 * v + j ≡ i) × (1024 ≤ j) → page_at v (set xs i byte) ≡ page_at v xs = λ j.
+    subst (λ (m : ℕ). take 1024 (drop (1024 * v) (set xs m byte)) ≡ take 1024 (drop (1024 * v) xs)) j.1
+    (ap (take 1024) (drop-set-add (1024 * v) xs j.0 byte) ∙ take-set-le 1024 (drop (1024 * v) xs) j.0 byte j.2) in
+    elim (lt_or i (1024 * v)) [
+      | inl l ↦ ap (take 1024) (drop-set-lt (1024 * v) xs i byte l)
+      | inr l ↦ above (beyond i v l n)
+    ]
 
 -- One byte of a space.
 
@@ -127,7 +123,30 @@ pub write_coupled : (size : ℕ) (k : Kernel) (images : List NamedImage) (image 
     → Sound size k → k.place.due ≡ [] → IsNumbered flat
     → process_of flat pid ≡ Some q → q.holding ≡ Holds s → IsByteOf s (address_in s w.address) v at → state_of k.place v ≡ Valid f → Coupled k images image flat
     → Coupled (write_step k v f at w.byte) images image (apply_writes flat pid (w ∷ []))
-write_coupled size k images image flat pid q s w v f at so due nums fq hq is e c = subst (Coupled l images image) (sym (written flat pid w q s fq hq))
+write_coupled size k images image flat pid q s w v f at so due nums fq hq is e c =
+    let t : SameTables k flat = c.tables in
+    let o : OwnsFrames k.place =
+    let x : OneOwner size (lives k.processes) k.place k.holdings = so.owner in x.frames in
+    let outline : ℕ → Outline = λ n. record { pid = q.pid; parent = q.parent; life = Rattle.kernel_model.specs.Kernel.HoldsSpace n; asleep = q.asleep } in
+    let outline_held : Holding → Outline = λ h. record { pid = q.pid; parent = q.parent; life = Rattle.kernel_model.specs.Kernel.life_of h; asleep = q.asleep } in
+    let fits : AllFit after l.place = λ n. fit_shaped k.place l.place (numbered sid_of n (spaces_of after)) n shaped (elim (cases_eq n s.sid) [
+      | inl h ↦ subst (λ (m : ℕ). Fits (numbered sid_of m (spaces_of after)) (numbered space_number m k.place.spaces)) (sym h)
+          (subst (λ (x : Option Space). Fits x (numbered space_number s.sid k.place.spaces)) (sym own)
+          (fit_bytes s z (numbered space_number s.sid k.place.spaces) i.image i.data_length i.stack_length (subst (λ (x : Option Space). Fits x (numbered space_number s.sid k.place.spaces)) was (all_fit k flat t s.sid))))
+      | inr d ↦ subst (λ (x : Option Space). Fits x (numbered space_number n k.place.spaces)) (sym (other n d)) (all_fit k flat t n)
+    ]) in
+    -- what the bytes are
+    let b : Bytes = beside_kernel k images image flat in
+    let bytes : List ℕ = set (frame_bytes k f) at w.byte in
+    let c1 : Bytes = record b { frames = set_frame k.frames f bytes; memory = memory_of images after } in
+    let in_frame : frame_bytes k f ≡ memory_of images flat v =
+    let x : IsInFrame b (is_dirty k.place v) f v = keeps_at k.place b v (Valid f) c.pages (page_in k.place v f (ap frame_of e)) e in x.here in
+    let own_memory : memory_of images after v ≡ bytes = elim i.kind [
+      | inl h ↦ ap (memory_of images after) h.1 ∙ data_at h.0 ∙ i.own_data h.0 h.1 ∙ ap (λ (x : List ℕ). set x at w.byte) (sym (data_was h.0) ∙ ap (memory_of images flat) (sym h.1) ∙ sym in_frame)
+      | inr h ↦ ap (memory_of images after) h.1 ∙ stack_now h.0 ∙ i.own_stack h.0 h.1 ∙ ap (λ (x : List ℕ). set x at w.byte) (sym (stack_was h.0) ∙ ap (memory_of images flat) (sym h.1) ∙ sym in_frame)
+    ] in
+    let both : WritesBoth b c1 v f bytes = record { frames = refl; own = own_memory; others = other_memory; swap = λ x. refl; file = λ x. refl; start = λ x. refl } in
+    subst (Coupled l images image) (sym (written flat pid w q s fq hq))
     (coupled_of l images image after (tables_of l after (t.processes ∙ sym (replaced_outlines flat.processes q p found (ap (λ (n : ℕ). outline n) i.sid ∙ sym (ap outline_held hq)))) t.next_pid t.next_sid fits)
     (alike_coupled (touch k.place v) c1 (beside_kernel l images image after)
     (λ x. record { frames = refl; swap = refl; file = file_same images k.place (touch k.place v) shaped x; start = refl; memory = refl })
@@ -149,20 +168,8 @@ write_coupled size k images image flat pid q s w v f at so due nums fq hq is e c
     l : Kernel
     l = write_step k v f at w.byte
 
-    t : SameTables k flat
-    t = c.tables
-
-    o : OwnsFrames k.place
-    o = let x : OneOwner size (lives k.processes) k.place k.holdings = so.owner in x.frames
-
     shaped : Shaped k.place (touch k.place v)
     shaped = touch_shaped k.place v
-
-    outline : ℕ → Outline
-    outline n = record { pid = q.pid; parent = q.parent; life = Rattle.kernel_model.specs.Kernel.HoldsSpace n; asleep = q.asleep }
-
-    outline_held : Holding → Outline
-    outline_held h = record { pid = q.pid; parent = q.parent; life = Rattle.kernel_model.specs.Kernel.life_of h; asleep = q.asleep }
 
     found : numbered pid_of p.pid flat.processes ≡ Some q
     found = found_self flat pid q fq
@@ -180,27 +187,6 @@ write_coupled size k images image flat pid q s w v f at so due nums fq hq is e c
     was : numbered sid_of s.sid (spaces_of flat) ≡ Some s
     was = held_own flat.processes p s place_of
 
-    fits : AllFit after l.place
-    fits n = fit_shaped k.place l.place (numbered sid_of n (spaces_of after)) n shaped (elim (cases_eq n s.sid) [
-      | inl h ↦ subst (λ (m : ℕ). Fits (numbered sid_of m (spaces_of after)) (numbered space_number m k.place.spaces)) (sym h)
-          (subst (λ (x : Option Space). Fits x (numbered space_number s.sid k.place.spaces)) (sym own)
-          (fit_bytes s z (numbered space_number s.sid k.place.spaces) i.image i.data_length i.stack_length (subst (λ (x : Option Space). Fits x (numbered space_number s.sid k.place.spaces)) was (all_fit k flat t s.sid))))
-      | inr d ↦ subst (λ (x : Option Space). Fits x (numbered space_number n k.place.spaces)) (sym (other n d)) (all_fit k flat t n)
-    ])
-
-    -- what the bytes are
-    b : Bytes
-    b = beside_kernel k images image flat
-
-    bytes : List ℕ
-    bytes = set (frame_bytes k f) at w.byte
-
-    c1 : Bytes
-    c1 = record b { frames = set_frame k.frames f bytes; memory = memory_of images after }
-
-    in_frame : frame_bytes k f ≡ memory_of images flat v
-    in_frame = let x : IsInFrame b (is_dirty k.place v) f v = keeps_at k.place b v (Valid f) c.pages (page_in k.place v f (ap frame_of e)) e in x.here
-
     data_at : (n : ℕ) → memory_of images after (Data s.sid n) ≡ page_at n z.data_bytes
     data_at n = ap (λ (x : Option Space). page_at n (data_bytes_in x)) own
 
@@ -213,12 +199,6 @@ write_coupled size k images image flat pid q s w v f at so due nums fq hq is e c
     stack_was : (n : ℕ) → memory_of images flat (Stack s.sid n) ≡ page_at n s.stack_bytes
     stack_was n = ap (λ (x : Option Space). page_at n (stack_bytes_in x)) was
 
-    own_memory : memory_of images after v ≡ bytes
-    own_memory = elim i.kind [
-      | inl h ↦ ap (memory_of images after) h.1 ∙ data_at h.0 ∙ i.own_data h.0 h.1 ∙ ap (λ (x : List ℕ). set x at w.byte) (sym (data_was h.0) ∙ ap (memory_of images flat) (sym h.1) ∙ sym in_frame)
-      | inr h ↦ ap (memory_of images after) h.1 ∙ stack_now h.0 ∙ i.own_stack h.0 h.1 ∙ ap (λ (x : List ℕ). set x at w.byte) (sym (stack_was h.0) ∙ ap (memory_of images flat) (sym h.1) ∙ sym in_frame)
-    ]
-
     other_memory : (x : Page) → x ≢ v → memory_of images after x ≡ memory_of images flat x
     other_memory (Data sid n) d = elim (cases_eq sid s.sid) [
       | inl h ↦ ap (λ (m : ℕ). memory_of images after (Data m n)) h ∙ data_at n ∙ i.other_data n (λ g. d (ap (λ (m : ℕ). Data m n) h ∙ g)) ∙ sym (data_was n) ∙ ap (λ (m : ℕ). memory_of images flat (Data m n)) (sym h)
@@ -229,9 +209,6 @@ write_coupled size k images image flat pid q s w v f at so due nums fq hq is e c
       | inr m ↦ ap (λ (x : Option Space). page_at n (stack_bytes_in x)) (other sid m)
     ]
     other_memory (Text j n) d = refl
-
-    both : WritesBoth b c1 v f bytes
-    both = record { frames = refl; own = own_memory; others = other_memory; swap = λ x. refl; file = λ x. refl; start = λ x. refl }
 
     regs_now : (n : ℕ) → RegsAt l image after n
     regs_now n x y ex ey = subst (λ (out : Bool). KeepsRegs l image out x y.regs (space_of_holding x.holding)) (sym (ap (λ (rs : List Rattle.page_model.specs.Placement.Residence). (residence_of rs n).out) shaped.residents)) (elim (cases_eq n q.pid) [

@@ -155,15 +155,14 @@ pub found_taken : (size : ℕ) (k next : Kernel) (before : Holdings) (ws : List 
     → SameTexts k next → place_all size before ws ≡ Ok k.holdings
     → AsksFor k next ws → HasTaken size k next
 found_taken size k next before ws o t e a =
+    let taken : (owner : Owner) → lengths owner k.holdings ≡ needed k owner ++ drop (length (needed k owner)) (needed next owner) = λ owner.
+    found_lengths size before k.holdings ws owner e ∙ ap₂ (λ (xs ys : List ℕ). xs ++ ys) (held_before size k before owner o) (a owner) in
     let r : AreApart size k.holdings = found_apart size before k.holdings ws (record { pieces = o.book.pieces; apart = o.book.apart })
     (wanted_whole ws (λ owner. subst AllWhole (sym (a owner)) (drop_whole (length (needed k owner)) (needed next owner) (needed_whole next owner)))) e in
     record {
       book = record { pieces = r.pieces; apart = r.apart; owners = λ owner. let b = both_needed k next owner t in (b.0, taken owner ∙ b.1) };
       taken = taken;
     }
-  where
-    taken : (owner : Owner) → lengths owner k.holdings ≡ needed k owner ++ drop (length (needed k owner)) (needed next owner)
-    taken owner = found_lengths size before k.holdings ws owner e ∙ ap₂ (λ (xs ys : List ℕ). xs ++ ys) (held_before size k before owner o) (a owner)
 
 -- A change keeps every text as long as it was.
 step_texts : (images : List Image) (k : Kernel) (pid : ℕ) (regs : Regs) (e : Entry) (change : Change) → SameTexts k (change_step images k pid regs e change)

@@ -246,26 +246,23 @@ cut_to a b n (inr z) =
 
 pub resizes_fits : (sid d s : ℕ) (p q : Placement) (hs : Holdings) → Resizes sid d s p q → FitsBoth p q hs
     → Fits q (kept (owners.Stack sid) (length (pieces (2 * s))) (kept (owners.Data sid) (length (pieces (2 * d))) hs))
-resizes_fits sid d s p q hs g f = record {
-  of_data = λ t. other_left (owners.Stack sid) (owners.Data t) ks (kept (owners.Data sid) kd hs) refl ∙ elim (cases_eq t sid) [
-    | inl e ↦ subst (λ (x : ℕ). lengths (owners.Data x) (kept (owners.Data sid) kd hs) ≡ pieces (2 * length (slots_of q (Data x 0)))) (sym e)
-        (lengths-kept (owners.Data sid) kd hs ∙ ap (take kd) (f.of_data sid) ∙ cut_to (length (slots_of p (Data sid 0))) (length (slots_of q (Data sid 0))) d g.data_now)
-    | inr n ↦ other_left (owners.Data sid) (owners.Data t) kd hs (differs sid t n) ∙ f.of_data t ∙ pieces_larger (length (slots_of p (Data t 0))) (length (slots_of q (Data t 0))) (let e = g.of_data t n in omega arith)
-  ];
-  of_stack = λ t. elim (cases_eq t sid) [
-    | inl e ↦ subst (λ (x : ℕ). lengths (owners.Stack x) (kept (owners.Stack sid) ks (kept (owners.Data sid) kd hs)) ≡ pieces (2 * length (slots_of q (Stack x 0)))) (sym e)
-        (lengths-kept (owners.Stack sid) ks (kept (owners.Data sid) kd hs) ∙ ap (take ks) (other_left (owners.Data sid) (owners.Stack sid) kd hs refl ∙ f.of_stack sid) ∙ cut_to (length (slots_of p (Stack sid 0))) (length (slots_of q (Stack sid 0))) s g.stack_now)
-    | inr n ↦ other_left (owners.Stack sid) (owners.Stack t) ks (kept (owners.Data sid) kd hs) (differs sid t n) ∙ other_left (owners.Data sid) (owners.Stack t) kd hs refl ∙ f.of_stack t ∙ pieces_larger (length (slots_of p (Stack t 0))) (length (slots_of q (Stack t 0))) (let e = g.of_stack t n in omega arith)
-  ];
-  of_text = λ i. other_left (owners.Stack sid) (owners.Text i) ks (kept (owners.Data sid) kd hs) refl ∙ other_left (owners.Data sid) (owners.Text i) kd hs refl ∙ f.of_text i
-      ∙ while_some (sharers p i) (sharers q i) (2 * length (slots_of p (Text i 0))) (2 * length (slots_of q (Text i 0))) (λ l. let e = g.sharing i in omega arith) (twice (length (slots_of q (Text i 0))) (length (slots_of p (Text i 0))) (g.texts i));
-}
-  where
-    kd : ℕ
-    kd = length (pieces (2 * d))
-
-    ks : ℕ
-    ks = length (pieces (2 * s))
+resizes_fits sid d s p q hs g f =
+    let kd : ℕ = length (pieces (2 * d)) in
+    let ks : ℕ = length (pieces (2 * s)) in
+    record {
+      of_data = λ t. other_left (owners.Stack sid) (owners.Data t) ks (kept (owners.Data sid) kd hs) refl ∙ elim (cases_eq t sid) [
+        | inl e ↦ subst (λ (x : ℕ). lengths (owners.Data x) (kept (owners.Data sid) kd hs) ≡ pieces (2 * length (slots_of q (Data x 0)))) (sym e)
+            (lengths-kept (owners.Data sid) kd hs ∙ ap (take kd) (f.of_data sid) ∙ cut_to (length (slots_of p (Data sid 0))) (length (slots_of q (Data sid 0))) d g.data_now)
+        | inr n ↦ other_left (owners.Data sid) (owners.Data t) kd hs (differs sid t n) ∙ f.of_data t ∙ pieces_larger (length (slots_of p (Data t 0))) (length (slots_of q (Data t 0))) (let e = g.of_data t n in omega arith)
+      ];
+      of_stack = λ t. elim (cases_eq t sid) [
+        | inl e ↦ subst (λ (x : ℕ). lengths (owners.Stack x) (kept (owners.Stack sid) ks (kept (owners.Data sid) kd hs)) ≡ pieces (2 * length (slots_of q (Stack x 0)))) (sym e)
+            (lengths-kept (owners.Stack sid) ks (kept (owners.Data sid) kd hs) ∙ ap (take ks) (other_left (owners.Data sid) (owners.Stack sid) kd hs refl ∙ f.of_stack sid) ∙ cut_to (length (slots_of p (Stack sid 0))) (length (slots_of q (Stack sid 0))) s g.stack_now)
+        | inr n ↦ other_left (owners.Stack sid) (owners.Stack t) ks (kept (owners.Data sid) kd hs) (differs sid t n) ∙ other_left (owners.Data sid) (owners.Stack t) kd hs refl ∙ f.of_stack t ∙ pieces_larger (length (slots_of p (Stack t 0))) (length (slots_of q (Stack t 0))) (let e = g.of_stack t n in omega arith)
+      ];
+      of_text = λ i. other_left (owners.Stack sid) (owners.Text i) ks (kept (owners.Data sid) kd hs) refl ∙ other_left (owners.Data sid) (owners.Text i) kd hs refl ∙ f.of_text i
+          ∙ while_some (sharers p i) (sharers q i) (2 * length (slots_of p (Text i 0))) (2 * length (slots_of q (Text i 0))) (λ l. let e = g.sharing i in omega arith) (twice (length (slots_of q (Text i 0))) (length (slots_of p (Text i 0))) (g.texts i));
+    }
 
 pub less_u : (p : Placement) (hs : Holdings) (pid : ℕ) → Fits p hs → Fits p (kept (owners.U pid) 0 hs)
 less_u p hs pid f = record {

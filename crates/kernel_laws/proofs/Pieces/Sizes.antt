@@ -35,29 +35,26 @@ stack_now d s None = inr (refl, refl)
 stack_now d s (Some x) = inl (length_sized s x.stack_pages)
 
 pub resize_sizes : (p : Placement) (sid d s : ℕ) → Resizes sid d s p (resize p sid d s)
-resize_sizes p sid d s = record {
-  data_now = elim (data_now d s (numbered space_number sid r.spaces)) [
-    | inl e ↦ inl (ap (λ (o : Option SpacePages). length (data_in o)) same ∙ e)
-    | inr z ↦ inr (ap (λ (o : Option SpacePages). length (data_in o)) same ∙ z.0, sym (drop_all_length (dropped_pages p sid d s) p (Data sid 0)) ∙ z.1)
-  ];
-  stack_now = elim (stack_now d s (numbered space_number sid r.spaces)) [
-    | inl e ↦ inl (ap (λ (o : Option SpacePages). length (stack_in o)) same ∙ e)
-    | inr z ↦ inr (ap (λ (o : Option SpacePages). length (stack_in o)) same ∙ z.0, sym (drop_all_length (dropped_pages p sid d s) p (Stack sid 0)) ∙ z.1)
-  ];
-  of_data = λ t n. ap (λ (o : Option SpacePages). length (data_in o)) (other t n) ∙ drop_all_length (dropped_pages p sid d s) p (Data t 0);
-  of_stack = λ t n. ap (λ (o : Option SpacePages). length (stack_in o)) (other t n) ∙ drop_all_length (dropped_pages p sid d s) p (Stack t 0);
-  texts = λ i. drop_all_length (dropped_pages p sid d s) p (Text i 0);
-  sharing = λ i. sharers_changed sid i (cut d s) (λ x. refl) r.spaces ∙ drop_all_sharers (dropped_pages p sid d s) p i;
-}
-  where
-    r : Placement
-    r = drop_all p (dropped_pages p sid d s)
-
-    same : numbered space_number sid (changed space_number sid (cut d s) r.spaces) ≡ mapped (cut d s) (numbered space_number sid r.spaces)
-    same = changed_same space_number sid (cut d s) (λ x. refl) r.spaces
-
-    other : (t : ℕ) → t ≢ sid → numbered space_number t (changed space_number sid (cut d s) r.spaces) ≡ numbered space_number t r.spaces
-    other t n = changed_other space_number sid t (cut d s) (λ x. refl) n r.spaces
+resize_sizes p sid d s =
+    let r : Placement = drop_all p (dropped_pages p sid d s) in
+    let same : numbered space_number sid (changed space_number sid (cut d s) r.spaces) ≡ mapped (cut d s) (numbered space_number sid r.spaces) =
+    changed_same space_number sid (cut d s) (λ x. refl) r.spaces in
+    let other : (t : ℕ) → t ≢ sid → numbered space_number t (changed space_number sid (cut d s) r.spaces) ≡ numbered space_number t r.spaces = λ t n.
+    changed_other space_number sid t (cut d s) (λ x. refl) n r.spaces in
+    record {
+      data_now = elim (data_now d s (numbered space_number sid r.spaces)) [
+        | inl e ↦ inl (ap (λ (o : Option SpacePages). length (data_in o)) same ∙ e)
+        | inr z ↦ inr (ap (λ (o : Option SpacePages). length (data_in o)) same ∙ z.0, sym (drop_all_length (dropped_pages p sid d s) p (Data sid 0)) ∙ z.1)
+      ];
+      stack_now = elim (stack_now d s (numbered space_number sid r.spaces)) [
+        | inl e ↦ inl (ap (λ (o : Option SpacePages). length (stack_in o)) same ∙ e)
+        | inr z ↦ inr (ap (λ (o : Option SpacePages). length (stack_in o)) same ∙ z.0, sym (drop_all_length (dropped_pages p sid d s) p (Stack sid 0)) ∙ z.1)
+      ];
+      of_data = λ t n. ap (λ (o : Option SpacePages). length (data_in o)) (other t n) ∙ drop_all_length (dropped_pages p sid d s) p (Data t 0);
+      of_stack = λ t n. ap (λ (o : Option SpacePages). length (stack_in o)) (other t n) ∙ drop_all_length (dropped_pages p sid d s) p (Stack t 0);
+      texts = λ i. drop_all_length (dropped_pages p sid d s) p (Text i 0);
+      sharing = λ i. sharers_changed sid i (cut d s) (λ x. refl) r.spaces ∙ drop_all_sharers (dropped_pages p sid d s) p i;
+    }
 
 -- Spaces that stay or come.
 
@@ -125,30 +122,27 @@ gone_stack p sid = let d : Placement = drop_all p (pages_of_space p sid) in leav
 -- a space of a grown placement goes
 gone_loses : (p q : Placement) (sid image : ℕ) → Grows p q → ((j : ℕ) → j ≢ image → 0 < sharers p j → 0 < sharers (give_up q sid) j)
     → Loses sid image p (give_up q sid)
-gone_loses p q sid image g h = record {
-  data_gone = gone_data q sid;
-  stack_gone = gone_stack q sid;
-  of_data = λ t n.
-      let a = leave_text_length r (image_of q sid) (Data t 0) in
-      let b : length (slots_of r (Data t 0)) ≡ length (slots_of d (Data t 0)) = ap (λ (o : Option SpacePages). length (data_in o)) (removed_other sid t d.spaces n) in
-      let c = drop_all_length (pages_of_space q sid) q (Data t 0) in
-      let k = g.of_data t in
-      omega arith;
-  of_stack = λ t n.
-      let a = leave_text_length r (image_of q sid) (Stack t 0) in
-      let b : length (slots_of r (Stack t 0)) ≡ length (slots_of d (Stack t 0)) = ap (λ (o : Option SpacePages). length (stack_in o)) (removed_other sid t d.spaces n) in
-      let c = drop_all_length (pages_of_space q sid) q (Stack t 0) in
-      let k = g.of_stack t in
-      omega arith;
-  texts = λ i. leave_text_length r (image_of q sid) (Text i 0) ∙ drop_all_length (pages_of_space q sid) q (Text i 0) ∙ g.texts i;
-  sharing = h;
-}
-  where
-    d : Placement
-    d = drop_all q (pages_of_space q sid)
-
-    r : Placement
-    r = remove_space d sid
+gone_loses p q sid image g h =
+    let d : Placement = drop_all q (pages_of_space q sid) in
+    let r : Placement = remove_space d sid in
+    record {
+      data_gone = gone_data q sid;
+      stack_gone = gone_stack q sid;
+      of_data = λ t n.
+          let a = leave_text_length r (image_of q sid) (Data t 0) in
+          let b : length (slots_of r (Data t 0)) ≡ length (slots_of d (Data t 0)) = ap (λ (o : Option SpacePages). length (data_in o)) (removed_other sid t d.spaces n) in
+          let c = drop_all_length (pages_of_space q sid) q (Data t 0) in
+          let k = g.of_data t in
+          omega arith;
+      of_stack = λ t n.
+          let a = leave_text_length r (image_of q sid) (Stack t 0) in
+          let b : length (slots_of r (Stack t 0)) ≡ length (slots_of d (Stack t 0)) = ap (λ (o : Option SpacePages). length (stack_in o)) (removed_other sid t d.spaces n) in
+          let c = drop_all_length (pages_of_space q sid) q (Stack t 0) in
+          let k = g.of_stack t in
+          omega arith;
+      texts = λ i. leave_text_length r (image_of q sid) (Text i 0) ∙ drop_all_length (pages_of_space q sid) q (Text i 0) ∙ g.texts i;
+      sharing = h;
+    }
 
 given_sharers : (p q : Placement) (sid image : ℕ) → Grows p q → HasImage sid image q.spaces → (j : ℕ) → j ≢ image → 0 < sharers p j
     → 0 < sharers (give_up q sid) j
@@ -170,23 +164,18 @@ others_rest sid j (s ∷ ss) rs e = go (s.sid == sid) e (others_rest sid j ss rs
 pub exec_loses : (p : Placement) (next image sid : ℕ) (facts : Option Image) → IsNew p next → CanForget (enter_image p next image facts) sid
     → Loses sid (image_of p sid) p (give_up (enter_image p next image facts) sid)
 exec_loses p next image sid None new c = give_up_loses p sid c
-exec_loses p next image sid (Some facts) new c = gone_loses p q sid (image_of p sid) grows (elim (cases_eq sid next) [
-  | inl e ↦ λ j n l.
-      let h = give_up_rest q sid j in
-      let k = others_rest sid j p.spaces (x ∷ []) (subst (IsNew p) (sym e) new) in
-      omega arith
-  | inr n ↦ given_sharers p q sid (image_of p sid) grows
-      (subst (λ (i : ℕ). HasImage sid i q.spaces) (ap image_in (added_other sid p.spaces x (λ k. n (sym k)))) c.image)
-])
-  where
-    x : SpacePages
-    x = new_pages next image facts
-
-    q : Placement
-    q = enter_space p next image facts
-
-    grows : Grows p q
-    grows = add_grows p x q.due
+exec_loses p next image sid (Some facts) new c =
+    let x : SpacePages = new_pages next image facts in
+    let q : Placement = enter_space p next image facts in
+    let grows : Grows p q = add_grows p x q.due in
+    gone_loses p q sid (image_of p sid) grows (elim (cases_eq sid next) [
+      | inl e ↦ λ j n l.
+          let h = give_up_rest q sid j in
+          let k = others_rest sid j p.spaces (x ∷ []) (subst (IsNew p) (sym e) new) in
+          omega arith
+      | inr n ↦ given_sharers p q sid (image_of p sid) grows
+          (subst (λ (i : ℕ). HasImage sid i q.spaces) (ap image_in (added_other sid p.spaces x (λ k. n (sym k)))) c.image)
+    ])
 
 -- The holdings after a change are those that the placement after it asks for.
 

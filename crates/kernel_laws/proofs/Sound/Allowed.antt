@@ -80,19 +80,17 @@ one_more sid (s ∷ ss) d n = go (s.sid == sid) refl n (one_more sid ss d.1)
 settled_text : (p : Placement) (sid : ℕ) → OwnsFrames p → AllDistinct (map space_number p.spaces) → HasSpace p sid → is_settled p sid ≡ true
     → sharers_in (image_of p sid) (rest_of sid p.spaces) ≡ 0
     → (v : ℕ) → AtRest (state_of p (Text (image_of p sid) v))
-settled_text p sid o d h e z v = unnamed_rests p (is_of_text (image_of p sid)) (Text (image_of p sid) v) o (eq-eqb (image_of p sid) (image_of p sid) refl) unnamed
+settled_text p sid o d h e z v =
+    let last : sharers p (image_of p sid) ≡ 1 = one_more sid p.spaces d h ∙ (let k : 1 + sharers_in (image_of p sid) (rest_of sid p.spaces) ≡ 1 = omega arith in k) in
+    let unnamed : names_page (is_of_text (image_of p sid)) (parts_of p.transfers) ≡ false =
+    second (sharers p (image_of p sid) == 1) (names_page (is_of_text (image_of p sid)) (parts_of p.transfers)) (eq-eqb (sharers p (image_of p sid)) 1 last)
+    (and_parts (not (names_page (is_of_space sid) (parts_of p.transfers))) (not ((sharers p (image_of p sid) == 1) && names_page (is_of_text (image_of p sid)) (parts_of p.transfers))) e).1 in
+    unnamed_rests p (is_of_text (image_of p sid)) (Text (image_of p sid) v) o (eq-eqb (image_of p sid) (image_of p sid) refl) unnamed
   where
-    last : sharers p (image_of p sid) ≡ 1
-    last = one_more sid p.spaces d h ∙ (let k : 1 + sharers_in (image_of p sid) (rest_of sid p.spaces) ≡ 1 = omega arith in k)
-
     second : (b c : Bool) → b ≡ true → not (b && c) ≡ true → c ≡ false
     second true true x y = absurd cc
     second true false x y = refl
     second false c x y = absurd cc
-
-    unnamed : names_page (is_of_text (image_of p sid)) (parts_of p.transfers) ≡ false
-    unnamed = second (sharers p (image_of p sid) == 1) (names_page (is_of_text (image_of p sid)) (parts_of p.transfers)) (eq-eqb (sharers p (image_of p sid)) 1 last)
-        (and_parts (not (names_page (is_of_space sid) (parts_of p.transfers))) (not ((sharers p (image_of p sid) == 1) && names_page (is_of_text (image_of p sid)) (parts_of p.transfers))) e).1
 
 forgets : (p : Placement) (sid : ℕ) → OwnsFrames p → AllDistinct (map space_number p.spaces) → HasSpace p sid → is_settled p sid ≡ true → CanForget p sid
 forgets p sid o d h e = record { image = has_image sid p.spaces d; text_rests = settled_text p sid o d h e }
@@ -109,22 +107,16 @@ rest_more sid j (s ∷ ss) rs = go (s.sid == sid) (rest_more sid j ss rs)
 exec_forgets : (p : Placement) (next image sid : ℕ) (facts : Option Image) → OwnsFrames p → AllDistinct (map space_number p.spaces)
     → AllDistinct (map space_number (enter_image p next image facts).spaces) → HasSpace p sid → next ≢ sid → is_settled p sid ≡ true → CanForget (enter_image p next image facts) sid
 exec_forgets p next image sid None o d f h n e = forgets p sid o d h e
-exec_forgets p next image sid (Some facts) o d f h n e = record {
-  image = has_image sid q.spaces f;
-  text_rests = λ z v. subst (λ (i : ℕ). AtRest (state_of p (Text i v))) (sym same) (settled_text p sid o d h e (none (subst (λ (i : ℕ). sharers_in i (rest_of sid q.spaces) ≡ 0) same z)) v);
-}
-  where
-    x : SpacePages
-    x = new_pages next image facts
-
-    q : Placement
-    q = enter_space p next image facts
-
-    same : image_of q sid ≡ image_of p sid
-    same = ap image_in (added_other sid p.spaces x n)
-
-    none : sharers_in (image_of p sid) (rest_of sid q.spaces) ≡ 0 → sharers_in (image_of p sid) (rest_of sid p.spaces) ≡ 0
-    none z = let l = rest_more sid (image_of p sid) p.spaces (x ∷ []) in omega arith
+exec_forgets p next image sid (Some facts) o d f h n e =
+    let x : SpacePages = new_pages next image facts in
+    let q : Placement = enter_space p next image facts in
+    let same : image_of q sid ≡ image_of p sid = ap image_in (added_other sid p.spaces x n) in
+    let none : sharers_in (image_of p sid) (rest_of sid q.spaces) ≡ 0 → sharers_in (image_of p sid) (rest_of sid p.spaces) ≡ 0 = λ z.
+    let l = rest_more sid (image_of p sid) p.spaces (x ∷ []) in omega arith in
+    record {
+      image = has_image sid q.spaces f;
+      text_rests = λ z v. subst (λ (i : ℕ). AtRest (state_of p (Text i v))) (sym same) (settled_text p sid o d h e (none (subst (λ (i : ℕ). sharers_in i (rest_of sid q.spaces) ≡ 0) same z)) v);
+    }
 
 -- What is asked.
 

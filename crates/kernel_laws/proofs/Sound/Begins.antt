@@ -78,39 +78,27 @@ begin_asked k found image name facts new unused = by
 
 pub begin_sound : (size : ℕ) (k : Kernel) (found : Holdings) (image : ℕ) (name : List ℕ) (facts : Image) → Sound size k → Numbered k → k.next_sid ≡ k.next_pid
     → place_all size k.holdings (begin_asks k.place k.next_pid image facts) ≡ Ok found → Sound size (begin_step k found image name facts)
-begin_sound size k found image name facts s n e pieces = record {
-  owner = one_owner size (lives l.processes) l.place found
-      (let f : OwnsFrames (enter_space k.place pid image facts) = enter_space_owner k.place pid image facts o.frames new in
-      record { once = f.once; frames = f.frames; names = f.names; named = f.named; listed = λ g q a b. let i = f.listed g q a b in record { state = i.state; clean = i.clean }; moves = f.moves; dirty = f.dirty })
-      (owns_from size (lives l.processes) l.place found (let b = taken.book in record { pieces = b.pieces; apart = b.apart })
-      (grows_fits k.place l.place found grows (taken_fits size with l taken (λ i. refl)))
-      (λ m. taken_u size with l m taken ∙ u_some (lives k.processes m) (lives l.processes m) (append_alive k.processes (record { pid = pid; parent = 0; regs = Rattle.flat_state.specs.Flat.start_regs facts.entry (name ∷ []); life = Rattle.kernel_model.specs.Kernel.HoldsSpace pid; asleep = false } ∷ []) m)))
-      (λ i v z. let a = add_aside k.place (new_pages pid image facts) l.place.due o.aside i v z in record { unsaved = a.unsaved; rests = a.rests });
-  tokens = s.tokens;
-  hands = hands_stand k.place l.place (record { front = refl; back = refl; frames = refl }) s.hands;
-  few_transfers = s.few_transfers;
-}
-  where
-    pid : ℕ
-    pid = k.next_pid
-
-    l : Kernel
-    l = begin_step k found image name facts
-
-    with : Kernel
-    with = record k { holdings = found }
-
-    o : OneOwner size (lives k.processes) k.place k.holdings
-    o = s.owner
-
-    new : IsNew k.place pid
-    new = subst (IsNew k.place) e (new_number k n)
-
-    unused : IsUnused k.processes pid
-    unused = absent_none (λ (q : Proc). q.pid) pid k.processes (below_absent pid (Rattle.std.proofs.Common.map (λ (q : Proc). q.pid) k.processes) n.pids_below)
-
-    taken : HasTaken size with l
-    taken = found_taken size with l k.holdings (begin_asks k.place pid image facts) o.blocks (λ i. refl) pieces (begin_asked k found image name facts new unused)
-
-    grows : Grows k.place l.place
-    grows = let g = add_grows k.place (new_pages pid image facts) l.place.due in record { of_data = g.of_data; of_stack = g.of_stack; texts = g.texts; sharing = g.sharing }
+begin_sound size k found image name facts s n e pieces =
+    let pid : ℕ = k.next_pid in
+    let l : Kernel = begin_step k found image name facts in
+    let with : Kernel = record k { holdings = found } in
+    let o : OneOwner size (lives k.processes) k.place k.holdings = s.owner in
+    let new : IsNew k.place pid = subst (IsNew k.place) e (new_number k n) in
+    let unused : IsUnused k.processes pid =
+    absent_none (λ (q : Proc). q.pid) pid k.processes (below_absent pid (Rattle.std.proofs.Common.map (λ (q : Proc). q.pid) k.processes) n.pids_below) in
+    let taken : HasTaken size with l =
+    found_taken size with l k.holdings (begin_asks k.place pid image facts) o.blocks (λ i. refl) pieces (begin_asked k found image name facts new unused) in
+    let grows : Grows k.place l.place =
+    let g = add_grows k.place (new_pages pid image facts) l.place.due in record { of_data = g.of_data; of_stack = g.of_stack; texts = g.texts; sharing = g.sharing } in
+    record {
+      owner = one_owner size (lives l.processes) l.place found
+          (let f : OwnsFrames (enter_space k.place pid image facts) = enter_space_owner k.place pid image facts o.frames new in
+          record { once = f.once; frames = f.frames; names = f.names; named = f.named; listed = λ g q a b. let i = f.listed g q a b in record { state = i.state; clean = i.clean }; moves = f.moves; dirty = f.dirty })
+          (owns_from size (lives l.processes) l.place found (let b = taken.book in record { pieces = b.pieces; apart = b.apart })
+          (grows_fits k.place l.place found grows (taken_fits size with l taken (λ i. refl)))
+          (λ m. taken_u size with l m taken ∙ u_some (lives k.processes m) (lives l.processes m) (append_alive k.processes (record { pid = pid; parent = 0; regs = Rattle.flat_state.specs.Flat.start_regs facts.entry (name ∷ []); life = Rattle.kernel_model.specs.Kernel.HoldsSpace pid; asleep = false } ∷ []) m)))
+          (λ i v z. let a = add_aside k.place (new_pages pid image facts) l.place.due o.aside i v z in record { unsaved = a.unsaved; rests = a.rests });
+      tokens = s.tokens;
+      hands = hands_stand k.place l.place (record { front = refl; back = refl; frames = refl }) s.hands;
+      few_transfers = s.few_transfers;
+    }

@@ -174,14 +174,13 @@ u_after : (ps : List Proc) (x : Proc) (next : ℕ) (hs : Holdings) (p q : Placem
 u_after ps x next hs p q sid borrowed (Resize d s) h r u n = other_left (owners.Stack sid) (owners.U n) (length (pieces (2 * s))) (kept (owners.Data sid) (length (pieces (2 * d))) hs) refl
     ∙ other_left (owners.Data sid) (owners.U n) (length (pieces (2 * d))) hs refl ∙ u_kept ps x next hs (Resize d s) n (h n) r tt (u n)
 u_after ps x next hs p q sid borrowed (Exec image top) h r u n = unless_u hs borrowed sid (image_of p sid) (sharers q (image_of p sid)) n ∙ u_kept ps x next hs (Exec image top) n (h n) r tt (u n)
-u_after ps x next hs p q sid borrowed (End status) h r u n = elim (cases_eq n x.pid) [
-  | inl e ↦ subst (λ (m : ℕ). lengths (owners.U m) (kept (owners.U x.pid) 0 rest) ≡ u_pieces (u_blocks (lives (procs_after ps x next (End status)) m))) (sym e)
-      (own_left (owners.U x.pid) rest ∙ ap (λ (b : Bool). u_pieces (u_blocks b)) (sym (left_dead (x.parent == 0) (orphaned_procs ps x.pid) x status)))
-  | inr d ↦ other_left (owners.U x.pid) (owners.U n) 0 rest (ne_eqb x.pid n (λ k. d (sym k))) ∙ unless_u hs borrowed sid (image_of p sid) (sharers q (image_of p sid)) n ∙ u_kept ps x next hs (End status) n (h n) r d (u n)
-]
-  where
-    rest : Holdings
-    rest = given_back_unless borrowed hs sid (image_of p sid) (sharers q (image_of p sid))
+u_after ps x next hs p q sid borrowed (End status) h r u n =
+    let rest : Holdings = given_back_unless borrowed hs sid (image_of p sid) (sharers q (image_of p sid)) in
+    elim (cases_eq n x.pid) [
+      | inl e ↦ subst (λ (m : ℕ). lengths (owners.U m) (kept (owners.U x.pid) 0 rest) ≡ u_pieces (u_blocks (lives (procs_after ps x next (End status)) m))) (sym e)
+          (own_left (owners.U x.pid) rest ∙ ap (λ (b : Bool). u_pieces (u_blocks b)) (sym (left_dead (x.parent == 0) (orphaned_procs ps x.pid) x status)))
+      | inr d ↦ other_left (owners.U x.pid) (owners.U n) 0 rest (ne_eqb x.pid n (λ k. d (sym k))) ∙ unless_u hs borrowed sid (image_of p sid) (sharers q (image_of p sid)) n ∙ u_kept ps x next hs (End status) n (h n) r d (u n)
+    ]
 u_after ps x next hs p q sid borrowed y h r u n = u_kept ps x next hs y n (h n) r tt (u n)
 
 -- Hands and transfers.

@@ -243,44 +243,30 @@ passed_alive sid from to receiver q a b = go (q.pid == from) (q.pid == to) refl 
 -- Where the giver and the receiver live, a space passes and nobody else comes to life.
 pub pass_lives : (k : Kernel) (from to : ℕ) → lives k.processes from ≡ true → lives k.processes to ≡ true → (n : ℕ)
     → lives (pass_step k from to).processes n ≡ lives k.processes n
-pass_lives k from to a b n = same n
-  where
-    sid : ℕ
-    sid = space_of_life (life_of_proc (numbered (λ (p : Proc). p.pid) from k.processes))
-
-    receiver : Life
-    receiver = life_of_proc (numbered (λ (p : Proc). p.pid) to k.processes)
-
-    kept : (n : ℕ) (q : Proc) → numbered (λ (x : Proc). x.pid) n k.processes ≡ Some q → lives k.processes n ≡ true → has_life q.life ≡ true
-    kept n q e l = sym (ap lives_in e) ∙ l
-
-    same : (n : ℕ) → lives (pass_step k from to).processes n ≡ lives k.processes n
-    same n = lives_map (passed_life sid from to receiver) k.processes n (λ q e.
-        passed_alive sid from to receiver q
-        (λ h. kept n q e (ap (lives k.processes) (sym (proc_number k.processes n q e) ∙ h) ∙ a))
-        (λ h. kept n q e (ap (lives k.processes) (sym (proc_number k.processes n q e) ∙ h) ∙ b)))
+pass_lives k from to a b n =
+    let sid : ℕ = space_of_life (life_of_proc (numbered (λ (p : Proc). p.pid) from k.processes)) in
+    let receiver : Life = life_of_proc (numbered (λ (p : Proc). p.pid) to k.processes) in
+    let kept : (n : ℕ) (q : Proc) → numbered (λ (x : Proc). x.pid) n k.processes ≡ Some q → lives k.processes n ≡ true → has_life q.life ≡ true = λ n q e l. sym (ap lives_in e) ∙ l in
+    let same : (n : ℕ) → lives (pass_step k from to).processes n ≡ lives k.processes n = λ n. lives_map (passed_life sid from to receiver) k.processes n (λ q e.
+    passed_alive sid from to receiver q
+    (λ h. kept n q e (ap (lives k.processes) (sym (proc_number k.processes n q e) ∙ h) ∙ a))
+    (λ h. kept n q e (ap (lives k.processes) (sym (proc_number k.processes n q e) ∙ h) ∙ b))) in
+    same n
 
 -- Where the giver and the receiver live, a space may pass.
 pub pass_sound : (size : ℕ) (k : Kernel) (from to : ℕ) → lives k.processes from ≡ true → lives k.processes to ≡ true → Sound size k
     → Sound size (pass_step k from to)
-pass_sound size k from to a b s = record {
-  owner = alive_owner size (lives k.processes) (lives (pass_step k from to).processes) k.place k.holdings same s.owner;
-  tokens = s.tokens;
-  hands = s.hands;
-  few_transfers = s.few_transfers;
-}
-  where
-    sid : ℕ
-    sid = space_of_life (life_of_proc (numbered (λ (p : Proc). p.pid) from k.processes))
-
-    receiver : Life
-    receiver = life_of_proc (numbered (λ (p : Proc). p.pid) to k.processes)
-
-    kept : (n : ℕ) (q : Proc) → numbered (λ (x : Proc). x.pid) n k.processes ≡ Some q → lives k.processes n ≡ true → has_life q.life ≡ true
-    kept n q e l = sym (ap lives_in e) ∙ l
-
-    same : (n : ℕ) → lives (pass_step k from to).processes n ≡ lives k.processes n
-    same n = lives_map (passed_life sid from to receiver) k.processes n (λ q e.
-        passed_alive sid from to receiver q
-        (λ h. kept n q e (ap (lives k.processes) (sym (proc_number k.processes n q e) ∙ h) ∙ a))
-        (λ h. kept n q e (ap (lives k.processes) (sym (proc_number k.processes n q e) ∙ h) ∙ b)))
+pass_sound size k from to a b s =
+    let sid : ℕ = space_of_life (life_of_proc (numbered (λ (p : Proc). p.pid) from k.processes)) in
+    let receiver : Life = life_of_proc (numbered (λ (p : Proc). p.pid) to k.processes) in
+    let kept : (n : ℕ) (q : Proc) → numbered (λ (x : Proc). x.pid) n k.processes ≡ Some q → lives k.processes n ≡ true → has_life q.life ≡ true = λ n q e l. sym (ap lives_in e) ∙ l in
+    let same : (n : ℕ) → lives (pass_step k from to).processes n ≡ lives k.processes n = λ n. lives_map (passed_life sid from to receiver) k.processes n (λ q e.
+    passed_alive sid from to receiver q
+    (λ h. kept n q e (ap (lives k.processes) (sym (proc_number k.processes n q e) ∙ h) ∙ a))
+    (λ h. kept n q e (ap (lives k.processes) (sym (proc_number k.processes n q e) ∙ h) ∙ b))) in
+    record {
+      owner = alive_owner size (lives k.processes) (lives (pass_step k from to).processes) k.place k.holdings same s.owner;
+      tokens = s.tokens;
+      hands = s.hands;
+      few_transfers = s.few_transfers;
+    }

@@ -250,26 +250,19 @@ has_pushed (x ∷ ss) s w e d = go (same_page x.page w) e (has_pushed ss s w)
 exec_stands_core : (images : List NamedImage) (k : Kernel) (flat after : FlatState) (next sid number : ℕ) (borrowed : Bool) (named : NamedImage) (top : List ℕ) (ps : List Proc) (journal : List Entry)
     → k.place.due ≡ [] → Stands images k flat
     → ((n : ℕ) → is_out k.place n ≡ true → Held flat.processes n → Held after.processes n) → Stands images (exec_kernel k next sid borrowed number (Some named.image.facts) top ps journal) after
-exec_stands_core images k flat after next sid number borrowed named top ps journal due st h = record {
-  starts = λ w e. has_pushed k.starts (record { page = Stack next 0; bytes = top }) w (none_kept images k flat due st w) (λ i. due_there w i e);
-  texts = λ i. st.texts i ∙ ap (λ (n : ℕ). 1024 * n) (sym (unless_texts borrowed p1 sid i));
-  out = out_held k.place l.place flat after st.out (λ n e. let o : is_out k.place n ≡ true = ap (λ (rs : List Residence). (residence_of rs n).out) (sym g.residents) ∙ e in (o, h n o));
-}
-  where
-    l : Kernel
-    l = exec_kernel k next sid borrowed number (Some named.image.facts) top ps journal
-
-    p1 : Placement
-    p1 = enter_image k.place next number (Some named.image.facts)
-
-    g : Gone p1 l.place borrowed sid
-    g = gone_unless borrowed p1 sid
-
-    due_there : (w : Page) → Stack next 0 ≡ w → is_start (due_at l.place.due w) ≡ false → ⊥
-    due_there w i e =
-        let a : is_start (due_at l.place.due w) ≡ true = ap (λ (ds : List Due). is_start (due_at ds w)) g.due ∙ ap (λ (x : Page). is_start (due_at (Start (Stack next 0) ∷ []) x)) (sym i)
-        ∙ ap (λ (b : Bool). is_start (cond b (Some (Start (Stack next 0))) None)) (same_page_self (Stack next 0)) in
-        let z : true ≡ false = sym a ∙ e in cc
+exec_stands_core images k flat after next sid number borrowed named top ps journal due st h =
+    let l : Kernel = exec_kernel k next sid borrowed number (Some named.image.facts) top ps journal in
+    let p1 : Placement = enter_image k.place next number (Some named.image.facts) in
+    let g : Gone p1 l.place borrowed sid = gone_unless borrowed p1 sid in
+    let due_there : (w : Page) → Stack next 0 ≡ w → is_start (due_at l.place.due w) ≡ false → ⊥ = λ w i e.
+    let a : is_start (due_at l.place.due w) ≡ true = ap (λ (ds : List Due). is_start (due_at ds w)) g.due ∙ ap (λ (x : Page). is_start (due_at (Start (Stack next 0) ∷ []) x)) (sym i)
+    ∙ ap (λ (b : Bool). is_start (cond b (Some (Start (Stack next 0))) None)) (same_page_self (Stack next 0)) in
+    let z : true ≡ false = sym a ∙ e in cc in
+    record {
+      starts = λ w e. has_pushed k.starts (record { page = Stack next 0; bytes = top }) w (none_kept images k flat due st w) (λ i. due_there w i e);
+      texts = λ i. st.texts i ∙ ap (λ (n : ℕ). 1024 * n) (sym (unless_texts borrowed p1 sid i));
+      out = out_held k.place l.place flat after st.out (λ n e. let o : is_out k.place n ≡ true = ap (λ (rs : List Residence). (residence_of rs n).out) (sym g.residents) ∙ e in (o, h n o));
+    }
 
 pub exec_stands : (images : List NamedImage) (k : Kernel) (flat : FlatState) (pid : ℕ) (regs : Regs) (e : Entry) (number : ℕ) (top : List ℕ) (named : NamedImage) (q : Process) (s : Space)
     → SameTables k flat → k.place.due ≡ [] → process_of flat pid ≡ Some q → q.holding ≡ Holds s
@@ -302,6 +295,10 @@ end_stands_core : (images : List NamedImage) (k : Kernel) (flat : FlatState) (q 
     → pid ≡ q.pid → Stands images k flat
     → Stands images (end_kernel k pid sid borrowed ps journal) (ended flat (record q { regs = regs }) s status)
 end_stands_core images k flat q regs s status pid sid borrowed ps journal i st =
+    let fp : Process = record q { regs = regs; holding = Zombie status } in
+    let l : Kernel = end_kernel k pid sid borrowed ps journal in
+    let p1 : Placement = give_up_unless borrowed k.place sid in
+    let g : Gone k.place p1 borrowed sid = gone_unless borrowed k.place sid in
     subst (Stands images l) (sym (left_is (q.parent == 0) (orphaned (given_back (with_process flat fp) q.pid s) q.pid) q.pid q.parent))
     (still_out images k l flat (record flat { processes = left_flat (q.parent == 0) (orphans q.pid (returned q.pid s (replaced flat.processes fp))) q.pid q.parent }) refl g.due (unless_texts borrowed k.place sid)
     (λ n e. elim (cases_eq n pid) [
@@ -312,18 +309,6 @@ end_stands_core images k flat q regs s status pid sid borrowed ps journal i st =
             (held_orphans (returned q.pid s (replaced flat.processes fp)) q.pid n (held_returned (replaced flat.processes fp) q.pid s n (held_replaced flat.processes fp n (λ j. d (j ∙ sym i)) y))),
       )
     ]) st)
-  where
-    fp : Process
-    fp = record q { regs = regs; holding = Zombie status }
-
-    l : Kernel
-    l = end_kernel k pid sid borrowed ps journal
-
-    p1 : Placement
-    p1 = give_up_unless borrowed k.place sid
-
-    g : Gone k.place p1 borrowed sid
-    g = gone_unless borrowed k.place sid
 
 pub end_stands : (images : List NamedImage) (k : Kernel) (flat : FlatState) (pid : ℕ) (regs : Regs) (e : Entry) (status : ℕ) (q : Process) (s : Space)
     → SameTables k flat

@@ -106,15 +106,14 @@ has_blocks size lives p hs (Text image v) o there sh = elim (unshared_or (sharer
 ]
 
 needs_there : (p : Placement) (q : Page) → needs_blocks p q ≡ true → IsThere p q
-needs_there p q e = elim (le_or (number_of q) (length (slots_of p q))) [
-  | inl l ↦ l
-  | inr l ↦ absurd (let h : slot_of p q ≡ Rattle.page_model.specs.Pages.no_slot = Rattle.std.proofs.lemmas.List.get_or_past (slots_of p q) (number_of q) Rattle.page_model.specs.Pages.no_slot l in
-      let k : needs_blocks p q ≡ false = ap (λ (x : Slot). needs_blocks_by q x.state x.mark) h ∙ never q in let j : true ≡ false = sym e ∙ k in cc)
-]
+needs_there p q e =
+    let le_or : (a b : ℕ) → (a < b) ⊎ (b ≤ a) = λ a b. grind arith in
+    elim (le_or (number_of q) (length (slots_of p q))) [
+      | inl l ↦ l
+      | inr l ↦ absurd (let h : slot_of p q ≡ Rattle.page_model.specs.Pages.no_slot = Rattle.std.proofs.lemmas.List.get_or_past (slots_of p q) (number_of q) Rattle.page_model.specs.Pages.no_slot l in
+          let k : needs_blocks p q ≡ false = ap (λ (x : Slot). needs_blocks_by q x.state x.mark) h ∙ never q in let j : true ≡ false = sym e ∙ k in cc)
+    ]
   where
-    le_or : (a b : ℕ) → (a < b) ⊎ (b ≤ a)
-    le_or a b = grind arith
-
     never : (q : Page) → needs_blocks_by q Unfilled false ≡ false
     never (Data sid v) = refl
     never (Stack sid v) = refl

@@ -322,24 +322,17 @@ rest_drop_all [] p sid j = refl
 rest_drop_all (v ∷ qs) p sid j = rest_drop_all qs (drop_page p v) sid j ∙ rest_drop p v sid j
 
 pub give_up_aside : (p : Placement) (sid : ℕ) → TextAside p → CanForget p sid → TextAside (give_up p sid)
-give_up_aside p sid a c = leave_text_aside removed (image_of p sid)
+give_up_aside p sid a c =
+    let dropped : Placement = drop_all p (pages_of_space p sid) in
+    let removed : Placement = remove_space dropped sid in
+    let text : (image n : ℕ) → slot_of dropped (Text image n) ≡ slot_of p (Text image n) = λ image n.
+    drop_all_other (pages_of_space p sid) p (Text image n) (not_text sid 0 (data_count p sid) 0 (stack_count p sid) image n) in
+    let kept : TextAside dropped = text_still p dropped text (drop_all_frees (pages_of_space p sid) p) (λ image z. sym (drop_all_sharers (pages_of_space p sid) p image) ∙ z) a in
+    let was : (j n : ℕ) → sharers dropped j ≡ 0 → IsAside removed (Text j n) = λ j n z.
+    let k : IsAside dropped (Text j n) = kept j n z in record { unsaved = k.unsaved; rests = k.rests } in
+    leave_text_aside removed (image_of p sid)
     (λ j n d z. was j n (sym (removed_sharers sid (image_of p sid) j dropped.spaces (drop_all_image (pages_of_space p sid) p sid (image_of p sid) c.image) d) ∙ z))
     (λ z n. subst AtRest (sym (ap (λ (x : Slot). x.state) (text (image_of p sid) n))) (c.text_rests (sym (rest_drop_all (pages_of_space p sid) p sid (image_of p sid)) ∙ z) n))
-  where
-    dropped : Placement
-    dropped = drop_all p (pages_of_space p sid)
-
-    removed : Placement
-    removed = remove_space dropped sid
-
-    text : (image n : ℕ) → slot_of dropped (Text image n) ≡ slot_of p (Text image n)
-    text image n = drop_all_other (pages_of_space p sid) p (Text image n) (not_text sid 0 (data_count p sid) 0 (stack_count p sid) image n)
-
-    kept : TextAside dropped
-    kept = text_still p dropped text (drop_all_frees (pages_of_space p sid) p) (λ image z. sym (drop_all_sharers (pages_of_space p sid) p image) ∙ z) a
-
-    was : (j n : ℕ) → sharers dropped j ≡ 0 → IsAside removed (Text j n)
-    was j n z = let k : IsAside dropped (Text j n) = kept j n z in record { unsaved = k.unsaved; rests = k.rests }
 
 -- Changes.
 

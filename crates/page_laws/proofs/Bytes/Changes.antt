@@ -172,16 +172,11 @@ pub resize_coupled : (p : Placement) (sid d s : ℕ) (b c : Bytes) → CouplesPa
     → ((w : Page) → IsThere (resize p sid d s) w → IsThere p w → SameBytes b c w)
     → ((w : Page) → IsThere (resize p sid d s) w → length (slots_of p w) ≤ number_of w → zeros ≡ c.memory w)
     → ((image v : ℕ) → c.file (Text image v) ≡ c.memory (Text image v)) → CouplesPages (resize p sid d s) c
-resize_coupled p sid d s b c k due same new text = changed_coupled p (resize p sid d s) b c k one text (λ i v. due_none (resize p sid d s).due (Text i v) no_due)
-  where
-    dropped : Placement
-    dropped = drop_all p (dropped_pages p sid d s)
-
-    no_due : (resize p sid d s).due ≡ []
-    no_due = (drop_all_rest (dropped_pages p sid d s) p).1 ∙ due
-
-    one : (w : Page) → IsThere (resize p sid d s) w → (IsThere p w × Unmoved p (resize p sid d s) b c w) ⊎ Keeps (resize p sid d s) c w
-    one w there = elim (cut_resizes dropped sid d s w there) [
+resize_coupled p sid d s b c k due same new text =
+    let dropped : Placement = drop_all p (dropped_pages p sid d s) in
+    let no_due : (resize p sid d s).due ≡ [] = (drop_all_rest (dropped_pages p sid d s) p).1 ∙ due in
+    let one : (w : Page) → IsThere (resize p sid d s) w → (IsThere p w × Unmoved p (resize p sid d s) b c w) ⊎ Keeps (resize p sid d s) c w = λ w there.
+    elim (cut_resizes dropped sid d s w there) [
       | inl h ↦ (let was : IsThere p w = (let e = drop_all_length (dropped_pages p sid d s) p w in let l = h.0 in omega arith) in
           inl (
             was,
@@ -189,47 +184,41 @@ resize_coupled p sid d s b c k due same new text = changed_coupled p (resize p s
                 ((drop_all_rest (dropped_pages p sid d s) p).0) (due_none (resize p sid d s).due w no_due) (due_none p.due w due) (same w there was),
           ))
       | inr h ↦ inr (zero_keeps (resize p sid d s) c w h.0 h.1 (due_none (resize p sid d s).due w no_due) (new w there (let e = drop_all_length (dropped_pages p sid d s) p w in let l = h.2 in omega arith)))
-    ]
+    ] in
+    changed_coupled p (resize p sid d s) b c k one text (λ i v. due_none (resize p sid d s).due (Text i v) no_due)
 
 -- A space that goes: the pages of all others have their bytes.
 
 pub removed_there : (p : Placement) (sid : ℕ) (w : Page) → IsThere (remove_space p sid) w
     → ((v : ℕ) → w ≢ Data sid v) × ((v : ℕ) → w ≢ Stack sid v) × (slots_of (remove_space p sid) w ≡ slots_of p w)
-removed_there p sid (Data t v) there = elim (cases_eq t sid) [
-  | inl e ↦ absurd (let h : numbered space_number t (remove_space p sid).spaces ≡ None = ap (λ (x : ℕ). numbered space_number x (remove_space p sid).spaces) e ∙ removed_same sid p.spaces in let l = ap (λ (o : Option SpacePages). length (data_in o)) h in omega arith)
-  | inr n ↦ ((λ x h. n (data_sid t sid v x h)), (λ x h. absurd cc), ap data_in (removed_other sid t p.spaces n))
-]
-  where
-    data_sid : (a b x y : ℕ) → Data a x ≡ Data b y → a ≡ b
-    data_sid a b x y h = cc
-removed_there p sid (Stack t v) there = elim (cases_eq t sid) [
-  | inl e ↦ absurd (let h : numbered space_number t (remove_space p sid).spaces ≡ None = ap (λ (x : ℕ). numbered space_number x (remove_space p sid).spaces) e ∙ removed_same sid p.spaces in let l = ap (λ (o : Option SpacePages). length (stack_in o)) h in omega arith)
-  | inr n ↦ ((λ x h. absurd cc), (λ x h. n (stack_sid t sid v x h)), ap stack_in (removed_other sid t p.spaces n))
-]
-  where
-    stack_sid : (a b x y : ℕ) → Stack a x ≡ Stack b y → a ≡ b
-    stack_sid a b x y h = cc
+removed_there p sid (Data t v) there =
+    let data_sid : (a b x y : ℕ) → Data a x ≡ Data b y → a ≡ b = λ a b x y h. cc in
+    elim (cases_eq t sid) [
+      | inl e ↦ absurd (let h : numbered space_number t (remove_space p sid).spaces ≡ None = ap (λ (x : ℕ). numbered space_number x (remove_space p sid).spaces) e ∙ removed_same sid p.spaces in let l = ap (λ (o : Option SpacePages). length (data_in o)) h in omega arith)
+      | inr n ↦ ((λ x h. n (data_sid t sid v x h)), (λ x h. absurd cc), ap data_in (removed_other sid t p.spaces n))
+    ]
+removed_there p sid (Stack t v) there =
+    let stack_sid : (a b x y : ℕ) → Stack a x ≡ Stack b y → a ≡ b = λ a b x y h. cc in
+    elim (cases_eq t sid) [
+      | inl e ↦ absurd (let h : numbered space_number t (remove_space p sid).spaces ≡ None = ap (λ (x : ℕ). numbered space_number x (remove_space p sid).spaces) e ∙ removed_same sid p.spaces in let l = ap (λ (o : Option SpacePages). length (stack_in o)) h in omega arith)
+      | inr n ↦ ((λ x h. absurd cc), (λ x h. n (stack_sid t sid v x h)), ap stack_in (removed_other sid t p.spaces n))
+    ]
 removed_there p sid (Text i v) there = ((λ x h. absurd cc), (λ x h. absurd cc), refl)
 
 pub removed_coupled : (p : Placement) (sid : ℕ) (b c : Bytes) → CouplesPages p b → p.due ≡ []
     → ((w : Page) → IsThere (remove_space (drop_all p (pages_of_space p sid)) sid) w → IsThere p w → SameBytes b c w)
     → ((image v : ℕ) → c.file (Text image v) ≡ c.memory (Text image v)) → CouplesPages (remove_space (drop_all p (pages_of_space p sid)) sid) c
-removed_coupled p sid b c k due same text = changed_coupled p (remove_space dropped sid) b c k one text (λ i v. due_none (remove_space dropped sid).due (Text i v) no_due)
-  where
-    dropped : Placement
-    dropped = drop_all p (pages_of_space p sid)
-
-    no_due : (remove_space dropped sid).due ≡ []
-    no_due = (drop_all_rest (pages_of_space p sid) p).1 ∙ due
-
-    one : (w : Page) → IsThere (remove_space dropped sid) w → (IsThere p w × Unmoved p (remove_space dropped sid) b c w) ⊎ Keeps (remove_space dropped sid) c w
-    one w there =
-        let r = removed_there dropped sid w there in
-        let was : IsThere p w = (let e = drop_all_length (pages_of_space p sid) p w in let h = ap length r.2 in omega arith) in
-        inl (
-          was,
-          still_unmoved p (remove_space dropped sid) b c w
-              (ap (λ (xs : List Slot). get_or xs (number_of w) no_slot) r.2 ∙ drop_all_other (pages_of_space p sid) p w (each_page_append (λ x. w ≢ x) (data_from sid 0 (data_count p sid)) (stack_from sid 0 (stack_count p sid))
-              (apart_data sid 0 (data_count p sid) w (λ v l. r.0 v)) (apart_stack sid 0 (stack_count p sid) w (λ v l. r.1 v))))
-              ((drop_all_rest (pages_of_space p sid) p).0) (due_none (remove_space dropped sid).due w no_due) (due_none p.due w due) (same w there was),
-        )
+removed_coupled p sid b c k due same text =
+    let dropped : Placement = drop_all p (pages_of_space p sid) in
+    let no_due : (remove_space dropped sid).due ≡ [] = (drop_all_rest (pages_of_space p sid) p).1 ∙ due in
+    let one : (w : Page) → IsThere (remove_space dropped sid) w → (IsThere p w × Unmoved p (remove_space dropped sid) b c w) ⊎ Keeps (remove_space dropped sid) c w = λ w there.
+    let r = removed_there dropped sid w there in
+    let was : IsThere p w = (let e = drop_all_length (pages_of_space p sid) p w in let h = ap length r.2 in omega arith) in
+    inl (
+      was,
+      still_unmoved p (remove_space dropped sid) b c w
+          (ap (λ (xs : List Slot). get_or xs (number_of w) no_slot) r.2 ∙ drop_all_other (pages_of_space p sid) p w (each_page_append (λ x. w ≢ x) (data_from sid 0 (data_count p sid)) (stack_from sid 0 (stack_count p sid))
+          (apart_data sid 0 (data_count p sid) w (λ v l. r.0 v)) (apart_stack sid 0 (stack_count p sid) w (λ v l. r.1 v))))
+          ((drop_all_rest (pages_of_space p sid) p).0) (due_none (remove_space dropped sid).due w no_due) (due_none p.due w due) (same w there was),
+    ) in
+    changed_coupled p (remove_space dropped sid) b c k one text (λ i v. due_none (remove_space dropped sid).due (Text i v) no_due)

@@ -228,13 +228,12 @@ named_in p test q f (x ∷ ms) o t h m l = elim (cases_eq x.frame f) [
 flight_named : (p : Placement) (test : Page → Bool) (q : Page) (f : ℕ) → OwnsFrames p → test q ≡ true → frame_of (state_of p q) ≡ Some f
     → seats 0 (state_of p q) ≡ 0 → (state_of p q ≡ Invalid f → ⊥)
     → names_page test (parts_of p.transfers) ≡ true
-flight_named p test q f o t e z n = named_in p test q f (parts_of p.transfers) o t (o.names q f e) o.moves (elim (zero_or (times f p.free)) [
-  | inl y ↦ (let a = once_at p q f o e in let b : seats (times f p.free) (state_of p q) ≡ 0 = ap (λ (k : ℕ). seats k (state_of p q)) y ∙ z in omega arith)
-  | inr y ↦ absurd (n (let k : IsListed p f q = o.listed f q y (o.names q f e) in k.state))
-])
-  where
-    zero_or : (m : ℕ) → (m ≡ 0) ⊎ (0 < m)
-    zero_or m = grind arith
+flight_named p test q f o t e z n =
+    let zero_or : (m : ℕ) → (m ≡ 0) ⊎ (0 < m) = λ m. grind arith in
+    named_in p test q f (parts_of p.transfers) o t (o.names q f e) o.moves (elim (zero_or (times f p.free)) [
+      | inl y ↦ (let a = once_at p q f o e in let b : seats (times f p.free) (state_of p q) ≡ 0 = ap (λ (k : ℕ). seats k (state_of p q)) y ∙ z in omega arith)
+      | inr y ↦ absurd (n (let k : IsListed p f q = o.listed f q y (o.names q f e) in k.state))
+    ])
 
 pub unnamed_rests : (p : Placement) (test : Page → Bool) (q : Page) → OwnsFrames p → test q ≡ true → names_page test (parts_of p.transfers) ≡ false
     → AtRest (state_of p q)

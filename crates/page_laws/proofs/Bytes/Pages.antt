@@ -133,32 +133,15 @@ writable_dirty _ w = refl
 pub filled_coupled : (p : Placement) (v : Page) (f : ℕ) (rest : List ℕ) (b : Bytes) (bytes : List ℕ) → OwnsFrames p → CanEnter p v → p.free ≡ f ∷ rest
     → length b.frames ≡ length p.holds → IsWritable v
     → bytes ≡ b.memory v → CouplesPages p b → CouplesPages (filled p v) (with_frame b f bytes)
-filled_coupled p v f rest b bytes o c fr tokens w is k = subst (λ (q : Placement). CouplesPages q (with_frame b f bytes)) (sym (ap (λ (l : List ℕ). record (fill_at p v l) { due = due_after p.due v }) fr))
-    (local_coupled (evict p f) q v f b (with_frame b f bytes) (evict_owner p f o some) l sd (evict_coupled p f b o some k)
-    (λ _. subst (KeepsBy q (with_frame b f bytes) v) (sym (put_state (evict p f) v (Valid f) true t.page_in))
-    (record {
-      here = at_set_same b.frames f bytes [] (o.frames f some).0 (let h = (o.frames f some).1 in omega arith) ∙ is;
-      there = λ h. absurd (let j : is_dirty q v ≡ true = ap (is_dirty_by v) (put_mark (evict p f) v (Valid f) true t.page_in) ∙ writable_dirty v w in let i : true ≡ false = sym j ∙ h in cc);
-    })))
-  where
-    some : 0 < times f p.free
-    some = some_free p f rest fr
-
-    t : Enters (evict p f) v f (Valid f) true p.transfers
-    t = fill_enters p v f rest o c fr
-
-    r : EvictRest p (evict p f)
-    r = evict_rest p f
-
-    q : Placement
-    q = record (enter (evict p f) v f (Valid f) true p.transfers) { due = due_after p.due v }
-
-    l : Local (evict p f) q v f
-    l = let x : Local (evict p f) (enter (evict p f) v f (Valid f) true p.transfers) v f = enter_local (evict p f) v f (Valid f) true p.transfers (evict_owner p f o some) t in
-        record { sizes = x.sizes; frames = x.frames; frame_in = x.frame_in; other_slots = x.other_slots; other_pages = x.other_pages; other_free = x.other_free; other_flying = x.other_flying; old_frame = x.old_frame; old_page = x.old_page }
-
-    sd : Beside (evict p f) q v f b (with_frame b f bytes)
-    sd = record {
+filled_coupled p v f rest b bytes o c fr tokens w is k =
+    let some : 0 < times f p.free = some_free p f rest fr in
+    let t : Enters (evict p f) v f (Valid f) true p.transfers = fill_enters p v f rest o c fr in
+    let r : EvictRest p (evict p f) = evict_rest p f in
+    let q : Placement = record (enter (evict p f) v f (Valid f) true p.transfers) { due = due_after p.due v } in
+    let l : Local (evict p f) q v f =
+    let x : Local (evict p f) (enter (evict p f) v f (Valid f) true p.transfers) v f = enter_local (evict p f) v f (Valid f) true p.transfers (evict_owner p f o some) t in
+    record { sizes = x.sizes; frames = x.frames; frame_in = x.frame_in; other_slots = x.other_slots; other_pages = x.other_pages; other_free = x.other_free; other_flying = x.other_flying; old_frame = x.old_frame; old_page = x.old_page } in
+    let sd : Beside (evict p f) q v f b (with_frame b f bytes) = record {
       frames = λ g n. at_set_other b.frames f g bytes [] n;
       swap = λ x n. refl;
       file = λ x. refl;
@@ -169,7 +152,14 @@ filled_coupled p v f rest b bytes o c fr tokens w is k = subst (λ (q : Placemen
       due = λ x n. due_other p.due v x n ∙ ap (λ (ds : List Due). due_at ds x) (sym r.due);
       text_due = λ i n h. due_text p.due v (Text i n) (ap (λ (ds : List Due). due_at ds (Text i n)) (sym r.due) ∙ h);
       errands = λ g n. ap (λ (ts : List Transfer). errand_at (parts_of ts) g) (sym r.transfers);
-    }
+    } in
+    subst (λ (q : Placement). CouplesPages q (with_frame b f bytes)) (sym (ap (λ (l : List ℕ). record (fill_at p v l) { due = due_after p.due v }) fr))
+    (local_coupled (evict p f) q v f b (with_frame b f bytes) (evict_owner p f o some) l sd (evict_coupled p f b o some k)
+    (λ _. subst (KeepsBy q (with_frame b f bytes) v) (sym (put_state (evict p f) v (Valid f) true t.page_in))
+    (record {
+      here = at_set_same b.frames f bytes [] (o.frames f some).0 (let h = (o.frames f some).1 in omega arith) ∙ is;
+      there = λ h. absurd (let j : is_dirty q v ≡ true = ap (is_dirty_by v) (put_mark (evict p f) v (Valid f) true t.page_in) ∙ writable_dirty v w in let i : true ≡ false = sym j ∙ h in cc);
+    })))
 
 from_file : (v : Page) (m : Bool) (demanded : Page) → IsUnsaved v m → (IsWritable v → v ≡ demanded) → IsFromFile v m demanded
 from_file (Text image n) m demanded u h = u
@@ -189,28 +179,19 @@ get_coupled p source demanded v b o c latest h k = go p.free refl
   where
     go : (fr : List ℕ) → p.free ≡ fr → CouplesPages (get_at p (Reads source demanded) v fr) b
     go [] e = k
-    go (f ∷ rest) e = local_coupled (evict p f) q v f b b (evict_owner p f o some) (enter_local (evict p f) v f (Coming f) (mark_of p v) (join_last p.transfers (Reads source demanded) x) (evict_owner p f o some) t)
+    go (f ∷ rest) e =
+        let x : Part = record { page = v; frame = f } in
+        let some : 0 < times f p.free = some_free p f rest e in
+        let t : Enters (evict p f) v f (Coming f) (mark_of p v) (join_last p.transfers (Reads source demanded) x) = get_enters p (Reads source demanded) v f rest o c latest refl e in
+        let r : EvictRest p (evict p f) = evict_rest p f in
+        let q : Placement = enter (evict p f) v f (Coming f) (mark_of p v) (join_last p.transfers (Reads source demanded) x) in
+        local_coupled (evict p f) q v f b b (evict_owner p f o some) (enter_local (evict p f) v f (Coming f) (mark_of p v) (join_last p.transfers (Reads source demanded) x) (evict_owner p f o some) t)
         (beside_still (evict p f) q v f b refl (λ g n. ap (λ (ms : List Moving). errand_at ms g) (parts_join p.transfers (Reads source demanded) x latest) ∙ errand_push_other (parts_of p.transfers) (moving (Reads source demanded) x) g n ∙ ap (λ (ts : List Transfer). errand_at (parts_of ts) g) (sym r.transfers)))
         (evict_coupled p f b o some k)
         (λ _. subst (KeepsBy q b v) (sym (put_state (evict p f) v (Coming f) (mark_of p v) t.page_in))
         (subst (λ (m : Bool). KeepsComing b v m (errand_at (parts_of q.transfers) f)) (sym (put_mark (evict p f) v (Coming f) (mark_of p v) t.page_in))
         (subst (KeepsComing b v (mark_of p v)) (sym (ap (λ (ms : List Moving). errand_at ms f) (parts_join p.transfers (Reads source demanded) x latest) ∙ errand_push_same (parts_of p.transfers) (moving (Reads source demanded) x) (none_flying p f o some)))
         (coming_keeps p b source demanded v k c.there h))))
-      where
-        x : Part
-        x = record { page = v; frame = f }
-
-        some : 0 < times f p.free
-        some = some_free p f rest e
-
-        t : Enters (evict p f) v f (Coming f) (mark_of p v) (join_last p.transfers (Reads source demanded) x)
-        t = get_enters p (Reads source demanded) v f rest o c latest refl e
-
-        r : EvictRest p (evict p f)
-        r = evict_rest p f
-
-        q : Placement
-        q = enter (evict p f) v f (Coming f) (mark_of p v) (join_last p.transfers (Reads source demanded) x)
 
 -- Moving on in a frame.
 
@@ -265,19 +246,17 @@ saved_there b _ m h = tt
 
 pub launch_coupled : (p : Placement) (v : Page) (f : ℕ) (b : Bytes) → OwnsFrames p → IsSeated p v f → IsOpen p.transfers Writes → CouplesPages p b
     → CouplesPages (launch p v) b
-launch_coupled p v f b o c latest k = elim c.state [
-  | inl e ↦ subst (λ (s : PageState). CouplesPages (launch_to p v s) b) (sym e) there
-  | inr e ↦ subst (λ (s : PageState). CouplesPages (launch_to p v s) b) (sym e.0) there
-]
-  where
-    x : Part
-    x = record { page = v; frame = f }
-
-    there : CouplesPages (turn p v (Going f) (mark_of p v) p.free (join_last p.transfers Writes x)) b
-    there = turn_coupled p v f (Going f) (mark_of p v) p.free (join_last p.transfers Writes x) b b o (launch_turns p v f o c latest)
-        (beside_still p (turn p v (Going f) (mark_of p v) p.free (join_last p.transfers Writes x)) v f b refl (λ g n. ap (λ (ms : List Moving). errand_at ms g) (parts_join p.transfers Writes x latest) ∙ errand_push_other (parts_of p.transfers) (moving Writes x) g n))
-        k (let i : IsInFrame b (is_dirty p v) f v = seated_keeps p b v f k c in
-        (i.here, subst (IfSaved b v) (sym (put_mark p v (Going f) (mark_of p v) (seated_there p v f c))) (saved_there b v (mark_of p v) i.there)))
+launch_coupled p v f b o c latest k =
+    let x : Part = record { page = v; frame = f } in
+    let there : CouplesPages (turn p v (Going f) (mark_of p v) p.free (join_last p.transfers Writes x)) b =
+    turn_coupled p v f (Going f) (mark_of p v) p.free (join_last p.transfers Writes x) b b o (launch_turns p v f o c latest)
+    (beside_still p (turn p v (Going f) (mark_of p v) p.free (join_last p.transfers Writes x)) v f b refl (λ g n. ap (λ (ms : List Moving). errand_at ms g) (parts_join p.transfers Writes x latest) ∙ errand_push_other (parts_of p.transfers) (moving Writes x) g n))
+    k (let i : IsInFrame b (is_dirty p v) f v = seated_keeps p b v f k c in
+    (i.here, subst (IfSaved b v) (sym (put_mark p v (Going f) (mark_of p v) (seated_there p v f c))) (saved_there b v (mark_of p v) i.there))) in
+    elim c.state [
+      | inl e ↦ subst (λ (s : PageState). CouplesPages (launch_to p v s) b) (sym e) there
+      | inr e ↦ subst (λ (s : PageState). CouplesPages (launch_to p v s) b) (sym e.0) there
+    ]
 
 pub retire_coupled : (p : Placement) (v : Page) (f : ℕ) (b : Bytes) → OwnsFrames p → IsSeated p v f → is_marked_dirty v (mark_of p v) ≡ false
     → CouplesPages p b → CouplesPages (retire p v) b
@@ -303,7 +282,11 @@ landing_errand p e x rest l = ap (λ (ms : List Moving). errand_at ms x.frame) l
 -- A page that was written: its blocks have the bytes of its frame.
 pub land_write_coupled : (p : Placement) (x : Part) (rest : List Transfer) (b c : Bytes) → OwnsFrames p → Landing p Writes x rest
     → Stores b c x.page (bytes_in b x.frame) → CouplesPages p b → CouplesPages (land p Writes x rest) c
-land_write_coupled p x rest b c o l st k = turn_coupled p x.page x.frame (Invalid x.frame) (written_mark x.page) (p.free ++ x.frame ∷ []) rest b c o (tail_turns p Writes x rest (written_mark x.page) o l (written_clean x.page))
+land_write_coupled p x rest b c o l st k =
+    let there : IsThere p x.page = page_in p x.page x.frame (landing_frame p Writes x rest o l) in
+    let was : bytes_in b x.frame ≡ b.memory x.page =
+    let g : (bytes_in b x.frame ≡ b.memory x.page) × IfSaved b x.page (mark_of p x.page) = keeps_at p b x.page (Going x.frame) k there (landing_state p Writes x rest o l) in g.0 in
+    turn_coupled p x.page x.frame (Invalid x.frame) (written_mark x.page) (p.free ++ x.frame ∷ []) rest b c o (tail_turns p Writes x rest (written_mark x.page) o l (written_clean x.page))
     (record {
       frames = λ g n. ap (λ (fs : List (List ℕ)). at_frame fs g []) st.frames;
       swap = st.others;
@@ -318,12 +301,6 @@ land_write_coupled p x rest b c o l st k = turn_coupled p x.page x.frame (Invali
     }) k
     (marked p x.page x.frame (Invalid x.frame) (written_mark x.page) (p.free ++ x.frame ∷ []) rest c there
     (record { here = ap (λ (fs : List (List ℕ)). at_frame fs x.frame []) st.frames ∙ was ∙ sym (st.memory x.page); there = λ h. st.own ∙ was ∙ sym (st.memory x.page) }))
-  where
-    there : IsThere p x.page
-    there = page_in p x.page x.frame (landing_frame p Writes x rest o l)
-
-    was : bytes_in b x.frame ≡ b.memory x.page
-    was = let g : (bytes_in b x.frame ≡ b.memory x.page) × IfSaved b x.page (mark_of p x.page) = keeps_at p b x.page (Going x.frame) k there (landing_state p Writes x rest o l) in g.0
 
 came : (b : Bytes) (source : Source) (demanded v : Page) (m : Bool) → KeepsComing b v m (Some (Reads source demanded)) → source_bytes b source v ≡ b.memory v
 came b FromSwap demanded v m k = k

@@ -30,29 +30,28 @@ use Rattle.page_laws.proofs.Bytes.Changes.{still_unmoved, changed_coupled, due_n
 -- Text that nobody shares.
 
 forgotten_coupled : (p : Placement) (image n : ℕ) (b : Bytes) → CouplesPages p b → CouplesPages (put p (Text image n) Unfilled false) b
-forgotten_coupled p image n b k = changed_coupled p (put p (Text image n) Unfilled false) b b k one k.text k.text_due
-  where
-    one : (w : Page) → IsThere (put p (Text image n) Unfilled false) w → (IsThere p w × Unmoved p (put p (Text image n) Unfilled false) b b w) ⊎ Keeps (put p (Text image n) Unfilled false) b w
-    one w there =
-        let was : IsThere p w = (let h = put_length p (Text image n) Unfilled false w in omega arith) in
-        elim (page_cases w (Text image n)) [
-          | inl e ↦ inr (subst (Keeps (put p (Text image n) Unfilled false) b) (sym e)
-              (subst (KeepsBy (put p (Text image n) Unfilled false) b (Text image n)) (sym (put_state p (Text image n) Unfilled false (subst (IsThere p) e was)))
-              (subst (λ (d : Option Due). KeepsUnfilled b (Text image n) d OfImage) (sym (k.text_due image n)) (k.text image n), put_mark p (Text image n) Unfilled false (subst (IsThere p) e was))))
-          | inr d ↦ inl (
-            was,
-            record {
-              slot = put_other p (Text image n) Unfilled false w d;
-              due = refl;
-              frames = λ g h. (refl, refl);
-              swap = refl;
-              file = refl;
-              start = refl;
-              memory = refl;
-              copied = inl (λ x. refl);
-            },
-          )
-        ]
+forgotten_coupled p image n b k =
+    let one : (w : Page) → IsThere (put p (Text image n) Unfilled false) w → (IsThere p w × Unmoved p (put p (Text image n) Unfilled false) b b w) ⊎ Keeps (put p (Text image n) Unfilled false) b w = λ w there.
+    let was : IsThere p w = (let h = put_length p (Text image n) Unfilled false w in omega arith) in
+    elim (page_cases w (Text image n)) [
+      | inl e ↦ inr (subst (Keeps (put p (Text image n) Unfilled false) b) (sym e)
+          (subst (KeepsBy (put p (Text image n) Unfilled false) b (Text image n)) (sym (put_state p (Text image n) Unfilled false (subst (IsThere p) e was)))
+          (subst (λ (d : Option Due). KeepsUnfilled b (Text image n) d OfImage) (sym (k.text_due image n)) (k.text image n), put_mark p (Text image n) Unfilled false (subst (IsThere p) e was))))
+      | inr d ↦ inl (
+        was,
+        record {
+          slot = put_other p (Text image n) Unfilled false w d;
+          due = refl;
+          frames = λ g h. (refl, refl);
+          swap = refl;
+          file = refl;
+          start = refl;
+          memory = refl;
+          copied = inl (λ x. refl);
+        },
+      )
+    ] in
+    changed_coupled p (put p (Text image n) Unfilled false) b b k one k.text k.text_due
 
 leave_page_coupled : (p : Placement) (image n : ℕ) (b : Bytes) → OwnsFrames p → CouplesPages p b → CouplesPages (leave_page p (Text image n)) b
 leave_page_coupled p image n b o k = go (state_of p (Text image n)) (listed p (Text image n)) refl refl
@@ -267,52 +266,42 @@ pub fork_coupled : (p : Placement) (parent child : ℕ) (b c : Bytes) → Couple
     → ((w : Page) → IsThere p w → SameBytes b c w)
     → ((v : ℕ) → Copies b c (Data child v) (Data parent v)) → ((v : ℕ) → Copies b c (Stack child v) (Stack parent v))
     → ((image v : ℕ) → c.file (Text image v) ≡ c.memory (Text image v)) → CouplesPages (fork_space p parent child) c
-fork_coupled p parent child b c k new none same datas stacks text = added_coupled p x (q.due) b c k new none
+fork_coupled p parent child b c k new none same datas stacks text =
+    let q : Placement = fork_space p parent child in
+    let x : SpacePages =
+    record { sid = child; image = image_of p parent; data_pages = map child_slot (slots_of p (Data parent 0)); stack_pages = map child_slot (slots_of p (Stack parent 0)) } in
+    let ds : List Due = copies_from (Data child) (Data parent) 0 (slots_of p (Data parent 0)) in
+    let ss : List Due = copies_from (Stack child) (Stack parent) 0 (slots_of p (Stack parent 0)) in
+    let data_keeps : (v : ℕ) → v < length x.data_pages → Keeps q c (Data child v) = λ v l.
+    let within : v < length (slots_of p (Data parent 0)) = (let h = map_length (slots_of p (Data parent 0)) in omega arith) in
+    let slot : slot_of q (Data child v) ≡ child_slot (slot_of p (Data parent v)) = ap (λ (o : Option SpacePages). get_or (data_in o) v no_slot) (added_same child p.spaces x refl new) ∙ map_at (slots_of p (Data parent 0)) v within in
+    let due : due_at q.due (Data child v) ≡ DueOf (Data child v) (Data parent v) (state_of p (Data parent v)) =
+    due_first ds ss (Data child v) (copies_apart (Stack child) (Stack parent) (Data child v) (λ n e. absurd cc) 0 (slots_of p (Stack parent 0))) ∙ copies_start (Data child) (Data parent) (data_numbers child) (slots_of p (Data parent 0)) v within in
+    subst (KeepsBy q c (Data child v)) (sym (ap (λ (y : Slot). y.state) slot ∙ child_state (slot_of p (Data parent v)) (state_of p (Data parent v)))) (
+      subst (λ (o : Option Due). KeepsUnfilled c (Data child v) o (filling_of q (Data child v))) (sym due)
+          (subst (KeepsUnfilled c (Data child v) (DueOf (Data child v) (Data parent v) (state_of p (Data parent v)))) (sym (ap (λ (y : Slot). y.filling) slot))
+          (child_keeps b c (Data child v) (Data parent v) (slot_of p (Data parent v)) (state_of p (Data parent v)) (datas v) (let z : SameBytes b c (Data parent v) = same (Data parent v) within in z.memory)
+          (λ e. let y : KeepsUnfilled b (Data parent v) (due_at p.due (Data parent v)) (filling_of p (Data parent v)) × Unit {0} = keeps_at p b (Data parent v) Unfilled k within e in
+          subst (λ (o : Option Due). KeepsUnfilled b (Data parent v) o (filling_of p (Data parent v))) (due_none p.due (Data parent v) none) y.0))),
+      tt,
+    ) in
+    let stack_keeps : (v : ℕ) → v < length x.stack_pages → Keeps q c (Stack child v) = λ v l.
+    let within : v < length (slots_of p (Stack parent 0)) = (let h = map_length (slots_of p (Stack parent 0)) in omega arith) in
+    let slot : slot_of q (Stack child v) ≡ child_slot (slot_of p (Stack parent v)) = ap (λ (o : Option SpacePages). get_or (stack_in o) v no_slot) (added_same child p.spaces x refl new) ∙ map_at (slots_of p (Stack parent 0)) v within in
+    let due : due_at q.due (Stack child v) ≡ DueOf (Stack child v) (Stack parent v) (state_of p (Stack parent v)) =
+    due_skip ds ss (Stack child v) (copies_apart (Data child) (Data parent) (Stack child v) (λ n e. absurd cc) 0 (slots_of p (Data parent 0))) ∙ copies_start (Stack child) (Stack parent) (stack_numbers child) (slots_of p (Stack parent 0)) v within in
+    subst (KeepsBy q c (Stack child v)) (sym (ap (λ (y : Slot). y.state) slot ∙ child_state (slot_of p (Stack parent v)) (state_of p (Stack parent v)))) (
+      subst (λ (o : Option Due). KeepsUnfilled c (Stack child v) o (filling_of q (Stack child v))) (sym due)
+          (subst (KeepsUnfilled c (Stack child v) (DueOf (Stack child v) (Stack parent v) (state_of p (Stack parent v)))) (sym (ap (λ (y : Slot). y.filling) slot))
+          (child_keeps b c (Stack child v) (Stack parent v) (slot_of p (Stack parent v)) (state_of p (Stack parent v)) (stacks v) (let z : SameBytes b c (Stack parent v) = same (Stack parent v) within in z.memory)
+          (λ e. let y : KeepsUnfilled b (Stack parent v) (due_at p.due (Stack parent v)) (filling_of p (Stack parent v)) × Unit {0} = keeps_at p b (Stack parent v) Unfilled k within e in
+          subst (λ (o : Option Due). KeepsUnfilled b (Stack parent v) o (filling_of p (Stack parent v))) (due_none p.due (Stack parent v) none) y.0))),
+      tt,
+    ) in
+    added_coupled p x (q.due) b c k new none
     (λ w there. let n = not_new p child w new there in (same w there, due_both ds ss w (copies_apart (Data child) (Data parent) w n.0 0 (slots_of p (Data parent 0))) (copies_apart (Stack child) (Stack parent) w n.1 0 (slots_of p (Stack parent 0)))))
     data_keeps stack_keeps text
     (λ i v. due_both ds ss (Text i v) (copies_apart (Data child) (Data parent) (Text i v) (λ n e. absurd cc) 0 (slots_of p (Data parent 0))) (copies_apart (Stack child) (Stack parent) (Text i v) (λ n e. absurd cc) 0 (slots_of p (Stack parent 0))))
-  where
-    q : Placement
-    q = fork_space p parent child
-
-    x : SpacePages
-    x = record { sid = child; image = image_of p parent; data_pages = map child_slot (slots_of p (Data parent 0)); stack_pages = map child_slot (slots_of p (Stack parent 0)) }
-
-    ds : List Due
-    ds = copies_from (Data child) (Data parent) 0 (slots_of p (Data parent 0))
-
-    ss : List Due
-    ss = copies_from (Stack child) (Stack parent) 0 (slots_of p (Stack parent 0))
-
-    data_keeps : (v : ℕ) → v < length x.data_pages → Keeps q c (Data child v)
-    data_keeps v l =
-        let within : v < length (slots_of p (Data parent 0)) = (let h = map_length (slots_of p (Data parent 0)) in omega arith) in
-        let slot : slot_of q (Data child v) ≡ child_slot (slot_of p (Data parent v)) = ap (λ (o : Option SpacePages). get_or (data_in o) v no_slot) (added_same child p.spaces x refl new) ∙ map_at (slots_of p (Data parent 0)) v within in
-        let due : due_at q.due (Data child v) ≡ DueOf (Data child v) (Data parent v) (state_of p (Data parent v)) =
-        due_first ds ss (Data child v) (copies_apart (Stack child) (Stack parent) (Data child v) (λ n e. absurd cc) 0 (slots_of p (Stack parent 0))) ∙ copies_start (Data child) (Data parent) (data_numbers child) (slots_of p (Data parent 0)) v within in
-        subst (KeepsBy q c (Data child v)) (sym (ap (λ (y : Slot). y.state) slot ∙ child_state (slot_of p (Data parent v)) (state_of p (Data parent v)))) (
-          subst (λ (o : Option Due). KeepsUnfilled c (Data child v) o (filling_of q (Data child v))) (sym due)
-              (subst (KeepsUnfilled c (Data child v) (DueOf (Data child v) (Data parent v) (state_of p (Data parent v)))) (sym (ap (λ (y : Slot). y.filling) slot))
-              (child_keeps b c (Data child v) (Data parent v) (slot_of p (Data parent v)) (state_of p (Data parent v)) (datas v) (let z : SameBytes b c (Data parent v) = same (Data parent v) within in z.memory)
-              (λ e. let y : KeepsUnfilled b (Data parent v) (due_at p.due (Data parent v)) (filling_of p (Data parent v)) × Unit {0} = keeps_at p b (Data parent v) Unfilled k within e in
-              subst (λ (o : Option Due). KeepsUnfilled b (Data parent v) o (filling_of p (Data parent v))) (due_none p.due (Data parent v) none) y.0))),
-          tt,
-        )
-
-    stack_keeps : (v : ℕ) → v < length x.stack_pages → Keeps q c (Stack child v)
-    stack_keeps v l =
-        let within : v < length (slots_of p (Stack parent 0)) = (let h = map_length (slots_of p (Stack parent 0)) in omega arith) in
-        let slot : slot_of q (Stack child v) ≡ child_slot (slot_of p (Stack parent v)) = ap (λ (o : Option SpacePages). get_or (stack_in o) v no_slot) (added_same child p.spaces x refl new) ∙ map_at (slots_of p (Stack parent 0)) v within in
-        let due : due_at q.due (Stack child v) ≡ DueOf (Stack child v) (Stack parent v) (state_of p (Stack parent v)) =
-        due_skip ds ss (Stack child v) (copies_apart (Data child) (Data parent) (Stack child v) (λ n e. absurd cc) 0 (slots_of p (Data parent 0))) ∙ copies_start (Stack child) (Stack parent) (stack_numbers child) (slots_of p (Stack parent 0)) v within in
-        subst (KeepsBy q c (Stack child v)) (sym (ap (λ (y : Slot). y.state) slot ∙ child_state (slot_of p (Stack parent v)) (state_of p (Stack parent v)))) (
-          subst (λ (o : Option Due). KeepsUnfilled c (Stack child v) o (filling_of q (Stack child v))) (sym due)
-              (subst (KeepsUnfilled c (Stack child v) (DueOf (Stack child v) (Stack parent v) (state_of p (Stack parent v)))) (sym (ap (λ (y : Slot). y.filling) slot))
-              (child_keeps b c (Stack child v) (Stack parent v) (slot_of p (Stack parent v)) (state_of p (Stack parent v)) (stacks v) (let z : SameBytes b c (Stack parent v) = same (Stack parent v) within in z.memory)
-              (λ e. let y : KeepsUnfilled b (Stack parent v) (due_at p.due (Stack parent v)) (filling_of p (Stack parent v)) × Unit {0} = keeps_at p b (Stack parent v) Unfilled k within e in
-              subst (λ (o : Option Due). KeepsUnfilled b (Stack parent v) o (filling_of p (Stack parent v))) (due_none p.due (Stack parent v) none) y.0))),
-          tt,
-        )
 
 -- A new image.
 
@@ -336,24 +325,23 @@ pub enter_coupled : (p : Placement) (sid image : ℕ) (facts : Image) (b c : Byt
     → ((w : Page) → IsThere p w → SameBytes b c w)
     → ((v : ℕ) → v < data_pages_of facts → FillsBy c (Data sid v) (data_filling facts v)) → c.start (Stack sid 0) ≡ c.memory (Stack sid 0)
     → ((i v : ℕ) → c.file (Text i v) ≡ c.memory (Text i v)) → CouplesPages (enter_space p sid image facts) c
-enter_coupled p sid image facts b c k new none same datas start text = added_coupled p (new_pages sid image facts) (Start (Stack sid 0) ∷ []) b c k new none
+enter_coupled p sid image facts b c k new none same datas start text =
+    let data_keeps : (v : ℕ) → v < length (new_pages sid image facts).data_pages → Keeps q c (Data sid v) = λ v l.
+    let within : v < data_pages_of facts = (let h = unfilled_length facts 0 (data_pages_of facts) in omega arith) in
+    let zero_plus : 0 + v ≡ v = omega arith in
+    let slot : slot_of q (Data sid v) ≡ unfilled (data_filling facts v) = ap (λ (o : Option SpacePages). get_or (data_in o) v no_slot) (added_same sid p.spaces (new_pages sid image facts) refl new)
+    ∙ unfilled_at facts 0 (data_pages_of facts) v within ∙ ap (λ (w : ℕ). unfilled (data_filling facts w)) zero_plus in
+    subst (KeepsBy q c (Data sid v)) (sym (ap (λ (y : Slot). y.state) slot)) (
+      subst (λ (o : Option Due). KeepsUnfilled c (Data sid v) o (filling_of q (Data sid v))) (sym (start_other sid (Data sid v) (λ e. absurd cc)))
+          (subst (KeepsUnfilled c (Data sid v) None) (sym (ap (λ (y : Slot). y.filling) slot)) (fills_keeps c (Data sid v) (data_filling facts v) (datas v within))),
+      tt,
+    ) in
+    added_coupled p (new_pages sid image facts) (Start (Stack sid 0) ∷ []) b c k new none
     (λ w there. let n = not_new p sid w new there in (same w there, start_other sid w (n.1 0)))
     data_keeps stack_keeps text (λ i v. start_other sid (Text i v) (λ e. absurd cc))
   where
     q : Placement
     q = enter_space p sid image facts
-
-    data_keeps : (v : ℕ) → v < length (new_pages sid image facts).data_pages → Keeps q c (Data sid v)
-    data_keeps v l =
-        let within : v < data_pages_of facts = (let h = unfilled_length facts 0 (data_pages_of facts) in omega arith) in
-        let zero_plus : 0 + v ≡ v = omega arith in
-        let slot : slot_of q (Data sid v) ≡ unfilled (data_filling facts v) = ap (λ (o : Option SpacePages). get_or (data_in o) v no_slot) (added_same sid p.spaces (new_pages sid image facts) refl new)
-        ∙ unfilled_at facts 0 (data_pages_of facts) v within ∙ ap (λ (w : ℕ). unfilled (data_filling facts w)) zero_plus in
-        subst (KeepsBy q c (Data sid v)) (sym (ap (λ (y : Slot). y.state) slot)) (
-          subst (λ (o : Option Due). KeepsUnfilled c (Data sid v) o (filling_of q (Data sid v))) (sym (start_other sid (Data sid v) (λ e. absurd cc)))
-              (subst (KeepsUnfilled c (Data sid v) None) (sym (ap (λ (y : Slot). y.filling) slot)) (fills_keeps c (Data sid v) (data_filling facts v) (datas v within))),
-          tt,
-        )
 
     stack_slot : (v : ℕ) → v < 1 → slot_of q (Stack sid v) ≡ unfilled Zeros
     stack_slot zero l = ap (λ (o : Option SpacePages). get_or (stack_in o) 0 no_slot) (added_same sid p.spaces (new_pages sid image facts) refl new)

@@ -70,49 +70,41 @@ child_zeros x _ n = refl
 
 -- The pages that a fork makes due.
 pub fork_due : (p : Placement) (parent child : ℕ) → IsNew p child → DueStand (fork_space p parent child)
-fork_due p parent child new w d e = elim (due_either (copies_from (Data child) (Data parent) 0 (slots_of p (Data parent 0))) (copies_from (Stack child) (Stack parent) 0 (slots_of p (Stack parent 0))) w d e) [
-  | inl k ↦ of_data (copies_found (Data child) (Data parent) (slots_of p (Data parent 0)) 0 w d k)
-  | inr k ↦ of_stack (copies_found (Stack child) (Stack parent) (slots_of p (Stack parent 0)) 0 w d k)
-]
-  where
-    q : Placement
-    q = fork_space p parent child
-
-    x : SpacePages
-    x = record { sid = child; image = image_of p parent; data_pages = map child_slot (slots_of p (Data parent 0)); stack_pages = map child_slot (slots_of p (Stack parent 0)) }
-
-    alike : (v : Page) → Alike (slot_of q v) (slot_of p v)
-    alike v = add_alike p x q.due new (child_blank (slots_of p (Data parent 0))) (child_blank (slots_of p (Stack parent 0))) v
-
-    of_data : CopiesAt (Data child) (Data parent) (slots_of p (Data parent 0)) 0 w d → IsDue q w d
-    of_data r =
-        let i : ℕ = r.at in
-        let z : 0 + i ≡ i = omega arith in
-        let slots : slots_of q (Data child i) ≡ map child_slot (slots_of p (Data parent 0)) = ap data_in (added_same child p.spaces x refl new) in
-        let slot : slot_of q (Data child i) ≡ unfilled Zeros = ap (λ (xs : List Slot). get_or xs i no_slot) slots ∙ map_at (slots_of p (Data parent 0)) i r.within ∙ child_zeros (slot_of p (Data parent i)) (state_of p (Data parent i)) r.filled in
-        let due : d ≡ CopyOf (Data child i) (Data parent i) = r.due ∙ ap (λ (k : ℕ). CopyOf (Data child k) (Data parent k)) z in
-        subst (λ (y : Page). IsDue q y d) (sym (r.page ∙ ap (Data child) z)) (record {
-          writable = tt;
-          there = subst (λ (xs : List Slot). i < length xs) (sym slots) (let m = map_length (slots_of p (Data parent 0)) in let l = r.within in omega arith);
-          unfilled = ap (λ (y : Slot). y.state) slot;
-          zeros = ap (λ (y : Slot). y.filling) slot;
-          source = subst (HasSource q) (sym due) (tt, λ h. r.filled (sym (alike (Data parent i)).0 ∙ h));
-        })
-
-    of_stack : CopiesAt (Stack child) (Stack parent) (slots_of p (Stack parent 0)) 0 w d → IsDue q w d
-    of_stack r =
-        let i : ℕ = r.at in
-        let z : 0 + i ≡ i = omega arith in
-        let slots : slots_of q (Stack child i) ≡ map child_slot (slots_of p (Stack parent 0)) = ap stack_in (added_same child p.spaces x refl new) in
-        let slot : slot_of q (Stack child i) ≡ unfilled Zeros = ap (λ (xs : List Slot). get_or xs i no_slot) slots ∙ map_at (slots_of p (Stack parent 0)) i r.within ∙ child_zeros (slot_of p (Stack parent i)) (state_of p (Stack parent i)) r.filled in
-        let due : d ≡ CopyOf (Stack child i) (Stack parent i) = r.due ∙ ap (λ (k : ℕ). CopyOf (Stack child k) (Stack parent k)) z in
-        subst (λ (y : Page). IsDue q y d) (sym (r.page ∙ ap (Stack child) z)) (record {
-          writable = tt;
-          there = subst (λ (xs : List Slot). i < length xs) (sym slots) (let m = map_length (slots_of p (Stack parent 0)) in let l = r.within in omega arith);
-          unfilled = ap (λ (y : Slot). y.state) slot;
-          zeros = ap (λ (y : Slot). y.filling) slot;
-          source = subst (HasSource q) (sym due) (tt, λ h. r.filled (sym (alike (Stack parent i)).0 ∙ h));
-        })
+fork_due p parent child new w d e =
+    let q : Placement = fork_space p parent child in
+    let x : SpacePages =
+    record { sid = child; image = image_of p parent; data_pages = map child_slot (slots_of p (Data parent 0)); stack_pages = map child_slot (slots_of p (Stack parent 0)) } in
+    let alike : (v : Page) → Alike (slot_of q v) (slot_of p v) = λ v. add_alike p x q.due new (child_blank (slots_of p (Data parent 0))) (child_blank (slots_of p (Stack parent 0))) v in
+    let of_data : CopiesAt (Data child) (Data parent) (slots_of p (Data parent 0)) 0 w d → IsDue q w d = λ r.
+    let i : ℕ = r.at in
+    let z : 0 + i ≡ i = omega arith in
+    let slots : slots_of q (Data child i) ≡ map child_slot (slots_of p (Data parent 0)) = ap data_in (added_same child p.spaces x refl new) in
+    let slot : slot_of q (Data child i) ≡ unfilled Zeros = ap (λ (xs : List Slot). get_or xs i no_slot) slots ∙ map_at (slots_of p (Data parent 0)) i r.within ∙ child_zeros (slot_of p (Data parent i)) (state_of p (Data parent i)) r.filled in
+    let due : d ≡ CopyOf (Data child i) (Data parent i) = r.due ∙ ap (λ (k : ℕ). CopyOf (Data child k) (Data parent k)) z in
+    subst (λ (y : Page). IsDue q y d) (sym (r.page ∙ ap (Data child) z)) (record {
+      writable = tt;
+      there = subst (λ (xs : List Slot). i < length xs) (sym slots) (let m = map_length (slots_of p (Data parent 0)) in let l = r.within in omega arith);
+      unfilled = ap (λ (y : Slot). y.state) slot;
+      zeros = ap (λ (y : Slot). y.filling) slot;
+      source = subst (HasSource q) (sym due) (tt, λ h. r.filled (sym (alike (Data parent i)).0 ∙ h));
+    }) in
+    let of_stack : CopiesAt (Stack child) (Stack parent) (slots_of p (Stack parent 0)) 0 w d → IsDue q w d = λ r.
+    let i : ℕ = r.at in
+    let z : 0 + i ≡ i = omega arith in
+    let slots : slots_of q (Stack child i) ≡ map child_slot (slots_of p (Stack parent 0)) = ap stack_in (added_same child p.spaces x refl new) in
+    let slot : slot_of q (Stack child i) ≡ unfilled Zeros = ap (λ (xs : List Slot). get_or xs i no_slot) slots ∙ map_at (slots_of p (Stack parent 0)) i r.within ∙ child_zeros (slot_of p (Stack parent i)) (state_of p (Stack parent i)) r.filled in
+    let due : d ≡ CopyOf (Stack child i) (Stack parent i) = r.due ∙ ap (λ (k : ℕ). CopyOf (Stack child k) (Stack parent k)) z in
+    subst (λ (y : Page). IsDue q y d) (sym (r.page ∙ ap (Stack child) z)) (record {
+      writable = tt;
+      there = subst (λ (xs : List Slot). i < length xs) (sym slots) (let m = map_length (slots_of p (Stack parent 0)) in let l = r.within in omega arith);
+      unfilled = ap (λ (y : Slot). y.state) slot;
+      zeros = ap (λ (y : Slot). y.filling) slot;
+      source = subst (HasSource q) (sym due) (tt, λ h. r.filled (sym (alike (Stack parent i)).0 ∙ h));
+    }) in
+    elim (due_either (copies_from (Data child) (Data parent) 0 (slots_of p (Data parent 0))) (copies_from (Stack child) (Stack parent) 0 (slots_of p (Stack parent 0))) w d e) [
+      | inl k ↦ of_data (copies_found (Data child) (Data parent) (slots_of p (Data parent 0)) 0 w d k)
+      | inr k ↦ of_stack (copies_found (Stack child) (Stack parent) (slots_of p (Stack parent 0)) 0 w d k)
+    ]
 
 -- The stack page of a new space.
 pub enter_due : (p : Placement) (sid image : ℕ) (facts : Image) → IsNew p sid → DueStand (enter_space p sid image facts)

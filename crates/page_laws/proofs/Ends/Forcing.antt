@@ -74,26 +74,19 @@ pages_differ p f g o u w n e =
 pub reach_found : (p : Placement) (locked : List Page) (d : ℕ) → OwnsFrames p → p.free ≡ [] → p.transfers ≡ [] → 0 < p.back → p.back ≤ length p.holds
     → length locked + d < length p.holds
     → reach p locked (length p.holds) d p.back < length p.holds
-reach_found p locked d o e t low high enough = elim (lt_or (reach p locked (length p.holds) d p.back) (length p.holds) (reach_le p locked (length p.holds) d p.back)) [
-  | inl l ↦ l
-  | inr h ↦ absurd (let k = pigeons (length p.holds - d) at locked (λ k b. closed_locked p locked (frame k) (whole k b) (reach_none p locked (length p.holds) d p.back (d + k) h (omega arith) (omega arith)))
-      (λ i j b c. pages_differ p (frame i) (frame j) o (whole i (omega arith)) (whole j c) (walk_apart (length p.holds) (d + i) (d + j) p.back low high (omega arith) (omega arith))) in omega arith)
-]
-  where
-    lt_or : (a b : ℕ) → a ≤ b → (a < b) ⊎ (a ≡ b)
-    lt_or a b l = elim (cases_eq a b) [
+reach_found p locked d o e t low high enough =
+    let lt_or : (a b : ℕ) → a ≤ b → (a < b) ⊎ (a ≡ b) = λ a b l. elim (cases_eq a b) [
       | inl e ↦ inr e
       | inr n ↦ inl (omega arith)
+    ] in
+    let frame : ℕ → ℕ = λ k. walk (length p.holds) (d + k) p.back in
+    let at : ℕ → Page = λ k. page_or (page_of p (frame k)) in
+    let whole : (k : ℕ) → k < length p.holds - d → Full p (frame k) = λ k b. full_at p (frame k) o e t (walk_in (length p.holds) (d + k) p.back low high (omega arith)) in
+    elim (lt_or (reach p locked (length p.holds) d p.back) (length p.holds) (reach_le p locked (length p.holds) d p.back)) [
+      | inl l ↦ l
+      | inr h ↦ absurd (let k = pigeons (length p.holds - d) at locked (λ k b. closed_locked p locked (frame k) (whole k b) (reach_none p locked (length p.holds) d p.back (d + k) h (omega arith) (omega arith)))
+          (λ i j b c. pages_differ p (frame i) (frame j) o (whole i (omega arith)) (whole j c) (walk_apart (length p.holds) (d + i) (d + j) p.back low high (omega arith) (omega arith))) in omega arith)
     ]
-
-    frame : ℕ → ℕ
-    frame k = walk (length p.holds) (d + k) p.back
-
-    at : ℕ → Page
-    at k = page_or (page_of p (frame k))
-
-    whole : (k : ℕ) → k < length p.holds - d → Full p (frame k)
-    whole k b = full_at p (frame k) o e t (walk_in (length p.holds) (d + k) p.back low high (omega arith))
 
 -- The front hand.
 
@@ -291,13 +284,12 @@ shifted p q locked (suc m) (suc d) f s lm ld e l =
 
 pub move_falls : (p : Placement) (locked : List Page) → OwnsFrames p → HandsStand p → HasRoom p locked → p.free ≡ [] → p.transfers ≡ []
     → far (hand_move p locked) locked < far p locked
-move_falls p locked o h r e t = go (is_usable (expire p locked) locked (expire p locked).back) refl
+move_falls p locked o h r e t =
+    let n : ℕ = length p.holds in
+    go (is_usable (expire p locked) locked (expire p locked).back) refl
   where
     s : Steady p (expire p locked)
     s = expire_steady p locked
-
-    n : ℕ
-    n = length p.holds
 
     u : Full p p.front
     u = full_at p p.front o e t (subst (λ (f : ℕ). (0 < f) × (f ≤ length p.holds)) (sym h.ahead) (walk_in (length p.holds) (length p.holds / 4) p.back h.low h.high (let k = r.rest in omega arith)))
@@ -348,18 +340,14 @@ far_bound p locked o h r t = go p.free refl
 
 -- the hands go on as far apart
 pub move_stands : (p : Placement) (locked : List Page) → HandsStand p → HandsStand (hand_move p locked)
-move_stands p locked h = record {
-  low = let k = next_in (length q.holds) q.back (subst (λ (f : ℕ). 0 < f) (sym s.back) h.low) back_high in k.0;
-  high = let k = next_in (length q.holds) q.back (subst (λ (f : ℕ). 0 < f) (sym s.back) h.low) back_high in k.1;
-  ahead = ap (next_frame (length q.holds)) (s.front ∙ h.ahead ∙ ap (λ (l : List (Option Page)). walk (length l) (length l / 4) p.back) (sym s.holds) ∙ ap (walk (length q.holds) (length q.holds / 4)) (sym s.back))
-      ∙ sym (walk_next (length q.holds) (length q.holds / 4) q.back);
-}
-  where
-    q : Placement
-    q = sweep (expire p locked) locked
-
-    s : Steady p q
-    s = swept_steady p locked
-
-    back_high : q.back ≤ length q.holds
-    back_high = let a = h.high in let b = s.back in let c = ap length s.holds in omega arith
+move_stands p locked h =
+    let q : Placement = sweep (expire p locked) locked in
+    let s : Steady p q = swept_steady p locked in
+    let back_high : q.back ≤ length q.holds =
+    let a = h.high in let b = s.back in let c = ap length s.holds in omega arith in
+    record {
+      low = let k = next_in (length q.holds) q.back (subst (λ (f : ℕ). 0 < f) (sym s.back) h.low) back_high in k.0;
+      high = let k = next_in (length q.holds) q.back (subst (λ (f : ℕ). 0 < f) (sym s.back) h.low) back_high in k.1;
+      ahead = ap (next_frame (length q.holds)) (s.front ∙ h.ahead ∙ ap (λ (l : List (Option Page)). walk (length l) (length l / 4) p.back) (sym s.holds) ∙ ap (walk (length q.holds) (length q.holds / 4)) (sym s.back))
+          ∙ sym (walk_next (length q.holds) (length q.holds / 4) q.back);
+    }

@@ -314,17 +314,16 @@ land_all_lands (x ∷ xs) p e ts q was there h = land_all_lands xs (land p e x (
 -- a page on its way is in a transfer
 pub in_flight : (p : Placement) (q : Page) (f : ℕ) → OwnsFrames p → frame_of (state_of p q) ≡ Some f → (state_of p q ≡ Invalid f → ⊥)
     → seats 0 (state_of p q) ≡ 0 → p.transfers ≡ [] → ⊥
-in_flight p q f o e n z t = elim (zero_or (times f p.free)) [
-  | inl y ↦ absurd (
-      let a = once_at p q f o e in
-      let b : seats (times f p.free) (state_of p q) ≡ 0 = ap (λ (k : ℕ). seats k (state_of p q)) y ∙ z in
-      let c : times f (flying (parts_of p.transfers)) ≡ 0 = ap (λ (ts : List Transfer). times f (flying (parts_of ts))) t in
-      omega arith)
-  | inr y ↦ n (let k : IsListed p f q = o.listed f q y (o.names q f e) in k.state)
-]
-  where
-    zero_or : (m : ℕ) → (m ≡ 0) ⊎ (0 < m)
-    zero_or m = grind arith
+in_flight p q f o e n z t =
+    let zero_or : (m : ℕ) → (m ≡ 0) ⊎ (0 < m) = λ m. grind arith in
+    elim (zero_or (times f p.free)) [
+      | inl y ↦ absurd (
+          let a = once_at p q f o e in
+          let b : seats (times f p.free) (state_of p q) ≡ 0 = ap (λ (k : ℕ). seats k (state_of p q)) y ∙ z in
+          let c : times f (flying (parts_of p.transfers)) ≡ 0 = ap (λ (ts : List Transfer). times f (flying (parts_of ts))) t in
+          omega arith)
+      | inr y ↦ n (let k : IsListed p f q = o.listed f q y (o.names q f e) in k.state)
+    ]
 
 -- the oldest transfer brings a page in flight nearer
 done_rank : (p : Placement) (locked : List Page) (q : Page) → IsThere p q → (p.transfers ≡ [] → ⊥)
@@ -341,10 +340,9 @@ done_rank p locked q there n is = go p.transfers refl
     ]
 
 pub full_some : (p : Placement) → is_full p ≡ true → 0 < length p.transfers
-full_some p e = at_least (length p.transfers) e
-  where
-    at_least : (n : ℕ) → nat_le 16 n ≡ true → 0 < n
-    at_least n e = grind (arith, nat_tests)
+full_some p e =
+    let at_least : (n : ℕ) → nat_le 16 n ≡ true → 0 < n = λ n e. grind (arith, nat_tests) in
+    at_least (length p.transfers) e
 
 coming_rank : (p : Placement) (locked : List Page) (x : Filling) (s : PageState) → is_coming s ≡ true → rank_by p locked x s ≡ 2 + length p.transfers
 coming_rank p locked x (Coming f) e = refl

@@ -86,29 +86,27 @@ cut_past p sid d s (Stack t v) k =
 cut_past p sid d s (Text image v) k = absurd k
 
 pub cut_alike : (p : Placement) (sid d s : ℕ) (w : Page) → (IsCutOff sid d s w → ⊥) → Alike (slot_of (cut_space p sid d s) w) (slot_of p w)
-cut_alike p sid d s (Data t v) k = elim (cases_eq t sid) [
-  | inl e ↦ subst (λ (x : ℕ). Alike (get_or (data_in (numbered space_number x (changed space_number sid (cut d s) p.spaces))) v no_slot) (get_or (data_in (numbered space_number x p.spaces)) v no_slot)) (sym e)
-      (subst (λ (y : Option SpacePages). Alike (get_or (data_in y) v no_slot) (get_or (data_in (numbered space_number sid p.spaces)) v no_slot)) (sym (changed_same space_number sid (cut d s) (λ x. refl) p.spaces))
-      (data_within d s v (numbered space_number sid p.spaces) (below e)))
-  | inr n ↦ subst (λ (y : Option SpacePages). Alike (get_or (data_in y) v no_slot) (get_or (data_in (numbered space_number t p.spaces)) v no_slot)) (sym (changed_other space_number sid t (cut d s) (λ x. refl) n p.spaces)) (refl, refl)
-]
-  where
-    below : t ≡ sid → v < d
-    below e = elim (cases_le d v) [
+cut_alike p sid d s (Data t v) k =
+    let below : t ≡ sid → v < d = λ e. elim (cases_le d v) [
       | inl l ↦ absurd (k (e, l))
       | inr l ↦ l
+    ] in
+    elim (cases_eq t sid) [
+      | inl e ↦ subst (λ (x : ℕ). Alike (get_or (data_in (numbered space_number x (changed space_number sid (cut d s) p.spaces))) v no_slot) (get_or (data_in (numbered space_number x p.spaces)) v no_slot)) (sym e)
+          (subst (λ (y : Option SpacePages). Alike (get_or (data_in y) v no_slot) (get_or (data_in (numbered space_number sid p.spaces)) v no_slot)) (sym (changed_same space_number sid (cut d s) (λ x. refl) p.spaces))
+          (data_within d s v (numbered space_number sid p.spaces) (below e)))
+      | inr n ↦ subst (λ (y : Option SpacePages). Alike (get_or (data_in y) v no_slot) (get_or (data_in (numbered space_number t p.spaces)) v no_slot)) (sym (changed_other space_number sid t (cut d s) (λ x. refl) n p.spaces)) (refl, refl)
     ]
-cut_alike p sid d s (Stack t v) k = elim (cases_eq t sid) [
-  | inl e ↦ subst (λ (x : ℕ). Alike (get_or (stack_in (numbered space_number x (changed space_number sid (cut d s) p.spaces))) v no_slot) (get_or (stack_in (numbered space_number x p.spaces)) v no_slot)) (sym e)
-      (subst (λ (y : Option SpacePages). Alike (get_or (stack_in y) v no_slot) (get_or (stack_in (numbered space_number sid p.spaces)) v no_slot)) (sym (changed_same space_number sid (cut d s) (λ x. refl) p.spaces))
-      (stack_within d s v (numbered space_number sid p.spaces) (below e)))
-  | inr n ↦ subst (λ (y : Option SpacePages). Alike (get_or (stack_in y) v no_slot) (get_or (stack_in (numbered space_number t p.spaces)) v no_slot)) (sym (changed_other space_number sid t (cut d s) (λ x. refl) n p.spaces)) (refl, refl)
-]
-  where
-    below : t ≡ sid → v < s
-    below e = elim (cases_le s v) [
+cut_alike p sid d s (Stack t v) k =
+    let below : t ≡ sid → v < s = λ e. elim (cases_le s v) [
       | inl l ↦ absurd (k (e, l))
       | inr l ↦ l
+    ] in
+    elim (cases_eq t sid) [
+      | inl e ↦ subst (λ (x : ℕ). Alike (get_or (stack_in (numbered space_number x (changed space_number sid (cut d s) p.spaces))) v no_slot) (get_or (stack_in (numbered space_number x p.spaces)) v no_slot)) (sym e)
+          (subst (λ (y : Option SpacePages). Alike (get_or (stack_in y) v no_slot) (get_or (stack_in (numbered space_number sid p.spaces)) v no_slot)) (sym (changed_same space_number sid (cut d s) (λ x. refl) p.spaces))
+          (stack_within d s v (numbered space_number sid p.spaces) (below e)))
+      | inr n ↦ subst (λ (y : Option SpacePages). Alike (get_or (stack_in y) v no_slot) (get_or (stack_in (numbered space_number t p.spaces)) v no_slot)) (sym (changed_other space_number sid t (cut d s) (λ x. refl) n p.spaces)) (refl, refl)
     ]
 cut_alike p sid d s (Text image v) k = (refl, refl)
 
@@ -130,10 +128,12 @@ resize_frame p sid d s w = elim (cut_or sid d s w) [
 -- A space that goes.
 
 leave_frame : (p : Placement) (v w : Page) → page_frame (leave_page p v) w ≡ page_frame p w
-leave_frame p v w = elim (page_cases w v) [
-  | inl e ↦ subst (λ (x : Page). page_frame (leave_page p v) x ≡ page_frame p x) (sym e) (own (state_of p v) refl)
-  | inr n ↦ slot_frame p (leave_page p v) w (leave_other p v w n)
-]
+leave_frame p v w =
+    let own : (s : PageState) → state_of p v ≡ s → page_frame (leave_page p v) v ≡ page_frame p v = λ s h. by (state_of p v) (listed p v) refl in
+    elim (page_cases w v) [
+      | inl e ↦ subst (λ (x : Page). page_frame (leave_page p v) x ≡ page_frame p x) (sym e) (own (state_of p v) refl)
+      | inr n ↦ slot_frame p (leave_page p v) w (leave_other p v w n)
+    ]
   where
     none : (s : PageState) → state_of p v ≡ s → frame_of s ≡ None → page_frame (put p v Unfilled false) v ≡ page_frame p v
     none s e h = elim (there_or p v) [
@@ -156,9 +156,6 @@ leave_frame p v w = elim (page_cases w v) [
     by (Coming f) n h = refl
     by (Going f) n h = refl
 
-    own : (s : PageState) → state_of p v ≡ s → page_frame (leave_page p v) v ≡ page_frame p v
-    own s h = by (state_of p v) (listed p v) refl
-
 leave_all_frame : (qs : List Page) (p : Placement) (w : Page) → page_frame (leave_all p qs) w ≡ page_frame p w
 leave_all_frame [] p w = refl
 leave_all_frame (v ∷ qs) p w = leave_all_frame qs (leave_page p v) w ∙ leave_frame p v w
@@ -171,16 +168,14 @@ leave_text_frame p image w = go (sharers p image)
     go (suc n) = refl
 
 removed_frame : (p : Placement) (sid : ℕ) (w : Page) → is_of_space sid w ≡ true → page_frame (remove_space p sid) w ≡ None
-removed_frame p sid (Data t v) e = ap (λ (x : ℕ). frame_of (get_or (data_in (numbered space_number x (remove_space p sid).spaces)) v no_slot).state) (is_equal t sid e)
+removed_frame p sid (Data t v) e =
+    let is_equal : (a b : ℕ) → (a == b) ≡ true → a ≡ b = λ a b h. grind (arith, nat_tests) in
+    ap (λ (x : ℕ). frame_of (get_or (data_in (numbered space_number x (remove_space p sid).spaces)) v no_slot).state) (is_equal t sid e)
     ∙ ap (λ (o : Option SpacePages). frame_of (get_or (data_in o) v no_slot).state) (removed_same sid p.spaces)
-  where
-    is_equal : (a b : ℕ) → (a == b) ≡ true → a ≡ b
-    is_equal a b h = grind (arith, nat_tests)
-removed_frame p sid (Stack t v) e = ap (λ (x : ℕ). frame_of (get_or (stack_in (numbered space_number x (remove_space p sid).spaces)) v no_slot).state) (is_equal t sid e)
+removed_frame p sid (Stack t v) e =
+    let is_equal : (a b : ℕ) → (a == b) ≡ true → a ≡ b = λ a b h. grind (arith, nat_tests) in
+    ap (λ (x : ℕ). frame_of (get_or (stack_in (numbered space_number x (remove_space p sid).spaces)) v no_slot).state) (is_equal t sid e)
     ∙ ap (λ (o : Option SpacePages). frame_of (get_or (stack_in o) v no_slot).state) (removed_same sid p.spaces)
-  where
-    is_equal : (a b : ℕ) → (a == b) ≡ true → a ≡ b
-    is_equal a b h = grind (arith, nat_tests)
 removed_frame p sid (Text image v) e = absurd cc
 
 text_not_dropped : (image v sid dn sn : ℕ) → EachPage (λ r. Text image v ≢ r) (data_from sid 0 dn ++ stack_from sid 0 sn)

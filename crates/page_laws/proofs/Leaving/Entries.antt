@@ -151,24 +151,21 @@ get_all_kept : (qs : List Page) (p : Placement) (source : Source) (demanded w : 
     → frame_of (state_of p w) ≡ Some f
     → (slot_of (get_all p (Reads source demanded) qs) w ≡ slot_of p w) ⊎ IsTaken p (get_all p (Reads source demanded) qs) w f
 get_all_kept [] p source demanded w f r e = inl refl
-get_all_kept (v ∷ qs) p source demanded w f r e = elim (get_kept p source demanded v w f r.owns r.enter.0 e) [
-  | inl k ↦ elim (get_all_kept qs q source demanded w f on (ap (λ (x : Slot). frame_of x.state) k ∙ e)) [
-    | inl h ↦ inl (h ∙ k)
-    | inr h ↦ inr (record {
-      state = ap (λ (x : Slot). x.state) (sym k) ∙ h.state;
-      free = get_some p source demanded v f h.free;
-      clean = ap (λ (x : Slot). is_marked_dirty w x.mark) (sym k) ∙ h.clean;
-      left = h.left ∙ ap (λ (x : Slot). left_state w x.mark) k;
-    })
-  ]
-  | inr k ↦ inr (later p q (get_all q (Reads source demanded) qs) w f (get_all_frameless qs q source demanded w on (entering_others qs p w f r.enter.1 e) (left_none w (state_of q w) (mark_of p w) k.left)) k)
-]
-  where
-    q : Placement
-    q = get_one p (Reads source demanded) v
-
-    on : CanReadAll qs q source demanded
-    on = reads_on v qs p source demanded r
+get_all_kept (v ∷ qs) p source demanded w f r e =
+    let q : Placement = get_one p (Reads source demanded) v in
+    let on : CanReadAll qs q source demanded = reads_on v qs p source demanded r in
+    elim (get_kept p source demanded v w f r.owns r.enter.0 e) [
+      | inl k ↦ elim (get_all_kept qs q source demanded w f on (ap (λ (x : Slot). frame_of x.state) k ∙ e)) [
+        | inl h ↦ inl (h ∙ k)
+        | inr h ↦ inr (record {
+          state = ap (λ (x : Slot). x.state) (sym k) ∙ h.state;
+          free = get_some p source demanded v f h.free;
+          clean = ap (λ (x : Slot). is_marked_dirty w x.mark) (sym k) ∙ h.clean;
+          left = h.left ∙ ap (λ (x : Slot). left_state w x.mark) k;
+        })
+      ]
+      | inr k ↦ inr (later p q (get_all q (Reads source demanded) qs) w f (get_all_frameless qs q source demanded w on (entering_others qs p w f r.enter.1 e) (left_none w (state_of q w) (mark_of p w) k.left)) k)
+    ]
 
 pub reading : (p : Placement) (q : Page) (lo n : ℕ) → OwnsFrames p → EachPage (CanEnter p) (pages_from q lo n)
     → CanReadAll (pages_from q lo n) (begin p (read_errand p q)) (source_for (state_of p q)) q

@@ -41,19 +41,18 @@ held_frame p w f u = elim u.held [
 
 -- the page's slot stays, and its frame doesn't come onto the free list
 still : (p q : Placement) (w : Page) (f : ℕ) → slot_of q w ≡ slot_of p w → (times f p.free ≡ 0 → times f q.free ≡ 0) → IsUnwritten p w f → IsUnwritten q w f
-still p q w f e z u = record {
-  dirty = ap (λ (x : Slot). is_dirty_by w x.mark) e ∙ u.dirty;
-  held = elim u.held [
-    | inl h ↦ inl (s ∙ h)
-    | inr h ↦ elim h [
-      | inl k ↦ inr (inl (s ∙ k.0, z k.1))
-      | inr k ↦ inr (inr (s ∙ k))
-    ]
-  ];
-}
-  where
-    s : state_of q w ≡ state_of p w
-    s = ap (λ (x : Slot). x.state) e
+still p q w f e z u =
+    let s : state_of q w ≡ state_of p w = ap (λ (x : Slot). x.state) e in
+    record {
+      dirty = ap (λ (x : Slot). is_dirty_by w x.mark) e ∙ u.dirty;
+      held = elim u.held [
+        | inl h ↦ inl (s ∙ h)
+        | inr h ↦ elim h [
+          | inl k ↦ inr (inl (s ∙ k.0, z k.1))
+          | inr k ↦ inr (inr (s ∙ k))
+        ]
+      ];
+    }
 
 -- it isn't the page of a free frame
 not_listed : (p : Placement) (w : Page) (f : ℕ) → OwnsFrames p → IsUnwritten p w f → 0 < times f p.free → ⊥
@@ -344,31 +343,22 @@ land_all_held : (xs : List Part) (p : Placement) (e : Errand) (ts : List Transfe
     → p.transfers ≡ record { errand = e; parts = xs } ∷ ts → IsUnwritten p w f
     → IsUnwritten (land_all p e xs ts) w f ⊎ ((state_of p w ≡ Going f) × IsClean (land_all p e xs ts) w f)
 land_all_held [] p e ts w f o h u = inl (record { dirty = u.dirty; held = u.held })
-land_all_held (x ∷ xs) p e ts w f o h u = elim (page_cases w x.page) [
-  | inl s ↦ (let k = land_own p e x rest w f o l s u in inr (k.0, land_all_clean xs q e ts w f oq tq k.1))
-  | inr n ↦ (
-      let k = land_other p e x rest w n in
-      let v : IsUnwritten q w f = still p q w f k (land_free p e x rest f (other_frame p x.page w x.frame f o n (landing_frame p e x rest o l) (held_frame p w f u))) u in
-      elim (land_all_held xs q e ts w f oq tq v) [
-        | inl i ↦ inl i
-        | inr i ↦ inr (ap (λ (y : Slot). y.state) (sym k) ∙ i.0, i.1)
-      ])
-]
-  where
-    rest : List Transfer
-    rest = record { errand = e; parts = xs } ∷ ts
-
-    q : Placement
-    q = land p e x rest
-
-    l : Landing p e x rest
-    l = landing_at x xs p e ts h
-
-    oq : OwnsFrames q
-    oq = land_owner p e x rest o l
-
-    tq : q.transfers ≡ rest
-    tq = land_transfers p e x rest
+land_all_held (x ∷ xs) p e ts w f o h u =
+    let rest : List Transfer = record { errand = e; parts = xs } ∷ ts in
+    let q : Placement = land p e x rest in
+    let l : Landing p e x rest = landing_at x xs p e ts h in
+    let oq : OwnsFrames q = land_owner p e x rest o l in
+    let tq : q.transfers ≡ rest = land_transfers p e x rest in
+    elim (page_cases w x.page) [
+      | inl s ↦ (let k = land_own p e x rest w f o l s u in inr (k.0, land_all_clean xs q e ts w f oq tq k.1))
+      | inr n ↦ (
+          let k = land_other p e x rest w n in
+          let v : IsUnwritten q w f = still p q w f k (land_free p e x rest f (other_frame p x.page w x.frame f o n (landing_frame p e x rest o l) (held_frame p w f u))) u in
+          elim (land_all_held xs q e ts w f oq tq v) [
+            | inl i ↦ inl i
+            | inr i ↦ inr (ap (λ (y : Slot). y.state) (sym k) ∙ i.0, i.1)
+          ])
+    ]
 
 done_held : (p : Placement) (w : Page) (f : ℕ) → OwnsFrames p → IsUnwritten p w f → IsUnwritten (done p) w f ⊎ IsWritten p (done p) w f
 done_held p w f o u = go p.transfers refl

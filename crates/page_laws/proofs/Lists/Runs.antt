@@ -78,18 +78,17 @@ abbrev pub InRun : (ℕ → Bool) → ℕ → Run → Type 0
 InRun passes v r = (w : ℕ) → r.lo ≤ w → w < r.lo + r.n → (w ≡ v) ⊎ (passes w ≡ true)
 
 pub run_both_in : (passes : ℕ → Bool) (v most : ℕ) → InRun passes v (run_both passes v most)
-run_both_in passes v most w l m = elim (split w v) [
-  | inl e ↦ inl e
-  | inr n ↦ elim n [
-    | inl h ↦ inr (let k = below_le passes v (most - 1 - passing_above passes v (most - 1)) in below_pass passes v (most - 1 - passing_above passes v (most - 1)) w (omega arith) h)
-    | inr h ↦ inr (let k = below_le passes v (most - 1 - passing_above passes v (most - 1)) in above_pass passes v (most - 1) w h (omega arith))
-  ]
-]
-  where
-    split : (a b : ℕ) → (a ≡ b) ⊎ ((a < b) ⊎ (b < a))
-    split a b = elim (cases_eq a b) [
+run_both_in passes v most w l m =
+    let split : (a b : ℕ) → (a ≡ b) ⊎ ((a < b) ⊎ (b < a)) = λ a b. elim (cases_eq a b) [
       | inl e ↦ inl e
       | inr n ↦ inr (grind arith)
+    ] in
+    elim (split w v) [
+      | inl e ↦ inl e
+      | inr n ↦ elim n [
+        | inl h ↦ inr (let k = below_le passes v (most - 1 - passing_above passes v (most - 1)) in below_pass passes v (most - 1 - passing_above passes v (most - 1)) w (omega arith) h)
+        | inr h ↦ inr (let k = below_le passes v (most - 1 - passing_above passes v (most - 1)) in above_pass passes v (most - 1) w h (omega arith))
+      ]
     ]
 
 pub run_up_in : (passes : ℕ → Bool) (v most : ℕ) → InRun passes v (run_up passes v most)

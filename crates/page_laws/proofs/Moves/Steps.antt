@@ -22,23 +22,21 @@ use Rattle.std.proofs.lemmas.Option.{same_Some}
 
 -- a page that has a frame is there, and so is a frame that has a page
 pub page_in : (p : Placement) (v : Page) (f : ℕ) → frame_of (state_of p v) ≡ Some f → IsThere p v
-page_in p v f e = elim (le_or (number_of v) (length (slots_of p v))) [
-  | inl l ↦ l
-  | inr n ↦ none_some f (sym (ap (λ (x : Slot). frame_of x.state) (get_or_past (slots_of p v) (number_of v) no_slot n)) ∙ e)
-]
-  where
-    le_or : (a b : ℕ) → (a < b) ⊎ (b ≤ a)
-    le_or a b = grind arith
+page_in p v f e =
+    let le_or : (a b : ℕ) → (a < b) ⊎ (b ≤ a) = λ a b. grind arith in
+    elim (le_or (number_of v) (length (slots_of p v))) [
+      | inl l ↦ l
+      | inr n ↦ none_some f (sym (ap (λ (x : Slot). frame_of x.state) (get_or_past (slots_of p v) (number_of v) no_slot n)) ∙ e)
+    ]
 
 pub frame_there : (xs : List (Option Page)) (f : ℕ) (v : Page) → at_frame xs f None ≡ Some v → (0 < f) × (f ≤ length xs)
 frame_there xs zero v e = none_some v e
-frame_there xs (suc n) v e = elim (le_or n (length xs)) [
-  | inl l ↦ (omega arith, omega arith)
-  | inr m ↦ none_some v (sym (get_or_past xs n None m) ∙ e)
-]
-  where
-    le_or : (a b : ℕ) → (a < b) ⊎ (b ≤ a)
-    le_or a b = grind arith
+frame_there xs (suc n) v e =
+    let le_or : (a b : ℕ) → (a < b) ⊎ (b ≤ a) = λ a b. grind arith in
+    elim (le_or n (length xs)) [
+      | inl l ↦ (omega arith, omega arith)
+      | inr m ↦ none_some v (sym (get_or_past xs n None m) ∙ e)
+    ]
 
 pub frame_in : (p : Placement) (v : Page) (f : ℕ) → page_of p f ≡ Some v → IsFrame p f
 frame_in p v f e = frame_there p.holds f v e
@@ -117,19 +115,11 @@ turn_local p v f s m free transfers o t = record {
 
 pub turn_owner : (p : Placement) (v : Page) (f : ℕ) (s : PageState) (m : Bool) (free : List ℕ) (transfers : List Transfer) → OwnsFrames p
     → Turns p v f s m free transfers → OwnsFrames (turn p v s m free transfers)
-turn_owner p v f s m free transfers o t = local_owner p (turn p v s m free transfers) v f o (turn_local p v f s m free transfers o t) here
-  where
-    is : state_of (put p v s m) v ≡ s
-    is = put_state p v s m (page_in p v f t.from)
-
-    mark : mark_of (put p v s m) v ≡ m
-    mark = put_mark p v s m (page_in p v f t.from)
-
-    page : page_of p f ≡ Some v
-    page = o.names v f t.from
-
-    here : Here (turn p v s m free transfers) v f
-    here = record {
+turn_owner p v f s m free transfers o t =
+    let is : state_of (put p v s m) v ≡ s = put_state p v s m (page_in p v f t.from) in
+    let mark : mark_of (put p v s m) v ≡ m = put_mark p v s m (page_in p v f t.from) in
+    let page : page_of p f ≡ Some v = o.names v f t.from in
+    let here : Here (turn p v s m free transfers) v f = record {
       joined = inl (ap frame_of is ∙ t.to, page);
       once =
           let a : seated (turn p v s m free transfers) f ≡ seats (times f free) s = ap (seated_of (turn p v s m free transfers) f) page ∙ ap (seats (times f free)) is in
@@ -138,7 +128,8 @@ turn_owner p v f s m free transfers o t = local_owner p (turn p v s m free trans
       listed = λ b e. let k = t.listed b in record { state = is ∙ k.0; clean = ap (is_marked_dirty v) mark ∙ k.1 };
       moves = t.moves;
       dirty = λ e. ap may_be_dirty is ∙ t.dirty (ap (is_marked_dirty v) (sym mark) ∙ e);
-    }
+    } in
+    local_owner p (turn p v s m free transfers) v f o (turn_local p v f s m free transfers o t) here
 
 -- A page that takes a free frame: what has to be shown.
 pub record Enters (p : Placement) (v : Page) (f : ℕ) (s : PageState) (m : Bool) (transfers : List Transfer) : Type 0 where
@@ -168,19 +159,12 @@ enter_local p v f s m transfers o t = record {
 
 pub enter_owner : (p : Placement) (v : Page) (f : ℕ) (s : PageState) (m : Bool) (transfers : List Transfer) → OwnsFrames p
     → Enters p v f s m transfers → OwnsFrames (enter p v f s m transfers)
-enter_owner p v f s m transfers o t = local_owner p (enter p v f s m transfers) v f o (enter_local p v f s m transfers o t) here
-  where
-    is : state_of (put p v s m) v ≡ s
-    is = put_state p v s m t.page_in
-
-    mark : mark_of (put p v s m) v ≡ m
-    mark = put_mark p v s m t.page_in
-
-    page : page_of (enter p v f s m transfers) f ≡ Some v
-    page = let b = o.frames f t.free in at_set_same p.holds f (Some v) None b.0 b.1
-
-    here : Here (enter p v f s m transfers) v f
-    here = record {
+enter_owner p v f s m transfers o t =
+    let is : state_of (put p v s m) v ≡ s = put_state p v s m t.page_in in
+    let mark : mark_of (put p v s m) v ≡ m = put_mark p v s m t.page_in in
+    let page : page_of (enter p v f s m transfers) f ≡ Some v =
+    let b = o.frames f t.free in at_set_same p.holds f (Some v) None b.0 b.1 in
+    let here : Here (enter p v f s m transfers) v f = record {
       joined = inl (ap frame_of is ∙ t.to, page);
       once =
           let z : times f (without f p.free) ≡ 0 = times-without_same f p.free in
@@ -190,7 +174,8 @@ enter_owner p v f s m transfers o t = local_owner p (enter p v f s m transfers) 
       listed = λ b e. absurd (let z = times-without_same f p.free in omega arith);
       moves = t.moves;
       dirty = λ e. ap may_be_dirty is ∙ t.dirty (ap (is_marked_dirty v) (sym mark) ∙ e);
-    }
+    } in
+    local_owner p (enter p v f s m transfers) v f o (enter_local p v f s m transfers o t) here
 
 -- A page that loses its frame.
 
@@ -215,32 +200,24 @@ evict_local p f v o e = record {
 }
 
 evict_here : (p : Placement) (f : ℕ) (v : Page) → OwnsFrames p → page_of p f ≡ Some v → 0 < times f p.free → Here (evict_at p f (Some v)) v f
-evict_here p f v o e b = record {
-  joined = inr (ap frame_of gone ∙ left_frameless v (mark_of p v), none);
-  once =
-      let h : times f p.free + times f (flying (parts_of p.transfers)) + seats (times f p.free) (state_of p v) ≡ 1 = once_at p v f o (o.named f v e) in
-      let k : seats (times f p.free) (state_of p v) ≡ 1 - times f p.free = ap (seats (times f p.free)) was.state in
-      let a : seated (evict_at p f (Some v)) f ≡ 0 = ap (seated_of (evict_at p f (Some v)) f) none in
-      omega arith;
-  listed = λ c h. none_some v (sym none ∙ h);
-  moves = moves_kept p (evict_at p f (Some v)) v (parts_of p.transfers) (subst AtRest (sym was.state) tt) (put_other_state p v (left_state v (mark_of p v)) (mark_of p v)) o.moves;
-  dirty = λ h. absurd (let k : true ≡ false = sym h ∙ ap (is_marked_dirty v) mark ∙ was.clean in cc);
-}
-  where
-    was : IsListed p f v
-    was = o.listed f v b e
-
-    there : IsThere p v
-    there = page_in p v f (o.named f v e)
-
-    gone : state_of (evict_at p f (Some v)) v ≡ left_state v (mark_of p v)
-    gone = put_state p v (left_state v (mark_of p v)) (mark_of p v) there
-
-    mark : mark_of (evict_at p f (Some v)) v ≡ mark_of p v
-    mark = put_mark p v (left_state v (mark_of p v)) (mark_of p v) there
-
-    none : page_of (evict_at p f (Some v)) f ≡ None
-    none = let k = frame_in p v f e in at_set_same p.holds f None None k.0 k.1
+evict_here p f v o e b =
+    let was : IsListed p f v = o.listed f v b e in
+    let there : IsThere p v = page_in p v f (o.named f v e) in
+    let gone : state_of (evict_at p f (Some v)) v ≡ left_state v (mark_of p v) = put_state p v (left_state v (mark_of p v)) (mark_of p v) there in
+    let mark : mark_of (evict_at p f (Some v)) v ≡ mark_of p v = put_mark p v (left_state v (mark_of p v)) (mark_of p v) there in
+    let none : page_of (evict_at p f (Some v)) f ≡ None =
+    let k = frame_in p v f e in at_set_same p.holds f None None k.0 k.1 in
+    record {
+      joined = inr (ap frame_of gone ∙ left_frameless v (mark_of p v), none);
+      once =
+          let h : times f p.free + times f (flying (parts_of p.transfers)) + seats (times f p.free) (state_of p v) ≡ 1 = once_at p v f o (o.named f v e) in
+          let k : seats (times f p.free) (state_of p v) ≡ 1 - times f p.free = ap (seats (times f p.free)) was.state in
+          let a : seated (evict_at p f (Some v)) f ≡ 0 = ap (seated_of (evict_at p f (Some v)) f) none in
+          omega arith;
+      listed = λ c h. none_some v (sym none ∙ h);
+      moves = moves_kept p (evict_at p f (Some v)) v (parts_of p.transfers) (subst AtRest (sym was.state) tt) (put_other_state p v (left_state v (mark_of p v)) (mark_of p v)) o.moves;
+      dirty = λ h. absurd (let k : true ≡ false = sym h ∙ ap (is_marked_dirty v) mark ∙ was.clean in cc);
+    }
 
 pub evict_owner : (p : Placement) (f : ℕ) → OwnsFrames p → 0 < times f p.free → OwnsFrames (evict p f)
 evict_owner p f o b = go (page_of p f) refl
@@ -305,27 +282,23 @@ marked_false (Data sid n) = refl
 marked_false _ = refl
 
 drop_here : (p : Placement) (v : Page) (f : ℕ) → OwnsFrames p → AtRest (state_of p v) → frame_of (state_of p v) ≡ Some f → Here (drop_at p v (Some f)) v f
-drop_here p v f o r e = record {
-  joined = inr (ap frame_of is, none);
-  once =
-      let a = not_flying (times f p.free) (times f (flying (parts_of p.transfers))) (state_of p v) f r e (once_at p v f o e) in
-      let b = times_head f (without f p.free) in
-      let c = times-without_same f p.free in
-      let d : seated (drop_at p v (Some f)) f ≡ 0 = ap (seated_of (drop_at p v (Some f)) f) none in
-      omega arith;
-  listed = λ b h. none_some v (sym none ∙ h);
-  moves = moves_kept p (drop_at p v (Some f)) v (parts_of p.transfers) r (put_other_state p v Unfilled false) o.moves;
-  dirty = λ h. absurd (let k : true ≡ false = sym h ∙ ap (is_marked_dirty v) (put_mark p v Unfilled false there) ∙ marked_false v in cc);
-}
-  where
-    there : IsThere p v
-    there = page_in p v f e
-
-    is : state_of (put p v Unfilled false) v ≡ Unfilled
-    is = put_state p v Unfilled false there
-
-    none : page_of (drop_at p v (Some f)) f ≡ None
-    none = let k = frame_in p v f (o.names v f e) in at_set_same p.holds f None None k.0 k.1
+drop_here p v f o r e =
+    let there : IsThere p v = page_in p v f e in
+    let is : state_of (put p v Unfilled false) v ≡ Unfilled = put_state p v Unfilled false there in
+    let none : page_of (drop_at p v (Some f)) f ≡ None =
+    let k = frame_in p v f (o.names v f e) in at_set_same p.holds f None None k.0 k.1 in
+    record {
+      joined = inr (ap frame_of is, none);
+      once =
+          let a = not_flying (times f p.free) (times f (flying (parts_of p.transfers))) (state_of p v) f r e (once_at p v f o e) in
+          let b = times_head f (without f p.free) in
+          let c = times-without_same f p.free in
+          let d : seated (drop_at p v (Some f)) f ≡ 0 = ap (seated_of (drop_at p v (Some f)) f) none in
+          omega arith;
+      listed = λ b h. none_some v (sym none ∙ h);
+      moves = moves_kept p (drop_at p v (Some f)) v (parts_of p.transfers) r (put_other_state p v Unfilled false) o.moves;
+      dirty = λ h. absurd (let k : true ≡ false = sym h ∙ ap (is_marked_dirty v) (put_mark p v Unfilled false there) ∙ marked_false v in cc);
+    }
 
 pub drop_owner : (p : Placement) (v : Page) (f : ℕ) → OwnsFrames p → AtRest (state_of p v) → frame_of (state_of p v) ≡ Some f
     → OwnsFrames (drop_at p v (Some f))

@@ -50,13 +50,12 @@ sized_within (suc n) zero (x ∷ xs) l = (refl, refl)
 sized_within (suc n) (suc w) (x ∷ xs) l = sized_within n w xs (omega arith)
 
 sized_alike : (n w : ℕ) (xs : List Slot) → (n ≤ w → BlankSlot (get_or xs w no_slot)) → Alike (get_or (sized n xs) w no_slot) (get_or xs w no_slot)
-sized_alike n w xs b = elim (le_or w n) [
-  | inl l ↦ sized_within n w xs l
-  | inr l ↦ let e = sized_past n w xs l in let k = b l in (ap (λ (x : Slot). x.state) e ∙ sym k.0, ap (λ (x : Slot). x.mark) e ∙ sym k.1)
-]
-  where
-    le_or : (a b : ℕ) → (a < b) ⊎ (b ≤ a)
-    le_or a b = grind arith
+sized_alike n w xs b =
+    let le_or : (a b : ℕ) → (a < b) ⊎ (b ≤ a) = λ a b. grind arith in
+    elim (le_or w n) [
+      | inl l ↦ sized_within n w xs l
+      | inr l ↦ let e = sized_past n w xs l in let k = b l in (ap (λ (x : Slot). x.state) e ∙ sym k.0, ap (λ (x : Slot). x.mark) e ∙ sym k.1)
+    ]
 
 abbrev pub cut : ℕ → ℕ → SpacePages → SpacePages
 cut d s x = record x { data_pages = sized d x.data_pages; stack_pages = sized s x.stack_pages }
@@ -114,13 +113,12 @@ each_back P (q ∷ qs) rs h = each_back P qs rs h.1
 blank_from : (p : Placement) (q : Page) (lo n : ℕ) → EachPage (IsBlank p) (pages_from q lo n)
     → ((w : ℕ) → lo + n ≤ w → length (slots_of p (beside q w)) ≤ w) → ((w : ℕ) → number_of (beside q w) ≡ w)
     → (w : ℕ) → lo ≤ w → BlankSlot (slot_of p (beside q w))
-blank_from p q lo n h past num w l = elim (le_or w (lo + n)) [
-  | inl m ↦ let b : IsBlank p (beside q w) = each_at (IsBlank p) q lo n w h l m in (b.state, b.mark)
-  | inr m ↦ let e = get_or_past (slots_of p (beside q w)) (number_of (beside q w)) no_slot (let a = past w m in let k = num w in omega arith) in (ap (λ (x : Slot). x.state) e, ap (λ (x : Slot). x.mark) e)
-]
-  where
-    le_or : (a b : ℕ) → (a < b) ⊎ (b ≤ a)
-    le_or a b = grind arith
+blank_from p q lo n h past num w l =
+    let le_or : (a b : ℕ) → (a < b) ⊎ (b ≤ a) = λ a b. grind arith in
+    elim (le_or w (lo + n)) [
+      | inl m ↦ let b : IsBlank p (beside q w) = each_at (IsBlank p) q lo n w h l m in (b.state, b.mark)
+      | inr m ↦ let e = get_or_past (slots_of p (beside q w)) (number_of (beside q w)) no_slot (let a = past w m in let k = num w in omega arith) in (ap (λ (x : Slot). x.state) e, ap (λ (x : Slot). x.mark) e)
+    ]
 
 -- the pages that a new size drops
 abbrev pub dropped_pages : Placement → ℕ → ℕ → ℕ → List Page
@@ -235,10 +233,9 @@ removed_other sid t (s ∷ ss) n = go (s.sid == sid) refl (removed_other sid t s
   where
     go : (b : Bool) → (s.sid == sid) ≡ b → numbered space_number t (filter (λ (s : SpacePages). not (s.sid == sid)) ss) ≡ numbered space_number t ss
         → numbered space_number t (cond (not b) (s ∷ filter (λ (s : SpacePages). not (s.sid == sid)) ss) (filter (λ (s : SpacePages). not (s.sid == sid)) ss)) ≡ numbered space_number t (s ∷ ss)
-    go true e ih = ih ∙ sym (numbered_miss t s ss (λ k. n (sym k ∙ equal s.sid sid e)))
-      where
-        equal : (a b : ℕ) → (a == b) ≡ true → a ≡ b
-        equal a b e = grind (arith, nat_tests)
+    go true e ih =
+        let equal : (a b : ℕ) → (a == b) ≡ true → a ≡ b = λ a b e. grind (arith, nat_tests) in
+        ih ∙ sym (numbered_miss t s ss (λ k. n (sym k ∙ equal s.sid sid e)))
     go false e ih = ap (λ (o : Option SpacePages). cond (space_number s == t) (Some s) o) ih
 
 pub removed_same : (sid : ℕ) (ss : List SpacePages) → numbered space_number sid (filter (λ (s : SpacePages). not (s.sid == sid)) ss) ≡ None

@@ -39,24 +39,21 @@ none_flying p f o b = let h = o.once f (o.frames f b) in omega arith
 
 pub fill_enters : (p : Placement) (v : Page) (f : ℕ) (rest : List ℕ) → OwnsFrames p → CanEnter p v → p.free ≡ f ∷ rest
     → Enters (evict p f) v f (Valid f) true p.transfers
-fill_enters p v f rest o c e = record {
-  page_in = entered_there p v f c;
-  free = subst (λ (l : List ℕ). 0 < times f l) (sym r.free) some;
-  none = evict_page p f;
-  from = entered_frameless p v f o c;
-  to = refl;
-  other_flying = λ g n. ap (λ (ts : List Transfer). times g (flying (parts_of ts))) (sym r.transfers);
-  once = let h = none_flying p f o some in omega arith;
-  dirty = λ h. refl;
-  moves = subst (λ (ts : List Transfer). Each (IsMoving (put (evict p f) v (Valid f) true)) (parts_of ts)) r.transfers
-      (rest_moves (evict p f) v (Valid f) true (evict_owner p f o some) (frameless_rest (state_of (evict p f) v) (entered_frameless p v f o c)));
-}
-  where
-    r : EvictRest p (evict p f)
-    r = evict_rest p f
-
-    some : 0 < times f p.free
-    some = some_free p f rest e
+fill_enters p v f rest o c e =
+    let r : EvictRest p (evict p f) = evict_rest p f in
+    let some : 0 < times f p.free = some_free p f rest e in
+    record {
+      page_in = entered_there p v f c;
+      free = subst (λ (l : List ℕ). 0 < times f l) (sym r.free) some;
+      none = evict_page p f;
+      from = entered_frameless p v f o c;
+      to = refl;
+      other_flying = λ g n. ap (λ (ts : List Transfer). times g (flying (parts_of ts))) (sym r.transfers);
+      once = let h = none_flying p f o some in omega arith;
+      dirty = λ h. refl;
+      moves = subst (λ (ts : List Transfer). Each (IsMoving (put (evict p f) v (Valid f) true)) (parts_of ts)) r.transfers
+          (rest_moves (evict p f) v (Valid f) true (evict_owner p f o some) (frameless_rest (state_of (evict p f) v) (entered_frameless p v f o c)));
+    }
 
 pub fill_owner : (p : Placement) (v : Page) → OwnsFrames p → CanEnter p v → OwnsFrames (fill p v)
 fill_owner p v o c = go p.free refl
@@ -68,35 +65,32 @@ fill_owner p v o c = go p.free refl
 pub get_enters : (p : Placement) (e : Errand) (v : Page) (f : ℕ) (rest : List ℕ) → OwnsFrames p → CanEnter p v → IsOpen p.transfers e
     → moving_state e f ≡ Coming f → p.free ≡ f ∷ rest
     → Enters (evict p f) v f (Coming f) (mark_of p v) (join_last p.transfers e (record { page = v; frame = f }))
-get_enters p e v f rest o c latest reads fr = record {
-  page_in = entered_there p v f c;
-  free = subst (λ (l : List ℕ). 0 < times f l) (sym r.free) some;
-  none = evict_page p f;
-  from = entered_frameless p v f o c;
-  to = refl;
-  other_flying = λ g n.
-      let h = times_joined g p.transfers e (record { page = v; frame = f }) latest in
-      let k = times_one_other f g n in
-      let m : times g (flying (parts_of (evict p f).transfers)) ≡ times g (flying (parts_of p.transfers)) = ap (λ (ts : List Transfer). times g (flying (parts_of ts))) r.transfers in
-      omega arith;
-  once =
-      let h = times_joined f p.transfers e (record { page = v; frame = f }) latest in
-      let k = times_one f in
-      let z = none_flying p f o some in
-      omega arith;
-  dirty = clean_is (is_marked_dirty v (mark_of p v)) (frameless_clean p v o c.frameless);
-  moves = subst (Each (IsMoving (put (evict p f) v (Coming f) (mark_of p v)))) (sym (parts_join p.transfers e (record { page = v; frame = f }) latest))
-      (all_push (IsMoving (put (evict p f) v (Coming f) (mark_of p v))) (parts_of p.transfers) (moving e (record { page = v; frame = f }))
-      (subst (λ (ts : List Transfer). Each (IsMoving (put (evict p f) v (Coming f) (mark_of p v))) (parts_of ts)) r.transfers
-      (rest_moves (evict p f) v (Coming f) (mark_of p v) (evict_owner p f o some) (frameless_rest (state_of (evict p f) v) (entered_frameless p v f o c))))
-      (put_state (evict p f) v (Coming f) (mark_of p v) (entered_there p v f c) ∙ sym reads));
-}
-  where
-    r : EvictRest p (evict p f)
-    r = evict_rest p f
-
-    some : 0 < times f p.free
-    some = some_free p f rest fr
+get_enters p e v f rest o c latest reads fr =
+    let r : EvictRest p (evict p f) = evict_rest p f in
+    let some : 0 < times f p.free = some_free p f rest fr in
+    record {
+      page_in = entered_there p v f c;
+      free = subst (λ (l : List ℕ). 0 < times f l) (sym r.free) some;
+      none = evict_page p f;
+      from = entered_frameless p v f o c;
+      to = refl;
+      other_flying = λ g n.
+          let h = times_joined g p.transfers e (record { page = v; frame = f }) latest in
+          let k = times_one_other f g n in
+          let m : times g (flying (parts_of (evict p f).transfers)) ≡ times g (flying (parts_of p.transfers)) = ap (λ (ts : List Transfer). times g (flying (parts_of ts))) r.transfers in
+          omega arith;
+      once =
+          let h = times_joined f p.transfers e (record { page = v; frame = f }) latest in
+          let k = times_one f in
+          let z = none_flying p f o some in
+          omega arith;
+      dirty = clean_is (is_marked_dirty v (mark_of p v)) (frameless_clean p v o c.frameless);
+      moves = subst (Each (IsMoving (put (evict p f) v (Coming f) (mark_of p v)))) (sym (parts_join p.transfers e (record { page = v; frame = f }) latest))
+          (all_push (IsMoving (put (evict p f) v (Coming f) (mark_of p v))) (parts_of p.transfers) (moving e (record { page = v; frame = f }))
+          (subst (λ (ts : List Transfer). Each (IsMoving (put (evict p f) v (Coming f) (mark_of p v))) (parts_of ts)) r.transfers
+          (rest_moves (evict p f) v (Coming f) (mark_of p v) (evict_owner p f o some) (frameless_rest (state_of (evict p f) v) (entered_frameless p v f o c))))
+          (put_state (evict p f) v (Coming f) (mark_of p v) (entered_there p v f c) ∙ sym reads));
+    }
 
 pub get_owner : (p : Placement) (source : Source) (demanded v : Page) → OwnsFrames p → CanEnter p v → IsOpen p.transfers (Reads source demanded)
     → OwnsFrames (get_one p (Reads source demanded) v)
@@ -138,22 +132,19 @@ reclaim_owner p v o = go (state_of p v) refl
     go OnSwap e = o
 
 pub expire_turns : (p : Placement) (v : Page) (f : ℕ) → OwnsFrames p → state_of p v ≡ Valid f → Turns p v f (Invalid f) (mark_of p v) p.free p.transfers
-expire_turns p v f o e = record {
-  from = ap frame_of e;
-  to = refl;
-  other_free = λ g n. refl;
-  other_flying = λ g n. refl;
-  once = omega (arith, a, b);
-  listed = λ c. absurd (omega (arith, a, b));
-  dirty = λ h. refl;
-  moves = rest_moves p v (Invalid f) (mark_of p v) o (subst AtRest (sym e) tt);
-}
-  where
-    a : times f p.free + times f (flying (parts_of p.transfers)) + seats (times f p.free) (state_of p v) ≡ 1
-    a = once_at p v f o (ap frame_of e)
-
-    b : seats (times f p.free) (state_of p v) ≡ 1
-    b = ap (seats (times f p.free)) e
+expire_turns p v f o e =
+    let a : times f p.free + times f (flying (parts_of p.transfers)) + seats (times f p.free) (state_of p v) ≡ 1 = once_at p v f o (ap frame_of e) in
+    let b : seats (times f p.free) (state_of p v) ≡ 1 = ap (seats (times f p.free)) e in
+    record {
+      from = ap frame_of e;
+      to = refl;
+      other_free = λ g n. refl;
+      other_flying = λ g n. refl;
+      once = omega (arith, a, b);
+      listed = λ c. absurd (omega (arith, a, b));
+      dirty = λ h. refl;
+      moves = rest_moves p v (Invalid f) (mark_of p v) o (subst AtRest (sym e) tt);
+    }
 
 pub expire_owner : (p : Placement) (locked : List Page) → OwnsFrames p → OwnsFrames (expire p locked)
 expire_owner p locked o = go (page_of p p.front)
@@ -240,22 +231,19 @@ retire_owner p v f o c clean = elim c.state [
 
 -- a user write
 pub touch_turns : (p : Placement) (v : Page) (f : ℕ) → OwnsFrames p → state_of p v ≡ Valid f → Turns p v f (Valid f) true p.free p.transfers
-touch_turns p v f o e = record {
-  from = ap frame_of e;
-  to = refl;
-  other_free = λ g n. refl;
-  other_flying = λ g n. refl;
-  once = omega (arith, a, b);
-  listed = λ c. absurd (omega (arith, a, b));
-  dirty = λ h. refl;
-  moves = rest_moves p v (Valid f) true o (subst AtRest (sym e) tt);
-}
-  where
-    a : times f p.free + times f (flying (parts_of p.transfers)) + seats (times f p.free) (state_of p v) ≡ 1
-    a = once_at p v f o (ap frame_of e)
-
-    b : seats (times f p.free) (state_of p v) ≡ 1
-    b = ap (seats (times f p.free)) e
+touch_turns p v f o e =
+    let a : times f p.free + times f (flying (parts_of p.transfers)) + seats (times f p.free) (state_of p v) ≡ 1 = once_at p v f o (ap frame_of e) in
+    let b : seats (times f p.free) (state_of p v) ≡ 1 = ap (seats (times f p.free)) e in
+    record {
+      from = ap frame_of e;
+      to = refl;
+      other_free = λ g n. refl;
+      other_flying = λ g n. refl;
+      once = omega (arith, a, b);
+      listed = λ c. absurd (omega (arith, a, b));
+      dirty = λ h. refl;
+      moves = rest_moves p v (Valid f) true o (subst AtRest (sym e) tt);
+    }
 
 pub touch_owner : (p : Placement) (v : Page) → OwnsFrames p → OwnsFrames (touch p v)
 touch_owner p v o = go v (state_of p v) refl

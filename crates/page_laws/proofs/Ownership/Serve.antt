@@ -27,13 +27,12 @@ force_owner p locked o = go p.transfers
 
 -- a page in another state than that of one that isn't there is there
 pub state_there : (p : Placement) (q : Page) → (state_of p q ≡ Unfilled → ⊥) → IsThere p q
-state_there p q n = elim (le_or (number_of q) (length (slots_of p q))) [
-  | inl l ↦ l
-  | inr m ↦ absurd (n (ap (λ (x : Slot). x.state) (get_or_past (slots_of p q) (number_of q) no_slot m)))
-]
-  where
-    le_or : (a b : ℕ) → (a < b) ⊎ (b ≤ a)
-    le_or a b = grind arith
+state_there p q n =
+    let le_or : (a b : ℕ) → (a < b) ⊎ (b ≤ a) = λ a b. grind arith in
+    elim (le_or (number_of q) (length (slots_of p q))) [
+      | inl l ↦ l
+      | inr m ↦ absurd (n (ap (λ (x : Slot). x.state) (get_or_past (slots_of p q) (number_of q) no_slot m)))
+    ]
 
 on_swap_enters : (p : Placement) (q : Page) → state_of p q ≡ OnSwap → CanEnter p q
 on_swap_enters p q e = record { there = state_there p q (λ h. let k : OnSwap ≡ Unfilled = sym e ∙ h in absurd cc); frameless = ap frame_of e }

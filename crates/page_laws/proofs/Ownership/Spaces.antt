@@ -28,32 +28,29 @@ pub record Reshaped (p q : Placement) : Type 0 where
   pub marks : (w : Page) → is_marked_dirty w (mark_of q w) ≡ is_marked_dirty w (mark_of p w)
 
 pub reshaped_owner : (p q : Placement) → OwnsFrames p → Reshaped p q → OwnsFrames q
-reshaped_owner p q o r = record {
-  once = λ f b.
-      let s : seated q f ≡ seated p f = seated_same f (page_of p f) refl in
-      let a : times f q.free ≡ times f p.free = ap (times f) r.free in
-      let c : times f (flying (parts_of q.transfers)) ≡ times f (flying (parts_of p.transfers)) = ap (λ (ts : List Transfer). times f (flying (parts_of ts))) r.transfers in
-      let k : times f p.free + times f (flying (parts_of p.transfers)) + seated p f ≡ 1 = o.once f (frame_was f b) in
-      omega arith;
-  frames = λ f b. frame_is f (o.frames f (subst (λ (l : List ℕ). 0 < times f l) r.free b));
-  names = λ w f e. page f ∙ o.names w f (ap frame_of (sym (r.states w)) ∙ e);
-  named = λ f w e. ap frame_of (r.states w) ∙ o.named f w (sym (page f) ∙ e);
-  listed = λ f w b e.
-      let k : IsListed p f w = o.listed f w (subst (λ (l : List ℕ). 0 < times f l) r.free b) (sym (page f) ∙ e) in
-      record { state = r.states w ∙ k.state; clean = r.marks w ∙ k.clean };
-  moves = subst (λ (ts : List Transfer). Each (IsMoving q) (parts_of ts)) (sym r.transfers)
-      (all_imp (IsMoving p) (IsMoving q) (parts_of p.transfers) o.moves (λ m k. r.states m.page ∙ k));
-  dirty = λ w e. ap may_be_dirty (r.states w) ∙ o.dirty w (sym (r.marks w) ∙ e);
-}
+reshaped_owner p q o r =
+    let frame_was : (f : ℕ) → IsFrame q f → IsFrame p f = λ f b. subst (λ (l : List (Option Page)). (0 < f) × (f ≤ length l)) r.holds b in
+    let frame_is : (f : ℕ) → IsFrame p f → IsFrame q f = λ f b. subst (λ (l : List (Option Page)). (0 < f) × (f ≤ length l)) (sym r.holds) b in
+    record {
+      once = λ f b.
+          let s : seated q f ≡ seated p f = seated_same f (page_of p f) refl in
+          let a : times f q.free ≡ times f p.free = ap (times f) r.free in
+          let c : times f (flying (parts_of q.transfers)) ≡ times f (flying (parts_of p.transfers)) = ap (λ (ts : List Transfer). times f (flying (parts_of ts))) r.transfers in
+          let k : times f p.free + times f (flying (parts_of p.transfers)) + seated p f ≡ 1 = o.once f (frame_was f b) in
+          omega arith;
+      frames = λ f b. frame_is f (o.frames f (subst (λ (l : List ℕ). 0 < times f l) r.free b));
+      names = λ w f e. page f ∙ o.names w f (ap frame_of (sym (r.states w)) ∙ e);
+      named = λ f w e. ap frame_of (r.states w) ∙ o.named f w (sym (page f) ∙ e);
+      listed = λ f w b e.
+          let k : IsListed p f w = o.listed f w (subst (λ (l : List ℕ). 0 < times f l) r.free b) (sym (page f) ∙ e) in
+          record { state = r.states w ∙ k.state; clean = r.marks w ∙ k.clean };
+      moves = subst (λ (ts : List Transfer). Each (IsMoving q) (parts_of ts)) (sym r.transfers)
+          (all_imp (IsMoving p) (IsMoving q) (parts_of p.transfers) o.moves (λ m k. r.states m.page ∙ k));
+      dirty = λ w e. ap may_be_dirty (r.states w) ∙ o.dirty w (sym (r.marks w) ∙ e);
+    }
   where
     page : (f : ℕ) → page_of q f ≡ page_of p f
     page f = ap (λ (l : List (Option Page)). Rattle.page_model.specs.Frames.at_frame l f None) r.holds
-
-    frame_was : (f : ℕ) → IsFrame q f → IsFrame p f
-    frame_was f b = subst (λ (l : List (Option Page)). (0 < f) × (f ≤ length l)) r.holds b
-
-    frame_is : (f : ℕ) → IsFrame p f → IsFrame q f
-    frame_is f b = subst (λ (l : List (Option Page)). (0 < f) × (f ≤ length l)) (sym r.holds) b
 
     seated_same : (f : ℕ) (h : Option Page) → page_of p f ≡ h → seated q f ≡ seated p f
     seated_same f None e = ap (seated_of q f) (page f ∙ e) ∙ sym (ap (seated_of p f) e)
@@ -62,27 +59,41 @@ reshaped_owner p q o r = record {
 -- A page with no frame goes to another state with no frame.
 pub frameless_owner : (p : Placement) (v : Page) (s : PageState) (m : Bool) → OwnsFrames p → frame_of (state_of p v) ≡ None → frame_of s ≡ None
     → is_marked_dirty v m ≡ false → OwnsFrames (put p v s m)
-frameless_owner p v s m o from to clean = record {
-  once = λ f b.
-      let k : seated (put p v s m) f ≡ seated p f = seated_still f (page_of p f) refl in
-      let h : times f p.free + times f (flying (parts_of p.transfers)) + seated p f ≡ 1 = o.once f b in
-      omega arith;
-  frames = o.frames;
-  names = λ w f e. elim (page_cases w v) [
-    | inl h ↦ none_some f (sym (at_page w h) ∙ e)
-    | inr n ↦ o.names w f (ap frame_of (sym (put_other_state p v s m w n)) ∙ e)
-  ];
-  named = λ f w e. ap frame_of (put_other_state p v s m w (held_apart f w e)) ∙ o.named f w e;
-  listed = λ f w b e.
-      let k : IsListed p f w = o.listed f w b e in
-      let n : w ≢ v = held_apart f w e in
-      record { state = put_other_state p v s m w n ∙ k.state; clean = ap (λ (x : Slot). is_marked_dirty w x.mark) (put_other p v s m w n) ∙ k.clean };
-  moves = rest_moves p v s m o (frameless_rest (state_of p v) from);
-  dirty = λ w e. elim (page_cases w v) [
-    | inl h ↦ absurd (let k : is_marked_dirty w (mark_of (put p v s m) w) ≡ false = mark_clean w h in let j : true ≡ false = sym e ∙ k in cc)
-    | inr n ↦ ap may_be_dirty (put_other_state p v s m w n) ∙ o.dirty w (ap (λ (x : Slot). is_marked_dirty w x.mark) (sym (put_other p v s m w n)) ∙ e)
-  ];
-}
+frameless_owner p v s m o from to clean =
+    let le_or : (a b : ℕ) → (a < b) ⊎ (b ≤ a) = λ a b. grind arith in
+    let is_there : (IsThere p v) ⊎ (length (slots_of p v) ≤ number_of v) = le_or (number_of v) (length (slots_of p v)) in
+    let gone : length (slots_of p v) ≤ number_of v → slot_of (put p v s m) v ≡ no_slot = λ l.
+    get_or_past (slots_of (put p v s m) v) (number_of v) no_slot (let h = put_length p v s m v in omega arith) in
+    let at_page : (w : Page) → w ≡ v → frame_of (state_of (put p v s m) w) ≡ None = λ w h. subst (λ (x : Page). frame_of (state_of (put p v s m) x) ≡ None) (sym h) (elim is_there [
+      | inl l ↦ ap frame_of (put_state p v s m l) ∙ to
+      | inr l ↦ ap (λ (x : Slot). frame_of x.state) (gone l)
+    ]) in
+    let mark_clean : (w : Page) → w ≡ v → is_marked_dirty w (mark_of (put p v s m) w) ≡ false = λ w h.
+    subst (λ (x : Page). is_marked_dirty x (mark_of (put p v s m) x) ≡ false) (sym h) (elim is_there [
+      | inl l ↦ ap (is_marked_dirty v) (put_mark p v s m l) ∙ clean
+      | inr l ↦ ap (λ (x : Slot). is_marked_dirty v x.mark) (gone l) ∙ never v
+    ]) in
+    record {
+      once = λ f b.
+          let k : seated (put p v s m) f ≡ seated p f = seated_still f (page_of p f) refl in
+          let h : times f p.free + times f (flying (parts_of p.transfers)) + seated p f ≡ 1 = o.once f b in
+          omega arith;
+      frames = o.frames;
+      names = λ w f e. elim (page_cases w v) [
+        | inl h ↦ none_some f (sym (at_page w h) ∙ e)
+        | inr n ↦ o.names w f (ap frame_of (sym (put_other_state p v s m w n)) ∙ e)
+      ];
+      named = λ f w e. ap frame_of (put_other_state p v s m w (held_apart f w e)) ∙ o.named f w e;
+      listed = λ f w b e.
+          let k : IsListed p f w = o.listed f w b e in
+          let n : w ≢ v = held_apart f w e in
+          record { state = put_other_state p v s m w n ∙ k.state; clean = ap (λ (x : Slot). is_marked_dirty w x.mark) (put_other p v s m w n) ∙ k.clean };
+      moves = rest_moves p v s m o (frameless_rest (state_of p v) from);
+      dirty = λ w e. elim (page_cases w v) [
+        | inl h ↦ absurd (let k : is_marked_dirty w (mark_of (put p v s m) w) ≡ false = mark_clean w h in let j : true ≡ false = sym e ∙ k in cc)
+        | inr n ↦ ap may_be_dirty (put_other_state p v s m w n) ∙ o.dirty w (ap (λ (x : Slot). is_marked_dirty w x.mark) (sym (put_other p v s m w n)) ∙ e)
+      ];
+    }
   where
     held_apart : (f : ℕ) (w : Page) → page_of p f ≡ Some w → w ≢ v
     held_apart f w e h = none_some f (sym from ∙ subst (λ (x : Page). frame_of (state_of p x) ≡ Some f) h (o.named f w e))
@@ -91,31 +102,10 @@ frameless_owner p v s m o from to clean = record {
     seated_still f None e = ap (seated_of (put p v s m) f) e ∙ sym (ap (seated_of p f) e)
     seated_still f (Some w) e = ap (seated_of (put p v s m) f) e ∙ ap (seats (times f p.free)) (put_other_state p v s m w (held_apart f w e)) ∙ sym (ap (seated_of p f) e)
 
-    le_or : (a b : ℕ) → (a < b) ⊎ (b ≤ a)
-    le_or a b = grind arith
-
-    is_there : (IsThere p v) ⊎ (length (slots_of p v) ≤ number_of v)
-    is_there = le_or (number_of v) (length (slots_of p v))
-
-    gone : length (slots_of p v) ≤ number_of v → slot_of (put p v s m) v ≡ no_slot
-    gone l = get_or_past (slots_of (put p v s m) v) (number_of v) no_slot (let h = put_length p v s m v in omega arith)
-
-    at_page : (w : Page) → w ≡ v → frame_of (state_of (put p v s m) w) ≡ None
-    at_page w h = subst (λ (x : Page). frame_of (state_of (put p v s m) x) ≡ None) (sym h) (elim is_there [
-      | inl l ↦ ap frame_of (put_state p v s m l) ∙ to
-      | inr l ↦ ap (λ (x : Slot). frame_of x.state) (gone l)
-    ])
-
     never : (w : Page) → is_marked_dirty w false ≡ false
     never (Data sid n) = refl
     never (Stack sid n) = refl
     never (Text image n) = refl
-
-    mark_clean : (w : Page) → w ≡ v → is_marked_dirty w (mark_of (put p v s m) w) ≡ false
-    mark_clean w h = subst (λ (x : Page). is_marked_dirty x (mark_of (put p v s m) x) ≡ false) (sym h) (elim is_there [
-      | inl l ↦ ap (is_marked_dirty v) (put_mark p v s m l) ∙ clean
-      | inr l ↦ ap (λ (x : Slot). is_marked_dirty v x.mark) (gone l) ∙ never v
-    ])
 
 -- Giving up pages.
 
@@ -128,10 +118,9 @@ absent_blank : (p : Placement) (w : Page) → length (slots_of p w) ≤ number_o
 absent_blank p w l = let e = get_or_past (slots_of p w) (number_of w) no_slot l in record { state = ap (λ (x : Slot). x.state) e; mark = ap (λ (x : Slot). x.mark) e }
 
 pub there_or : (p : Placement) (w : Page) → (IsThere p w) ⊎ (length (slots_of p w) ≤ number_of w)
-there_or p w = le_or (number_of w) (length (slots_of p w))
-  where
-    le_or : (a b : ℕ) → (a < b) ⊎ (b ≤ a)
-    le_or a b = grind arith
+there_or p w =
+    let le_or : (a b : ℕ) → (a < b) ⊎ (b ≤ a) = λ a b. grind arith in
+    le_or (number_of w) (length (slots_of p w))
 
 pub blank_put : (p : Placement) (v : Page) → IsBlank (put p v Unfilled false) v
 blank_put p v = elim (there_or p v) [

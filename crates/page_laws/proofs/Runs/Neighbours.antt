@@ -78,14 +78,13 @@ seated_joins p q w e =
     go OnSwap h i d n = absurd cc
 
 seated_passes : (p : Placement) (q : Page) (w : ℕ) → IsSeatedBeside p q w → (is_seated p (beside q w) && (is_dirty p (beside q w) && is_near q w)) ≡ true
-seated_passes p q w h = and_from (is_seated p (beside q w)) (is_dirty p (beside q w) && is_near q w) seat
-    (and_from (is_dirty p (beside q w)) (is_near q w) h.dirty (eq-eqb (chunk_of q) (chunk_of (beside q w)) (sym h.near)))
-  where
-    seat : is_seated p (beside q w) ≡ true
-    seat = elim h.seat [
+seated_passes p q w h =
+    let seat : is_seated p (beside q w) ≡ true = elim h.seat [
       | inl e ↦ ap (is_seated_by p) e
       | inr e ↦ ap (is_seated_by p) e.0 ∙ eq-eqb (times h.frame p.free) 0 e.1
-    ]
+    ] in
+    and_from (is_seated p (beside q w)) (is_dirty p (beside q w) && is_near q w) seat
+    (and_from (is_dirty p (beside q w)) (is_near q w) h.dirty (eq-eqb (chunk_of q) (chunk_of (beside q w)) (sym h.near)))
 
 -- Runs.
 

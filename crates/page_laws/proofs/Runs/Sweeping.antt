@@ -201,13 +201,12 @@ taken_at p locked w f h e =
     record { state = t.state ∙ ap Invalid same; off = ap (λ (x : ℕ). times x p.free) (sym same) ∙ t.off; unlocked = t.unlocked; mark = t.mark }
 
 retire_going : (p : Placement) (q w : Page) (g f : ℕ) → state_of p q ≡ Invalid g → state_of (retire p q) w ≡ Going f → state_of p w ≡ Going f
-retire_going p q w g f e h = elim (page_cases w q) [
-  | inl s ↦ absurd (let k : Invalid g ≡ Going f = sym (put_state p q (Invalid g) (mark_of p q) (page_in p q g (ap frame_of e))) ∙ ap (state_of (retire_to p q (Invalid g))) (sym s) ∙ sym at ∙ h in cc)
-  | inr n ↦ sym (ap (λ (x : Slot). x.state) (put_other p q (Invalid g) (mark_of p q) w n)) ∙ sym at ∙ h
-]
-  where
-    at : state_of (retire p q) w ≡ state_of (retire_to p q (Invalid g)) w
-    at = ap (λ (s : PageState). state_of (retire_to p q s) w) e
+retire_going p q w g f e h =
+    let at : state_of (retire p q) w ≡ state_of (retire_to p q (Invalid g)) w = ap (λ (s : PageState). state_of (retire_to p q s) w) e in
+    elim (page_cases w q) [
+      | inl s ↦ absurd (let k : Invalid g ≡ Going f = sym (put_state p q (Invalid g) (mark_of p q) (page_in p q g (ap frame_of e))) ∙ ap (state_of (retire_to p q (Invalid g))) (sym s) ∙ sym at ∙ h in cc)
+      | inr n ↦ sym (ap (λ (x : Slot). x.state) (put_other p q (Invalid g) (mark_of p q) w n)) ∙ sym at ∙ h
+    ]
 
 swept_going : (p : Placement) (locked : List Page) (w : Page) (f : ℕ) → OwnsFrames p → state_of (sweep p locked) w ≡ Going f
     → (state_of p w ≡ Going f) ⊎ IsPicked p locked w f true

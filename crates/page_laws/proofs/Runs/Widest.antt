@@ -52,61 +52,47 @@ passed passes v w n (inr e) = e
 pub widest : (passes : ℕ → Bool) (Joins MayBe : ℕ → Type 0) (v most : ℕ) → 0 < most → ((w : ℕ) → passes w ≡ true → Joins w)
     → ((w : ℕ) → Joins w → passes w ≡ true)
     → ((n : ℕ) → 0 < n → n ≤ most → MayBe n) → (MayBe (most + 1) → ⊥) → IsWidestRun Joins MayBe v (run_both passes v most)
-widest passes Joins MayBe v most some to back may full = let a = above_few in let b = below_few in let c = below_in in record {
-  has = (omega arith, omega arith);
-  joins = λ w l m n. to w (passed passes v w n (run_both_in passes v most w l m));
-  may_be = may (below + 1 + above) (omega arith) (omega arith);
-  above_first = λ l j. next (omega arith) j;
-  whole = elim (least_or (below + 1 + above) most (omega arith)) [
-    | inl e ↦ inl (λ m. full (subst (λ (n : ℕ). MayBe (n + 1)) e m))
-    | inr l ↦ inr (
-      λ j. next (omega arith) j,
-      λ m j. absurd (
-          let stop : passes (v - below - 1) ≡ false = below_stops passes v (most - 1 - above) (omega arith) (omega arith) in
-          never passes Joins (v - below - 1) back stop j),
-    )
-  ];
-}
-  where
-    above : ℕ
-    above = passing_above passes v (most - 1)
-
-    below : ℕ
-    below = passing_below passes v (most - 1 - above)
-
-    above_few : above ≤ most - 1
-    above_few = above_le passes v (most - 1)
-
-    below_few : below ≤ most - 1 - above
-    below_few = below_room passes v (most - 1 - above)
-
-    below_in : below ≤ v
-    below_in = below_le passes v (most - 1 - above)
-
-    next : above < most - 1 → Joins (v - below + (below + 1 + above)) → ⊥
-    next l j =
-        let c = below_in in
-        let same : v - below + (below + 1 + above) ≡ v + above + 1 = omega arith in
-        never passes Joins (v + above + 1) back (above_stops passes v (most - 1) l) (subst Joins same j)
+widest passes Joins MayBe v most some to back may full =
+    let above : ℕ = passing_above passes v (most - 1) in
+    let below : ℕ = passing_below passes v (most - 1 - above) in
+    let above_few : above ≤ most - 1 = above_le passes v (most - 1) in
+    let below_few : below ≤ most - 1 - above = below_room passes v (most - 1 - above) in
+    let below_in : below ≤ v = below_le passes v (most - 1 - above) in
+    let next : above < most - 1 → Joins (v - below + (below + 1 + above)) → ⊥ = λ l j.
+    let c = below_in in
+    let same : v - below + (below + 1 + above) ≡ v + above + 1 = omega arith in
+    never passes Joins (v + above + 1) back (above_stops passes v (most - 1) l) (subst Joins same j) in
+    let a = above_few in let b = below_few in let c = below_in in record {
+      has = (omega arith, omega arith);
+      joins = λ w l m n. to w (passed passes v w n (run_both_in passes v most w l m));
+      may_be = may (below + 1 + above) (omega arith) (omega arith);
+      above_first = λ l j. next (omega arith) j;
+      whole = elim (least_or (below + 1 + above) most (omega arith)) [
+        | inl e ↦ inl (λ m. full (subst (λ (n : ℕ). MayBe (n + 1)) e m))
+        | inr l ↦ inr (
+          λ j. next (omega arith) j,
+          λ m j. absurd (
+              let stop : passes (v - below - 1) ≡ false = below_stops passes v (most - 1 - above) (omega arith) (omega arith) in
+              never passes Joins (v - below - 1) back stop j),
+        )
+      ];
+    }
 
 pub longest : (passes : ℕ → Bool) (Joins MayBe : ℕ → Type 0) (v most : ℕ) → 0 < most → ((w : ℕ) → passes w ≡ true → Joins w)
     → ((w : ℕ) → Joins w → passes w ≡ true)
     → ((n : ℕ) → 0 < n → n ≤ most → MayBe n) → (MayBe (most + 1) → ⊥) → IsLongestRun Joins MayBe v (run_up passes v most)
-longest passes Joins MayBe v most some to back may full = let a = above_few in record {
-  from = refl;
-  some = omega arith;
-  joins = λ w l m. to w (passed passes v w (λ e. absurd (omega arith)) (run_up_in passes v most w (omega arith) m));
-  may_be = may (1 + above) (omega arith) (omega arith);
-  whole = elim (least_or (1 + above) most (omega arith)) [
-    | inl e ↦ inl (λ m. full (subst (λ (n : ℕ). MayBe (n + 1)) e m))
-    | inr l ↦ inr (λ j.
-        let same : v + (1 + above) ≡ v + above + 1 = omega arith in
-        never passes Joins (v + above + 1) back (above_stops passes v (most - 1) (omega arith)) (subst Joins same j))
-  ];
-}
-  where
-    above : ℕ
-    above = passing_above passes v (most - 1)
-
-    above_few : above ≤ most - 1
-    above_few = above_le passes v (most - 1)
+longest passes Joins MayBe v most some to back may full =
+    let above : ℕ = passing_above passes v (most - 1) in
+    let above_few : above ≤ most - 1 = above_le passes v (most - 1) in
+    let a = above_few in record {
+      from = refl;
+      some = omega arith;
+      joins = λ w l m. to w (passed passes v w (λ e. absurd (omega arith)) (run_up_in passes v most w (omega arith) m));
+      may_be = may (1 + above) (omega arith) (omega arith);
+      whole = elim (least_or (1 + above) most (omega arith)) [
+        | inl e ↦ inl (λ m. full (subst (λ (n : ℕ). MayBe (n + 1)) e m))
+        | inr l ↦ inr (λ j.
+            let same : v + (1 + above) ≡ v + above + 1 = omega arith in
+            never passes Joins (v + above + 1) back (above_stops passes v (most - 1) (omega arith)) (subst Joins same j))
+      ];
+    }

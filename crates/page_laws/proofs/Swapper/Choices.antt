@@ -329,6 +329,7 @@ large_out : (p : Placement) (rs : List Runner) (r : Runner) (pid : ℕ) → long
     → longest p (take 4 (ranked p (filter (may_go_out p) rs))) ≡ Some r
     → r.pid ≡ pid → length p.free < desired_free p → GoesOut p rs pid
 large_out p rs r pid n l e m =
+    let counted : (x : Runner) → larger_in p x (ranked p (filter (may_go_out p) rs)) ≡ larger_count p x rs = λ x. ranked_count p x (filter (may_go_out p) rs) ∙ may_count p x rs in
     let c = filter (may_go_out p) rs in
     let i : IsLongest p (take 4 (ranked p (filter (may_go_out p) rs))) r = longest_is p (take 4 (ranked p c)) r l in
     let d = ranked_from p c r (take_from 4 (ranked p c) r i.one) in
@@ -347,9 +348,6 @@ large_out p rs r pid n l e m =
       );
       few = m;
     }
-  where
-    counted : (x : Runner) → larger_in p x (ranked p (filter (may_go_out p) rs)) ≡ larger_count p x rs
-    counted x = ranked_count p x (filter (may_go_out p) rs) ∙ may_count p x rs
 
 pub chosen_out : (p : Placement) (rs : List Runner) (pid : ℕ) → swap_choice p rs ≡ Out pid → GoesOut p rs pid
 chosen_out p rs pid e = go (nat_le (desired_free p) (length p.free)) refl e

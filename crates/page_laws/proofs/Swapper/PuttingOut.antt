@@ -171,16 +171,14 @@ launched_idle p v c = elim c.seat.state [
     turned h = ap (is_active_by (turn p v (Going c.frame) (mark_of p v) p.free (join_last p.transfers Writes (record { page = v; frame = c.frame })))) (put_state p v (Going c.frame) (mark_of p v) (page_in p v c.frame h))
 
 retired_idle : (p : Placement) (v : Page) → HasSeat p v → is_active (retire p v) v ≡ false
-retired_idle p v c = elim c.seat.state [
-  | inl e ↦ ap (λ (s : PageState). is_active (retire_to p v s) v) e ∙ turned (ap frame_of e)
-  | inr e ↦ ap (λ (s : PageState). is_active (retire_to p v s) v) e.0 ∙ turned (ap frame_of e.0)
-]
-  where
-    q : Placement
-    q = turn p v (Invalid c.frame) (mark_of p v) (p.free ++ c.frame ∷ []) p.transfers
-
-    turned : frame_of (state_of p v) ≡ Some c.frame → is_active q v ≡ false
-    turned h = ap (is_active_by q) (put_state p v (Invalid c.frame) (mark_of p v) (page_in p v c.frame h)) ∙ tail_idle p q c.frame refl
+retired_idle p v c =
+    let q : Placement = turn p v (Invalid c.frame) (mark_of p v) (p.free ++ c.frame ∷ []) p.transfers in
+    let turned : frame_of (state_of p v) ≡ Some c.frame → is_active q v ≡ false = λ h.
+    ap (is_active_by q) (put_state p v (Invalid c.frame) (mark_of p v) (page_in p v c.frame h)) ∙ tail_idle p q c.frame refl in
+    elim c.seat.state [
+      | inl e ↦ ap (λ (s : PageState). is_active (retire_to p v s) v) e ∙ turned (ap frame_of e)
+      | inr e ↦ ap (λ (s : PageState). is_active (retire_to p v s) v) e.0 ∙ turned (ap frame_of e.0)
+    ]
 
 idle_still : (p q : Placement) (v : Page) → Calmer p q → is_active p v ≡ false → is_active q v ≡ false
 idle_still p q v c e = go (is_active q v) refl
