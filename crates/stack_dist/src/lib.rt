@@ -31,6 +31,29 @@ pub fn curve(alloc: Global, refs: &[u32]) -> Result<Vec<u32>, NoMemory>
     Ok(counts)
 }
 
+/// The page faults of LRU with room for so many pages, however many there are (LRU as in Belady). At most 4,000,000
+/// references. The one error is that there is no memory left.
+pub fn lru_faults(alloc: Global, refs: &[u32], pages: u32) -> Result<u32, NoMemory>
+    requires { length refs.now ≤ 4_000_000 }
+    ensures { IfOk result (λ faults. faults ≡ lru_faults refs.now pages) }
+{
+    let counts = hits_by_depth(alloc, refs)?;
+    let hits = hits_above(counts.as_slice(), pages as usize);
+    Ok(refs.len() as u32 - hits)
+}
+
+/// The hits at the first depths, so many of them or all.
+fn hits_above(counts: &[u32], depth: usize) -> u32
+    requires { total counts.now ≤ 4_000_000 }
+    ensures { result ≡ total (take depth counts.now) }
+{
+    let mut hits = 0;
+    for count in &counts[..depth.min(counts.len())] {
+        hits += *count;
+    }
+    hits
+}
+
 /// Turns the hits at each depth into the faults at each size: what the hits up to a depth leave of the
 /// references.
 fn hits_to_faults(counts: &mut [u32], references: u32)

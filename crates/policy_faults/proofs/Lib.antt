@@ -1,0 +1,4 @@
+pub mod Rings
+pub mod Turning
+pub mod Calls
+pub mod Counting

@@ -1,0 +1,16 @@
+use Rattle.policy_faults.specs.Ring.{is_in_memory}
+use Rattle.policy_faults.specs.Policies.{ring_after, clock_room, clock_faults}
+use Rattle.policy_faults.proofs.Counting.{counted_step, counted_end}
+use Rattle.policy_faults.proofs.policies.clock_faults.Goals as goal
+
+pub loop-page-preserved : goal.loop-page-preserved
+loop-page-preserved c = record {
+  counted =
+      counted_step is_in_memory (ring_after (clock_room c.args.frames)) c.loop-page.ring c.clock_reference.new.ring c.args.refs.now c.loop-page.page-index c.loop-page.faults
+      c.in_ok-faults.field-0 (clock_faults c.args.refs.now c.args.frames) c.loop-page-test.true c.in_ok-faults.ensures.after c.in_ok-faults.ensures.faults c.loop-page.invariant.counted;
+}
+
+pub returns : goal.returns
+returns c =
+    counted_end is_in_memory (ring_after (clock_room c.args.frames)) c.loop-page.ring c.args.refs.now c.loop-page.page-index c.loop-page.faults
+    (clock_faults c.args.refs.now c.args.frames) c.loop-page-test.false c.loop-page.invariant.counted

@@ -1,0 +1,23 @@
+-- How the code keeps a ring: the pages from the hand on, and the marks by page.
+use Rattle.std.specs.Prelude.{◌≡◌, ◌≤◌, ℕ, Bool, false, List, [], ◌∷◌, nat_eq, Option, is_some, unwrap_or}
+use Rattle.std.specs.HashMap.{get}
+use Rattle.page_opt.specs.Plans.{has}
+use Rattle.page_opt.specs.Cache.{times}
+use Rattle.policy_faults.specs.Ring.{MarkedPage}
+use Rattle.policy_faults.specs.declared.page_ring.PageRing.TheInside.{Inside}
+
+-- pages with their marks
+unfoldable pub with_marks : (ℕ → Option Bool) → List ℕ → List MarkedPage
+with_marks marks [] = []
+with_marks marks (page ∷ pages) = record { page = page; marked = unwrap_or (marks page) false } ∷ with_marks marks pages
+
+-- each page stands once, and just these have a mark, set or not
+pub record HaveMarks (marks : ℕ → Option Bool) (pages : List ℕ) : Type 0 where
+  pub once : (page : ℕ) → times page pages ≤ 1
+  pub inside : (page : ℕ) → is_some (marks page) ≡ has page pages
+
+abbrev pub ring_of : Inside → List MarkedPage
+ring_of a = with_marks (λ page. get nat_eq a.marks page) a.pages.items
+
+abbrev pub IsPageRing : Inside → Type 0
+IsPageRing a = HaveMarks (λ page. get nat_eq a.marks page) a.pages.items

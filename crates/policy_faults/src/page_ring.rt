@@ -1,0 +1,126 @@
+//! Pages in memory, in a ring that the hand of a clock goes round.
+ghost use Rattle.std.specs.Prelude.{◌≡◌, ◌<◌, ◌≤◌, length, drop, true, false, OnOk, []};
+ghost use Rattle.policy_faults.specs.Ring.{is_in_memory, marked_page, unmarked_at, is_hand_marked, hand_passed, paged_in};
+
+use std::alloc::Global;
+use std::collections::{HashMap, VecDeque};
+use std::marker::Model;
+use vm_facts::NoMemory;
+
+/// Pages with marks. Contracts see the list of them, from the one at the hand on.
+#[derive(Drop)]
+pub(crate) struct PageRing {
+    pages: VecDeque<u32>,
+    /// Whether a page that is there is marked.
+    marks: HashMap<u32, bool>,
+}
+
+impl Model for PageRing {
+    ghost use Rattle.std.specs.Prelude.{List};
+    ghost use Rattle.policy_faults.specs.Ring.{MarkedPage};
+    ghost use Rattle.policy_faults.specs.Kept.{ring_of, IsPageRing};
+
+    ghost Value = { List MarkedPage };
+
+    ghost view = { ring_of };
+
+    ghost invariant = { IsPageRing };
+}
+
+impl PageRing {
+    /// No pages.
+    pub(crate) fn new(alloc: Global) -> PageRing
+        ensures { result ≡ [] }
+    {
+        PageRing {
+            pages: VecDeque::new(alloc),
+            marks: HashMap::new(alloc),
+        }
+    }
+
+    /// How many pages there are.
+    pub(crate) fn len(&self) -> usize
+        ensures { result ≡ length self.now }
+    {
+        self.pages.len()
+    }
+
+    /// Whether a page is there.
+    pub(crate) fn contains(&self, page: u32) -> bool
+        ensures { result ≡ is_in_memory page self.now }
+    {
+        self.marks.contains_key(&page)
+    }
+
+    /// Marks a page, where it is there, and answers whether it is.
+    pub(crate) fn touch(&mut self, page: u32) -> bool
+        ensures there { result ≡ is_in_memory page self.old }
+        ensures marked { result ≡ true → self.new ≡ marked_page page self.old }
+        ensures same { result ≡ false → self.new ≡ self.old }
+    {
+        if !self.marks.contains_key(&page) {
+            return false;
+        }
+        let Ok(_) = self.marks.insert(page, true) else {
+            unreachable!()
+        };
+        true
+    }
+
+    /// Takes the mark of the page at a place, counted from the hand.
+    pub(crate) fn unmark(&mut self, place: usize)
+        ensures { self.new ≡ unmarked_at place self.old }
+    {
+        let Some(page) = self.pages.get(place) else {
+            return;
+        };
+        let Ok(_) = self.marks.insert(*page, false) else {
+            unreachable!()
+        };
+    }
+
+    /// Whether the page at the hand is marked.
+    pub(crate) fn is_hand_marked(&self) -> bool
+        ensures { result ≡ is_hand_marked self.now }
+    {
+        let Some(page) = self.pages.front() else {
+            return false;
+        };
+        self.marks.get(page).copied().unwrap_or(false)
+    }
+
+    /// The hand goes on by one page.
+    pub(crate) fn pass_hand(&mut self)
+        ensures { self.new ≡ hand_passed self.old }
+    {
+        let Some(page) = self.pages.pop_front() else {
+            return;
+        };
+        let Ok(()) = self.pages.push_back(page) else {
+            unreachable!()
+        };
+    }
+
+    /// The page at the hand leaves, where there is one.
+    pub(crate) fn drop_first(&mut self)
+        ensures { self.new ≡ drop 1 self.old }
+    {
+        let Some(page) = self.pages.pop_front() else {
+            return;
+        };
+        self.marks.remove(&page);
+    }
+
+    /// A page that isn't there comes, marked, as the last that the hand comes to.
+    pub(crate) fn page_in(&mut self, page: u32) -> Result<(), NoMemory>
+        requires { is_in_memory page self.old ≡ false }
+        ensures { OnOk result (self.new ≡ paged_in page self.old) }
+    {
+        self.pages.reserve(1)?;
+        self.marks.insert(page, true)?;
+        let Ok(()) = self.pages.push_back(page) else {
+            unreachable!()
+        };
+        Ok(())
+    }
+}
