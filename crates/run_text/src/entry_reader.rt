@@ -100,8 +100,8 @@ fn from_numbers(letter: u8, numbers: &[u32]) -> Option<Entry>
     }
 }
 
-// The page of a segment's letter and two numbers.
-fn page_from(segment: u8, a: u32, b: u32) -> Option<Page>
+/// The page of a segment's letter and two numbers: `d` and `s` with a space and a page, `x` with an image and a page.
+pub fn page_from(segment: u8, a: u32, b: u32) -> Option<Page>
     ensures is { result ≡ page_from segment a b }
     ensures parts { IfSome result (λ page. (segment_of page ≡ segment) × (page_numbers page ≡ a ∷ b ∷ [])) }
 {

@@ -17,7 +17,10 @@ mod waiting;
 
 pub use answers::{Schedule, Transcript};
 pub use buffer::OutputBuffer;
+pub use entry_reader::page_from;
 pub use line::{put_named, put_page};
+pub use numbers::{Numbers, read_numbers};
+pub use pieces::{first_line, read_decimal, strip_end, strip_front};
 pub use ranges::have_numbers;
 pub use schedule_reader::read_schedule;
 pub use text::{write_entry, write_text};

@@ -7,7 +7,7 @@ ghost use Rattle.run_text.specs.Transcript.{AllBelow};
 use crate::pieces::{read_decimal, split_at_space, strip_front};
 use std::marker::Model;
 
-// At most five numbers.
+/// At most five numbers.
 #[derive(Drop)]
 pub struct Numbers {
     values: [u32; 5],
@@ -47,6 +47,7 @@ impl Numbers {
         self.len += 1;
     }
 
+    /// The numbers, in their order.
     pub fn as_slice(&self) -> &[u32]
         ensures { result.now ≡ self.now }
     {
@@ -68,7 +69,7 @@ pub fn read_part(text: &[u8]) -> Option<(u32, &[u8])>
     Some((number, rest))
 }
 
-// The numbers that the text consists of, each after a space.
+/// The numbers that the text consists of, each after a space.
 pub fn read_numbers(text: &[u8]) -> Option<Numbers>
     ensures { MatchOption result ((ns : List ℕ) → length ns ≤ 5 → AllBelow 4294967296 ns → text.now ≡ parts ns → ⊥) (λ ns. (text.now ≡ parts ns) × AllBelow 4294967296 ns) }
 {

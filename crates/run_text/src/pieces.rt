@@ -18,7 +18,7 @@ pub fn line_end(text: &[u8]) -> usize
     text.len()
 }
 
-// The first line, and what stands after it.
+/// The first line, and what stands after it.
 pub fn first_line(text: &[u8]) -> (&[u8], &[u8])
     requires { 0 < length text.now }
     ensures line { result.0.now ≡ take (line_len text.now) text.now }
@@ -28,14 +28,14 @@ pub fn first_line(text: &[u8]) -> (&[u8], &[u8])
     text.split_at(line_end(text))
 }
 
-// What stands after this beginning.
+/// What stands after this beginning.
 pub fn strip_front<'a>(text: &'a [u8], front: &[u8]) -> Option<&'a [u8]>
     ensures { MatchOption result ((rest : List ℕ) → text.now ≢ front.now ++ rest) (λ x. text.now ≡ front.now ++ x.now) }
 {
     text.strip_prefix(front)
 }
 
-// What stands before this end.
+/// What stands before this end.
 pub fn strip_end<'a>(text: &'a [u8], end: &[u8]) -> Option<&'a [u8]>
     ensures { MatchOption result ((rest : List ℕ) → text.now ≢ rest ++ end.now) (λ x. text.now ≡ x.now ++ end.now) }
 {
@@ -88,7 +88,7 @@ fn has_zero_in_front(text: &[u8]) -> bool
     text.len() > 1 && text[0] == b'0'
 }
 
-// The number that this is the decimal of, without leading zeros.
+/// The number that this is the decimal of, without leading zeros.
 pub fn read_decimal(text: &[u8]) -> Option<u32>
     ensures { MatchOption result ((n : ℕ) → n < 2 ^ 32 → text.now ≢ decimal n) (λ n. (text.now ≡ decimal n) × (n < 2 ^ 32)) }
 {
