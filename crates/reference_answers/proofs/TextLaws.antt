@@ -8,7 +8,9 @@ use Rattle.flat_model.specs.Touched.{distinct}
 use Rattle.run_text.specs.Text.{part}
 use Rattle.command_ending.specs.Ending.{numbered_line}
 use Rattle.page_opt.specs.declared.Victim.{Victim}
-use Rattle.reference_answers.specs.Texts.{counted_text, victim_line, optimum_text, size_lines}
+use Rattle.stack_dist.specs.Lru.{lru_faults}
+use Rattle.policy_faults.specs.Policies.{fifo_faults, clock_faults, hands_faults}
+use Rattle.reference_answers.specs.Texts.{counted_text, victim_line, optimum_text, size_lines, policy_lines, policies_text}
 
 flat_line : (t a b e r : List ℕ) → t ++ a ++ b ++ e ++ r ≡ t ++ (a ++ b ++ e ++ r)
 flat_line t a b e r = ap (λ x. x ++ e ++ r) (append_assoc t a b) ∙ ap (λ x. x ++ r) (append_assoc t (a ++ b) e) ∙ append_assoc t (a ++ b ++ e) r
@@ -43,3 +45,15 @@ is_optimum_text refs pages frames faults victims vs t0 t1 t2 t3 e0 e1 e2 e3 ps v
     e3 ∙ ap (λ t. t ++ flat_map (victim_line pages) vs) (e2 ∙ ap (λ t. t ++ b) (e1 ∙ ap (λ t. t ++ a) e0))
     ∙ ap (λ qs. counted_text refs ++ a ++ b ++ flat_map (victim_line qs) vs) ps
     ∙ ap (λ ws. counted_text refs ++ a ++ b ++ flat_map (victim_line (distinct refs)) ws) v
+
+-- the text about policies, by the numbers in it
+pub is_policies_text : (refs numbers : List ℕ) (frames least fifo clock hands lru : ℕ) (text : List ℕ) → refs ≡ numbers → text ≡ policy_lines fifo clock hands lru least
+    → fifo ≡ fifo_faults refs frames → clock ≡ clock_faults refs frames → hands ≡ hands_faults refs frames → lru ≡ lru_faults refs frames
+    → text ≡ policies_text numbers frames least
+is_policies_text refs numbers frames least fifo clock hands lru text same lines f c h l =
+    lines
+    ∙ ap (λ k. policy_lines k clock hands lru least) f
+    ∙ ap (λ k. policy_lines (fifo_faults refs frames) k hands lru least) c
+    ∙ ap (λ k. policy_lines (fifo_faults refs frames) (clock_faults refs frames) k lru least) h
+    ∙ ap (λ k. policy_lines (fifo_faults refs frames) (clock_faults refs frames) (hands_faults refs frames) k least) l
+    ∙ ap (λ ns. policies_text ns frames least) same

@@ -7,6 +7,8 @@ use Rattle.run_text.specs.Text.{page_text, part}
 use Rattle.command_ending.specs.Ending.{numbered_line}
 use Rattle.page_opt.specs.declared.Victim.{Victim}
 use Rattle.stack_dist.specs.Lru.{lru_faults}
+use Rattle.policy_faults.specs.Policies.{fifo_faults, clock_faults, hands_faults}
+use Rattle.reference_text.specs.Grammar.{page_word}
 use Rattle.reference_answers.specs.Numbers.{numbers_of, page_numbered}
 
 -- how many references there are, and how many pages among them
@@ -42,3 +44,24 @@ lru_curve refs pages = map (lru_faults refs) (range_with_len 1 pages)
 -- the faults of LRU at each size up to as many as there are pages
 abbrev pub curve_text : List Page → List ℕ
 curve_text refs = counted_text refs ++ size_lines 1 (lru_curve (numbers_of refs) (length (distinct refs)))
+
+-- the line of a reference
+abbrev pub reference_line : Page → List ℕ
+reference_line page = page_word page ++ codes "\n"
+
+-- the references, one a line
+abbrev pub references_text : List Page → List ℕ
+references_text refs = flat_map reference_line refs
+
+-- a line for each policy: its name, and how many faults it has
+abbrev pub policy_lines : (fifo clock hands lru least : ℕ) → List ℕ
+policy_lines fifo clock hands lru least =
+    numbered_line (codes "fifo ") fifo ++
+    numbered_line (codes "clock ") clock ++
+    numbered_line (codes "hands ") hands ++
+    numbered_line (codes "lru ") lru ++
+    numbered_line (codes "least ") least
+
+-- the faults of the policies on references to pages with these numbers, with so many frames, beside the least of any plan
+abbrev pub policies_text : List ℕ → ℕ → ℕ → List ℕ
+policies_text refs frames least = policy_lines (fifo_faults refs frames) (clock_faults refs frames) (hands_faults refs frames) (lru_faults refs frames) least

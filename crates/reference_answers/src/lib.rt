@@ -1,19 +1,21 @@
-//! Two questions about the references of a run, answered as texts: how few page faults could any replacement have
-//! had, and how many has LRU at each size of memory? Pages are numbered from 1 in the order of their first references.
+//! Questions about references, answered as texts: how few page faults could any replacement have had, how many has LRU
+//! at each size of memory, how many have other policies, and which are they? Pages are numbered from 1 in the order of
+//! their first references.
 #![tactic(auto)]
 
 ghost use Rattle.std.specs.Prelude.{◌≡◌, ◌≤◌, ◌++◌, length, vec_len, codes, IfOk};
 ghost use Rattle.command_ending.specs.Ending.{numbered_line};
-ghost use Rattle.reference_answers.specs.Texts.{curve_text};
-ghost use Rattle.reference_answers.specs.Answers.{IsOptimumText};
+ghost use Rattle.reference_answers.specs.Texts.{curve_text, references_text, policy_lines};
+ghost use Rattle.reference_answers.specs.Answers.{IsOptimumText, IsPoliciesText};
 
 mod lines;
 mod numbering;
 
-use lines::{put_numbered_line, put_sizes, put_victims};
+use lines::{put_numbered_line, put_references, put_sizes, put_victims};
 use numbering::{Numbered, number_pages};
 use page_opt::least_faults;
-use stack_dist::curve;
+use policy_faults::{clock_faults, fifo_faults, hands_faults};
+use stack_dist::{curve, lru_faults};
 use std::alloc::{AllocError, Global};
 use vm_facts::{NoMemory, Page};
 
@@ -49,6 +51,55 @@ pub fn curve_text(alloc: Global, refs: &[Page]) -> Result<Vec<u8>, NoMemory>
     let faults = curve(alloc, numbered.numbers.as_slice())?;
     let mut text = count_lines(alloc, &numbered)?;
     put_sizes(&mut text, faults.as_slice())?;
+    Ok(text)
+}
+
+/// The text about the page faults of FIFO, of the clock with one hand and with two, of LRU, and of the best plan, with so many
+/// frames, at least 1 of them (the lines are this project's profile). At most 4,000,000 references. Takes memory in proportion
+/// to the references; the one error is that there is none left.
+pub fn policies_text(alloc: Global, refs: &[Page], frames: u32) -> Result<Vec<u8>, NoMemory>
+    requires frames { 1 ≤ frames }
+    requires small { length refs.now ≤ 4000000 }
+    ensures { IfOk result (λ text. IsPoliciesText refs.now frames text.items) }
+{
+    let numbered = number_pages(alloc, refs)?;
+    let numbers = numbered.numbers.as_slice();
+    let fifo = fifo_faults(alloc, numbers, frames)?;
+    let clock = clock_faults(alloc, numbers, frames)?;
+    let hands = hands_faults(alloc, numbers, frames)?;
+    let lru = lru_faults(alloc, numbers, frames)?;
+    let plan = least_faults(alloc, numbers, frames)?;
+    let text = policy_lines(alloc, fifo, clock, hands, lru, plan.faults)?;
+    Ok(text)
+}
+
+/// The references, one a line, as pages are written in other texts: `d 1 14` (this project's profile). The one error is that
+/// there is no memory left.
+pub fn references_text(alloc: Global, refs: &[Page]) -> Result<Vec<u8>, AllocError>
+    ensures { IfOk result (λ text. text.items ≡ references_text refs.now) }
+{
+    let mut text = Vec::new(alloc);
+    put_references(&mut text, refs)?;
+    Ok(text)
+}
+
+/// The lines of the policies.
+fn policy_lines(
+    alloc: Global,
+    fifo: u32,
+    clock: u32,
+    hands: u32,
+    lru: u32,
+    least: u32,
+) -> Result<Vec<u8>, AllocError>
+    ensures { IfOk result (λ text. text.items ≡ policy_lines fifo clock hands lru least) }
+{
+    let mut text = Vec::new(alloc);
+    put_numbered_line(&mut text, b"fifo ", fifo)?;
+    put_numbered_line(&mut text, b"clock ", clock)?;
+    put_numbered_line(&mut text, b"hands ", hands)?;
+    put_numbered_line(&mut text, b"lru ", lru)?;
+    put_numbered_line(&mut text, b"least ", least)?;
     Ok(text)
 }
 

@@ -5,7 +5,8 @@ ghost use Rattle.std.specs.Option.{option_copied};
 ghost use Rattle.run_text.specs.Text.{page_text, part};
 ghost use Rattle.command_ending.specs.Ending.{numbered_line};
 ghost use Rattle.reference_answers.specs.Numbers.{page_numbered};
-ghost use Rattle.reference_answers.specs.Texts.{victim_line, size_lines};
+ghost use Rattle.reference_text.specs.Grammar.{page_word};
+ghost use Rattle.reference_answers.specs.Texts.{victim_line, size_lines, reference_line};
 
 use command_ending::put_number;
 use page_opt::Victim;
@@ -74,6 +75,36 @@ fn put_size(text: &mut Vec<u8>, size: u32, faults: u32) -> Result<(), AllocError
     put_part(text, faults)?;
     text.push(b'\n')?;
     Ok(())
+}
+
+/// Puts references, one a line.
+pub(crate) fn put_references(text: &mut Vec<u8>, refs: &[Page]) -> Result<(), AllocError>
+    ensures { OnOk result (text.new.items ≡ text.old.items ++ flat_map reference_line refs.now) }
+{
+    for page in refs {
+        put_reference(text, *page)?;
+    }
+    Ok(())
+}
+
+/// Puts the line of a reference.
+fn put_reference(text: &mut Vec<u8>, page: Page) -> Result<(), AllocError>
+    ensures { OnOk result (text.new.items ≡ text.old.items ++ reference_line page) }
+{
+    put_word(text, page)?;
+    text.push(b'\n')?;
+    Ok(())
+}
+
+/// Puts a page.
+fn put_word(text: &mut Vec<u8>, page: Page) -> Result<(), AllocError>
+    ensures { OnOk result (text.new.items ≡ text.old.items ++ page_word page) }
+{
+    match page {
+        Page::Data { sid, v } => put_named(text, b"d", sid, v),
+        Page::Stack { sid, v } => put_named(text, b"s", sid, v),
+        Page::Text { image, v } => put_named(text, b"x", image, v),
+    }
 }
 
 /// The page with a number among pages, where there is one.
