@@ -8,7 +8,8 @@ use std::alloc::Global;
 
 // Writes a text by one call, and answers the status.
 fn write_all<S: Sink>(sink: &mut S, text: &[u8], status: u8) -> u8
-    ensures { Writes (S.written sink.old) (S.written sink.new) (S.faults sink.old) (S.faults sink.new) text.now status result }
+    ensures writes { Writes (S.written sink.old) (S.written sink.new) (S.faults sink.old) (S.faults sink.new) text.now status result }
+    ensures leads { S.leads sink.old sink.new }
 {
     match sink.put(text) {
         Moved::Done => status,
@@ -19,7 +20,8 @@ fn write_all<S: Sink>(sink: &mut S, text: &[u8], status: u8) -> u8
 /// Writes what a command made, or the line of its fault, and answers the status: 0, that of the fault, or
 /// 8 where the output failed. Where that line finds no memory, that is the fault.
 pub fn write_ending<S: Sink>(alloc: Global, sink: &mut S, made: Result<Vec<u8>, Fault<'_>>) -> u8
-    ensures { WritesSome (S.written sink.old) (S.written sink.new) (S.faults sink.old) (S.faults sink.new) (ending_of made.entry) result }
+    ensures writes { WritesSome (S.written sink.old) (S.written sink.new) (S.faults sink.old) (S.faults sink.new) (ending_of made.entry) result }
+    ensures leads { S.leads sink.old sink.new }
 {
     match made {
         Ok(output) => write_all(sink, output.as_slice(), 0),

@@ -1,5 +1,6 @@
 // A question about a run: its schedule and its images are read, the run is made, and the answer is written.
 ghost use Rattle.std.specs.Prelude.{◌≡◌, ◌≤◌, map, length, All};
+ghost use Rattle.io_edge.specs.Calls.{KeepsFiles};
 ghost use Rattle.run_files.specs.ImageWords.{IsShortName, image_names, first_images};
 ghost use Rattle.replay_check.specs.Images.{AreImageFiles};
 ghost use Rattle.command_words.specs.Command.{AreImageWords, IsFittingRun};
@@ -118,9 +119,10 @@ fn answer_from<'a, F: Files>(
 ) -> Result<Vec<u8>, Fault<'a>>
     requires question { IsQuestion question }
     requires fits { IsFittingRun (limit_of question) numbers schedule words.now }
-    ensures { Made (EndsQuestion question (record { numbers = numbers; schedule = schedule.now; words = map (λ word. word.now) words.now }))
+    ensures made { Made (EndsQuestion question (record { numbers = numbers; schedule = schedule.now; words = map (λ word. word.now) words.now }))
         (read_told schedule.now (map (λ word. word.now) words.now)) (F.holds files.old)
         (record { open_before = F.open_faults files.old; open_after = F.open_faults files.new; page_before = F.page_faults files.old; page_after = F.page_faults files.new }) (ending_of result) }
+    ensures kept { KeepsFiles F.Files files.old files.new }
 {
     let lines = open_schedule(alloc, files, schedule)?;
     let naming = name_images(alloc, words)?;
@@ -154,9 +156,11 @@ pub fn ask_command<F: Files, S: Sink>(
 ) -> u8
     requires question { IsQuestion question }
     requires fits { IsFittingRun (limit_of question) numbers schedule words.now }
-    ensures { Answers question (record { numbers = numbers; schedule = schedule.now; words = map (λ word. word.now) words.now }) (F.holds files.old)
+    ensures answers { Answers question (record { numbers = numbers; schedule = schedule.now; words = map (λ word. word.now) words.now }) (F.holds files.old)
         (record { open_before = F.open_faults files.old; open_after = F.open_faults files.new; page_before = F.page_faults files.old; page_after = F.page_faults files.new })
         (S.written sink.old) (S.written sink.new) (S.faults sink.old) (S.faults sink.new) result }
+    ensures kept { KeepsFiles F.Files files.old files.new }
+    ensures sink_leads { S.leads sink.old sink.new }
 {
     let made = answer_from(alloc, files, question, numbers, schedule, words);
     write_ending(alloc, sink, made)

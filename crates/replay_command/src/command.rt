@@ -1,4 +1,5 @@
 ghost use Rattle.std.specs.Prelude.{◌≡◌, ◌<◌, ◌^◌, map, length, All, IfOk};
+ghost use Rattle.io_edge.specs.Calls.{KeepsFiles};
 ghost use Rattle.run_files.specs.ImageWords.{name_in};
 ghost use Rattle.replay_check.specs.Images.{AreImageFiles, AreNumbers};
 ghost use Rattle.command_ending.specs.Ending.{ending_of};
@@ -58,8 +59,9 @@ fn line_from<'a, F: Files>(
 ) -> Result<Vec<u8>, Fault<'a>>
     requires few { length words.now < 2 ^ 31 }
     requires names { All (λ word. length (name_in word.now) < 64) words.now }
-    ensures { Made (EndsReplay transcript.now (map (λ word. word.now) words.now)) (read_told transcript.now (map (λ word. word.now) words.now)) (F.holds files.old)
+    ensures made { Made (EndsReplay transcript.now (map (λ word. word.now) words.now)) (read_told transcript.now (map (λ word. word.now) words.now)) (F.holds files.old)
         (record { open_before = F.open_faults files.old; open_after = F.open_faults files.new; page_before = F.page_faults files.old; page_after = F.page_faults files.new }) (ending_of result) }
+    ensures kept { KeepsFiles F.Files files.old files.new }
 {
     let entries = read_entries(alloc, files, transcript)?;
     let naming = name_images(alloc, words)?;
@@ -87,9 +89,11 @@ pub fn replay_file<F: Files, S: Sink>(
 ) -> u8
     requires few { length words.now < 2 ^ 31 }
     requires names { All (λ word. length (name_in word.now) < 64) words.now }
-    ensures { Replays transcript.now (map (λ word. word.now) words.now) (F.holds files.old)
+    ensures replays { Replays transcript.now (map (λ word. word.now) words.now) (F.holds files.old)
         (record { open_before = F.open_faults files.old; open_after = F.open_faults files.new; page_before = F.page_faults files.old; page_after = F.page_faults files.new })
         (S.written sink.old) (S.written sink.new) (S.faults sink.old) (S.faults sink.new) result }
+    ensures kept { KeepsFiles F.Files files.old files.new }
+    ensures sink_leads { S.leads sink.old sink.new }
 {
     let made = line_from(alloc, files, transcript, words);
     write_ending(alloc, sink, made)

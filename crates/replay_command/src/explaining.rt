@@ -1,5 +1,6 @@
 // Why a transcript is none of a run.
 ghost use Rattle.std.specs.Prelude.{◌≡◌, ◌<◌, ◌^◌, ◌++◌, map, length, All, IfOk, IfErr, OnOk, option_map};
+ghost use Rattle.io_edge.specs.Calls.{KeepsFiles};
 ghost use Rattle.flat_state.specs.Flat.{Inputs};
 ghost use Rattle.run_files.specs.ImageWords.{name_in};
 ghost use Rattle.replay_check.specs.Images.{AreImageFiles, AreNumbers, images_of};
@@ -118,7 +119,7 @@ pub fn explain_transcript<'a, F: Files>(
           page_before = F.page_faults files.old;
           page_after = F.page_faults files.new;
         })) }
-    ensures holds { F.holds files.new ≡ F.holds files.old }
+    ensures kept { KeepsFiles F.Files files.old files.new }
 {
     let entries = read_entries(alloc, files, transcript)?;
     let naming = name_images(alloc, words)?;

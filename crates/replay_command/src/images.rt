@@ -1,5 +1,6 @@
 // The images of a replay: found, judged and read, one after another.
 ghost use Rattle.std.specs.Prelude.{◌≡◌, ◌<◌, ℕ, List, Some, map, length, All, IfOk};
+ghost use Rattle.io_edge.specs.Calls.{KeepsFiles};
 ghost use Rattle.io_edge.specs.FileHolding.{NamedFile};
 ghost use Rattle.run_files.specs.Told.{image_told};
 ghost use Rattle.replay_check.specs.Images.{IsImageFile};
@@ -19,7 +20,7 @@ fn load_flat<'a, F: Files>(alloc: Global, files: &mut F, name: &'a str) -> Resul
         → AnswersNamed (λ flat. flat) (flat_in name.now (image_told list name.now)) result }
     ensures image { IfOk result IsImageFile }
     ensures named { IfOk result (λ flat. flat.name ≡ name.now) }
-    ensures holds { F.holds files.new ≡ F.holds files.old }
+    ensures kept { KeepsFiles F.Files files.old files.new }
     ensures faults { FaultsBy result (record { open_before = F.open_faults files.old; open_after = F.open_faults files.new; page_before = F.page_faults files.old; page_after = F.page_faults files.new }) }
 {
     let loaded = match load_image(alloc, files, name) {
@@ -48,7 +49,7 @@ pub fn load_images<'a, F: Files>(
     ensures images { IfOk result (λ images. All IsImageFile images.items) }
     ensures count { IfOk result (λ images. length images.items ≡ length names.now) }
     ensures named { IfOk result (λ images. map (λ image. image.name) images.items ≡ map (λ name. name.now) names.now) }
-    ensures holds { F.holds files.new ≡ F.holds files.old }
+    ensures kept { KeepsFiles F.Files files.old files.new }
     ensures faults { FaultsBy result (record { open_before = F.open_faults files.old; open_after = F.open_faults files.new; page_before = F.page_faults files.old; page_after = F.page_faults files.new }) }
 {
     let mut images = Vec::new(alloc);

@@ -1,5 +1,6 @@
 // The transcript of a replay: found, read and judged by its grammar.
 ghost use Rattle.std.specs.Prelude.{◌≡◌, ◌≤◌, ◌<◌, ◌^◌, ℕ, List, length, IfOk};
+ghost use Rattle.io_edge.specs.Calls.{KeepsFiles};
 ghost use Rattle.io_edge.specs.FileHolding.{NamedFile};
 ghost use Rattle.run_files.specs.Told.{whole_told};
 ghost use Rattle.command_ending.specs.Command.{Made};
@@ -38,7 +39,7 @@ pub fn read_entries<'a, F: Files>(
     ensures ends { Made (EndsTranscript name.now) (λ list. whole_told list name.now 67108864) (F.holds files.old)
         (record { open_before = F.open_faults files.old; open_after = F.open_faults files.new; page_before = F.page_faults files.old; page_after = F.page_faults files.new }) (items_of result) }
     ensures few { IfOk result (λ entries. length entries.items ≤ 67108864) }
-    ensures holds { F.holds files.new ≡ F.holds files.old }
+    ensures kept { KeepsFiles F.Files files.old files.new }
 {
     match read_whole(alloc, files, name, TRANSCRIPT_BYTES) {
         Ok(Some(bytes)) => entries_of(alloc, bytes.as_slice()),

@@ -5,6 +5,7 @@ pub use Rattle.vm_core.specs.RunEnds
 pub use Rattle.vm_core.specs.declared.schedule.Unfinished
 pub mod Asking
 pub mod Seen
+pub mod Outside
 pub mod Naming
 pub mod Machines
 pub mod Ends

@@ -7,6 +7,7 @@ ghost use Rattle.machine_state.specs.Applying.{facts_named};
 ghost use Rattle.command_words.specs.Command.{word_list, AreAllowed, AreImageWords, IsFittingRun};
 ghost use Rattle.run_command.specs.Naming.{shown_as};
 ghost use Rattle.run_command.specs.Machines.{machine_up_to, machine_of, SuitsMachine, IsOfOpening};
+ghost use Rattle.run_command.specs.Outside.{KeepsOutside};
 ghost use Rattle.run_command.specs.Paired.{image_together};
 ghost use Rattle.run_command.specs.Ends.{Runs, RunsOpened};
 
@@ -93,10 +94,7 @@ fn run_opened<F: Files, D: SwapDev, E: SwapDev, S: Sink>(
       sink_faults_before = S.faults sink.old;
       sink_faults_after = S.faults sink.new;
     }) result }
-    ensures holds { F.holds files.new ≡ F.holds files.old }
-    ensures zero_leads { D.leads zero.old zero.new }
-    ensures one_leads { E.leads one.old one.new }
-    ensures sink_leads { S.leads sink.old sink.new }
+    ensures kept { KeepsOutside F.Files D.SwapDev E.SwapDev S.Sink files.old files.new zero.old zero.new one.old one.new sink.old sink.new }
 {
     let Ok(mut core) = core_of(alloc, numbers, opening.images.as_slice()) else {
         return write_run(alloc, sink, traced, &[], Err(Fault::NoMemory));
@@ -142,10 +140,7 @@ fn run_words<F: Files, D: SwapDev, E: SwapDev, S: Sink>(
       sink_faults_before = S.faults sink.old;
       sink_faults_after = S.faults sink.new;
     }) result }
-    ensures holds { F.holds files.new ≡ F.holds files.old }
-    ensures zero_leads { D.leads zero.old zero.new }
-    ensures one_leads { E.leads one.old one.new }
-    ensures sink_leads { S.leads sink.old sink.new }
+    ensures kept { KeepsOutside F.Files D.SwapDev E.SwapDev S.Sink files.old files.new zero.old zero.new one.old one.new sink.old sink.new }
 {
     let opened = open_run(
         alloc,
@@ -195,10 +190,7 @@ pub fn run_command<F: Files, D: SwapDev, E: SwapDev, S: Sink>(
       sink_faults_before = S.faults sink.old;
       sink_faults_after = S.faults sink.new;
     }) result }
-    ensures holds { F.holds files.new ≡ F.holds files.old }
-    ensures zero_leads { D.leads zero.old zero.new }
-    ensures one_leads { E.leads one.old one.new }
-    ensures sink_leads { S.leads sink.old sink.new }
+    ensures kept { KeepsOutside F.Files D.SwapDev E.SwapDev S.Sink files.old files.new zero.old zero.new one.old one.new sink.old sink.new }
 {
     match images.to_vec(alloc) {
         Ok(words) => run_words(

@@ -11,6 +11,7 @@ ghost use Rattle.vm_core.specs.Schedules.{HaveFewMoves};
 ghost use Rattle.vm_core.specs.RunEnds.{IsAskedOf};
 ghost use Rattle.run_command.specs.Naming.{shown_as};
 ghost use Rattle.run_command.specs.Machines.{machine_of};
+ghost use Rattle.run_command.specs.Outside.{KeepsDevices, KeepsOutput};
 ghost use Rattle.run_command.specs.Paired.{image_together};
 ghost use Rattle.run_command.specs.Loads.{load_first, load_numbers, WritesCounts, Loads, LoadRuns};
 
@@ -40,7 +41,8 @@ fn write_counts<S: Sink>(
     journal: &[Entry],
     ending: Result<(), Fault<'_>>,
 ) -> u8
-    ensures { WritesCounts number journal.now ending.entry (S.written sink.old) (S.written sink.new) (S.faults sink.old) (S.faults sink.new) result }
+    ensures writes { WritesCounts number journal.now ending.entry (S.written sink.old) (S.written sink.new) (S.faults sink.old) (S.faults sink.new) result }
+    ensures leads { S.leads sink.old sink.new }
 {
     let made = match ending {
         Ok(()) => match load_text(alloc, number, counts_of(4, journal)) {
@@ -87,8 +89,8 @@ fn run_load<D: SwapDev, E: SwapDev, S: Sink>(
           sink_faults_before = S.faults sink.old;
           sink_faults_after = S.faults sink.new;
         }) result }
-    ensures zero_leads { D.leads zero.old zero.new }
-    ensures one_leads { E.leads one.old one.new }
+    ensures devices { KeepsDevices D.SwapDev E.SwapDev zero.old zero.new one.old one.new }
+    ensures output { KeepsOutput S.Sink sink.old sink.new }
 {
     let Ok(mut core) = core_of(alloc, LOAD_NUMBERS, images) else {
         return write_counts(alloc, sink, number, &[], Err(Fault::NoMemory));
@@ -127,8 +129,8 @@ pub fn load_command<D: SwapDev, E: SwapDev, S: Sink>(
       sink_faults_before = S.faults sink.old;
       sink_faults_after = S.faults sink.new;
     }) result }
-    ensures zero_leads { D.leads zero.old zero.new }
-    ensures one_leads { E.leads one.old one.new }
+    ensures devices { KeepsDevices D.SwapDev E.SwapDev zero.old zero.new one.old one.new }
+    ensures output { KeepsOutput S.Sink sink.old sink.new }
 {
     let Ok(Load { files, lines }) = make_load(alloc, number) else {
         return write_counts(alloc, sink, number, &[], Err(Fault::NoMemory));

@@ -1,4 +1,5 @@
 ghost use Rattle.std.specs.Prelude.{◌≡◌, ◌≤◌, ℕ, List, Some, IfOk, IfErr, OnOk, length, take, drop};
+ghost use Rattle.io_edge.specs.Calls.{KeepsFiles};
 ghost use Rattle.io_edge.specs.FileHolding.{NamedFile, place_of, bytes_at, HasRange, HoldsRange};
 ghost use Rattle.io_edge.specs.Transfer.{CountsErr};
 ghost use Rattle.aout_image.specs.Image.{IsSound, file_length_of, image_of, judged_of};
@@ -17,7 +18,7 @@ fn read_behind<F: Files>(files: &mut F, id: u32, bytes: &mut [u8]) -> Result<(),
     requires range { HasRange (F.holds files.old) id 0 (length bytes.old) }
     ensures head { take 32 bytes.new ≡ take 32 bytes.old }
     ensures rest { OnOk result (HoldsRange (F.holds files.old) id 32 (drop 32 bytes.new)) }
-    ensures holds { F.holds files.new ≡ F.holds files.old }
+    ensures kept { KeepsFiles F.Files files.old files.new }
     ensures open_faults { F.open_faults files.new ≡ F.open_faults files.old }
     ensures page_faults { CountsErr result (F.page_faults files.old) (F.page_faults files.new) }
 {
@@ -33,7 +34,7 @@ fn read_rest<F: Files>(files: &mut F, id: u32, head: Vec<u8>, len: usize) -> Res
     ensures rest { IfOk result (λ bytes. HoldsRange (F.holds files.old) id 32 (drop 32 bytes.items)) }
     ensures size { IfOk result (λ bytes. length bytes.items ≡ len) }
     ensures error { IfErr result IsFailure }
-    ensures holds { F.holds files.new ≡ F.holds files.old }
+    ensures kept { KeepsFiles F.Files files.old files.new }
     ensures open_faults { F.open_faults files.new ≡ F.open_faults files.old }
     ensures page_faults { CountsFault result (F.page_faults files.old) (F.page_faults files.new) }
 {
@@ -55,7 +56,7 @@ fn read_header<F: Files>(alloc: Global, files: &mut F, id: u32, len: u64) -> Res
     ensures sound { IfOk result (λ headed. IsSound headed.image) }
     ensures whole { IfOk result (λ headed. file_length_of headed.image ≤ len) }
     ensures error { IfErr result IsOfFoundFile }
-    ensures holds { F.holds files.new ≡ F.holds files.old }
+    ensures kept { KeepsFiles F.Files files.old files.new }
     ensures open_faults { CountsFault result (F.open_faults files.old) (F.open_faults files.new) }
     ensures page_faults { F.page_faults files.new ≡ F.page_faults files.old }
 {
@@ -76,7 +77,7 @@ fn load_found<F: Files>(alloc: Global, files: &mut F, id: u32, len: u64) -> Resu
     ensures image { IfOk result (λ loaded. IsImageOf (image_of loaded.bytes.items) loaded.image) }
     ensures sound { IfOk result (λ loaded. IsSound loaded.image) }
     ensures size { IfOk result (λ loaded. length loaded.bytes.items ≡ file_length_of loaded.image) }
-    ensures holds { F.holds files.new ≡ F.holds files.old }
+    ensures kept { KeepsFiles F.Files files.old files.new }
     ensures faults { CountsFaults result (F.open_faults files.old) (F.open_faults files.new) (F.page_faults files.old) (F.page_faults files.new) }
 {
     let headed = read_header(alloc, files, id, len)?;
@@ -92,7 +93,7 @@ pub fn open_image<F: Files>(alloc: Global, files: &mut F, name: &str) -> Result<
     ensures place { IfOk result (λ opened. (list : List NamedFile) → F.holds files.old ≡ Some list → place_of list name.now ≡ Some opened.file) }
     ensures range { IfOk result (λ opened. HasRange (F.holds files.old) opened.file 0 (file_length_of opened.image)) }
     ensures sound { IfOk result (λ opened. IsSound opened.image) }
-    ensures holds { F.holds files.new ≡ F.holds files.old }
+    ensures kept { KeepsFiles F.Files files.old files.new }
     ensures open_faults { CountsFault result (F.open_faults files.old) (F.open_faults files.new) }
     ensures page_faults { F.page_faults files.new ≡ F.page_faults files.old }
 {
@@ -121,7 +122,7 @@ pub fn load_image<F: Files>(alloc: Global, files: &mut F, name: &str) -> Result<
     ensures image { IfOk result (λ loaded. IsImageOf (image_of loaded.bytes.items) loaded.image) }
     ensures sound { IfOk result (λ loaded. IsSound loaded.image) }
     ensures size { IfOk result (λ loaded. length loaded.bytes.items ≡ file_length_of loaded.image) }
-    ensures holds { F.holds files.new ≡ F.holds files.old }
+    ensures kept { KeepsFiles F.Files files.old files.new }
     ensures faults { CountsFaults result (F.open_faults files.old) (F.open_faults files.new) (F.page_faults files.old) (F.page_faults files.new) }
 {
     match files.find(name) {

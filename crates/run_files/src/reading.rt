@@ -1,4 +1,5 @@
 ghost use Rattle.std.specs.Prelude.{◌≡◌, ◌≤◌, ◌^◌, ◌<◌, ℕ, List, Some, IfOk, IfErr, IfSome, length, option_map};
+ghost use Rattle.io_edge.specs.Calls.{KeepsFiles};
 ghost use Rattle.io_edge.specs.FileHolding.{NamedFile, HasRange, HoldsRange};
 ghost use Rattle.run_files.specs.Answering.{Answers, CountsFault, IsFailure, IsOfAnyFile};
 ghost use Rattle.run_files.specs.Told.{bytes_told, whole_told};
@@ -18,7 +19,7 @@ pub(crate) fn read_front<F: Files>(
     ensures bytes { IfOk result (λ bytes. HoldsRange (F.holds files.old) id 0 bytes.items) }
     ensures size { IfOk result (λ bytes. length bytes.items ≡ len) }
     ensures error { IfErr result IsFailure }
-    ensures holds { F.holds files.new ≡ F.holds files.old }
+    ensures kept { KeepsFiles F.Files files.old files.new }
     ensures open_faults { CountsFault result (F.open_faults files.old) (F.open_faults files.new) }
     ensures page_faults { F.page_faults files.new ≡ F.page_faults files.old }
 {
@@ -38,7 +39,7 @@ pub fn read_file<F: Files>(
     ensures answers { (list : List NamedFile) → F.holds files.old ≡ Some list → Answers (λ bytes. bytes.items) (bytes_told list name.now most) result }
     ensures size { IfOk result (λ bytes. length bytes.items ≤ most) }
     ensures error { IfErr result IsOfAnyFile }
-    ensures holds { F.holds files.new ≡ F.holds files.old }
+    ensures kept { KeepsFiles F.Files files.old files.new }
     ensures open_faults { CountsFault result (F.open_faults files.old) (F.open_faults files.new) }
     ensures page_faults { F.page_faults files.new ≡ F.page_faults files.old }
 {
@@ -61,7 +62,7 @@ pub fn read_whole<F: Files>(
         → Answers (option_map (λ bytes. bytes.items)) (whole_told list name.now most) result }
     ensures size { IfOk result (λ read. IfSome read (λ bytes. length bytes.items ≤ most)) }
     ensures error { IfErr result IsOfAnyFile }
-    ensures holds { F.holds files.new ≡ F.holds files.old }
+    ensures kept { KeepsFiles F.Files files.old files.new }
     ensures open_faults { CountsFault result (F.open_faults files.old) (F.open_faults files.new) }
     ensures page_faults { F.page_faults files.new ≡ F.page_faults files.old }
 {

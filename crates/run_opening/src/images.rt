@@ -1,5 +1,6 @@
 // The images of a run: found, and judged by their headers, one after another.
 ghost use Rattle.std.specs.Prelude.{◌≡◌, List, Some, All, IfOk, IfErr, map};
+ghost use Rattle.io_edge.specs.Calls.{KeepsFiles};
 ghost use Rattle.io_edge.specs.FileHolding.{NamedFile, HasRange};
 ghost use Rattle.aout_image.specs.Image.{IsSound, file_length_of};
 ghost use Rattle.command_ending.specs.Named.{AnswersNamed};
@@ -36,7 +37,7 @@ fn open_named<'a, F: Files>(
     ensures range { IfOk result (λ image. HasRange (F.holds files.old) image.file 0 (file_length_of image.facts)) }
     ensures sound { IfOk result (λ image. IsSound image.facts) }
     ensures error { IfErr result IsImageFault }
-    ensures holds { F.holds files.new ≡ F.holds files.old }
+    ensures kept { KeepsFiles F.Files files.old files.new }
     ensures open_faults { CountsOpen result (F.open_faults files.old) (F.open_faults files.new) }
     ensures page_faults { F.page_faults files.new ≡ F.page_faults files.old }
 {
@@ -63,7 +64,7 @@ pub fn open_images<'a, F: Files>(
     ensures ranges { IfOk result (λ images. All (λ image. HasRange (F.holds files.old) image.file 0 (file_length_of image.facts)) images.items) }
     ensures sound { IfOk result (λ images. All (λ image. IsSound image.facts) images.items) }
     ensures error { IfErr result IsImageFault }
-    ensures holds { F.holds files.new ≡ F.holds files.old }
+    ensures kept { KeepsFiles F.Files files.old files.new }
     ensures open_faults { CountsOpen result (F.open_faults files.old) (F.open_faults files.new) }
     ensures page_faults { F.page_faults files.new ≡ F.page_faults files.old }
 {

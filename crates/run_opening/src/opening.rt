@@ -1,4 +1,5 @@
 ghost use Rattle.std.specs.Prelude.{◌≡◌, ◌≤◌, ◌<◌, ℕ, List, Some, Ok, All, IfOk, length, map};
+ghost use Rattle.io_edge.specs.Calls.{KeepsFiles};
 ghost use Rattle.io_edge.specs.FileHolding.{NamedFile, HasRange};
 ghost use Rattle.aout_image.specs.Image.{IsSound, file_length_of};
 ghost use Rattle.run_files.specs.ImageWords.{IsShortName, name_in, image_names};
@@ -64,7 +65,7 @@ pub fn open_run<'a, F: Files>(
     ensures few_lines { IfOk result (λ opening. length opening.lines.items ≤ 65536) }
 
     // The files, and their counts of faults.
-    ensures holds { F.holds files.new ≡ F.holds files.old }
+    ensures kept { KeepsFiles F.Files files.old files.new }
     ensures open_faults { CountsOpen result (F.open_faults files.old) (F.open_faults files.new) }
     ensures page_faults { F.page_faults files.new ≡ F.page_faults files.old }
 {

@@ -1,5 +1,6 @@
 // The schedule of a run: found, read and judged by its grammar.
 ghost use Rattle.std.specs.Prelude.{◌≡◌, ◌≤◌, ℕ, List, All, IfOk, length};
+ghost use Rattle.io_edge.specs.Calls.{KeepsFiles};
 ghost use Rattle.io_edge.specs.FileHolding.{NamedFile};
 ghost use Rattle.run_text.specs.Schedule.{IsInRanges};
 ghost use Rattle.command_ending.specs.Command.{Made};
@@ -38,7 +39,7 @@ pub fn open_schedule<'a, F: Files>(
         (record { open_before = F.open_faults files.old; open_after = F.open_faults files.new; page_before = F.page_faults files.old; page_after = F.page_faults files.new }) result }
     ensures ranges { IfOk result (λ lines. All IsInRanges lines.items) }
     ensures few { IfOk result (λ lines. length lines.items ≤ 65536) }
-    ensures holds { F.holds files.new ≡ F.holds files.old }
+    ensures kept { KeepsFiles F.Files files.old files.new }
     ensures open_faults { CountsOpen result (F.open_faults files.old) (F.open_faults files.new) }
     ensures page_faults { F.page_faults files.new ≡ F.page_faults files.old }
 {

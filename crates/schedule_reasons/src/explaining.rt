@@ -1,6 +1,7 @@
 // Why a schedule is bad, as a line of text.
 ghost use Rattle.std.specs.Prelude.{◌≡◌, ◌++◌, IfOk, IfErr, OnOk, option_map};
 ghost use Rattle.std.specs.List.{list_all};
+ghost use Rattle.io_edge.specs.Calls.{KeepsFiles};
 ghost use Rattle.run_files.specs.Answering.{CountsFault};
 ghost use Rattle.schedule_reasons.specs.Reasons.{why_of, Missing, Capital, NoLineFeed};
 ghost use Rattle.schedule_reasons.specs.Explaining.{is_graphic, shown, argument_name, range_text, given_text, why_text, why_line, line_explained, ExplainsSchedule, LacksSchedule};
@@ -160,7 +161,7 @@ pub fn explain_schedule<F: Files>(
 ) -> Result<Option<Vec<u8>>, Unread>
     ensures explains { IfOk result (λ text. ExplainsSchedule name.now (F.holds files.old) (option_map (λ line. line.items) text)) }
     ensures lacks { IfErr result (LacksSchedule name.now (F.holds files.old)) }
-    ensures holds { F.holds files.new ≡ F.holds files.old }
+    ensures kept { KeepsFiles F.Files files.old files.new }
     ensures open_faults { CountsFault result (F.open_faults files.old) (F.open_faults files.new) }
     ensures page_faults { F.page_faults files.new ≡ F.page_faults files.old }
 {

@@ -1,5 +1,6 @@
 // Why a source is bad.
 ghost use Rattle.std.specs.Prelude.{◌≡◌, ◌++◌, IfOk, IfErr, OnOk, option_map};
+ghost use Rattle.io_edge.specs.Calls.{KeepsFiles};
 ghost use Rattle.run_files.specs.Answering.{CountsFault};
 ghost use Rattle.vax_asm.specs.declared.answers.Reason.TheVariants.{ValueOutOfRange};
 ghost use Rattle.asm_reasons.specs.Mistakes.{why_of, WrongCount, RegisterName, NoSize, NoLiteral, ValueAlone, Other};
@@ -244,7 +245,7 @@ pub fn explain_source<F: Files>(
 ) -> Result<Option<Vec<u8>>, Unread>
     ensures explains { IfOk result (λ text. ExplainsSource name.now (F.holds files.old) (option_map (λ line. line.items) text)) }
     ensures lacks { IfErr result (LacksSource name.now (F.holds files.old)) }
-    ensures holds { F.holds files.new ≡ F.holds files.old }
+    ensures kept { KeepsFiles F.Files files.old files.new }
     ensures open_faults { CountsFault result (F.open_faults files.old) (F.open_faults files.new) }
     ensures page_faults { F.page_faults files.new ≡ F.page_faults files.old }
 {

@@ -1,4 +1,5 @@
 ghost use Rattle.std.specs.Prelude.{◌≡◌, ◌≤◌, ◌<◌, ◌+◌, ◌^◌, ◌/◌, Bool, length, min};
+ghost use Rattle.io_edge.specs.Calls.{KeepsFiles};
 ghost use Rattle.aout_image.specs.Image.{IsSound, file_length_of, pages_of, offset_of, given_of};
 ghost use Rattle.run_files.specs.Told.{image_told};
 ghost use Rattle.command_ending.specs.Ending.{ending_of};
@@ -47,8 +48,9 @@ fn listing_from<'a, F: Files>(
     files: &mut F,
     name: &'a str,
 ) -> Result<Vec<u8>, Fault<'a>>
-    ensures { Made (EndsListing name.now) (λ list. image_told list name.now) (F.holds files.old)
+    ensures made { Made (EndsListing name.now) (λ list. image_told list name.now) (F.holds files.old)
         (record { open_before = F.open_faults files.old; open_after = F.open_faults files.new; page_before = F.page_faults files.old; page_after = F.page_faults files.new }) (ending_of result) }
+    ensures kept { KeepsFiles F.Files files.old files.new }
 {
     let loaded = match load_image(alloc, files, name) {
         Ok(loaded) => loaded,
@@ -66,9 +68,11 @@ fn listing_from<'a, F: Files>(
 /// a file fault; 8 a fault of the output; 9 want of memory. At any other status than 0 and 8 the line
 /// of the fault is written instead (this project's profile).
 pub fn list_file<F: Files, S: Sink>(alloc: Global, files: &mut F, sink: &mut S, name: &str) -> u8
-    ensures { Lists name.now (F.holds files.old)
+    ensures lists { Lists name.now (F.holds files.old)
         (record { open_before = F.open_faults files.old; open_after = F.open_faults files.new; page_before = F.page_faults files.old; page_after = F.page_faults files.new })
         (S.written sink.old) (S.written sink.new) (S.faults sink.old) (S.faults sink.new) result }
+    ensures kept { KeepsFiles F.Files files.old files.new }
+    ensures sink_leads { S.leads sink.old sink.new }
 {
     let made = listing_from(alloc, files, name);
     write_ending(alloc, sink, made)

@@ -1,3 +1,4 @@
+ghost use Rattle.io_edge.specs.Calls.{KeepsFiles};
 ghost use Rattle.io_edge.specs.FileHolding.{NamedFile};
 ghost use Rattle.run_files.specs.Told.{bytes_told};
 ghost use Rattle.command_ending.specs.Ending.{ending_of};
@@ -20,8 +21,9 @@ fn file_from<'a, F: Files>(
     files: &mut F,
     name: &'a str,
 ) -> Result<Vec<u8>, Fault<'a>>
-    ensures { Made (EndsAssembly name.now) (λ list. bytes_told list name.now 495617) (F.holds files.old)
+    ensures made { Made (EndsAssembly name.now) (λ list. bytes_told list name.now 495617) (F.holds files.old)
         (record { open_before = F.open_faults files.old; open_after = F.open_faults files.new; page_before = F.page_faults files.old; page_after = F.page_faults files.new }) (ending_of result) }
+    ensures kept { KeepsFiles F.Files files.old files.new }
 {
     let source = match read_file(alloc, files, name, SOURCE_BYTES) {
         Ok(source) => source,
@@ -48,9 +50,11 @@ pub fn assemble_file<F: Files, S: Sink>(
     sink: &mut S,
     name: &str,
 ) -> u8
-    ensures { Assembles name.now (F.holds files.old)
+    ensures assembles { Assembles name.now (F.holds files.old)
         (record { open_before = F.open_faults files.old; open_after = F.open_faults files.new; page_before = F.page_faults files.old; page_after = F.page_faults files.new })
         (S.written sink.old) (S.written sink.new) (S.faults sink.old) (S.faults sink.new) result }
+    ensures kept { KeepsFiles F.Files files.old files.new }
+    ensures sink_leads { S.leads sink.old sink.new }
 {
     let made = file_from(alloc, files, name);
     write_ending(alloc, sink, made)

@@ -1,5 +1,6 @@
 ghost use Rattle.std.specs.Prelude.{◌≡◌, map};
 ghost use Rattle.command_words.specs.Asked.{asked_of};
+ghost use Rattle.reference_commands.specs.Outside.{KeepsOutside};
 ghost use Rattle.reference_commands.specs.Paired.{image_together};
 ghost use Rattle.vm_run.specs.Obeying.{Obeys, LeavesFiles, LeavesDevice};
 
@@ -44,8 +45,7 @@ pub fn vmrun<F: Files, D: SwapDev, E: SwapDev, S: Sink>(
       sink_faults_after = S.faults sink.new;
     }) result }
     ensures files { LeavesFiles (asked_of (map (λ word. word.now) words.now)) (files.new ≡ files.old) }
-    ensures zero_leads { D.leads zero.old zero.new }
-    ensures one_leads { E.leads one.old one.new }
+    ensures kept { KeepsOutside F.Files D.SwapDev E.SwapDev S.Sink files.old files.new zero.old zero.new one.old one.new sink.old sink.new }
     ensures zero { LeavesDevice (asked_of (map (λ word. word.now) words.now)) (zero.new ≡ zero.old) }
     ensures one { LeavesDevice (asked_of (map (λ word. word.now) words.now)) (one.new ≡ one.old) }
 {

@@ -1,4 +1,5 @@
 ghost use Rattle.std.specs.Prelude.{◌≡◌, IfOk, IfErr, map, option_map};
+ghost use Rattle.io_edge.specs.Calls.{KeepsFiles};
 ghost use Rattle.command_ending.specs.declared.fault.Fault.TheVariants.{NoMemory};
 ghost use Rattle.command_words.specs.Explaining.{words_explained};
 ghost use Rattle.source_commands.specs.Explaining.{ExplainsSource, LacksSource};
@@ -33,7 +34,7 @@ fn explain_bad_source<'a, F: Files>(
 ) -> Result<Option<Vec<u8>>, Fault<'a>>
     ensures explains { IfOk result (λ text. ExplainsSource source.now (F.holds files.old) (option_map (λ line. line.items) text)) }
     ensures lacks { IfErr result (LacksFile (LacksSource source.now (F.holds files.old)) source.now) }
-    ensures holds { F.holds files.new ≡ F.holds files.old }
+    ensures kept { KeepsFiles F.Files files.old files.new }
 {
     match explain_source(alloc, files, source) {
         Ok(text) => Ok(text),
@@ -49,7 +50,7 @@ fn explain_bad_schedule<'a, F: Files>(
 ) -> Result<Option<Vec<u8>>, Fault<'a>>
     ensures explains { IfOk result (λ text. ExplainsSchedule schedule.now (F.holds files.old) (option_map (λ line. line.items) text)) }
     ensures lacks { IfErr result (LacksFile (LacksSchedule schedule.now (F.holds files.old)) schedule.now) }
-    ensures holds { F.holds files.new ≡ F.holds files.old }
+    ensures kept { KeepsFiles F.Files files.old files.new }
 {
     match explain_schedule(alloc, files, schedule) {
         Ok(text) => Ok(text),
@@ -87,7 +88,7 @@ pub fn explain<'a, F: Files>(
           page_before = F.page_faults files.old;
           page_after = F.page_faults files.new;
         })) }
-    ensures holds { F.holds files.new ≡ F.holds files.old }
+    ensures kept { KeepsFiles F.Files files.old files.new }
 {
     match read_words(words) {
         Some(Command::Assemble { source }) if status == BAD_SOURCE => {

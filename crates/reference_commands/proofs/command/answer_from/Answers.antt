@@ -19,8 +19,8 @@ use Rattle.reference_commands.proofs.command.answer_from.Goals as goal
 abbrev now_of : List (Bor (List ℕ)) → List (List ℕ)
 now_of words = map (λ (word : Bor (List ℕ)). word.now) words
 
-pub returns-in_err-lines : goal.returns-in_err-lines
-returns-in_err-lines g c =
+pub returns-in_err-lines-clause-made : goal.returns-in_err-lines-clause-made
+returns-in_err-lines-clause-made g c =
     let subject : Subject = record { numbers = c.args.numbers; schedule = c.args.schedule.now; words = now_of c.args.words.now } in
     let f : Faults = record {
       open_before = g.F.Files.open_faults c.args.files.now;
@@ -32,8 +32,8 @@ returns-in_err-lines g c =
     subst (λ (e : Ending). Made (EndsQuestion c.args.question subject) (read_told subject.schedule subject.words) (g.F.Files.holds c.args.files.now) f e) (sym (ap ending_of is))
     (schedule_ends {V = Global} c.args.question subject (g.F.Files.holds c.args.files.now) f c.in_err-lines.field-0.0 c.in_err-lines.ensures.ends)
 
-pub returns-in_err-naming : goal.returns-in_err-naming
-returns-in_err-naming g c =
+pub returns-in_err-naming-clause-made : goal.returns-in_err-naming-clause-made
+returns-in_err-naming-clause-made g c =
     let subject : Subject = record { numbers = c.args.numbers; schedule = c.args.schedule.now; words = now_of c.args.words.now } in
     let f : Faults = record {
       open_before = g.F.Files.open_faults c.args.files.now;
@@ -46,8 +46,8 @@ returns-in_err-naming g c =
     (sym (ap ending_of is ∙ ap Err c.in_err-naming.ensures.error))
     (refused c.args.question subject (g.F.Files.holds c.args.files.now) f)
 
-pub returns-in_err-images : goal.returns-in_err-images
-returns-in_err-images g c =
+pub returns-in_err-images-clause-made : goal.returns-in_err-images-clause-made
+returns-in_err-images-clause-made g c =
     let subject : Subject = record { numbers = c.args.numbers; schedule = c.args.schedule.now; words = now_of c.args.words.now } in
     let f : Faults = record {
       open_before = g.F.Files.open_faults c.args.files.now;
@@ -68,7 +68,7 @@ returns-in_err-images g c =
     }) c.in_ok-lines.lines c.in_err-images.field-0.0 c.in_ok-lines.ensures.ends
     (λ (images : Vec FlatFile Global). images.items)
     (λ list told. subst (λ (xs : List (List ℕ)). AnswersNamed (λ (images : Vec FlatFile Global). images.items) (images_told list xs) (Err c.in_err-images.field-0.0)) names
-    (c.in_err-images.ensures.answers list (c.open_schedule.ensures.holds ∙ told)))
+    (c.in_err-images.ensures.answers list (c.open_schedule.ensures.kept.holds ∙ told)))
     c.in_err-images.ensures.faults)
 
 pub answer_over-requires-clause-few : goal.answer_over-requires-clause-few
@@ -102,8 +102,8 @@ answer_over-requires-clause-runnable g c =
       few_lines = c.in_ok-lines.ensures.few;
     }))
 
-pub returns : goal.returns
-returns g c =
+pub returns-clause-made : goal.returns-clause-made
+returns-clause-made g c =
     let subject : Subject = record { numbers = c.args.numbers; schedule = c.args.schedule.now; words = now_of c.args.words.now } in
     let words = now_of c.args.words.now in
     let names : now_of c.as_slice.result.now ≡ image_names words = ap now_of c.as_slice.ensures.value ∙ c.in_ok-naming.ensures.names in
@@ -117,7 +117,7 @@ returns g c =
       page_between = g.F.Files.page_faults c.open_schedule.new.files;
       page_after = g.F.Files.page_faults c.load_images.new.files;
     }) c.in_ok-lines.lines c.in_ok-images.images.items (ending_of c.answer_over.result) c.in_ok-lines.ensures.ends
-    (λ list told. subst (λ (xs : List (List ℕ)). images_told list xs ≡ Ok c.in_ok-images.images.items) names (c.in_ok-images.ensures.answers list (c.open_schedule.ensures.holds ∙ told)))
+    (λ list told. subst (λ (xs : List (List ℕ)). images_told list xs ≡ Ok c.in_ok-images.images.items) names (c.in_ok-images.ensures.answers list (c.open_schedule.ensures.kept.holds ∙ told)))
     c.in_ok-images.ensures.faults
     (subst (λ (images : List FlatFile). ends images first c.in_ok-lines.lines.items) c.as_slice-2.ensures.value
     (subst (λ (numbers : List ℕ). ends c.as_slice-2.result.now numbers c.in_ok-lines.lines.items) (c.as_slice-4.ensures.value ∙ c.in_ok-naming.ensures.first)

@@ -7,8 +7,8 @@ use Rattle.reference_commands.specs.Asking.{Subject}
 use Rattle.reference_commands.specs.Ends.{EndsQuestion}
 use Rattle.reference_commands.proofs.command.ask_command.Goals as goal
 
-pub returns : goal.returns
-returns g c =
+pub returns-clause-answers : goal.returns-clause-answers
+returns-clause-answers g c =
     let subject : Subject = record { numbers = c.args.numbers; schedule = c.args.schedule.now; words = map (λ (word : Bor (List ℕ)). word.now) c.args.words.now } in
     let f : Faults = record {
       open_before = g.F.Files.open_faults c.args.files.now;
@@ -18,4 +18,4 @@ returns g c =
     } in
     completed (EndsQuestion c.args.question subject) (read_told subject.schedule subject.words) (g.F.Files.holds c.args.files.now) f
     (g.S.Sink.written c.args.sink.now) (g.S.Sink.written c.write_ending.new.sink) (g.S.Sink.faults c.args.sink.now) (g.S.Sink.faults c.write_ending.new.sink) c.write_ending.result
-    (ending_of c.answer_from-made.result) (λ read. tt) c.answer_from-made.ensures c.write_ending.ensures
+    (ending_of c.answer_from-made.result) (λ read. tt) c.answer_from-made.ensures.made c.write_ending.ensures.writes

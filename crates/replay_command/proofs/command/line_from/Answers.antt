@@ -10,8 +10,8 @@ use Rattle.replay_command.specs.Command.{EndsVerdict, EndsReplay}
 use Rattle.replay_command.proofs.Replays.{transcript_ends, refused, images_end, judged_ends}
 use Rattle.replay_command.proofs.command.line_from.Goals as goal
 
-pub returns-in_err-entries : goal.returns-in_err-entries
-returns-in_err-entries g c =
+pub returns-in_err-entries-clause-made : goal.returns-in_err-entries-clause-made
+returns-in_err-entries-clause-made g c =
     let words = map (λ (word : Bor (List ℕ)). word.now) c.args.words.now in
     let f : Faults = record {
       open_before = g.F.Files.open_faults c.args.files.now;
@@ -23,8 +23,8 @@ returns-in_err-entries g c =
     subst (λ (e : Ending). Made (EndsReplay c.args.transcript.now words) (read_told c.args.transcript.now words) (g.F.Files.holds c.args.files.now) f e) (sym (ap ending_of is))
     (transcript_ends c.args.transcript.now words (g.F.Files.holds c.args.files.now) f c.in_err-entries.field-0.0 c.in_err-entries.ensures.ends)
 
-pub returns-in_err-naming : goal.returns-in_err-naming
-returns-in_err-naming g c =
+pub returns-in_err-naming-clause-made : goal.returns-in_err-naming-clause-made
+returns-in_err-naming-clause-made g c =
     let words = map (λ (word : Bor (List ℕ)). word.now) c.args.words.now in
     let f : Faults = record {
       open_before = g.F.Files.open_faults c.args.files.now;
@@ -37,8 +37,8 @@ returns-in_err-naming g c =
     (sym (ap ending_of is ∙ ap Err c.in_err-naming.ensures.error))
     (refused c.args.transcript.now words (g.F.Files.holds c.args.files.now) f)
 
-pub returns-in_err-images : goal.returns-in_err-images
-returns-in_err-images g c =
+pub returns-in_err-images-clause-made : goal.returns-in_err-images-clause-made
+returns-in_err-images-clause-made g c =
     let words = map (λ (word : Bor (List ℕ)). word.now) c.args.words.now in
     let names : map (λ (name : Bor (List ℕ)). name.now) c.as_slice.result.now ≡ image_names words
     = ap (map (λ (name : Bor (List ℕ)). name.now)) c.as_slice.ensures.value ∙ c.in_ok-naming.ensures.names in
@@ -53,17 +53,17 @@ returns-in_err-images g c =
     (images_end c.args.transcript.now words (g.F.Files.holds c.args.files.now) _ _ _ _ _ _ c.in_ok-entries.entries.items c.in_err-images.field-0.0 c.in_ok-entries.ensures.ends
     {A = Vec FlatFile Global} (λ (images : Vec FlatFile Global). images.items)
     (λ list told. subst (λ (xs : List (List ℕ)). AnswersNamed (λ (images : Vec FlatFile Global). images.items) (images_told list xs) (Err c.in_err-images.field-0.0)) names
-    (c.in_err-images.ensures.answers list (c.read_entries.ensures.holds ∙ told)))
+    (c.in_err-images.ensures.answers list (c.read_entries.ensures.kept.holds ∙ told)))
     c.in_err-images.ensures.faults)
 
-pub returns : goal.returns
-returns g c =
+pub returns-clause-made : goal.returns-clause-made
+returns-clause-made g c =
     let words = map (λ (word : Bor (List ℕ)). word.now) c.args.words.now in
     let names : map (λ (name : Bor (List ℕ)). name.now) c.as_slice.result.now ≡ image_names words
     = ap (map (λ (name : Bor (List ℕ)). name.now)) c.as_slice.ensures.value ∙ c.in_ok-naming.ensures.names in
     judged_ends c.args.transcript.now words (g.F.Files.holds c.args.files.now) _ _ _ _ _ _ c.in_ok-entries.entries.items c.in_ok-images.images.items (ending_of c.judge.result) c.in_ok-entries.ensures.ends
     (λ list told. subst (λ (xs : List (List ℕ)). images_told list xs ≡ Ok c.in_ok-images.images.items) names
-    (c.in_ok-images.ensures.answers list (c.read_entries.ensures.holds ∙ told)))
+    (c.in_ok-images.ensures.answers list (c.read_entries.ensures.kept.holds ∙ told)))
     c.in_ok-images.ensures.faults
     (subst (λ (images : List FlatFile). EndsVerdict images (first_images (image_names words) words) c.in_ok-entries.entries.items (ending_of c.judge.result)) c.as_slice-2.ensures.value
     (subst (λ (first : List ℕ). EndsVerdict c.as_slice-2.result.now first c.in_ok-entries.entries.items (ending_of c.judge.result)) (c.as_slice-3.ensures.value ∙ c.in_ok-naming.ensures.first)

@@ -6,8 +6,8 @@ use Rattle.replay_command.specs.Reading.{read_told}
 use Rattle.replay_command.specs.Command.{EndsReplay}
 use Rattle.replay_command.proofs.command.replay_file.Goals as goal
 
-pub returns : goal.returns
-returns g c =
+pub returns-clause-replays : goal.returns-clause-replays
+returns-clause-replays g c =
     let words = map (λ (word : Bor (List ℕ)). word.now) c.args.words.now in
     let f : Faults = record {
       open_before = g.F.Files.open_faults c.args.files.now;
@@ -17,4 +17,4 @@ returns g c =
     } in
     completed (EndsReplay c.args.transcript.now words) (read_told c.args.transcript.now words) (g.F.Files.holds c.args.files.now) f
     (g.S.Sink.written c.args.sink.now) (g.S.Sink.written c.write_ending.new.sink) (g.S.Sink.faults c.args.sink.now) (g.S.Sink.faults c.write_ending.new.sink) c.write_ending.result
-    (ending_of c.line_from-made.result) (λ read. tt) c.line_from-made.ensures c.write_ending.ensures
+    (ending_of c.line_from-made.result) (λ read. tt) c.line_from-made.ensures.made c.write_ending.ensures.writes

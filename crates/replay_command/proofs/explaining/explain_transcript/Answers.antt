@@ -22,7 +22,7 @@ returns-in-Ok-clause-explains g c =
       read = record { transcript = c.in_ok-entries.ensures.ends.read; images = Ok c.in_ok-images.images.items };
       is_told = λ files told. read_is c.args.transcript.now words files c.in_ok-entries.ensures.ends.read (Ok c.in_ok-images.images.items)
           (c.in_ok-entries.ensures.ends.is_told files told)
-          (subst (λ (xs : List (List ℕ)). images_told files xs ≡ Ok c.in_ok-images.images.items) names (c.in_ok-images.ensures.answers files (c.read_entries.ensures.holds ∙ told)));
+          (subst (λ (xs : List (List ℕ)). images_told files xs ≡ Ok c.in_ok-images.images.items) names (c.in_ok-images.ensures.answers files (c.read_entries.ensures.kept.holds ∙ told)));
       entries = c.in_ok-entries.entries.items;
       has = c.in_ok-entries.ensures.ends.ends.1;
       images = c.in_ok-images.images.items;
@@ -83,7 +83,7 @@ returns-in_err-images-clause-lacks g c =
       images_end c.args.transcript.now words (g.F.Files.holds c.args.files.now) _ _ _ _ _ _ c.in_ok-entries.entries.items c.in_err-images.field-0.0 c.in_ok-entries.ensures.ends
           {A = Vec FlatFile Global} (λ (images : Vec FlatFile Global). images.items)
           (λ list told. subst (λ (xs : List (List ℕ)). AnswersNamed (λ (images : Vec FlatFile Global). images.items) (images_told list xs) (Err c.in_err-images.field-0.0)) names
-          (c.in_err-images.ensures.answers list (c.read_entries.ensures.holds ∙ told)))
+          (c.in_err-images.ensures.answers list (c.read_entries.ensures.kept.holds ∙ told)))
           c.in_err-images.ensures.faults,
       images_unjudged (Vec FlatFile Global) behind c.in_err-images.field-0.0 c.in_err-images.ensures.faults,
     )

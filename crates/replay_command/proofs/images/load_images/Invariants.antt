@@ -14,6 +14,7 @@ invariant-loop-name g l = record {
   images : All IsImageFile l.images.items;
   count : length l.images.items ≡ l.name-index;
   named : map (λ image. image.name) l.images.items ≡ map (λ name. name.now) (take l.name-index l.names);
+  leads : g.F.Files.leads l.fn.files l.files;
   holds : g.F.Files.holds l.files ≡ g.F.Files.holds l.fn.files;
   open_faults : g.F.Files.open_faults l.files ≡ g.F.Files.open_faults l.fn.files;
   page_faults : g.F.Files.page_faults l.files ≡ g.F.Files.page_faults l.fn.files;

@@ -75,3 +75,16 @@ returns-clause-runs g c =
     (subst (λ (lines : List Event). IsAskedOf A c.in-Ok.core.machine c.as_slice-2.result.now lines (g.F.Files.holds files) image) (sym c.as_slice-3.ensures.value)
     (subst (λ (first : List ℕ). IsAskedOf A c.in-Ok.core.machine first c.args.opening.now.lines.items (g.F.Files.holds files) image) (sym c.as_slice-2.ensures.value)
     (subst (λ (m : Standing). IsAskedOf A m c.args.opening.now.first.items c.args.opening.now.lines.items (g.F.Files.holds files) image) (sym machine) is))) told))
+
+pub returns-clause-kept : goal.returns-clause-kept
+returns-clause-kept g c =
+    let ran = c.run_paired-ending in
+    let wrote = c.write_run-status in
+    record {
+      files = record { leads = ran.ensures.files_lead; holds = ran.ensures.holds };
+      devices = record {
+        zero = record { leads = ran.ensures.zero_leads; blocks = g.met.D.SwapDev.blocks_stay c.args.zero.now ran.new.zero ran.ensures.zero_leads };
+        one = record { leads = ran.ensures.one_leads; blocks = g.met.E.SwapDev.blocks_stay c.args.one.now ran.new.one ran.ensures.one_leads };
+      };
+      output = record { leads = wrote.ensures.leads; written = g.met.S.Sink.leads_more c.args.sink.now wrote.new.sink wrote.ensures.leads };
+    }

@@ -28,7 +28,7 @@ run_opened-requires-clause-ready g c =
       sound = are_sound images said.sound;
       names = are_names images (said.short c.requires.words.names);
       files = are_files (g.F.Files.holds c.open_run-opened.new.files) images
-          (subst (λ (h : Option (List NamedFile)). All (λ (o : OpenedImage). HasRange h o.file 0 (file_length_of o.facts)) images) (sym c.open_run-opened.ensures.holds) said.ranges);
+          (subst (λ (h : Option (List NamedFile)). All (λ (o : OpenedImage). HasRange h o.file 0 (file_length_of o.facts)) images) (sym c.open_run-opened.ensures.kept.holds) said.ranges);
       first_few = let few = said.few_first in let most = c.requires.words.few in omega arith;
       numbers = subst (λ (many : ℕ). All (λ (n : ℕ). (1 ≤ n) × (n ≤ many)) opening.first.items) (sym (shown_length images)) said.numbers;
       moves = have_few_moves opening.lines.items said.lines;
@@ -69,7 +69,7 @@ returns-in-Ok-clause-runs g c =
     let runs : RunsOpened (IsOfOpening c.args.numbers opening holds) c.args.traced seen status
     = subst (λ (p : ℕ). RunsOpened (IsOfOpening c.args.numbers opening holds) c.args.traced (seen_by holds opens p) status) c.open_run-opened.ensures.page_faults
     (subst (λ (o : ℕ). RunsOpened (IsOfOpening c.args.numbers opening holds) c.args.traced (seen_by holds o (g.F.Files.page_faults opened)) status) said.open_faults
-    (subst (λ (h : Option (List NamedFile)). RunsOpened (IsOfOpening c.args.numbers opening h) c.args.traced (seen_by h (g.F.Files.open_faults opened) (g.F.Files.page_faults opened)) status) c.open_run-opened.ensures.holds
+    (subst (λ (h : Option (List NamedFile)). RunsOpened (IsOfOpening c.args.numbers opening h) c.args.traced (seen_by h (g.F.Files.open_faults opened) (g.F.Files.page_faults opened)) status) c.open_run-opened.ensures.kept.holds
     c.run_opened.ensures.runs)) in
     let opening_of : ℕ → ℕ → Type 0
     = λ z o.

@@ -22,7 +22,7 @@ use Rattle.run_command.proofs.loading.load_command.Goals as goal
 pub returns-in_default-clause-loads : goal.returns-in_default-clause-loads
 returns-in_default-clause-loads g c = λ told opens pages.
     loads_unmade c.args.number _ c.write_counts.result refl
-    (record { files = record { open_same = refl; page_same = refl }; reads = record { zero = refl; one = refl }; writes = record { zero = refl; one = refl } }) c.write_counts.ensures
+    (record { files = record { open_same = refl; page_same = refl }; reads = record { zero = refl; one = refl }; writes = record { zero = refl; one = refl } }) c.write_counts.ensures.writes
 
 pub returns-in-Some-clause-loads : goal.returns-in-Some-clause-loads
 returns-in-Some-clause-loads g c =
@@ -33,7 +33,7 @@ returns-in-Some-clause-loads g c =
       nothing = record { journal_is = refl; swap = refl; reads = record { zero = refl; one = refl }; writes = record { zero = refl; one = refl } };
       files = record { open_same = refl; page_same = refl };
     })
-    c.write_counts-in-Some.ensures
+    c.write_counts-in-Some.ensures.writes
 
 pub run_load-requires-clause-sound : goal.run_load-requires-clause-sound
 run_load-requires-clause-sound g c =
@@ -46,7 +46,7 @@ run_load-requires-clause-names g c =
     subst (λ (xs : List OpenedImage). AreNames (map shown_as xs)) (sym c.as_slice.ensures.value) (are_names os (short_opened c.args.number os same))
 
 pub run_load-requires-clause-are_files : goal.run_load-requires-clause-are_files
-run_load-requires-clause-are_files g c = files_opened _ _ _ _ c.open_images.ensures.holds c.as_slice.ensures.value c.in-Ok-open_images.ensures.ranges
+run_load-requires-clause-are_files g c = files_opened _ _ _ _ c.open_images.ensures.kept.holds c.as_slice.ensures.value c.in-Ok-open_images.ensures.ranges
 
 pub run_load-requires-clause-moves : goal.run_load-requires-clause-moves
 run_load-requires-clause-moves g c = subst HaveFewMoves (sym c.as_slice-in-Ok-open_images.ensures.value) (have_few_moves _ c.in-Ok.ensures.ranges)
@@ -68,7 +68,7 @@ returns-in-Ok-open_images-clause-loads g c =
     loads_run _ _ number _ c.run_load.result long (record { open_same = refl; page_same = refl }) (starts_from number xs is_opened)
     (λ image before.
     is_asked_of number xs is_opened _ c.as_slice-in-Ok-open_images.result.now image
-    (c.open_images.ensures.holds ∙ holds) (c.as_slice-in-Ok-open_images.ensures.value ∙ c.in-Ok.ensures.lines)
+    (c.open_images.ensures.kept.holds ∙ holds) (c.as_slice-in-Ok-open_images.ensures.value ∙ c.in-Ok.ensures.lines)
     (subst (All (IsIn (load_files number))) (sym c.as_slice.ensures.value) are_in)
     (has_room (g.D.SwapDev.blocks c.args.zero.now) (g.E.SwapDev.blocks c.args.one.now) (g.D.SwapDev.image c.args.zero.now) (g.E.SwapDev.image c.args.one.now) image
     (g.met.D.SwapDev.whole c.args.zero.now) (g.met.E.SwapDev.whole c.args.one.now) (meets_needs _ _ long) before))
@@ -88,4 +88,4 @@ returns-clause-loads g c =
     (subst
     (λ (f : Fault). WritesCounts number [] (Err f) (g.S.Sink.written c.args.sink.now) (g.S.Sink.written c.write_counts-in-Err.new.sink) (g.S.Sink.faults c.args.sink.now)
     (g.S.Sink.faults c.write_counts-in-Err.new.sink) c.write_counts-in-Err.result)
-    lacks c.write_counts-in-Err.ensures)
+    lacks c.write_counts-in-Err.ensures.writes)

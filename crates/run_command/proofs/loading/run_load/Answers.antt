@@ -11,7 +11,7 @@ use Rattle.run_command.proofs.loading.run_load.Goals as goal
 pub returns-in_default-clause-runs : goal.returns-in_default-clause-runs
 returns-in_default-clause-runs g c = λ told opens pages.
     load_unmade _ _ c.args.number _ c.write_counts.result refl
-    (record { files = record { open_same = refl; page_same = refl }; reads = record { zero = refl; one = refl }; writes = record { zero = refl; one = refl } }) c.write_counts.ensures
+    (record { files = record { open_same = refl; page_same = refl }; reads = record { zero = refl; one = refl }; writes = record { zero = refl; one = refl } }) c.write_counts.ensures.writes
 
 pub returns-clause-runs : goal.returns-clause-runs
 returns-clause-runs g c = λ told opens pages.
@@ -26,4 +26,4 @@ returns-clause-runs g c = λ told opens pages.
     (subst
     (λ (j : List Entry). WritesCounts c.args.number j ran.result (g.S.Sink.written c.args.sink.now) (g.S.Sink.written c.write_counts-status.new.sink) (g.S.Sink.faults c.args.sink.now)
     (g.S.Sink.faults c.write_counts-status.new.sink) c.write_counts-status.result)
-    c.journal.ensures c.write_counts-status.ensures)
+    c.journal.ensures c.write_counts-status.ensures.writes)

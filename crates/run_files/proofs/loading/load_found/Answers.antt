@@ -18,7 +18,7 @@ returns-clause-answers g c = λ list told size.
     let whole : c.in_ok-bytes.bytes.items ≡ take (file_length_of headed.image) file
     = joined (g.F.Files.holds c.args.files.now) list c.args.id (file_length_of headed.image) headed.header.items c.in_ok-bytes.bytes.items told head c.in_ok-bytes.ensures.head
     (c.in_ok-bytes.ensures.size ∙ c.file_length.ensures.value) (above_header headed.image)
-    (subst (λ (h : Option (List NamedFile)). HoldsRange h c.args.id 32 (drop 32 c.in_ok-bytes.bytes.items)) c.read_header.ensures.holds c.in_ok-bytes.ensures.rest) in
+    (subst (λ (h : Option (List NamedFile)). HoldsRange h c.args.id 32 (drop 32 c.in_ok-bytes.bytes.items)) c.read_header.ensures.kept.holds c.in_ok-bytes.ensures.rest) in
     judged_is file c.in_ok-bytes.bytes.items (image_of file) headed.image
     (c.in_ok-headed.ensures.judged file head (sym size)) whole
 

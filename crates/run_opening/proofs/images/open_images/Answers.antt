@@ -24,7 +24,8 @@ loop-name-preserved g c =
       names = names_more c.args.names.now images after image c.loop-name.name-index _ c.loop-name-test.true opened.ensures.name pushed before.names;
       ranges = All-pushed (λ (i : OpenedImage). HasRange (g.F.Files.holds c.args.files.now) i.file 0 (file_length_of i.facts)) images after image pushed before.ranges range;
       sound = All-pushed (λ (i : OpenedImage). IsSound i.facts) images after image pushed before.sound opened.ensures.sound;
-      holds = c.open_named.ensures.holds ∙ before.holds;
+      leads = g.met.F.Files.leads_through c.args.files.now c.loop-name.files c.open_named.new.files before.leads c.open_named.ensures.kept.leads;
+      holds = c.open_named.ensures.kept.holds ∙ before.holds;
       open_faults = opened.ensures.open_faults ∙ before.open_faults;
       page_faults = c.open_named.ensures.page_faults ∙ before.page_faults;
     }

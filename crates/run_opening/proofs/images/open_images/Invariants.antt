@@ -15,6 +15,7 @@ invariant-loop-name g l = record {
   names : map (λ image. image.name) l.images.items ≡ take l.name-index l.names;
   ranges : All (λ image. HasRange (g.F.Files.holds l.fn.files) image.file 0 (file_length_of image.facts)) l.images.items;
   sound : All (λ image. IsSound image.facts) l.images.items;
+  leads : g.F.Files.leads l.fn.files l.files;
   holds : g.F.Files.holds l.files ≡ g.F.Files.holds l.fn.files;
   open_faults : g.F.Files.open_faults l.files ≡ g.F.Files.open_faults l.fn.files;
   page_faults : g.F.Files.page_faults l.files ≡ g.F.Files.page_faults l.fn.files;

@@ -69,7 +69,7 @@ returns-in_err-images-clause-ends g c =
     (images_end (λ list (images : Vec OpenedImage Global). images_in list images.items) a (g.F.Files.holds c.args.files.now) _ f c.in_ok-lines.lines fault
     c.in_ok-lines.ensures.ends refl (c.open_images.ensures.page_faults ∙ c.open_schedule.ensures.page_faults)
     (λ list told. subst (λ (xs : List (List ℕ)). AnswersNamed (λ (images : Vec OpenedImage Global). images_in list images.items) (images_found list xs) (Err fault)) names
-    (c.in_err-images.ensures.answers list (c.open_schedule.ensures.holds ∙ told)))
+    (c.in_err-images.ensures.answers list (c.open_schedule.ensures.kept.holds ∙ told)))
     c.in_err-images.ensures.open_faults c.in_err-images.ensures.error)
 
 pub returns-in-Some-clause-ends : goal.returns-in-Some-clause-ends
@@ -84,7 +84,7 @@ returns-in-Some-clause-ends g c =
     } in
     device_ends a (g.F.Files.holds c.args.files.now) _ f c.in_ok-lines.lines c.in_ok-images.images c.in-Some.fault c.in_ok-lines.ensures.ends
     (λ list told. subst (λ (xs : List (List ℕ)). images_found list xs ≡ Ok (images_in list c.in_ok-images.images.items)) names
-    (c.in_ok-images.ensures.answers list (c.open_schedule.ensures.holds ∙ told)))
+    (c.in_ok-images.ensures.answers list (c.open_schedule.ensures.kept.holds ∙ told)))
     (sym c.in-Some.is ∙ c.device_fault.ensures)
 
 pub returns-clause-ends : goal.returns-clause-ends
@@ -95,7 +95,7 @@ returns-clause-ends g c =
     let none : None ≡ device_fault c.args.swap c.args.zero_blocks c.args.one_blocks = search rules in
     opening_begins a (g.F.Files.holds c.args.files.now) _ _ opening c.in_ok-lines.ensures.ends
     (λ list told. subst (λ (xs : List (List ℕ)). images_found list xs ≡ Ok (images_in list c.in_ok-images.images.items)) names
-    (c.in_ok-images.ensures.answers list (c.open_schedule.ensures.holds ∙ told)))
+    (c.in_ok-images.ensures.answers list (c.open_schedule.ensures.kept.holds ∙ told)))
     (c.in_ok-first.ensures.exact ∙ ap (λ (xs : List (List ℕ)). first_images xs (now_of c.args.words.now)) (ap now_of c.as_slice.ensures.value ∙ c.in_ok-names.ensures.exact))
     none
     (record {

@@ -7,8 +7,8 @@ use Rattle.source_commands.specs.Command.{EndsListing}
 use Rattle.command_ending.proofs.Makings.{completed}
 use Rattle.source_commands.proofs.listing.list_file.Goals as goal
 
-pub returns : goal.returns
-returns g c =
+pub returns-clause-lists : goal.returns-clause-lists
+returns-clause-lists g c =
     let f : Faults = record {
       open_before = g.F.Files.open_faults c.args.files.now;
       open_after = g.F.Files.open_faults c.listing_from-made.new.files;
@@ -17,4 +17,4 @@ returns g c =
     } in
     completed (EndsListing c.args.name.now) (λ (files : List NamedFile). image_told files c.args.name.now) (g.F.Files.holds c.args.files.now) f
     (g.S.Sink.written c.args.sink.now) (g.S.Sink.written c.write_ending.new.sink) (g.S.Sink.faults c.args.sink.now) (g.S.Sink.faults c.write_ending.new.sink) c.write_ending.result
-    (ending_of c.listing_from-made.result) (λ read. tt) c.listing_from-made.ensures c.write_ending.ensures
+    (ending_of c.listing_from-made.result) (λ read. tt) c.listing_from-made.ensures.made c.write_ending.ensures.writes

@@ -12,8 +12,8 @@ use Rattle.command_ending.proofs.Makings.{made_by, made_nothing}
 use Rattle.source_commands.proofs.Makings.{unread_image}
 use Rattle.source_commands.proofs.listing.listing_from.Goals as goal
 
-pub returns-in-Err : goal.returns-in-Err
-returns-in-Err g c =
+pub returns-in-Err-clause-made : goal.returns-in-Err-clause-made
+returns-in-Err-clause-made g c =
     let f : Faults = record {
       open_before = g.F.Files.open_faults c.args.files.now;
       open_after = g.F.Files.open_faults c.load_image.new.files;
@@ -24,8 +24,8 @@ returns-in-Err g c =
     (unread_image {A = Loaded} (λ loaded. (loaded.image, loaded.bytes.items)) c.args.name (λ (list : List NamedFile). image_told list c.args.name.now) (g.F.Files.holds c.args.files.now) f c.in-Err.unread
     c.in-Err.ensures.answers c.in-Err.ensures.faults c.in-Err.ensures.order)
 
-pub returns-in-Ok-listing_of : goal.returns-in-Ok-listing_of
-returns-in-Ok-listing_of g c =
+pub returns-in-Ok-listing_of-clause-made : goal.returns-in-Ok-listing_of-clause-made
+returns-in-Ok-listing_of-clause-made g c =
     let image = c.in-Ok.loaded.image in
     made_by (EndsListing c.args.name.now) (λ (list : List NamedFile). image_told list c.args.name.now) (g.F.Files.holds c.args.files.now) _ (Ok c.in-Ok-listing_of.listing.items) (Ok (image, c.in-Ok.loaded.bytes.items))
     c.in-Ok.ensures.answers (
@@ -34,6 +34,6 @@ returns-in-Ok-listing_of g c =
           (c.code_of-code.ensures ∙ ap (λ (file : List ℕ). code_at image file (image.entry + 2)) c.as_slice.ensures.value) c.in-Ok-listing_of.ensures,
     )
 
-pub returns : goal.returns
-returns g c =
+pub returns-clause-made : goal.returns-clause-made
+returns-clause-made g c =
     made_nothing (EndsListing c.args.name.now) (Err unreads.NoMemory) (λ (list : List NamedFile). image_told list c.args.name.now) (g.F.Files.holds c.args.files.now) _ (Err NoMemory) (λ read. tt)

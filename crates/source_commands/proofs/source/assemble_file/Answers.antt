@@ -7,8 +7,8 @@ use Rattle.source_commands.specs.Command.{EndsAssembly, source_bytes}
 use Rattle.command_ending.proofs.Makings.{completed}
 use Rattle.source_commands.proofs.source.assemble_file.Goals as goal
 
-pub returns : goal.returns
-returns g c =
+pub returns-clause-assembles : goal.returns-clause-assembles
+returns-clause-assembles g c =
     let f : Faults = record {
       open_before = g.F.Files.open_faults c.args.files.now;
       open_after = g.F.Files.open_faults c.file_from-made.new.files;
@@ -17,4 +17,4 @@ returns g c =
     } in
     completed (EndsAssembly c.args.name.now) (λ (files : List NamedFile). bytes_told files c.args.name.now source_bytes) (g.F.Files.holds c.args.files.now) f
     (g.S.Sink.written c.args.sink.now) (g.S.Sink.written c.write_ending.new.sink) (g.S.Sink.faults c.args.sink.now) (g.S.Sink.faults c.write_ending.new.sink) c.write_ending.result
-    (ending_of c.file_from-made.result) (λ read. tt) c.file_from-made.ensures c.write_ending.ensures
+    (ending_of c.file_from-made.result) (λ read. tt) c.file_from-made.ensures.made c.write_ending.ensures.writes

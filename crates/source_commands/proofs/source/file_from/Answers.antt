@@ -12,8 +12,8 @@ use Rattle.command_ending.proofs.Makings.{made_by, made_nothing}
 use Rattle.source_commands.proofs.Makings.{unread_source}
 use Rattle.source_commands.proofs.source.file_from.Goals as goal
 
-pub returns-in-Err : goal.returns-in-Err
-returns-in-Err g c =
+pub returns-in-Err-clause-made : goal.returns-in-Err-clause-made
+returns-in-Err-clause-made g c =
     let f : Faults = record {
       open_before = g.F.Files.open_faults c.args.files.now;
       open_after = g.F.Files.open_faults c.read_file.new.files;
@@ -27,8 +27,8 @@ returns-in-Err g c =
 pub file_of-requires : goal.file_of-requires
 file_of-requires g c = program_limit c.as_slice.result.now c.in-Ok-Is.program.bytes.items c.in-Ok-Is.program.bss (subst (AssemblesAs c.as_slice.result.now) c.in-Ok-Is.field-0-is c.in-Ok-Is.ensures)
 
-pub returns-in-Ok-file_of : goal.returns-in-Ok-file_of
-returns-in-Ok-file_of g c =
+pub returns-in-Ok-file_of-clause-made : goal.returns-in-Ok-file_of-clause-made
+returns-in-Ok-file_of-clause-made g c =
     made_by (EndsAssembly c.args.name.now) (λ (list : List NamedFile). bytes_told list c.args.name.now 495617) (g.F.Files.holds c.args.files.now) _ (Ok c.in-Ok-file_of.file.items) (Ok c.in-Ok.source.items)
     c.in-Ok.ensures.answers (
       record { open_same = c.in-Ok.ensures.open_faults; page_same = c.in-Ok.ensures.page_faults },
@@ -41,16 +41,16 @@ returns-in-Ok-file_of g c =
       },
     )
 
-pub returns-in-Ok-Is : goal.returns-in-Ok-Is
-returns-in-Ok-Is g c =
+pub returns-in-Ok-Is-clause-made : goal.returns-in-Ok-Is-clause-made
+returns-in-Ok-Is-clause-made g c =
     made_nothing (EndsAssembly c.args.name.now) (Err unreads.NoMemory) (λ (list : List NamedFile). bytes_told list c.args.name.now 495617) (g.F.Files.holds c.args.files.now) _ (Err NoMemory) (λ read. tt)
 
-pub returns-in-Ok-BadLine : goal.returns-in-Ok-BadLine
-returns-in-Ok-BadLine g c =
+pub returns-in-Ok-BadLine-clause-made : goal.returns-in-Ok-BadLine-clause-made
+returns-in-Ok-BadLine-clause-made g c =
     made_by (EndsAssembly c.args.name.now) (λ (list : List NamedFile). bytes_told list c.args.name.now 495617) (g.F.Files.holds c.args.files.now) _ (Err (BadSource c.in-Ok-BadLine.line)) (Ok c.in-Ok.source.items)
     c.in-Ok.ensures.answers (subst (λ (source : List ℕ). IsFirstBad source c.in-Ok-BadLine.line) c.as_slice.ensures.value
     (subst (AssemblesAs c.as_slice.result.now) c.in-Ok-BadLine.field-0-is c.in-Ok-BadLine.ensures))
 
-pub returns : goal.returns
-returns g c =
+pub returns-clause-made : goal.returns-clause-made
+returns-clause-made g c =
     made_nothing (EndsAssembly c.args.name.now) (Err unreads.NoMemory) (λ (list : List NamedFile). bytes_told list c.args.name.now 495617) (g.F.Files.holds c.args.files.now) _ (Err NoMemory) (λ read. tt)

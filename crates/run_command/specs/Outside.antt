@@ -1,0 +1,23 @@
+-- What a command leaves outside, whether or not anything is told.
+use Rattle.io_edge.specs.Calls.{KeepsFiles, KeepsSwap}
+use Rattle.io_edge.specs.Written.{Extends}
+use Rattle.io_edge.specs.declared.files.Files.{Ghosts as FilesGhosts}
+use Rattle.io_edge.specs.declared.swap_dev.SwapDev.{Ghosts as SwapGhosts}
+use Rattle.io_edge.specs.declared.sink.Sink.{Ghosts as SinkGhosts}
+
+-- each device has as many blocks as before; calls alone lead from its earlier state to the later one
+pub record KeepsDevices {D E : Type 0} (d : SwapGhosts D) (e : SwapGhosts E) (zero_old zero_new : D) (one_old one_new : E) : Type 0 where
+  pub zero : KeepsSwap d zero_old zero_new
+  pub one : KeepsSwap e one_old one_new
+
+-- what was written stays, and more may follow it; calls alone lead from the output's earlier state to the later one
+pub record KeepsOutput {S : Type 0} (s : SinkGhosts S) (sink_old sink_new : S) : Type 0 where
+  pub leads : s.leads sink_old sink_new
+  pub written : Extends (s.written sink_old) (s.written sink_new)
+
+-- the files hold what they held, and the devices and the output are left so
+pub record KeepsOutside {F D E S : Type 0} (f : FilesGhosts F) (d : SwapGhosts D) (e : SwapGhosts E) (s : SinkGhosts S)
+    (files_old files_new : F) (zero_old zero_new : D) (one_old one_new : E) (sink_old sink_new : S) : Type 0 where
+  pub files : KeepsFiles f files_old files_new
+  pub devices : KeepsDevices d e zero_old zero_new one_old one_new
+  pub output : KeepsOutput s sink_old sink_new
