@@ -8,10 +8,9 @@ use Rattle.flat_model.specs.Run.{Point, flat_run}
 use Rattle.run_text.specs.Text.{text_of}
 use Rattle.run_files.specs.ImageWords.{image_names, first_images}
 use Rattle.command_ending.specs.declared.fault.Fault.{Fault}
-use Rattle.command_ending.specs.declared.fault.Fault.TheVariants.{BadWords, Absent, NotImage, BadSchedule, FileFault, SwapReadFault, SwapWriteFault, NoMemory, JournalFull, NoSpace, ShortDevice, NotFlatRun, BadTranscript, TooLong, BadSource}
-use Rattle.command_ending.specs.Ending.{fault_status}
 use Rattle.command_ending.specs.Command.{All, Prefix}
 use Rattle.command_ending.specs.Named.{Why}
+use Rattle.command_ending.proofs.Statuses.{status_is_not_0}
 use Rattle.command_words.specs.Asked.{Asked, Run}
 use Rattle.command_words.specs.declared.command.Numbers.{Numbers}
 use Rattle.run_opening.specs.Images.{images_found}
@@ -23,23 +22,6 @@ use Rattle.outcome_laws.specs.Visible.{visible_of, has_end, IsSingle, Begins}
 use Rattle.outcome_laws.specs.Agreement.{IsPair}
 use Rattle.outcome_laws.proofs.Pairs.{visible_agrees, over_is_all, both_over, end_is_last}
 use Rattle.paging_unseen.specs.Unseen.{StartAlike, IsServedAlone, WroteAlike, PagingIsUnseen}
-
-status_is_not_0 : (fault : Fault) → fault_status fault ≡ 0 → ⊥
-status_is_not_0 BadWords h = omega (arith, h)
-status_is_not_0 (Absent name) h = omega (arith, h)
-status_is_not_0 (NotImage name reason) h = omega (arith, h)
-status_is_not_0 (BadSchedule line) h = omega (arith, h)
-status_is_not_0 FileFault h = omega (arith, h)
-status_is_not_0 (SwapReadFault device) h = omega (arith, h)
-status_is_not_0 (SwapWriteFault device) h = omega (arith, h)
-status_is_not_0 NoMemory h = omega (arith, h)
-status_is_not_0 JournalFull h = omega (arith, h)
-status_is_not_0 (NoSpace pid) h = omega (arith, h)
-status_is_not_0 (ShortDevice device blocks needed) h = omega (arith, h)
-status_is_not_0 (NotFlatRun line) h = omega (arith, h)
-status_is_not_0 (BadTranscript line) h = omega (arith, h)
-status_is_not_0 TooLong h = omega (arith, h)
-status_is_not_0 (BadSource line) h = omega (arith, h)
 
 -- the text of a run of the flat machine was written, whose images are those that the words name
 record IsWritten (words : List (List ℕ)) (files : List NamedFile) (traced : Bool) (written : Option (List ℕ)) : Type 0 where

@@ -1,0 +1,4 @@
+pub mod Files
+pub mod Asking
+pub mod Texts
+pub mod Replays
