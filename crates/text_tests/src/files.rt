@@ -97,3 +97,19 @@ fn a_run_is_opened_with_its_lines_and_its_images(rt: HostRuntime) -> Result<(), 
     assert_eq!(rt; opening.lines.as_slice(), lines.as_slice());
     Ok(())
 }
+
+// Where a file fails no clause says which one. The schedule takes one call where it is absent, and two where it isn't empty: the
+// call after them would be the first for an image, and would fail.
+#[test]
+fn a_schedule_is_judged_before_an_image_is_looked_for(rt: HostRuntime) -> Result<(), Fail> {
+    let alloc = rt.alloc();
+    for (schedule, fail, status) in [("no schedule", 2, 2), ("letters", 3, 4), ("lines", 3, 5)] {
+        let mut kept = files(alloc, &[fail])?;
+        let opened = open_run(alloc, &mut kept, schedule, &["image"], 256, 1_024, 1_024);
+        let Err(fault) = opened else {
+            return Err("opened".into());
+        };
+        assert_eq!(rt; fault.status(), status, "{schedule}");
+    }
+    Ok(())
+}
