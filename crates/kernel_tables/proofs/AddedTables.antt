@@ -16,6 +16,7 @@ use Rattle.kernel_tables.specs.Added.{with_text_places, entered_texts, with_spac
 -- what is due says nothing of frames
 pub known_fills : (t : Lists) (fills : List DueFill) → Known t → AreWhole fills → DueOnce fills → Known (record t { fills = fills })
 known_fills t fills known whole once =
+    let same : (w : Page) → state_of (placement_of (record t { fills = fills })) w ≡ state_of (placement_of t) w = λ w. refl in
     let p : Placement = placement_of t in
     let q : Placement = placement_of (record t { fills = fills }) in
     record {
@@ -39,9 +40,6 @@ known_fills t fills known whole once =
       differ = known.differ;
       numbers = known.numbers;
     }
-  where
-    same : (w : Page) → state_of (placement_of (record t { fills = fills })) w ≡ state_of (placement_of t) w
-    same w = refl
 
 pub added_lists : (t u : Tables) (s : Places) (fills : List DueFill) → u.spaces ≡ t.spaces ++ with_text_places (lists_of t) s ∷ []
     → u.texts ≡ entered_texts t.texts s.image

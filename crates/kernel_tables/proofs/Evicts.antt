@@ -101,17 +101,12 @@ moved_none t f token rest k h = record {
 -- what is left of it
 here_some : (t : Lists) (f : ℕ) (token : Frame) (e : Page) (rest : List ℕ) → Known t → Head t f token (Some e) rest
     → Here t (taken t f (Some e) rest) e (left_state e (mark_of (placement_of t) e)) (mark_of (placement_of t) e)
-here_some t f token e rest k h = record { there = there; slot = left e named.state named.clean there (ap token_page h.was) }
+here_some t f token e rest k h =
+    let page : page_of (placement_of t) f ≡ Some e = head_page t f token (Some e) k h.was in
+    let named : IsListed (placement_of t) f e = k.owns.listed f e (head_listed t f token (Some e) rest h) page in
+    let there : IsThere (placement_of t) e = page_in (placement_of t) e f (ap frame_of named.state) in
+    record { there = there; slot = left e named.state named.clean there (ap token_page h.was) }
   where
-    page : page_of (placement_of t) f ≡ Some e
-    page = head_page t f token (Some e) k h.was
-
-    named : IsListed (placement_of t) f e
-    named = k.owns.listed f e (head_listed t f token (Some e) rest h) page
-
-    there : IsThere (placement_of t) e
-    there = page_in (placement_of t) e f (ap frame_of named.state)
-
     swapped : (i v : ℕ) (c : Bool) → text_shown (set t.slots f tokens.Away) c (left_text c v) ≡ record { state = left_state (Text i v) c; mark = c; filling = filling_behind (left_state (Text i v) c) Zeros }
     swapped i v true = refl
     swapped i v false = refl

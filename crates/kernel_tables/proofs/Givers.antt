@@ -84,47 +84,26 @@ pub lent_records : (t u : Tables) (from to sid : ℕ) (g b : Record) → AreReco
     → HasPassed t u from to (record g { state = lives.Lends sid to }) (record b { state = lives.Holds sid; borrowed = true })
     → AreRecords u.processes t.next_pid
 lent_records t u from to sid g b h gave took apart gs bs p =
-    follow_records old new next to from to g b giver taker h p.sound apart gave took p.gives p.takes p.others gf tf marked one
-  where
-    old : List Record
-    old = t.processes
-
-    new : List Record
-    new = u.processes
-
-    next : ℕ
-    next = t.next_pid
-
-    giver : Record
-    giver = record g { state = lives.Lends sid to }
-
-    taker : Record
-    taker = record b { state = lives.Holds sid; borrowed = true }
-
-    gf : Follows to from giver g
-    gf = record { lends = λ n d. ne_eqb to n (λ i. d (sym i)) ∙ sym (ap (lends_to_by n) gs); borrowed = λ d. refl; holds = λ t. tt }
-
-    tf : Follows to to taker b
-    tf = record { lends = λ n d. sym (ap (lends_to_by n) bs); borrowed = λ d. absurd (d refl); holds = λ t. tt }
-
+    let old : List Record = t.processes in
+    let new : List Record = u.processes in
+    let next : ℕ = t.next_pid in
+    let giver : Record = record g { state = lives.Lends sid to } in
+    let taker : Record = record b { state = lives.Holds sid; borrowed = true } in
+    let gf : Follows to from giver g = record { lends = λ n d. ne_eqb to n (λ i. d (sym i)) ∙ sym (ap (lends_to_by n) gs); borrowed = λ d. refl; holds = λ t. tt } in
+    let tf : Follows to to taker b = record { lends = λ n d. sym (ap (lends_to_by n) bs); borrowed = λ d. absurd (d refl); holds = λ t. tt } in
     -- nobody lent to the one that had none
-    alone : list_any (lends_to to) old ≡ false
-    alone = sym (h.marked to) ∙ ap is_borrower_in took ∙ new_unborrowed b b.state bs (h.holds to b took)
-
-    marked : is_borrower_in (find to new) ≡ list_any (lends_to to) new
-    marked = ap is_borrower_in p.takes ∙ sym (found_any (lends_to to) new from giver p.gives (eq_self to))
-
-    only : (x : ℕ) (q : Record) → find x new ≡ Some q → lends_to to q ≡ true → x ≡ from
-    only x q e s = elim (cases_eq x from) [
+    let alone : list_any (lends_to to) old ≡ false = sym (h.marked to) ∙ ap is_borrower_in took ∙ new_unborrowed b b.state bs (h.holds to b took) in
+    let marked : is_borrower_in (find to new) ≡ list_any (lends_to to) new = ap is_borrower_in p.takes ∙ sym (found_any (lends_to to) new from giver p.gives (eq_self to)) in
+    let only : (x : ℕ) (q : Record) → find x new ≡ Some q → lends_to to q ≡ true → x ≡ from = λ x q e s. elim (cases_eq x from) [
       | inl i ↦ i
       | inr d ↦ elim (cases_eq x to) [
         | inl i ↦ true_false (lends_to to q) s (ap (lends_to to) (sym (same_Some taker q (sym p.takes ∙ ap (λ (l : ℕ). find l new) (sym i) ∙ e))))
         | inr c ↦ true_false (list_any (lends_to to) old) (found_any (lends_to to) old x q (sym (p.others x d c) ∙ e) s) alone
       ]
-    ]
-
-    one : (x y : ℕ) (q r : Record) → find x new ≡ Some q → find y new ≡ Some r → lends_to to q ≡ true → lends_to to r ≡ true → x ≡ y
-    one x y q r e f s t = only x q e s ∙ sym (only y r f t)
+    ] in
+    let one : (x y : ℕ) (q r : Record) → find x new ≡ Some q → find y new ≡ Some r → lends_to to q ≡ true → lends_to to r ≡ true → x ≡ y = λ x y q r e f s t.
+    only x q e s ∙ sym (only y r f t) in
+    follow_records old new next to from to g b giver taker h p.sound apart gave took p.gives p.takes p.others gf tf marked one
 
 -- And where it goes back to who lent it.
 
@@ -134,28 +113,21 @@ pub returned_records : (t u : Tables) (from to sid lent : ℕ) (g b : Record) �
     → HasPassed t u from to (record g { state = lives.New; borrowed = false }) (record b { state = lives.Holds sid })
     → AreRecords u.processes t.next_pid
 returned_records t u from to sid lent g b h gave took apart gs bs p =
+    let old : List Record = t.processes in
+    let next : ℕ = t.next_pid in
+    let gf : Follows from from giver g = record { lends = λ n d. sym (ap (lends_to_by n) gs); borrowed = λ d. absurd (d refl); holds = λ t. true_false false t refl } in
+    let tf : Follows from to taker b = record { lends = λ n d. sym (ap (lends_to_by n) bs ∙ ne_eqb from n (λ i. d (sym i))); borrowed = λ d. refl; holds = λ t. tt } in
+    let marked : is_borrower_in (find from new) ≡ list_any (lends_to from) new = ap is_borrower_in p.gives ∙ none_any (list_any (lends_to from) new) refl in
     follow_records old new next from from to g b giver taker h p.sound apart gave took p.gives p.takes p.others gf tf marked (λ x y q r e f s k. absurd (nobody x q e s))
   where
-    old : List Record
-    old = t.processes
-
     new : List Record
     new = u.processes
-
-    next : ℕ
-    next = t.next_pid
 
     giver : Record
     giver = record g { state = lives.New; borrowed = false }
 
     taker : Record
     taker = record b { state = lives.Holds sid }
-
-    gf : Follows from from giver g
-    gf = record { lends = λ n d. sym (ap (lends_to_by n) gs); borrowed = λ d. absurd (d refl); holds = λ t. true_false false t refl }
-
-    tf : Follows from to taker b
-    tf = record { lends = λ n d. sym (ap (lends_to_by n) bs ∙ ne_eqb from n (λ i. d (sym i))); borrowed = λ d. refl; holds = λ t. tt }
 
     lender : lends_to from b ≡ true
     lender = ap (lends_to_by from) bs ∙ eq_self from
@@ -172,9 +144,6 @@ returned_records t u from to sid lent g b h gave took apart gs bs p =
     none_any : (v : Bool) → list_any (lends_to from) new ≡ v → false ≡ v
     none_any false k = refl
     none_any true k = absurd (let x = any_found (lends_to from) new p.sound.apart k in nobody x.0.pid x.0 x.1 x.2)
-
-    marked : is_borrower_in (find from new) ≡ list_any (lends_to from) new
-    marked = ap is_borrower_in p.gives ∙ none_any (list_any (lends_to from) new) refl
 
 -- Who gives its space, and who takes it.
 
@@ -230,37 +199,28 @@ pub has_lent : (t u : Tables) (from to sid : ℕ) (g b : Record) → AreRecords 
     → g.state ≡ lives.Holds sid → b.state ≡ lives.New
     → HasPassed t u g.pid b.pid (record g { state = lives.Lends sid b.pid }) (record b { state = lives.Holds sid; borrowed = true })
     → HasProcesses t u t.next_pid (passed_procs (processes_in t) from to) (residents_in t)
-has_lent t u from to sid g b h gave took apart gs bs had = has_processes t u _ _ p.rest
+has_lent t u from to sid g b h gave took apart gs bs had =
+    let giver : Record = record g { state = lives.Lends sid to } in
+    let taker : Record = record b { state = lives.Holds sid; borrowed = true } in
+    let p : HasPassed t u from to giver taker = subst (λ (n : ℕ). HasPassed t u n to giver taker) (found_pid from t.processes g gave)
+    (subst (λ (n : ℕ). HasPassed t u g.pid n (record g { state = lives.Lends sid n }) taker) (found_pid to t.processes b took) had) in
+    has_processes t u _ _ p.rest
     (passed_processes t u from to sid New g b giver taker gave took apart p refl refl ∙ passed_is t from to sid New (life_shown_at t from g h gave ∙ ap life_shown gs) (life_shown_at t to b h took ∙ ap life_shown bs))
     (passed_residents t u from to sid New g b giver taker gave took apart p refl refl (sym (ap (residence_by g) gs)) (sym (ap (residence_by b) bs)))
     (lent_records t u from to sid g b h gave took apart gs bs p)
-  where
-    giver : Record
-    giver = record g { state = lives.Lends sid to }
-
-    taker : Record
-    taker = record b { state = lives.Holds sid; borrowed = true }
-
-    p : HasPassed t u from to giver taker
-    p = subst (λ (n : ℕ). HasPassed t u n to giver taker) (found_pid from t.processes g gave)
-        (subst (λ (n : ℕ). HasPassed t u g.pid n (record g { state = lives.Lends sid n }) taker) (found_pid to t.processes b took) had)
 
 pub has_returned : (t u : Tables) (from to sid lent child : ℕ) (g b : Record) → AreRecords t.processes t.next_pid
     → find from t.processes ≡ Some g → find to t.processes ≡ Some b → from ≢ to
     → g.state ≡ lives.Holds sid → b.state ≡ lives.Lends lent child → child ≡ from
     → HasPassed t u g.pid b.pid (record g { state = lives.New; borrowed = false }) (record b { state = lives.Holds sid })
     → HasProcesses t u t.next_pid (passed_procs (processes_in t) from to) (residents_in t)
-has_returned t u from to sid lent child g b h gave took apart gs bs own had = has_processes t u _ _ p.rest
+has_returned t u from to sid lent child g b h gave took apart gs bs own had =
+    let giver : Record = record g { state = lives.New; borrowed = false } in
+    let taker : Record = record b { state = lives.Holds sid } in
+    let p : HasPassed t u from to giver taker =
+    subst (λ (n : ℕ). HasPassed t u n to giver taker) (found_pid from t.processes g gave) (subst (λ (n : ℕ). HasPassed t u g.pid n giver taker) (found_pid to t.processes b took) had) in
+    has_processes t u _ _ p.rest
     (passed_processes t u from to sid (LendsSpace lent child) g b giver taker gave took apart p refl refl
     ∙ passed_is t from to sid (LendsSpace lent child) (life_shown_at t from g h gave ∙ ap life_shown gs) (life_shown_at t to b h took ∙ ap life_shown bs))
     (passed_residents t u from to sid (LendsSpace lent child) g b giver taker gave took apart p refl refl (sym (ap (residence_by g) gs)) (sym (ap (residence_by b) bs)))
     (returned_records t u from to sid lent g b h gave took apart gs (bs ∙ ap (λ (n : ℕ). lives.Lends lent n) own) p)
-  where
-    giver : Record
-    giver = record g { state = lives.New; borrowed = false }
-
-    taker : Record
-    taker = record b { state = lives.Holds sid }
-
-    p : HasPassed t u from to giver taker
-    p = subst (λ (n : ℕ). HasPassed t u n to giver taker) (found_pid from t.processes g gave) (subst (λ (n : ℕ). HasPassed t u g.pid n giver taker) (found_pid to t.processes b took) had)

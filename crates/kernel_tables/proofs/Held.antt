@@ -40,13 +40,12 @@ above_zero free slots f c n = elim (cases_eq f 0) [
 ]
 
 pub below_length : (slots : List Token) (f : ℕ) → slot_at slots f ≢ tokens.Away → f < length slots
-below_length slots f n = elim (within f (length slots)) [
-  | inl l ↦ l
-  | inr m ↦ absurd (n (get_or_past slots f tokens.Away m))
-]
-  where
-    within : (a b : ℕ) → Rattle.std.proofs.Common.◌⊎◌ (a < b) (b ≤ a)
-    within a b = grind arith
+below_length slots f n =
+    let within : (a b : ℕ) → Rattle.std.proofs.Common.◌⊎◌ (a < b) (b ≤ a) = λ a b. grind arith in
+    elim (within f (length slots)) [
+      | inl l ↦ l
+      | inr m ↦ absurd (n (get_or_past slots f tokens.Away m))
+    ]
 
 -- In flight.
 

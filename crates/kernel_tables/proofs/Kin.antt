@@ -47,51 +47,38 @@ unknown ps next h = go (find next ps) refl
 
 pub added_records : (old new : List Record) (next : ℕ) (p : Record) → AreRecords old next → IsTable new → Changes old new next (Some p)
     → IsAlone p → AreRecords new (next + 1)
-added_records old new next p h after c a = record {
-  table = after;
-  first = let l = h.first in omega arith;
-  known = known;
-  marked = λ n. borrowers n ∙ h.marked n ∙ sym (lenders n);
-  one = λ n x y q r e f s t. h.one n x y q r (before n x q e s) (before n y r f t) s t;
-  holds = holds;
-}
-  where
-    is_new : (k : ℕ) (q : Record) → k ≡ next → find k new ≡ Some q → p ≡ q
-    is_new k q i e = same_Some p q (sym c.changed ∙ ap (λ (l : ℕ). find l new) (sym i) ∙ e)
-
+added_records old new next p h after c a =
+    let is_new : (k : ℕ) (q : Record) → k ≡ next → find k new ≡ Some q → p ≡ q = λ k q i e. same_Some p q (sym c.changed ∙ ap (λ (l : ℕ). find l new) (sym i) ∙ e) in
     -- who lends was there
-    before : (n k : ℕ) (q : Record) → find k new ≡ Some q → lends_to n q ≡ true → find k old ≡ Some q
-    before n k q e s = elim (cases_eq k next) [
+    let before : (n k : ℕ) (q : Record) → find k new ≡ Some q → lends_to n q ≡ true → find k old ≡ Some q = λ n k q e s. elim (cases_eq k next) [
       | inl i ↦ true_false (lends_to n q) s (ap (lends_to n) (sym (is_new k q i e)) ∙ a.lends n)
       | inr d ↦ sym (c.others k d) ∙ e
-    ]
-
-    not_next : (k : ℕ) (q : Record) → find k old ≡ Some q → k ≢ next
-    not_next k q e i = none_some q (sym (unknown old next h) ∙ ap (λ (l : ℕ). find l old) (sym i) ∙ e)
-
-    lenders : (n : ℕ) → list_any (lends_to n) new ≡ list_any (lends_to n) old
-    lenders n = both_or_neither (list_any (lends_to n) new) (list_any (lends_to n) old)
-        (λ t. let x = any_found (lends_to n) new after.apart t in found_any (lends_to n) old x.0.pid x.0 (before n x.0.pid x.0 x.1 x.2) x.2)
-        (λ t. let x = any_found (lends_to n) old h.table.apart t in found_any (lends_to n) new x.0.pid x.0 (c.others x.0.pid (not_next x.0.pid x.0 x.1) ∙ x.1) x.2)
-
-    borrowers : (n : ℕ) → is_borrower_in (find n new) ≡ is_borrower_in (find n old)
-    borrowers n = elim (cases_eq n next) [
+    ] in
+    let not_next : (k : ℕ) (q : Record) → find k old ≡ Some q → k ≢ next = λ k q e i. none_some q (sym (unknown old next h) ∙ ap (λ (l : ℕ). find l old) (sym i) ∙ e) in
+    let lenders : (n : ℕ) → list_any (lends_to n) new ≡ list_any (lends_to n) old = λ n. both_or_neither (list_any (lends_to n) new) (list_any (lends_to n) old)
+    (λ t. let x = any_found (lends_to n) new after.apart t in found_any (lends_to n) old x.0.pid x.0 (before n x.0.pid x.0 x.1 x.2) x.2)
+    (λ t. let x = any_found (lends_to n) old h.table.apart t in found_any (lends_to n) new x.0.pid x.0 (c.others x.0.pid (not_next x.0.pid x.0 x.1) ∙ x.1) x.2) in
+    let borrowers : (n : ℕ) → is_borrower_in (find n new) ≡ is_borrower_in (find n old) = λ n. elim (cases_eq n next) [
       | inl i ↦
           ap is_borrower_in (ap (λ (l : ℕ). find l new) i ∙ c.changed) ∙ a.borrows ∙ sym (ap is_borrower_in (ap (λ (l : ℕ). find l old) i ∙ unknown old next h))
       | inr d ↦ ap is_borrower_in (c.others n d)
-    ]
-
-    known : (k : ℕ) (q : Record) → find k new ≡ Some q → (1 ≤ k) × (k < next + 1)
-    known k q e = elim (cases_eq k next) [
+    ] in
+    let known : (k : ℕ) (q : Record) → find k new ≡ Some q → (1 ≤ k) × (k < next + 1) = λ k q e. elim (cases_eq k next) [
       | inl i ↦ (let l = h.first in omega arith, omega arith)
       | inr d ↦ let b = h.known k q (sym (c.others k d) ∙ e) in (b.0, omega (arith, b.1))
-    ]
-
-    holds : (k : ℕ) (q : Record) → find k new ≡ Some q → q.borrowed ≡ true → HoldsBorrowed q.state
-    holds k q e t = elim (cases_eq k next) [
+    ] in
+    let holds : (k : ℕ) (q : Record) → find k new ≡ Some q → q.borrowed ≡ true → HoldsBorrowed q.state = λ k q e t. elim (cases_eq k next) [
       | inl i ↦ true_false q.borrowed t (ap (λ (x : Record). x.borrowed) (sym (is_new k q i e)) ∙ a.borrows)
       | inr d ↦ h.holds k q (sym (c.others k d) ∙ e) t
-    ]
+    ] in
+    record {
+      table = after;
+      first = let l = h.first in omega arith;
+      known = known;
+      marked = λ n. borrowers n ∙ h.marked n ∙ sym (lenders n);
+      one = λ n x y q r e f s t. h.one n x y q r (before n x q e s) (before n y r f t) s t;
+      holds = holds;
+    }
 
 -- The children of one have left it.
 

@@ -173,31 +173,29 @@ woken_other pid q d = ap (λ (b : Bool). Some (let z : Proc = record (proc_shown
 woken_over : (old new : List Record) (next pid : ℕ) → ((n : ℕ) → n ≢ pid → find n new ≡ find n old)
     → proc_of (find pid new) ≡ step_in (wakes pid) (proc_of (find pid old))
     → processes_of new next ≡ woken_procs (processes_of old next) pid
-woken_over old new next pid others here = over_map (λ n. proc_of (find n new)) (λ n. proc_of (find n old)) (wakes pid) (range_with_len 1 (next - 1)) each
+woken_over old new next pid others here =
+    let each : (n : ℕ) → proc_of (find n new) ≡ step_in (wakes pid) (proc_of (find n old)) = λ n. elim (cases_eq n pid) [
+      | inl i ↦ subst (λ (m : ℕ). proc_of (find m new) ≡ step_in (wakes pid) (proc_of (find m old))) (sym i) here
+      | inr d ↦ ap proc_of (others n d) ∙ other n (find n old) refl d
+    ] in
+    over_map (λ n. proc_of (find n new)) (λ n. proc_of (find n old)) (wakes pid) (range_with_len 1 (next - 1)) each
   where
     other : (n : ℕ) (o : Option Record) → find n old ≡ o → n ≢ pid → proc_of o ≡ step_in (wakes pid) (proc_of o)
     other n None f d = refl
     other n (Some q) f d = woken_other pid q (λ i. d (sym (found_pid n old q f) ∙ i))
 
-    each : (n : ℕ) → proc_of (find n new) ≡ step_in (wakes pid) (proc_of (find n old))
-    each n = elim (cases_eq n pid) [
-      | inl i ↦ subst (λ (m : ℕ). proc_of (find m new) ≡ step_in (wakes pid) (proc_of (find m old))) (sym i) here
-      | inr d ↦ ap proc_of (others n d) ∙ other n (find n old) refl d
-    ]
-
 pub has_woken : (t u : Tables) (was : Record) → AreRecords t.processes t.next_pid → find was.pid t.processes ≡ Some was
     → Changes t.processes u.processes was.pid (Some (record was { asleep = false })) → IsTable u.processes
     → u ≡ record t { processes = u.processes } → HasProcesses t u t.next_pid (woken_procs (processes_in t) was.pid) (residents_in t)
-has_woken t u was h f c s e = has_processes t u _ _ e
+has_woken t u was h f c s e =
+    let here : proc_of (find was.pid u.processes) ≡ step_in (wakes was.pid) (proc_of (find was.pid t.processes)) =
+    ap proc_of c.changed
+    ∙ ap (λ (b : Bool). Some (let z : Proc = record (proc_shown was) { asleep = cond b false was.asleep } in z)) (sym (eq_self was.pid))
+    ∙ sym (ap (λ (o : Option Record). step_in (wakes was.pid) (proc_of o)) f) in
+    has_processes t u _ _ e
     (woken_over t.processes u.processes t.next_pid was.pid c.others here)
     (still_residents t.processes u.processes t.next_pid was.pid (Some (record was { asleep = false })) c (residence_asleep was false was.state ∙ sym (ap residence_of f)))
     (changed_records t.processes u.processes t.next_pid was.pid was (Some (record was { asleep = false })) s f c (record { lends = λ n. refl; borrowed = refl; holds = h.holds was.pid was f }) h)
-  where
-    here : proc_of (find was.pid u.processes) ≡ step_in (wakes was.pid) (proc_of (find was.pid t.processes))
-    here =
-        ap proc_of c.changed
-        ∙ ap (λ (b : Bool). Some (let z : Proc = record (proc_shown was) { asleep = cond b false was.asleep } in z)) (sym (eq_self was.pid))
-        ∙ sym (ap (λ (o : Option Record). step_in (wakes was.pid) (proc_of o)) f)
 
 pub none_woken : (t : Tables) (pid : ℕ) → AreRecords t.processes t.next_pid → find pid t.processes ≡ None
     → HasProcesses t t t.next_pid (woken_procs (processes_in t) pid) (residents_in t)

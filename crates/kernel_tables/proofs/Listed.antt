@@ -106,24 +106,22 @@ gone_residents old new next pid found c e =
 -- the residents stay where the residence of the one that changed does
 pub still_residents : (old new : List Record) (next pid : ℕ) (found : Option Record) → Changes old new pid found
     → residence_of found ≡ residence_of (find pid old) → residents_of new next ≡ residents_of old next
-still_residents old new next pid found c e = over_same (λ n. residence_of (find n new)) (λ n. residence_of (find n old)) (range_with_len 1 (next - 1)) each
-  where
-    each : (n : ℕ) → residence_of (find n new) ≡ residence_of (find n old)
-    each n = elim (cases_eq n pid) [
+still_residents old new next pid found c e =
+    let each : (n : ℕ) → residence_of (find n new) ≡ residence_of (find n old) = λ n. elim (cases_eq n pid) [
       | inl i ↦ ap (λ (m : ℕ). residence_of (find m new)) i ∙ ap residence_of c.changed ∙ e ∙ sym (ap (λ (m : ℕ). residence_of (find m old)) i)
       | inr d ↦ ap residence_of (c.others n d)
-    ]
+    ] in
+    over_same (λ n. residence_of (find n new)) (λ n. residence_of (find n old)) (range_with_len 1 (next - 1)) each
 
 -- A process by its number is its record's.
 
 there_over : (k a pid : ℕ) (ps : List Record) (p : Record) → find pid ps ≡ Some p → a ≤ pid → pid < a + k
     → numbered pid_of pid (filter_map (λ n. proc_of (find n ps)) (range_with_len a k)) ≡ Some (proc_shown p)
 there_over zero a pid ps p f l u = absurd (omega arith)
-there_over (suc k) a pid ps p f l u = go (find a ps) refl (λ z w. there_over k (a + 1) pid ps p f z w)
+there_over (suc k) a pid ps p f l u =
+    let g : ℕ → Option Proc = λ n. proc_of (find n ps) in
+    go (find a ps) refl (λ z w. there_over k (a + 1) pid ps p f z w)
   where
-    g : ℕ → Option Proc
-    g n = proc_of (find n ps)
-
     go : (o : Option Record) → find a ps ≡ o
         → (a + 1 ≤ pid → pid < a + 1 + k → numbered pid_of pid (filter_map (λ n. proc_of (find n ps)) (range_with_len (a + 1) k)) ≡ Some (proc_shown p))
         → numbered pid_of pid (filter_map (λ n. proc_of (find n ps)) (range_with_len a (suc k))) ≡ Some (proc_shown p)

@@ -47,13 +47,12 @@ pub marks_placed : (t u : Lists) (q : Page) (f : ℕ) (place : Place) → AreTex
     → ((g : ℕ) → token_page (slot_at t.slots g) ≡ Some q → g ≡ f)
     → ((token : Frame) (r : Page) (mark : Bool) → slot_at u.slots f ≡ tokens.Resident token r mark → mark ≡ dirty_shown u.spaces u.texts r)
     → AreMarked t.slots t.spaces t.texts → AreMarked u.slots u.spaces u.texts
-marks_placed t u q f place low slots spaces saved alone here = marks_kept t u f slots others here
-  where
-    others : (g : ℕ) (w : Page) → g ≢ f → token_page (slot_at t.slots g) ≡ Some w → dirty_shown u.spaces u.texts w ≡ dirty_shown t.spaces t.texts w
-    others g w d h =
-        let n : w ≢ q = λ e. d (alone g (h ∙ ap (λ (x : Page). Some x) e)) in
-        same_dirty t.spaces u.spaces t.texts u.texts w (ap (λ (ss : List Places). entry_in ss w) spaces ∙ entry_other t.spaces q w place n)
-        (λ i v e. saved i v (λ m. n (e ∙ m)) (low g i v (h ∙ ap (λ (x : Page). Some x) e)).0)
+marks_placed t u q f place low slots spaces saved alone here =
+    let others : (g : ℕ) (w : Page) → g ≢ f → token_page (slot_at t.slots g) ≡ Some w → dirty_shown u.spaces u.texts w ≡ dirty_shown t.spaces t.texts w = λ g w d h.
+    let n : w ≢ q = λ e. d (alone g (h ∙ ap (λ (x : Page). Some x) e)) in
+    same_dirty t.spaces u.spaces t.texts u.texts w (ap (λ (ss : List Places). entry_in ss w) spaces ∙ entry_other t.spaces q w place n)
+    (λ i v e. saved i v (λ m. n (e ∙ m)) (low g i v (h ∙ ap (λ (x : Page). Some x) e)).0) in
+    marks_kept t u f slots others here
 
 -- what the place of a page says of its mark, and the text table
 abbrev pub placed_mark : List SharedText → Place → Page → Bool

@@ -41,20 +41,15 @@ now_of was regs out since = record was { regs = regs; out = out; since = since }
 pub moved_processes : (old new : List Record) (next pid : ℕ) (regs : Regs) (out : Bool) (since : ℕ) → MovedRecord old new pid regs out since
     → processes_of new next ≡ map (with_regs pid regs) (processes_of old next)
 moved_processes old new next pid regs out since m =
+    let changed_is : (p : Proc) → proc_of (find pid old) ≡ Some p → proc_of (find pid new) ≡ Some (with_regs pid regs p) = λ p h.
+    let is : proc_shown m.was ≡ p = same_Some (proc_shown m.was) p (sym (ap proc_of m.found) ∙ h) in
+    ap proc_of m.changes.changed
+    ∙ ap (λ (b : Bool). Some (let z : Proc = cond b (record (proc_shown m.was) { regs = regs }) (proc_shown m.was) in z)) (sym (ap (λ (n : ℕ). n == pid) (found_pid pid old m.was m.found) ∙ eq_self pid))
+    ∙ ap (λ (q : Proc). Some (with_regs pid regs q)) is in
+    let gone : proc_of (find pid old) ≡ None → proc_of (find pid new) ≡ None = λ h. none_some (proc_shown m.was) (sym h ∙ ap proc_of m.found) in
+    let still : (n : ℕ) (p : Proc) → n ≢ pid → proc_of (find n old) ≡ Some p → with_regs pid regs p ≡ p = λ n p d h.
+    ap (λ (b : Bool). let z : Proc = cond b (record p { regs = regs }) p in z) (ne_eqb p.pid pid (λ i. d (sym (shown_pid n old p h) ∙ i))) in
     changed_over proc_of refl (with_regs pid regs) pid old new m.changes.others changed_is gone still (range_with_len 1 (next - 1))
-  where
-    changed_is : (p : Proc) → proc_of (find pid old) ≡ Some p → proc_of (find pid new) ≡ Some (with_regs pid regs p)
-    changed_is p h =
-        let is : proc_shown m.was ≡ p = same_Some (proc_shown m.was) p (sym (ap proc_of m.found) ∙ h) in
-        ap proc_of m.changes.changed
-        ∙ ap (λ (b : Bool). Some (let z : Proc = cond b (record (proc_shown m.was) { regs = regs }) (proc_shown m.was) in z)) (sym (ap (λ (n : ℕ). n == pid) (found_pid pid old m.was m.found) ∙ eq_self pid))
-        ∙ ap (λ (q : Proc). Some (with_regs pid regs q)) is
-
-    gone : proc_of (find pid old) ≡ None → proc_of (find pid new) ≡ None
-    gone h = none_some (proc_shown m.was) (sym h ∙ ap proc_of m.found)
-
-    still : (n : ℕ) (p : Proc) → n ≢ pid → proc_of (find n old) ≡ Some p → with_regs pid regs p ≡ p
-    still n p d h = ap (λ (b : Bool). let z : Proc = cond b (record p { regs = regs }) p in z) (ne_eqb p.pid pid (λ i. d (sym (shown_pid n old p h) ∙ i)))
 
 -- Residents.
 

@@ -77,23 +77,20 @@ itself k p ps next h e = record { lends = λ n. refl; borrowed = refl; holds = h
 pub changed_records : (old new : List Record) (next pid : ℕ) (was : Record) (found : Option Record) → IsTable new → find pid old ≡ Some was
     → Changes old new pid found → Comes found was
     → AreRecords old next → AreRecords new next
-changed_records old new next pid was found b e c s h = stand_records old new next h b back forth
-  where
-    back : (k : ℕ) (p : Record) → find k new ≡ Some p → (q : Record) × (find k old ≡ Some q) × StandsFor p q
-    back k p g = elim (cases_eq k pid) [
+changed_records old new next pid was found b e c s h =
+    let back : (k : ℕ) (p : Record) → find k new ≡ Some p → (q : Record) × (find k old ≡ Some q) × StandsFor p q = λ k p g. elim (cases_eq k pid) [
       | inl i ↦
           let is : found ≡ Some p = sym c.changed ∙ ap (λ (l : ℕ). find l new) (sym i) ∙ g in
           (was, ap (λ (l : ℕ). find l old) i ∙ e, subst (λ (x : Option Record). Comes x was) is s)
       | inr d ↦ let f : find k old ≡ Some p = sym (c.others k d) ∙ g in (p, f, itself k p old next h f)
-    ]
-
-    forth : (k : ℕ) (q : Record) → find k old ≡ Some q → Comes (find k new) q
-    forth k q g = elim (cases_eq k pid) [
+    ] in
+    let forth : (k : ℕ) (q : Record) → find k old ≡ Some q → Comes (find k new) q = λ k q g. elim (cases_eq k pid) [
       | inl i ↦
           let is : was ≡ q = same_Some was q (sym e ∙ ap (λ (l : ℕ). find l old) (sym i) ∙ g) in
           subst (λ (x : Option Record). Comes x q) (sym (ap (λ (l : ℕ). find l new) i ∙ c.changed)) (subst (Comes found) is s)
       | inr d ↦ subst (λ (x : Option Record). Comes x q) (sym (c.others k d ∙ g)) (itself k q old next h g)
-    ]
+    ] in
+    stand_records old new next h b back forth
 
 -- of the same life
 pub same_life : (old : List Record) (next pid : ℕ) (was now : Record) → AreRecords old next → find pid old ≡ Some was

@@ -77,39 +77,30 @@ module _ {A : Type 0} (show : Option Record → Option A) (none : show None ≡ 
 -- `set` of the table is `with_proc` of the kernel
 pub set_is : (old new : List Record) (p was : Record) (next : ℕ) → Changes old new p.pid (Some p) → find p.pid old ≡ Some was
     → processes_of new next ≡ with_proc (processes_of old next) (proc_shown p)
-set_is old new p was next c e = changed_over proc_of refl step p.pid old new c.others changed gone still (range_with_len 1 (next - 1))
-  where
-    step : Proc → Proc
-    step q = cond (q.pid == p.pid) (proc_shown p) q
-
-    changed : (q : Proc) → proc_of (find p.pid old) ≡ Some q → proc_of (find p.pid new) ≡ Some (step q)
-    changed q h = ap proc_of c.changed ∙ ap (λ (b : Bool). Some (let z : Proc = cond b (proc_shown p) q in z)) (sym (ap (λ (n : ℕ). n == p.pid) (shown_pid p.pid old q h) ∙ eq_self p.pid))
-
-    gone : proc_of (find p.pid old) ≡ None → proc_of (find p.pid new) ≡ None
-    gone h = absurd (let x : Some (proc_shown was) ≡ None = sym (ap proc_of e) ∙ h in cc)
-
-    still : (n : ℕ) (q : Proc) → n ≢ p.pid → proc_of (find n old) ≡ Some q → step q ≡ q
-    still n q d h = ap (λ (b : Bool). let z : Proc = cond b (proc_shown p) q in z) (ne_eqb q.pid p.pid (λ i. d (sym (shown_pid n old q h) ∙ i)))
+set_is old new p was next c e =
+    let step : Proc → Proc = λ q. cond (q.pid == p.pid) (proc_shown p) q in
+    let changed : (q : Proc) → proc_of (find p.pid old) ≡ Some q → proc_of (find p.pid new) ≡ Some (step q) = λ q h.
+    ap proc_of c.changed ∙ ap (λ (b : Bool). Some (let z : Proc = cond b (proc_shown p) q in z)) (sym (ap (λ (n : ℕ). n == p.pid) (shown_pid p.pid old q h) ∙ eq_self p.pid)) in
+    let gone : proc_of (find p.pid old) ≡ None → proc_of (find p.pid new) ≡ None = λ h. absurd (let x : Some (proc_shown was) ≡ None = sym (ap proc_of e) ∙ h in cc) in
+    let still : (n : ℕ) (q : Proc) → n ≢ p.pid → proc_of (find n old) ≡ Some q → step q ≡ q = λ n q d h.
+    ap (λ (b : Bool). let z : Proc = cond b (proc_shown p) q in z) (ne_eqb q.pid p.pid (λ i. d (sym (shown_pid n old q h) ∙ i))) in
+    changed_over proc_of refl step p.pid old new c.others changed gone still (range_with_len 1 (next - 1))
 
 -- Other registers of a process.
 
 pub regs_are : (old new : List Record) (pid : ℕ) (regs : Regs) (was : Record) (next : ℕ) → find pid old ≡ Some was
     → Changes old new pid (Some (record was { regs = regs }))
     → processes_of new next ≡ map (λ (q : Proc). cond (q.pid == pid) (record q { regs = regs }) q) (processes_of old next)
-regs_are old new pid regs was next e c = changed_over proc_of refl (λ q. cond (q.pid == pid) (record q { regs = regs }) q) pid old new c.others changed gone still (range_with_len 1 (next - 1))
-  where
-    changed : (p : Proc) → proc_of (find pid old) ≡ Some p → proc_of (find pid new) ≡ Some (cond (p.pid == pid) (record p { regs = regs }) p)
-    changed p h =
-        let is : proc_shown was ≡ p = same_Some (proc_shown was) p (sym (ap proc_of e) ∙ h) in
-        ap proc_of c.changed
-        ∙ ap (λ (b : Bool). Some (let z : Proc = cond b (record (proc_shown was) { regs = regs }) (proc_shown was) in z)) (sym (ap (λ (n : ℕ). n == pid) (found_pid pid old was e) ∙ eq_self pid))
-        ∙ ap (λ (q : Proc). Some (let z : Proc = cond (q.pid == pid) (record q { regs = regs }) q in z)) is
-
-    gone : proc_of (find pid old) ≡ None → proc_of (find pid new) ≡ None
-    gone h = absurd (let x : Some (proc_shown was) ≡ None = sym (ap proc_of e) ∙ h in cc)
-
-    still : (n : ℕ) (p : Proc) → n ≢ pid → proc_of (find n old) ≡ Some p → (let z : Proc = cond (p.pid == pid) (record p { regs = regs }) p in z) ≡ p
-    still n p d h = ap (λ (b : Bool). let z : Proc = cond b (record p { regs = regs }) p in z) (ne_eqb p.pid pid (λ i. d (sym (shown_pid n old p h) ∙ i)))
+regs_are old new pid regs was next e c =
+    let changed : (p : Proc) → proc_of (find pid old) ≡ Some p → proc_of (find pid new) ≡ Some (cond (p.pid == pid) (record p { regs = regs }) p) = λ p h.
+    let is : proc_shown was ≡ p = same_Some (proc_shown was) p (sym (ap proc_of e) ∙ h) in
+    ap proc_of c.changed
+    ∙ ap (λ (b : Bool). Some (let z : Proc = cond b (record (proc_shown was) { regs = regs }) (proc_shown was) in z)) (sym (ap (λ (n : ℕ). n == pid) (found_pid pid old was e) ∙ eq_self pid))
+    ∙ ap (λ (q : Proc). Some (let z : Proc = cond (q.pid == pid) (record q { regs = regs }) q in z)) is in
+    let gone : proc_of (find pid old) ≡ None → proc_of (find pid new) ≡ None = λ h. absurd (let x : Some (proc_shown was) ≡ None = sym (ap proc_of e) ∙ h in cc) in
+    let still : (n : ℕ) (p : Proc) → n ≢ pid → proc_of (find n old) ≡ Some p → (let z : Proc = cond (p.pid == pid) (record p { regs = regs }) p in z) ≡ p = λ n p d h.
+    ap (λ (b : Bool). let z : Proc = cond b (record p { regs = regs }) p in z) (ne_eqb p.pid pid (λ i. d (sym (shown_pid n old p h) ∙ i))) in
+    changed_over proc_of refl (λ q. cond (q.pid == pid) (record q { regs = regs }) q) pid old new c.others changed gone still (range_with_len 1 (next - 1))
 
 residence_regs : (p : Record) (regs : Regs) (l : Life) → residence_by (record p { regs = regs }) l ≡ residence_by p l
 residence_regs p regs lives.New = refl
@@ -119,10 +110,8 @@ residence_regs p regs _ = refl
 pub residents_are : (old new : List Record) (pid : ℕ) (regs : Regs) (was : Record) (next : ℕ) → find pid old ≡ Some was
     → Changes old new pid (Some (record was { regs = regs })) → residents_of new next ≡ residents_of old next
 residents_are old new pid regs was next e c =
+    let same : residence_of (find pid new) ≡ residence_of (find pid old) = ap residence_of c.changed ∙ residence_regs was regs was.state ∙ sym (ap residence_of e) in
     changed_over residence_of refl (λ r. r) pid old new c.others (λ r h. same ∙ h) (λ h. same ∙ h) (λ n r d h. refl) (range_with_len 1 (next - 1)) ∙ map_same (residents_of old next)
-  where
-    same : residence_of (find pid new) ≡ residence_of (find pid old)
-    same = ap residence_of c.changed ∙ residence_regs was regs was.state ∙ sym (ap residence_of e)
 
 -- Who lends.
 

@@ -53,6 +53,11 @@ spaces_ext [] [] e d h = refl
 spaces_ext [] (y ∷ ys) e d h = absurd cc
 spaces_ext (x ∷ xs) [] e d h = absurd cc
 spaces_ext (x ∷ xs) (y ∷ ys) e d h =
+    let space_is : (x y : SpacePages) → x.sid ≡ y.sid → x.image ≡ y.image → x.data_pages ≡ y.data_pages → x.stack_pages ≡ y.stack_pages → (zs : List SpacePages) → x ∷ zs ≡ y ∷ zs = λ x y a b c d zs.
+    ap (λ (n : ℕ). record x { sid = n } ∷ zs) a
+    ∙ ap (λ (n : ℕ). record x { sid = y.sid; image = n } ∷ zs) b
+    ∙ ap (λ (l : List Slot). record x { sid = y.sid; image = y.image; data_pages = l } ∷ zs) c
+    ∙ ap (λ (l : List Slot). record y { stack_pages = l } ∷ zs) d in
     let a : name_of x ≡ name_of y = cc in
     let b : map name_of xs ≡ map name_of ys = cc in
     let sid : x.sid ≡ y.sid = ap (λ (n : Named). n.sid) a in
@@ -70,13 +75,6 @@ spaces_ext (x ∷ xs) (y ∷ ys) e d h =
       )
     ]) in
     space_is x y sid image datas stacks xs ∙ ap (λ (zs : List SpacePages). y ∷ zs) tail
-  where
-    space_is : (x y : SpacePages) → x.sid ≡ y.sid → x.image ≡ y.image → x.data_pages ≡ y.data_pages → x.stack_pages ≡ y.stack_pages → (zs : List SpacePages) → x ∷ zs ≡ y ∷ zs
-    space_is x y a b c d zs =
-        ap (λ (n : ℕ). record x { sid = n } ∷ zs) a
-        ∙ ap (λ (n : ℕ). record x { sid = y.sid; image = n } ∷ zs) b
-        ∙ ap (λ (l : List Slot). record x { sid = y.sid; image = y.image; data_pages = l } ∷ zs) c
-        ∙ ap (λ (l : List Slot). record y { stack_pages = l } ∷ zs) d
 
 -- Texts.
 

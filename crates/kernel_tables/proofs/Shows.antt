@@ -343,22 +343,21 @@ self_alike t = record { names = refl; images = refl; lengths = λ w. refl }
 
 pub lists_same : (t u : Lists) (E : Page → Type 0) (f : ℕ) (p : Placement) → Moved t u E f → AlikeLists t p
     → ((w : Page) → slot_of (placement_of u) w ≡ slot_of p w) → SameLists u p
-lists_same t u E f p mv a each = record {
-  spaces = spaces_ext (placement_of u).spaces p.spaces
-      (names_shown u.slots u.spaces t.spaces t.slots mv.heads ∙ sym a.names)
-      (subst AllDistinct (sym (sids_shown u.slots u.spaces)) (subst AllDistinct (sym (head_sids u.spaces t.spaces mv.heads)) mv.differ))
-      (λ n. (
-        slots_ext (slots_of (placement_of u) (Data n 0)) (slots_of p (Data n 0)) (long (Data n 0)) (λ v. each (Data n v)),
-        slots_ext (slots_of (placement_of u) (Stack n 0)) (slots_of p (Stack n 0)) (long (Stack n 0)) (λ v. each (Stack n v)),
-      ));
-  texts = texts_ext (placement_of u).texts p.texts
-      (subst (λ (fs : List Image). map image_number (texts_of u 1 fs) ≡ map image_number (placement_of t).texts) (sym mv.facts) (text_numbers t u 1 t.facts) ∙ sym a.images)
-      (texts_differ u 1 u.facts)
-      (λ i. slots_ext (slots_of (placement_of u) (Text i 0)) (slots_of p (Text i 0)) (long (Text i 0)) (λ v. each (Text i v)));
-}
-  where
-    long : (w : Page) → length (slots_of (placement_of u) w) ≡ length (slots_of p w)
-    long w = lengths_same t u mv.heads mv.facts w ∙ sym (a.lengths w)
+lists_same t u E f p mv a each =
+    let long : (w : Page) → length (slots_of (placement_of u) w) ≡ length (slots_of p w) = λ w. lengths_same t u mv.heads mv.facts w ∙ sym (a.lengths w) in
+    record {
+      spaces = spaces_ext (placement_of u).spaces p.spaces
+          (names_shown u.slots u.spaces t.spaces t.slots mv.heads ∙ sym a.names)
+          (subst AllDistinct (sym (sids_shown u.slots u.spaces)) (subst AllDistinct (sym (head_sids u.spaces t.spaces mv.heads)) mv.differ))
+          (λ n. (
+            slots_ext (slots_of (placement_of u) (Data n 0)) (slots_of p (Data n 0)) (long (Data n 0)) (λ v. each (Data n v)),
+            slots_ext (slots_of (placement_of u) (Stack n 0)) (slots_of p (Stack n 0)) (long (Stack n 0)) (λ v. each (Stack n v)),
+          ));
+      texts = texts_ext (placement_of u).texts p.texts
+          (subst (λ (fs : List Image). map image_number (texts_of u 1 fs) ≡ map image_number (placement_of t).texts) (sym mv.facts) (text_numbers t u 1 t.facts) ∙ sym a.images)
+          (texts_differ u 1 u.facts)
+          (λ i. slots_ext (slots_of (placement_of u) (Text i 0)) (slots_of p (Text i 0)) (long (Text i 0)) (λ v. each (Text i v)));
+    }
 
 -- what the page itself has to show
 pub record Here (t u : Lists) (q : Page) (s : PageState) (m : Bool) : Type 0 where

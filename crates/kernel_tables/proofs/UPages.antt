@@ -27,6 +27,9 @@ pub made : (regs : Regs) (d s : ℕ) (p0 p1 p2 : List ℕ) → length regs.r ≡
     → p2 ≡ take 64 p1 ++ flat_map word_bytes (codes_of regs ∷ d ∷ s ∷ []) ++ drop 76 p1 → p2 ≡ u_page regs d s
 unfolding u_page
 made regs d s p0 p1 p2 n z e1 e2 =
+    let behind : (xs : List ℕ) → length xs ≡ 64 → drop 76 (xs ++ replicate 960 0) ≡ replicate 948 0 = λ xs l.
+    let m : 76 ≡ length xs + 12 = omega (arith, l) in
+    ap (λ (k : ℕ). drop k (xs ++ replicate {A = ℕ} 960 0)) m ∙ drop-append-add xs (replicate 960 0) 12 ∙ drop-replicate 12 960 0 in
     let ws = regs.r in
     let vs : List ℕ = codes_of regs ∷ d ∷ s ∷ [] in
     let rest : List ℕ = replicate 960 0 in
@@ -37,11 +40,6 @@ made regs d s p0 p1 p2 n z e1 e2 =
     ∙ ap (λ (p : List ℕ). p ++ flat_map word_bytes vs ++ drop 76 (flat_map word_bytes ws ++ rest)) (take_at (flat_map word_bytes ws) rest 64 l)
     ∙ ap (λ (p : List ℕ). (flat_map word_bytes ws ++ flat_map word_bytes vs) ++ p) (behind (flat_map word_bytes ws) l)
     ∙ ap (λ (p : List ℕ). p ++ replicate 948 0) (sym (flat_map-append word_bytes ws vs))
-  where
-    behind : (xs : List ℕ) → length xs ≡ 64 → drop 76 (xs ++ replicate 960 0) ≡ replicate 948 0
-    behind xs l =
-        let m : 76 ≡ length xs + 12 = omega (arith, l) in
-        ap (λ (k : ℕ). drop k (xs ++ replicate {A = ℕ} 960 0)) m ∙ drop-append-add xs (replicate 960 0) 12 ∙ drop-replicate 12 960 0
 
 -- Reading.
 
@@ -61,10 +59,8 @@ word_at (suc n) k (a ∷ b ∷ []) h l = absurd (omega arith)
 word_at (suc n) k (a ∷ b ∷ c ∷ []) h l = absurd (omega arith)
 word_at (suc n) zero (a ∷ b ∷ c ∷ d ∷ bytes) h l = omega arith
 word_at (suc n) (suc k) (a ∷ b ∷ c ∷ d ∷ bytes) h l =
+    let four : (k : ℕ) → suc (suc (suc (suc (4 * k)))) ≡ 4 * suc k = λ k. omega arith in
     word_at n k bytes (omega arith) (omega arith) ∙ ap (λ (m : ℕ). little_number 4 (drop m (a ∷ b ∷ c ∷ d ∷ bytes))) (four k)
-  where
-    four : (k : ℕ) → suc (suc (suc (suc (4 * k)))) ≡ 4 * suc k
-    four k = omega arith
 
 words_front : (n : ℕ) (xs ys : List ℕ) → 4 * n ≤ length xs → longwords n (xs ++ ys) ≡ longwords n xs
 words_front zero xs ys l = refl

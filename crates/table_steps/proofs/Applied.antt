@@ -155,28 +155,27 @@ resize_applied t u p since sid d s life o r z = record {
 pub fork_applied : (t v u : Tables) (p : Proc) (since parent : ℕ) → p.life ≡ HoldsSpace parent → OnlyOne p (processes_in t)
     → t.fills.items ≡ [] → Forked t v parent
     → HasOneMore v u (child_proc p v.next_pid (HoldsSpace t.next_sid)) since → Applied t u p since (Fork t.next_pid)
-fork_applied t v u p since parent life o clear f h = record {
-  place =
-      procs_place v u (v.next_pid + 1) (processes_in v ++ child_proc p v.next_pid (HoldsSpace t.next_sid) ∷ []) (residents_in v ++ record { pid = v.next_pid; out = false; since = since } ∷ []) h
-      ∙ ap (λ (n : ℕ). record (place_in v) { residents = (place_in v).residents ++ record { pid = n; out = false; since = since } ∷ [] }) pid_same
-      ∙ ap (λ (q : Placement). record q { residents = q.residents ++ record { pid = t.next_pid; out = false; since = since } ∷ [] }) f.shows.place
-      ∙ ap (λ (l : Life). place_change (lists_of t).facts (place_in t) p.pid (space_of_life l) (gave_back l) t.next_sid since (Fork t.next_pid)) (sym life);
-  frames = procs_frames v u (v.next_pid + 1) (processes_in v ++ child_proc p v.next_pid (HoldsSpace t.next_sid) ∷ []) (residents_in v ++ record { pid = v.next_pid; out = false; since = since } ∷ []) h ∙ f.shows.frames;
-  tied = procs_tied v u (v.next_pid + 1) (processes_in v ++ child_proc p v.next_pid (HoldsSpace t.next_sid) ∷ []) (residents_in v ++ record { pid = v.next_pid; out = false; since = since } ∷ []) h f.shows.known.tied;
-  book = ap (λ (x : Tables). x.book) h.rest ∙ ap (λ (x : Tables). x.book) f.rest;
-  processes = h.processes ∙ ap (λ (ps : List Proc). ps ++ child_proc p v.next_pid (HoldsSpace t.next_sid) ∷ []) (ap processes_in f.rest ∙ sym (with_self (processes_in t) p o))
-      ∙ ap (λ (n : ℕ). with_proc (processes_in t) p ++ child_proc p n (HoldsSpace t.next_sid) ∷ []) pid_same;
-  records = h.records;
-  next_pid = h.number ∙ ap (λ (n : ℕ). n + 1) pid_same;
-  next_sid = ap (λ (x : Tables). x.next_sid) h.rest ∙ f.number;
-  starts = ap (λ (x : Tables). starts_of x.fills.items) h.rest ∙ f.starts ∙ sym (ap starts_of clear);
-  params = ap (λ (x : Tables). x.params) h.rest ∙ ap (λ (x : Tables). x.params) f.rest;
-  images = ap (λ (x : Tables). x.images) h.rest ∙ ap (λ (x : Tables). x.images) f.rest;
-  ring = ap (λ (x : Tables). x.ring) h.rest ∙ ap (λ (x : Tables). x.ring) f.rest;
-}
-  where
-    pid_same : v.next_pid ≡ t.next_pid
-    pid_same = ap (λ (x : Tables). x.next_pid) f.rest
+fork_applied t v u p since parent life o clear f h =
+    let pid_same : v.next_pid ≡ t.next_pid = ap (λ (x : Tables). x.next_pid) f.rest in
+    record {
+      place =
+          procs_place v u (v.next_pid + 1) (processes_in v ++ child_proc p v.next_pid (HoldsSpace t.next_sid) ∷ []) (residents_in v ++ record { pid = v.next_pid; out = false; since = since } ∷ []) h
+          ∙ ap (λ (n : ℕ). record (place_in v) { residents = (place_in v).residents ++ record { pid = n; out = false; since = since } ∷ [] }) pid_same
+          ∙ ap (λ (q : Placement). record q { residents = q.residents ++ record { pid = t.next_pid; out = false; since = since } ∷ [] }) f.shows.place
+          ∙ ap (λ (l : Life). place_change (lists_of t).facts (place_in t) p.pid (space_of_life l) (gave_back l) t.next_sid since (Fork t.next_pid)) (sym life);
+      frames = procs_frames v u (v.next_pid + 1) (processes_in v ++ child_proc p v.next_pid (HoldsSpace t.next_sid) ∷ []) (residents_in v ++ record { pid = v.next_pid; out = false; since = since } ∷ []) h ∙ f.shows.frames;
+      tied = procs_tied v u (v.next_pid + 1) (processes_in v ++ child_proc p v.next_pid (HoldsSpace t.next_sid) ∷ []) (residents_in v ++ record { pid = v.next_pid; out = false; since = since } ∷ []) h f.shows.known.tied;
+      book = ap (λ (x : Tables). x.book) h.rest ∙ ap (λ (x : Tables). x.book) f.rest;
+      processes = h.processes ∙ ap (λ (ps : List Proc). ps ++ child_proc p v.next_pid (HoldsSpace t.next_sid) ∷ []) (ap processes_in f.rest ∙ sym (with_self (processes_in t) p o))
+          ∙ ap (λ (n : ℕ). with_proc (processes_in t) p ++ child_proc p n (HoldsSpace t.next_sid) ∷ []) pid_same;
+      records = h.records;
+      next_pid = h.number ∙ ap (λ (n : ℕ). n + 1) pid_same;
+      next_sid = ap (λ (x : Tables). x.next_sid) h.rest ∙ f.number;
+      starts = ap (λ (x : Tables). starts_of x.fills.items) h.rest ∙ f.starts ∙ sym (ap starts_of clear);
+      params = ap (λ (x : Tables). x.params) h.rest ∙ ap (λ (x : Tables). x.params) f.rest;
+      images = ap (λ (x : Tables). x.images) h.rest ∙ ap (λ (x : Tables). x.images) f.rest;
+      ring = ap (λ (x : Tables). x.ring) h.rest ∙ ap (λ (x : Tables). x.ring) f.rest;
+    }
 
 -- A new space, and the old one goes.
 
@@ -184,11 +183,9 @@ fork_applied t v u p since parent life o clear f h = record {
 pub entered_place : (t : Tables) (image : ℕ) (facts : Image) → t.fills.items ≡ [] → facts_numbered (lists_of t).facts image ≡ Some facts
     → started_place (place_in t) t.next_sid image facts ≡ enter_image (place_in t) t.next_sid image (facts_numbered (lists_of t).facts image)
 entered_place t image facts clear e =
+    let with_due : List Due → Placement = λ ds. record (place_in t) { spaces = (place_in t).spaces ++ new_pages t.next_sid image facts ∷ []; due = ds } in
     ap (λ (ds : List Due). with_due (ds ++ Start (Stack t.next_sid 0) ∷ [])) (ap (map due_shown) clear)
     ∙ ap (enter_image (place_in t) t.next_sid image) (sym e)
-  where
-    with_due : List Due → Placement
-    with_due ds = record (place_in t) { spaces = (place_in t).spaces ++ new_pages t.next_sid image facts ∷ []; due = ds }
 
 module _ (t v w u : Tables) (p : Proc) (since image : ℕ) (facts : Image) (top : List ℕ) (o : OnlyOne p (processes_in t)) (clear : t.fills.items ≡ [])
     (known : facts_numbered (lists_of t).facts image ≡ Some facts) (e : EnteredImage t v image facts top) where
@@ -219,34 +216,32 @@ module _ (t v w u : Tables) (p : Proc) (since image : ℕ) (facts : Image) (top 
   -- or it left it
   pub exec_held : (sid : ℕ) → p.life ≡ HoldsSpace sid → t.next_sid ≢ sid → GaveUp v w sid
       → HasChanged w u (record p { life = HoldsSpace t.next_sid }) → Applied t u p since (Exec image top)
-  exec_held sid life d g h = record {
-    place =
-        now
-        ∙ g.shows.place
-        ∙ ap (λ (q : Placement). give_up q sid) entered
-        ∙ ap (λ (l : Life). place_change (lists_of t).facts (place_in t) p.pid (space_of_life l) (gave_back l) t.next_sid since (Exec image top)) (sym life);
-    frames = procs_frames w u w.next_pid (with_proc (processes_in w) record p { life = HoldsSpace t.next_sid }) (residents_in w) h ∙ g.shows.frames ∙ e.shows.frames;
-    tied = procs_tied w u w.next_pid (with_proc (processes_in w) record p { life = HoldsSpace t.next_sid }) (residents_in w) h g.shows.known.tied;
-    book = ap (λ (x : Tables). x.book) h.rest ∙ g.book
-        ∙ ap (λ (x : Tables). with_holdings x.book (space_given_back x.book.holdings sid (image_at v sid) (sharers (place_in w) (image_at v sid)))) e.rest
-        ∙ ap (λ (i : ℕ). with_holdings t.book (space_given_back t.book.holdings sid i (sharers (place_in w) i))) image_same
-        ∙ ap (λ (q : Placement). with_holdings t.book (space_given_back t.book.holdings sid (image_at t sid) (sharers q (image_at t sid)))) (sym now)
-        ∙ ap (λ (l : Life). with_holdings t.book (holdings_after t.book.holdings (place_in t) (place_in u) p.pid (space_of_life l) (gave_back l) (Exec image top))) (sym life);
-    processes = h.processes ∙ ap (λ (x : Tables). with_proc (processes_in x) record p { life = HoldsSpace t.next_sid }) g.rest ∙ ap (λ (x : Tables). with_proc (processes_in x) record p { life = HoldsSpace t.next_sid }) e.rest;
-    records = h.records;
-    next_pid = h.number ∙ ap (λ (x : Tables). x.next_pid) g.rest ∙ ap (λ (x : Tables). x.next_pid) e.rest;
-    next_sid = ap (λ (x : Tables). x.next_sid) h.rest ∙ ap (λ (x : Tables). x.next_sid) g.rest ∙ e.number;
-    starts = ap (λ (x : Tables). starts_of x.fills.items) h.rest ∙ ap (λ (x : Tables). starts_of x.fills.items) g.rest ∙ e.starts;
-    params = ap (λ (x : Tables). x.params) h.rest ∙ ap (λ (x : Tables). x.params) g.rest ∙ ap (λ (x : Tables). x.params) e.rest;
-    images = ap (λ (x : Tables). x.images) h.rest ∙ ap (λ (x : Tables). x.images) g.rest ∙ ap (λ (x : Tables). x.images) e.rest;
-    ring = ap (λ (x : Tables). x.ring) h.rest ∙ ap (λ (x : Tables). x.ring) g.rest ∙ ap (λ (x : Tables). x.ring) e.rest;
-  }
-    where
-      now : place_in u ≡ place_in w
-      now = procs_place w u w.next_pid (with_proc (processes_in w) record p { life = HoldsSpace t.next_sid }) (residents_in w) h
-
-      image_same : image_at v sid ≡ image_at t sid
-      image_same = ap (λ (q : Placement). image_of q sid) e.shows.place ∙ ap image_in (added_other sid (place_in t).spaces (new_pages t.next_sid image facts) d)
+  exec_held sid life d g h =
+      let now : place_in u ≡ place_in w = procs_place w u w.next_pid (with_proc (processes_in w) record p { life = HoldsSpace t.next_sid }) (residents_in w) h in
+      let image_same : image_at v sid ≡ image_at t sid =
+      ap (λ (q : Placement). image_of q sid) e.shows.place ∙ ap image_in (added_other sid (place_in t).spaces (new_pages t.next_sid image facts) d) in
+      record {
+        place =
+            now
+            ∙ g.shows.place
+            ∙ ap (λ (q : Placement). give_up q sid) entered
+            ∙ ap (λ (l : Life). place_change (lists_of t).facts (place_in t) p.pid (space_of_life l) (gave_back l) t.next_sid since (Exec image top)) (sym life);
+        frames = procs_frames w u w.next_pid (with_proc (processes_in w) record p { life = HoldsSpace t.next_sid }) (residents_in w) h ∙ g.shows.frames ∙ e.shows.frames;
+        tied = procs_tied w u w.next_pid (with_proc (processes_in w) record p { life = HoldsSpace t.next_sid }) (residents_in w) h g.shows.known.tied;
+        book = ap (λ (x : Tables). x.book) h.rest ∙ g.book
+            ∙ ap (λ (x : Tables). with_holdings x.book (space_given_back x.book.holdings sid (image_at v sid) (sharers (place_in w) (image_at v sid)))) e.rest
+            ∙ ap (λ (i : ℕ). with_holdings t.book (space_given_back t.book.holdings sid i (sharers (place_in w) i))) image_same
+            ∙ ap (λ (q : Placement). with_holdings t.book (space_given_back t.book.holdings sid (image_at t sid) (sharers q (image_at t sid)))) (sym now)
+            ∙ ap (λ (l : Life). with_holdings t.book (holdings_after t.book.holdings (place_in t) (place_in u) p.pid (space_of_life l) (gave_back l) (Exec image top))) (sym life);
+        processes = h.processes ∙ ap (λ (x : Tables). with_proc (processes_in x) record p { life = HoldsSpace t.next_sid }) g.rest ∙ ap (λ (x : Tables). with_proc (processes_in x) record p { life = HoldsSpace t.next_sid }) e.rest;
+        records = h.records;
+        next_pid = h.number ∙ ap (λ (x : Tables). x.next_pid) g.rest ∙ ap (λ (x : Tables). x.next_pid) e.rest;
+        next_sid = ap (λ (x : Tables). x.next_sid) h.rest ∙ ap (λ (x : Tables). x.next_sid) g.rest ∙ e.number;
+        starts = ap (λ (x : Tables). starts_of x.fills.items) h.rest ∙ ap (λ (x : Tables). starts_of x.fills.items) g.rest ∙ e.starts;
+        params = ap (λ (x : Tables). x.params) h.rest ∙ ap (λ (x : Tables). x.params) g.rest ∙ ap (λ (x : Tables). x.params) e.rest;
+        images = ap (λ (x : Tables). x.images) h.rest ∙ ap (λ (x : Tables). x.images) g.rest ∙ ap (λ (x : Tables). x.images) e.rest;
+        ring = ap (λ (x : Tables). x.ring) h.rest ∙ ap (λ (x : Tables). x.ring) g.rest ∙ ap (λ (x : Tables). x.ring) e.rest;
+      }
 
 -- The end. The u page goes after the space.
 
@@ -299,24 +294,23 @@ module _ (t v w u : Tables) (p : Proc) (since status : ℕ) (same : w ≡ withou
 
   -- or it left it
   pub end_held : (sid : ℕ) → p.life ≡ HoldsSpace sid → GaveUp t v sid → Applied t u p since (End status)
-  end_held sid life g = record {
-    place = ended_place ∙ ap (λ (q : Placement). record q { residents = filter (λ (r : Residence). not (r.pid == p.pid)) q.residents }) g.shows.place
-        ∙ ap (λ (l : Life). place_change (lists_of t).facts (place_in t) p.pid (space_of_life l) (gave_back l) t.next_sid since (End status)) (sym life);
-    frames = ended_frames ∙ g.shows.frames;
-    tied = ended_tied g.shows.known.tied;
-    book = ap (λ (x : Tables). x.book) h.rest ∙ ap (λ (x : Tables). x.book) same
-        ∙ ap (λ (x : Book). with_holdings x (kept (owners.U p.pid) 0 x.holdings)) g.book
-        ∙ ap (λ (n : ℕ). with_holdings t.book (kept (owners.U p.pid) 0 (space_given_back t.book.holdings sid (image_at t sid) n))) (sym sharing)
-        ∙ ap (λ (l : Life). with_holdings t.book (holdings_after t.book.holdings (place_in t) (place_in u) p.pid (space_of_life l) (gave_back l) (End status))) (sym life);
-    processes = ended_processes ∙ ap (λ (x : Tables). left_procs (p.parent == 0) (orphaned_procs (processes_in x) p.pid) p status) g.rest;
-    records = h.records;
-    next_pid = h.number ∙ ap (λ (x : Tables). x.next_pid) same ∙ ap (λ (x : Tables). x.next_pid) g.rest;
-    next_sid = ended_by (λ (x : Tables). x.next_sid) (ap (λ (x : Tables). x.next_sid) h.rest) (ap (λ (x : Tables). x.next_sid) same) (ap (λ (x : Tables). x.next_sid) g.rest);
-    starts = ended_by (λ (x : Tables). starts_of x.fills.items) (ap (λ (x : Tables). starts_of x.fills.items) h.rest) (ap (λ (x : Tables). starts_of x.fills.items) same) (ap (λ (x : Tables). starts_of x.fills.items) g.rest);
-    params = ended_by (λ (x : Tables). x.params) (ap (λ (x : Tables). x.params) h.rest) (ap (λ (x : Tables). x.params) same) (ap (λ (x : Tables). x.params) g.rest);
-    images = ap (λ (x : Tables). x.images) h.rest ∙ ap (λ (x : Tables). x.images) same ∙ ap (λ (x : Tables). x.images) g.rest;
-    ring = ap (λ (x : Tables). x.ring) h.rest ∙ ap (λ (x : Tables). x.ring) same ∙ ap (λ (x : Tables). x.ring) g.rest;
-  }
-    where
-      sharing : sharers (place_in u) (image_at t sid) ≡ sharers (place_in v) (image_at t sid)
-      sharing = ap (λ (q : Placement). sharers q (image_at t sid)) ended_place
+  end_held sid life g =
+      let sharing : sharers (place_in u) (image_at t sid) ≡ sharers (place_in v) (image_at t sid) = ap (λ (q : Placement). sharers q (image_at t sid)) ended_place in
+      record {
+        place = ended_place ∙ ap (λ (q : Placement). record q { residents = filter (λ (r : Residence). not (r.pid == p.pid)) q.residents }) g.shows.place
+            ∙ ap (λ (l : Life). place_change (lists_of t).facts (place_in t) p.pid (space_of_life l) (gave_back l) t.next_sid since (End status)) (sym life);
+        frames = ended_frames ∙ g.shows.frames;
+        tied = ended_tied g.shows.known.tied;
+        book = ap (λ (x : Tables). x.book) h.rest ∙ ap (λ (x : Tables). x.book) same
+            ∙ ap (λ (x : Book). with_holdings x (kept (owners.U p.pid) 0 x.holdings)) g.book
+            ∙ ap (λ (n : ℕ). with_holdings t.book (kept (owners.U p.pid) 0 (space_given_back t.book.holdings sid (image_at t sid) n))) (sym sharing)
+            ∙ ap (λ (l : Life). with_holdings t.book (holdings_after t.book.holdings (place_in t) (place_in u) p.pid (space_of_life l) (gave_back l) (End status))) (sym life);
+        processes = ended_processes ∙ ap (λ (x : Tables). left_procs (p.parent == 0) (orphaned_procs (processes_in x) p.pid) p status) g.rest;
+        records = h.records;
+        next_pid = h.number ∙ ap (λ (x : Tables). x.next_pid) same ∙ ap (λ (x : Tables). x.next_pid) g.rest;
+        next_sid = ended_by (λ (x : Tables). x.next_sid) (ap (λ (x : Tables). x.next_sid) h.rest) (ap (λ (x : Tables). x.next_sid) same) (ap (λ (x : Tables). x.next_sid) g.rest);
+        starts = ended_by (λ (x : Tables). starts_of x.fills.items) (ap (λ (x : Tables). starts_of x.fills.items) h.rest) (ap (λ (x : Tables). starts_of x.fills.items) same) (ap (λ (x : Tables). starts_of x.fills.items) g.rest);
+        params = ended_by (λ (x : Tables). x.params) (ap (λ (x : Tables). x.params) h.rest) (ap (λ (x : Tables). x.params) same) (ap (λ (x : Tables). x.params) g.rest);
+        images = ap (λ (x : Tables). x.images) h.rest ∙ ap (λ (x : Tables). x.images) same ∙ ap (λ (x : Tables). x.images) g.rest;
+        ring = ap (λ (x : Tables). x.ring) h.rest ∙ ap (λ (x : Tables). x.ring) same ∙ ap (λ (x : Tables). x.ring) g.rest;
+      }

@@ -119,143 +119,89 @@ text_pieces_back (Some x) (suc n) image hs z m = refl
 -- The whole.
 pub given_up : (t u a w : Tables) (sid index image pages : ℕ) → Parts t u a w sid index image pages → LeftText a w image pages
     → IsSound w.core.free w.core.slots → GaveUp t w sid
-given_up t u a w sid index image pages h lt sound = record {
-  shows = record {
-    place = place;
-    frames = ap frames_of is ∙ bytes_same l (map_then l sid s) sid (texts_then l s) (then_same l sid s gives) ∙ h.dropped.shows.frames;
-    known = subst Known (sym is) (known_then l sid s gives owns core aside);
-  };
-  book = book;
-  rest = rest;
-}
-  where
-    before : Placement
-    before = placement_of (lists_of t)
-
-    qs : List Page
-    qs = pages_of_space before sid
-
-    l : Lists
-    l = lists_of u
-
-    known : Known l
-    known = h.dropped.shows.known
-
-    x : Goes l sid image pages
-    x = goes l sid index image pages known h.stands h.image_is h.pages_are
-
-    s : Places
-    s = x.space
-
-    spaces : a.spaces ≡ without_space sid l.spaces
-    spaces = h.removed
-
+given_up t u a w sid index image pages h lt sound =
+    let before : Placement = placement_of (lists_of t) in
+    let qs : List Page = pages_of_space before sid in
+    let l : Lists = lists_of u in
+    let known : Known l = h.dropped.shows.known in
+    let x : Goes l sid image pages = goes l sid index image pages known h.stands h.image_is h.pages_are in
+    let s : Places = x.space in
+    let spaces : a.spaces ≡ without_space sid l.spaces = h.removed in
     -- the space's image
-    own_image : s.image ≡ image_of before sid
-    own_image = sym (ap image_in (numbered_shown l.slots l.spaces sid ∙ ap (option_map (space_shown l.slots)) x.there)) ∙ h.dropped.images sid
-
-    zero_left : sharing (without_space sid l.spaces) s.image ≡ None → sharers (remove_space before sid) (image_of before sid) ≡ 0
-    zero_left e =
-        sym (rest_drop_all qs before sid (image_of before sid))
-        ∙ sym (ap (λ (p : Placement). sharers (remove_space p sid) (image_of before sid)) h.dropped.shows.place)
-        ∙ ap (sharers (remove_space (placement_of l) sid)) (sym own_image)
-        ∙ rest_sharers l sid s.image ∙ none_shares l.slots (without_space sid l.spaces) s.image e
-
-    text_rests : sharing (without_space sid l.spaces) s.image ≡ None → (v : ℕ) → AtRest (state_of (placement_of l) (Text s.image v))
-    text_rests e v =
-        subst (λ (p : Placement). AtRest (state_of p (Text s.image v))) (sym h.dropped.shows.place)
-        (subst (λ (i : ℕ). AtRest (state_of (drop_all before qs) (Text i v))) (sym own_image)
-        (all_dropped_rests before qs (Text (image_of before sid) v) (h.forgets.text_rests (zero_left e) v)))
-
-    shares : 0 < sharers (placement_of l) s.image
-    shares = let n = sharers_gone l.slots sid s l.spaces known.differ x.there in let k : 0 < sharers_in s.image (map (space_shown l.slots) l.spaces) = omega arith in k
-
-    gives : Gives l sid s
-    gives = record {
+    let own_image : s.image ≡ image_of before sid = sym (ap image_in (numbered_shown l.slots l.spaces sid ∙ ap (option_map (space_shown l.slots)) x.there)) ∙ h.dropped.images sid in
+    let zero_left : sharing (without_space sid l.spaces) s.image ≡ None → sharers (remove_space before sid) (image_of before sid) ≡ 0 = λ e.
+    sym (rest_drop_all qs before sid (image_of before sid))
+    ∙ sym (ap (λ (p : Placement). sharers (remove_space p sid) (image_of before sid)) h.dropped.shows.place)
+    ∙ ap (sharers (remove_space (placement_of l) sid)) (sym own_image)
+    ∙ rest_sharers l sid s.image ∙ none_shares l.slots (without_space sid l.spaces) s.image e in
+    let text_rests : sharing (without_space sid l.spaces) s.image ≡ None → (v : ℕ) → AtRest (state_of (placement_of l) (Text s.image v)) = λ e v.
+    subst (λ (p : Placement). AtRest (state_of p (Text s.image v))) (sym h.dropped.shows.place)
+    (subst (λ (i : ℕ). AtRest (state_of (drop_all before qs) (Text i v))) (sym own_image)
+    (all_dropped_rests before qs (Text (image_of before sid) v) (h.forgets.text_rests (zero_left e) v))) in
+    let shares : 0 < sharers (placement_of l) s.image =
+    let n = sharers_gone l.slots sid s l.spaces known.differ x.there in let k : 0 < sharers_in s.image (map (space_shown l.slots) l.spaces) = omega arith in k in
+    let gives : Gives l sid s = record {
       known = known;
       there = x.there;
       whole = subst (λ (ss : List Places). HasWholeText ss s.image) spaces (subst (HasWholeText a.spaces) x.image_is lt.whole);
       rest = λ e v b. rests l (Text s.image v) known shares (text_rests e v);
-    }
-
+    } in
     -- the tables in the end
-    map_is : w.core ≡ map_then l sid s
-    map_is =
-        lt.core
-        ∙ ap (λ (ss : List Places). left_by (sharing ss image) a.core image pages) spaces
-        ∙ ap (λ (m : Frames). left_by (sharing (without_space sid l.spaces) image) m image pages) (ap (λ (y : Tables). y.core) h.rest)
-        ∙ ap (λ (i : ℕ). left_by (sharing (without_space sid l.spaces) i) u.core i pages) x.image_is
-        ∙ ap (left_by (sharing (without_space sid l.spaces) s.image) u.core s.image) (x.pages_are ∙ sym (gives_pages l sid s gives))
-
-    texts_are : w.texts ≡ texts_then l s
-    texts_are =
-        lt.texts
-        ∙ ap (λ (ts : List SharedText). with_text ts image (left (text_of ts image))) (ap (λ (y : Tables). y.texts) h.rest)
-        ∙ ap (λ (i : ℕ). with_text u.texts i (left (text_of u.texts i))) x.image_is
-
-    is : lists_of w ≡ gone l sid s
-    is =
-        ap lists_of lt.rest
-        ∙ ap (λ (y : Tables). record (lists_of y) { slots = w.core.slots; free = w.core.free; texts = w.texts }) h.rest
-        ∙ ap (λ (ss : List Places). record l { slots = w.core.slots; free = w.core.free; spaces = ss; texts = w.texts }) spaces
-        ∙ ap (λ (m : Frames). record l { slots = m.slots; free = m.free; spaces = without_space sid l.spaces; texts = w.texts }) map_is
-        ∙ ap (λ (ts : List SharedText). gone_to l (map_then l sid s) sid ts) texts_are
-
-    then_is : placement_of (gone l sid s) ≡ give_up before sid
-    then_is =
-        place_is l sid s gives
-        ∙ ap (λ (p : Placement). leave_text (remove_space p sid) s.image) h.dropped.shows.place
-        ∙ ap (leave_text (remove_space (drop_all before qs) sid)) own_image
-
-    place : placement_of (lists_of w) ≡ give_up before sid
-    place = ap placement_of is ∙ then_is
-
-    rest_all : EachPage (λ q. AtRest (state_of before q)) qs
-    rest_all = each_page_append (λ q. AtRest (state_of before q)) (data_from sid 0 (data_count before sid)) (stack_from sid 0 (stack_count before sid))
-        (data_rest before sid (data_count before sid) h.settled) (stack_rest before sid (stack_count before sid) h.settled)
-
-    owns : OwnsFrames (placement_of (gone l sid s))
-    owns = subst OwnsFrames (sym then_is) (give_up_owner before sid h.known.owns rest_all)
-
-    aside : TextAside (placement_of (gone l sid s))
-    aside = subst TextAside (sym then_is) (give_up_aside before sid h.known.aside h.forgets)
-
-    core : IsSound (gone l sid s).free (gone l sid s).slots
-    core = subst (λ (y : Lists). IsSound y.free y.slots) is sound
-
+    let map_is : w.core ≡ map_then l sid s =
+    lt.core
+    ∙ ap (λ (ss : List Places). left_by (sharing ss image) a.core image pages) spaces
+    ∙ ap (λ (m : Frames). left_by (sharing (without_space sid l.spaces) image) m image pages) (ap (λ (y : Tables). y.core) h.rest)
+    ∙ ap (λ (i : ℕ). left_by (sharing (without_space sid l.spaces) i) u.core i pages) x.image_is
+    ∙ ap (left_by (sharing (without_space sid l.spaces) s.image) u.core s.image) (x.pages_are ∙ sym (gives_pages l sid s gives)) in
+    let texts_are : w.texts ≡ texts_then l s =
+    lt.texts
+    ∙ ap (λ (ts : List SharedText). with_text ts image (left (text_of ts image))) (ap (λ (y : Tables). y.texts) h.rest)
+    ∙ ap (λ (i : ℕ). with_text u.texts i (left (text_of u.texts i))) x.image_is in
+    let is : lists_of w ≡ gone l sid s =
+    ap lists_of lt.rest
+    ∙ ap (λ (y : Tables). record (lists_of y) { slots = w.core.slots; free = w.core.free; texts = w.texts }) h.rest
+    ∙ ap (λ (ss : List Places). record l { slots = w.core.slots; free = w.core.free; spaces = ss; texts = w.texts }) spaces
+    ∙ ap (λ (m : Frames). record l { slots = m.slots; free = m.free; spaces = without_space sid l.spaces; texts = w.texts }) map_is
+    ∙ ap (λ (ts : List SharedText). gone_to l (map_then l sid s) sid ts) texts_are in
+    let then_is : placement_of (gone l sid s) ≡ give_up before sid =
+    place_is l sid s gives
+    ∙ ap (λ (p : Placement). leave_text (remove_space p sid) s.image) h.dropped.shows.place
+    ∙ ap (leave_text (remove_space (drop_all before qs) sid)) own_image in
+    let place : placement_of (lists_of w) ≡ give_up before sid = ap placement_of is ∙ then_is in
+    let rest_all : EachPage (λ q. AtRest (state_of before q)) qs =
+    each_page_append (λ q. AtRest (state_of before q)) (data_from sid 0 (data_count before sid)) (stack_from sid 0 (stack_count before sid))
+    (data_rest before sid (data_count before sid) h.settled) (stack_rest before sid (stack_count before sid) h.settled) in
+    let owns : OwnsFrames (placement_of (gone l sid s)) = subst OwnsFrames (sym then_is) (give_up_owner before sid h.known.owns rest_all) in
+    let aside : TextAside (placement_of (gone l sid s)) = subst TextAside (sym then_is) (give_up_aside before sid h.known.aside h.forgets) in
+    let core : IsSound (gone l sid s).free (gone l sid s).slots = subst (λ (y : Lists). IsSound y.free y.slots) is sound in
     -- the pieces
-    book_before : u.book ≡ t.book
-    book_before = ap (λ (y : Tables). y.book) h.dropped.rest
-
-    returned : Holdings
-    returned = kept (owners.Stack sid) 0 (kept (owners.Data sid) 0 t.book.holdings)
-
-    book_between : a.book ≡ with_holdings t.book returned
-    book_between = h.book ∙ ap (λ (b : Book). with_holdings b (kept (owners.Stack sid) 0 (kept (owners.Data sid) 0 b.holdings))) book_before
-
-    image_was : image ≡ image_at t sid
-    image_was = x.image_is ∙ own_image
-
-    sharers_then : sharers (placement_of (lists_of w)) image ≡ sharers_in image (map (space_shown w.core.slots) (without_space sid l.spaces))
-    sharers_then = ap (λ (ss : List Places). sharers_in image (map (space_shown w.core.slots) ss)) (ap (λ (y : Tables). y.spaces) lt.rest ∙ spaces)
-
-    pieces : text_left_by (sharing a.spaces image) returned image ≡ text_given_back (sharers (placement_of (lists_of w)) image) returned image
-    pieces =
-        ap (λ (ss : List Places). text_left_by (sharing ss image) returned image) spaces
-        ∙ text_pieces_back (sharing (without_space sid l.spaces) image) (sharers (placement_of (lists_of w)) image) image returned
-        (λ e. sharers_then ∙ none_shares w.core.slots (without_space sid l.spaces) image e)
-        (λ y e. let k = some_shares w.core.slots (without_space sid l.spaces) image y e in let n = sharers_then in omega arith)
-
-    book : w.book ≡ with_holdings t.book (space_given_back t.book.holdings sid (image_at t sid) (sharers (placement_of (lists_of w)) (image_at t sid)))
-    book =
-        lt.book
-        ∙ ap (λ (b : Book). with_holdings b (text_left_by (sharing a.spaces image) b.holdings image)) book_between
-        ∙ ap (with_holdings t.book) pieces
-        ∙ ap (λ (i : ℕ). with_holdings t.book (text_given_back (sharers (placement_of (lists_of w)) i) returned i)) image_was
-
-    rest : w ≡ record t { core = w.core; spaces = w.spaces; texts = w.texts; book = w.book }
-    rest =
-        lt.rest
-        ∙ ap (λ (y : Tables). record y { core = w.core; texts = w.texts; book = w.book }) h.rest
-        ∙ ap (λ (y : Tables). record y { core = w.core; spaces = a.spaces; texts = w.texts; book = w.book }) h.dropped.rest
-        ∙ ap (λ ss. record t { core = w.core; spaces = ss; texts = w.texts; book = w.book }) (sym (ap (λ (y : Tables). y.spaces) lt.rest))
+    let book_before : u.book ≡ t.book = ap (λ (y : Tables). y.book) h.dropped.rest in
+    let returned : Holdings = kept (owners.Stack sid) 0 (kept (owners.Data sid) 0 t.book.holdings) in
+    let book_between : a.book ≡ with_holdings t.book returned = h.book ∙ ap (λ (b : Book). with_holdings b (kept (owners.Stack sid) 0 (kept (owners.Data sid) 0 b.holdings))) book_before in
+    let image_was : image ≡ image_at t sid = x.image_is ∙ own_image in
+    let sharers_then : sharers (placement_of (lists_of w)) image ≡ sharers_in image (map (space_shown w.core.slots) (without_space sid l.spaces)) =
+    ap (λ (ss : List Places). sharers_in image (map (space_shown w.core.slots) ss)) (ap (λ (y : Tables). y.spaces) lt.rest ∙ spaces) in
+    let pieces : text_left_by (sharing a.spaces image) returned image ≡ text_given_back (sharers (placement_of (lists_of w)) image) returned image =
+    ap (λ (ss : List Places). text_left_by (sharing ss image) returned image) spaces
+    ∙ text_pieces_back (sharing (without_space sid l.spaces) image) (sharers (placement_of (lists_of w)) image) image returned
+    (λ e. sharers_then ∙ none_shares w.core.slots (without_space sid l.spaces) image e)
+    (λ y e. let k = some_shares w.core.slots (without_space sid l.spaces) image y e in let n = sharers_then in omega arith) in
+    let book : w.book ≡ with_holdings t.book (space_given_back t.book.holdings sid (image_at t sid) (sharers (placement_of (lists_of w)) (image_at t sid))) =
+    lt.book
+    ∙ ap (λ (b : Book). with_holdings b (text_left_by (sharing a.spaces image) b.holdings image)) book_between
+    ∙ ap (with_holdings t.book) pieces
+    ∙ ap (λ (i : ℕ). with_holdings t.book (text_given_back (sharers (placement_of (lists_of w)) i) returned i)) image_was in
+    let rest : w ≡ record t { core = w.core; spaces = w.spaces; texts = w.texts; book = w.book } =
+    lt.rest
+    ∙ ap (λ (y : Tables). record y { core = w.core; texts = w.texts; book = w.book }) h.rest
+    ∙ ap (λ (y : Tables). record y { core = w.core; spaces = a.spaces; texts = w.texts; book = w.book }) h.dropped.rest
+    ∙ ap (λ ss. record t { core = w.core; spaces = ss; texts = w.texts; book = w.book }) (sym (ap (λ (y : Tables). y.spaces) lt.rest)) in
+    record {
+      shows = record {
+        place = place;
+        frames = ap frames_of is ∙ bytes_same l (map_then l sid s) sid (texts_then l s) (then_same l sid s gives) ∙ h.dropped.shows.frames;
+        known = subst Known (sym is) (known_then l sid s gives owns core aside);
+      };
+      book = book;
+      rest = rest;
+    }

@@ -140,56 +140,34 @@ module _ (l : Lists) (sid : ℕ) (s : Places) (g : Gives l sid s) where
   place_last : sharing (without_space sid l.spaces) s.image ≡ None
       → placement_of (gone_to l (left_pages (core_of l) s.image (pages_in 1 s.image l.facts)) sid (texts_then l s)) ≡ leave_text (remove_space (placement_of l) sid) s.image
   place_last e =
-      let z = none_shares l.slots (without_space sid l.spaces) i e in
-      gone_ext l m sid (texts_then l s) same left keeps.spaces (leave_all_kept numbers_by_puts (first_pages i n) p) keeps.holds to.free keeps.transfers stays.front stays.back stays.residents stays.due
-      (λ j v. leave_all_length (first_pages i n) p (Text j v)) each
-      ∙ sym (leave_none p i (sharers p i) (rest_sharers l sid i ∙ z) ∙ ap (λ (k : ℕ). leave_all p (first_pages i k)) (long i 0))
-    where
-      i : ℕ
-      i = s.image
-
-      n : ℕ
-      n = pages_in 1 i l.facts
-
-      p : Placement
-      p = remove_space (placement_of l) sid
-
-      m : Frames
-      m = left_pages (core_of l) i n
-
-      left : Placement
-      left = leave_all p (first_pages i n)
-
-      same : SameFrames l.slots m.slots
-      same = pages_same (core_of l) i n
-
-      keeps : Keeps p left
-      keeps = leave_all_keeps i 0 n p
-
-      stays : SameRest p left
-      stays = leave_all_kept rest_by_puts (first_pages i n) p
-
-      to : LeftTo l p left i n m
-      to = leave_pages l p i n (core_of l) g.known refl refl listed_core (λ w b. let h = long i w in let k : w < length (slots_of p (Text i w)) = omega arith in k) (λ w. refl)
-          (λ w b. ap (λ (x : Slot). x.filling) (text_at l i w b)) (λ w b. g.rest e w b)
-
-      each : (j v : ℕ) → slot_of (placement_of (gone_to l m sid (texts_then l s))) (Text j v) ≡ slot_of left (Text j v)
-      each j v = elim (cases_eq j i) [
+      let i : ℕ = s.image in
+      let n : ℕ = pages_in 1 i l.facts in
+      let p : Placement = remove_space (placement_of l) sid in
+      let m : Frames = left_pages (core_of l) i n in
+      let left : Placement = leave_all p (first_pages i n) in
+      let same : SameFrames l.slots m.slots = pages_same (core_of l) i n in
+      let keeps : Keeps p left = leave_all_keeps i 0 n p in
+      let stays : SameRest p left = leave_all_kept rest_by_puts (first_pages i n) p in
+      let to : LeftTo l p left i n m =
+      leave_pages l p i n (core_of l) g.known refl refl listed_core (λ w b. let h = long i w in let k : w < length (slots_of p (Text i w)) = omega arith in k) (λ w. refl)
+      (λ w b. ap (λ (x : Slot). x.filling) (text_at l i w b)) (λ w b. g.rest e w b) in
+      let each : (j v : ℕ) → slot_of (placement_of (gone_to l m sid (texts_then l s))) (Text j v) ≡ slot_of left (Text j v) = λ j v.
+      let image_is : (j v w : ℕ) → Text j v ≡ Text i w → j ≡ i = λ j v w k. cc in
+      let own : (v : ℕ) → slot_of (placement_of (gone_to l m sid (texts_then l s))) (Text i v) ≡ slot_of left (Text i v) = λ v. elim (cases_lt v n) [
+        | inl b ↦ left_text l m sid (texts_then l s) same i v b (none_entry (without_space sid l.spaces) i v e) (last_texts e v) (not_away i v) ∙ sym (to.before v b)
+        | inr b ↦ text_past (gone_to l m sid (texts_then l s)) i v b ∙ sym (to.behind v b ∙ text_past l i v b)
+      ] in
+      elim (cases_eq j i) [
         | inl h ↦ subst (λ (k : ℕ). slot_of (placement_of (gone_to l m sid (texts_then l s))) (Text k v) ≡ slot_of left (Text k v)) (sym h) (own v)
         | inr d ↦
             same_text l m sid (texts_then l s) same j v (λ b. other_entry l sid s g j v d)
             (λ b. ap (λ (y : SharedText). is_saved y v) (left_other l.texts i j (left_by_one (text_of l.texts i)) (gives_image l sid s g).0 (low j v b) d))
             ∙ sym (leave_all_other (first_pages i n) p (Text j v) (pages_from_each (λ r. Text j v ≢ r) (Text i 0) 0 n (λ w a b k. d (image_is j v w k))))
-      ]
-        where
-          image_is : (j v w : ℕ) → Text j v ≡ Text i w → j ≡ i
-          image_is j v w k = cc
-
-          own : (v : ℕ) → slot_of (placement_of (gone_to l m sid (texts_then l s))) (Text i v) ≡ slot_of left (Text i v)
-          own v = elim (cases_lt v n) [
-            | inl b ↦ left_text l m sid (texts_then l s) same i v b (none_entry (without_space sid l.spaces) i v e) (last_texts e v) (not_away i v) ∙ sym (to.before v b)
-            | inr b ↦ text_past (gone_to l m sid (texts_then l s)) i v b ∙ sym (to.behind v b ∙ text_past l i v b)
-          ]
+      ] in
+      let z = none_shares l.slots (without_space sid l.spaces) i e in
+      gone_ext l m sid (texts_then l s) same left keeps.spaces (leave_all_kept numbers_by_puts (first_pages i n) p) keeps.holds to.free keeps.transfers stays.front stays.back stays.residents stays.due
+      (λ j v. leave_all_length (first_pages i n) p (Text j v)) each
+      ∙ sym (leave_none p i (sharers p i) (rest_sharers l sid i ∙ z) ∙ ap (λ (k : ℕ). leave_all p (first_pages i k)) (long i 0))
 
   -- Either way.
 

@@ -361,10 +361,9 @@ moved_none t p k e = record { place = sym e; frames = refl; tied = k.tied; image
 pub blocks_heads : (t n : Lists) (hs : Holdings) → map head_of n.spaces ≡ map head_of t.spaces → n.facts ≡ t.facts → HasBlocks (placement_of t) hs
     → HasBlocks (placement_of n) hs
 blocks_heads t n hs h f b q there sh =
+    let there_as : (q : Page) → length (Rattle.page_model.specs.Placement.slots_of (placement_of n) q) ≡ length (Rattle.page_model.specs.Placement.slots_of (placement_of t) q) → IsThere (placement_of n) q → IsThere (placement_of t) q = λ q e l.
+    subst (λ (k : ℕ). number_of q < k) e l in
     b q (let e = lengths_same t n h f q in there_as q e there) (shared_as (placement_of n) (placement_of t) q (λ i. sym (sharers_heads n.slots t.slots n.spaces t.spaces i h)) sh)
-  where
-    there_as : (q : Page) → length (Rattle.page_model.specs.Placement.slots_of (placement_of n) q) ≡ length (Rattle.page_model.specs.Placement.slots_of (placement_of t) q) → IsThere (placement_of n) q → IsThere (placement_of t) q
-    there_as q e l = subst (λ (k : ℕ). number_of q < k) e l
 
 expired_facts : (t u : Tables) (locked : List Page) → lists_of u ≡ expired (lists_of t) locked → (lists_of u).facts ≡ (lists_of t).facts
 expired_facts t u locked e = ap (λ (l : Lists). l.facts) e
@@ -403,6 +402,11 @@ pub moved_hands : (t u v w : Tables) (locked : List Page) → Known (lists_of t)
     → u ≡ record t { spaces = u.spaces } → MovedOn u v (sweep (placement_of (lists_of u)) locked)
     → w.front ≡ next_frame (length v.core.slots - 1) v.front → w.back ≡ next_frame (length v.core.slots - 1) v.back → w ≡ record v { front = w.front; back = w.back } → MovedOn t w (hand_move (placement_of (lists_of t)) locked)
 moved_hands t u v w locked k is rest m ef eb rw =
+    let rest_hands : (t u v w : Tables) → u ≡ record t { spaces = u.spaces } → v ≡ record u { core = v.core; spaces = v.spaces; ring = v.ring; front = v.front; back = v.back } → w ≡ record v { front = w.front; back = w.back }
+    → w ≡ record t { core = w.core; spaces = w.spaces; ring = w.ring; front = w.front; back = w.back } = λ t u v w e f g.
+    let x : w ≡ record t { core = v.core; spaces = v.spaces; ring = v.ring; front = w.front; back = w.back } =
+    g ∙ ap (λ (z : Tables). record z { front = w.front; back = w.back }) f ∙ ap (λ (z : Tables). record z { core = v.core; spaces = v.spaces; ring = v.ring; front = w.front; back = w.back }) e in
+    x ∙ ap (λ (z : Tables). record t { core = z.core; spaces = z.spaces; ring = z.ring; front = w.front; back = w.back }) (sym g) in
     let p : Placement = placement_of (lists_of v) in
     let r : Ready t u locked = ready t u locked k is rest in
     let n : length v.core.slots - 1 ≡ length p.holds = sym (holds_length (lists_of v)) in
@@ -420,17 +424,11 @@ moved_hands t u v w locked k is rest m ef eb rw =
           (subst (λ (z : Tables). Rattle.kernel_tables.specs.Launches.AddsWrite u.book.holdings u.ring z.ring) (sym rw) m.ring));
       rest = rest_hands t u v w rest m.rest rw;
     }
-  where
-    rest_hands : (t u v w : Tables) → u ≡ record t { spaces = u.spaces } → v ≡ record u { core = v.core; spaces = v.spaces; ring = v.ring; front = v.front; back = v.back } → w ≡ record v { front = w.front; back = w.back }
-        → w ≡ record t { core = w.core; spaces = w.spaces; ring = w.ring; front = w.front; back = w.back }
-    rest_hands t u v w e f g =
-        let x : w ≡ record t { core = v.core; spaces = v.spaces; ring = v.ring; front = w.front; back = w.back } =
-        g ∙ ap (λ (z : Tables). record z { front = w.front; back = w.back }) f ∙ ap (λ (z : Tables). record z { core = v.core; spaces = v.spaces; ring = v.ring; front = w.front; back = w.back }) e in
-        x ∙ ap (λ (z : Tables). record t { core = z.core; spaces = z.spaces; ring = z.ring; front = w.front; back = w.back }) (sym g)
 
 -- where the hands stand
 pub hands_low : (t : Lists) → HandsStand (placement_of t) → ((1 ≤ t.front) × (t.front < length t.slots)) × ((1 ≤ t.back) × (t.back < length t.slots))
 hands_low t h =
+    let quarter : (n : ℕ) → 0 < n → n / 4 < n = λ n l. omega arith in
     let n : ℕ = length (placement_of t).holds in
     let c : n ≡ length t.slots - 1 = holds_length t in
     let a = h.low in
@@ -440,9 +438,6 @@ hands_low t h =
     let w1 = w.1 in
     let f : t.front ≡ Rattle.page_model.specs.Rank.walk n (n / 4) t.back = h.ahead in
     ((omega arith, omega arith), (omega arith, omega arith))
-  where
-    quarter : (n : ℕ) → 0 < n → n / 4 < n
-    quarter n l = omega arith
 
 -- at most 16 transfers are in flight then
 pub hand_few : (p : Placement) (locked : List Page) (lo n : ℕ) → IsRunOf (hand_run p locked) lo n → (0 < n → length p.transfers < 16)
@@ -452,6 +447,8 @@ hand_few p locked lo n run room l = go (hand_run p locked) refl run
     go : (o : Option (Page × Run)) → hand_run p locked ≡ o → IsRunOf o lo n → length (hand_move p locked).transfers ≤ 16
     go None e r = let a = ap length (hand_rests p locked e) in omega arith
     go (Some w) e r =
+        let begun_some : (p : Placement) (locked2 : List Page) (w : Page × Run) → hand_run p locked ≡ Some w → 0 < w.1.n = λ p locked2 w e.
+        of_some (expire p locked) (expire p locked).back (page_of (expire p locked) (expire p locked).back) w e in
         let a = ap (λ (x : Placement). length x.transfers) (hand_begun p locked w.0 w.1 e) ∙ launch_run_count (expire p locked) (pages_of_run w.0 w.1) in
         let b = ap length (expire_transfers p locked) in
         let some : 0 < n = subst (λ (k : ℕ). 0 < k) (sym r.1) (begun_some p locked w e) in
@@ -481,9 +478,6 @@ hand_few p locked lo n run room l = go (hand_run p locked) refl run
         of_some : (q : Placement) (f : ℕ) (o : Option Page) (w : Page × Run) → write_of q locked f o ≡ Some w → 0 < w.1.n
         of_some q f None w e = none_some w e
         of_some q f (Some v) w e = to_some q v (state_of q v) (times f q.free) (is_among v locked) w e
-
-        begun_some : (p : Placement) (locked2 : List Page) (w : Page × Run) → hand_run p locked ≡ Some w → 0 < w.1.n
-        begun_some p locked2 w e = of_some (expire p locked) (expire p locked).back (page_of (expire p locked) (expire p locked).back) w e
 
 pub hand_keeps : (size : ℕ) (k : Kernel) (locked : List Page) → Sound size k → KeepsFlat k (hand_step k locked)
 hand_keeps size k locked so images image flat c = hand_coupled_step size k images image flat locked so c

@@ -128,7 +128,6 @@ module _ (says : Entry → Option ℕ) (counted : ℕ → Entry) (kind : IsKind 
 pub last_get : (says : Entry → Option ℕ) (journal : List Entry) (e : Entry) → slice_get journal (length journal - 1) ≡ Some e → last_says says journal ≡ says e
 last_get says [] e h = absurd cc
 last_get says (x ∷ []) e h = ap says (same_Some x e h)
-last_get says (x ∷ f ∷ journal) e h = last_get says (f ∷ journal) e (sym (ap (slice_get (x ∷ f ∷ journal)) (before (length journal))) ∙ h)
-  where
-    before : (n : ℕ) → suc (suc n) - 1 ≡ suc (suc n - 1)
-    before n = omega arith
+last_get says (x ∷ f ∷ journal) e h =
+    let before : (n : ℕ) → suc (suc n) - 1 ≡ suc (suc n - 1) = λ n. omega arith in
+    last_get says (f ∷ journal) e (sym (ap (slice_get (x ∷ f ∷ journal)) (before (length journal))) ∙ h)

@@ -81,18 +81,17 @@ save_others ts _ j w t l m d = refl
 
 pub save_counts : (ts : List SharedText) (q : Page) → ((i v : ℕ) → q ≡ Text i v → (1 ≤ i) × (i ≤ 16) × (v < 2048)) → (j : ℕ)
     → (text_of (saved_texts ts q) j).sharers ≡ (text_of ts j).sharers
-save_counts ts (Text i v) l j = elim (cases_eq (j - 1) (i - 1)) [
-  | inl e ↦ elim (within (i - 1) (length ts)) [
-    | inl m ↦ subst (λ (x : ℕ). (get_or (set ts (i - 1) (marked (text_of ts i) v true)) x unused_text).sharers ≡ (get_or ts x unused_text).sharers) (sym e)
-        (ap (λ (x : SharedText). x.sharers) (get_or-set_same ts (i - 1) (marked (text_of ts i) v true) unused_text m))
-    | inr m ↦ ap (λ (xs : List SharedText). (get_or xs (j - 1) unused_text).sharers) (set_past ts (i - 1) (marked (text_of ts i) v true) m)
-  ]
-  | inr n ↦ ap (λ (x : SharedText). x.sharers) (get_or-set_other ts (i - 1) (j - 1) (marked (text_of ts i) v true) unused_text n)
-]
+save_counts ts (Text i v) l j =
+    let within : (a b : ℕ) → Rattle.std.proofs.Common.◌⊎◌ (a < b) (b ≤ a) = λ a b. grind arith in
+    elim (cases_eq (j - 1) (i - 1)) [
+      | inl e ↦ elim (within (i - 1) (length ts)) [
+        | inl m ↦ subst (λ (x : ℕ). (get_or (set ts (i - 1) (marked (text_of ts i) v true)) x unused_text).sharers ≡ (get_or ts x unused_text).sharers) (sym e)
+            (ap (λ (x : SharedText). x.sharers) (get_or-set_same ts (i - 1) (marked (text_of ts i) v true) unused_text m))
+        | inr m ↦ ap (λ (xs : List SharedText). (get_or xs (j - 1) unused_text).sharers) (set_past ts (i - 1) (marked (text_of ts i) v true) m)
+      ]
+      | inr n ↦ ap (λ (x : SharedText). x.sharers) (get_or-set_other ts (i - 1) (j - 1) (marked (text_of ts i) v true) unused_text n)
+    ]
   where
-    within : (a b : ℕ) → Rattle.std.proofs.Common.◌⊎◌ (a < b) (b ≤ a)
-    within a b = grind arith
-
     set_past : (xs : List SharedText) (k : ℕ) (x : SharedText) → length xs ≤ k → set xs k x ≡ xs
     set_past [] k x h = refl
     set_past (y ∷ ys) zero x h = absurd (omega arith)

@@ -249,11 +249,9 @@ pub pages_behind : (map : Frames) (i v g w : ℕ) → token_page (slot_at map.sl
     → slot_at (left_pages map i v).slots g ≡ slot_at map.slots g
 pages_behind map i zero g w h l = refl
 pages_behind map i (suc v) g w h l =
+    let number : Text i w ≡ Text i v → w ≡ v = λ e. cc in
     let before : slot_at (left_pages map i v).slots g ≡ slot_at map.slots g = pages_behind map i v g w h (omega arith) in
     left_other (left_pages map i v) (Text i v) (Text i w) g (ap token_page before ∙ h) (λ e. absurd (let k : w ≡ v = number e in omega arith)) ∙ before
-  where
-    number : Text i w ≡ Text i v → w ≡ v
-    number e = cc
 
 -- What the core map does with the frame that it finds.
 

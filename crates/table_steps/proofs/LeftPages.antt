@@ -158,33 +158,25 @@ pub leave_pages : (t : Lists) (p : Placement) (i v : ℕ) (map : Frames) → Kno
     → ((w : ℕ) → w < v → Rests t (Text i w)) → LeftTo t p (leave_all p (first_pages i v)) i v (left_pages map i v)
 leave_pages t p i zero map k is free listed there same filling r = record { free = free; before = λ w l. absurd (omega arith); behind = λ w l. refl }
 leave_pages t p i (suc v) map k is free listed there same filling r =
+    let l : Placement = leave_all p (first_pages i v) in
+    let to : leave_all p (first_pages i (suc v)) ≡ leave_page l (Text i v) = leave_next p i v in
+    let unique : AreApart t.slots = k.core.unique in
+    let next : LeftTo t p l i v (left_pages map i v) → LeftTo t p (leave_all p (first_pages i (suc v))) i (suc v) (left_pages map i (suc v)) = λ h.
+    let one : Leaves l (leave_page l (Text i v)) (Text i v) (frame_holding t.slots (Text i v)) (left_pages map i (suc v)) =
+    leave_one t l (Text i v) (left_pages map i v) unique
+    (subst (λ (ss : List Token). SameFrames ss (left_pages map i v).slots) is (pages_same map i v))
+    (pages_listed map i v listed)
+    (λ f e. pages_behind map i v f v (ap (λ (ss : List Token). token_page (slot_at ss f)) is ∙ e) (omega arith) ∙ ap (λ (ss : List Token). slot_at ss f) is)
+    (let a = there v (omega arith) in let b = leave_all_length (first_pages i v) p (Text i v) in omega arith)
+    (h.behind v (omega arith) ∙ same v) (filling v (omega arith)) h.free (r v (omega arith)) in
+    record {
+      free = ap (λ (x : Placement). x.free) to ∙ one.free;
+      before = λ w m. elim (cases_eq w v) [
+        | inl e ↦ subst (λ (n : ℕ). slot_of (leave_all p (first_pages i (suc v))) (Text i n) ≡ rest_slot (frame_holding t.slots (Text i n))) (sym e) (ap (λ (x : Placement). slot_of x (Text i v)) to ∙ one.slot)
+        | inr d ↦ ap (λ (x : Placement). slot_of x (Text i w)) to ∙ leave_other l (Text i v) (Text i w) (λ e. d (page_number i v w e)) ∙ h.before w (omega arith)
+      ];
+      behind = λ w m. ap (λ (x : Placement). slot_of x (Text i w)) to ∙ leave_other l (Text i v) (Text i w) (λ e. let x = page_number i v w e in absurd (omega arith)) ∙ h.behind w (omega arith);
+    } in
     let h : LeftTo t p (leave_all p (first_pages i v)) i v (left_pages map i v) =
     leave_pages t p i v map k is free listed (λ w l. there w (omega arith)) same (λ w l. filling w (omega arith)) (λ w l. r w (omega arith)) in
     next h
-  where
-    l : Placement
-    l = leave_all p (first_pages i v)
-
-    to : leave_all p (first_pages i (suc v)) ≡ leave_page l (Text i v)
-    to = leave_next p i v
-
-    unique : AreApart t.slots
-    unique = k.core.unique
-
-    next : LeftTo t p l i v (left_pages map i v) → LeftTo t p (leave_all p (first_pages i (suc v))) i (suc v) (left_pages map i (suc v))
-    next h =
-        let one : Leaves l (leave_page l (Text i v)) (Text i v) (frame_holding t.slots (Text i v)) (left_pages map i (suc v)) =
-        leave_one t l (Text i v) (left_pages map i v) unique
-        (subst (λ (ss : List Token). SameFrames ss (left_pages map i v).slots) is (pages_same map i v))
-        (pages_listed map i v listed)
-        (λ f e. pages_behind map i v f v (ap (λ (ss : List Token). token_page (slot_at ss f)) is ∙ e) (omega arith) ∙ ap (λ (ss : List Token). slot_at ss f) is)
-        (let a = there v (omega arith) in let b = leave_all_length (first_pages i v) p (Text i v) in omega arith)
-        (h.behind v (omega arith) ∙ same v) (filling v (omega arith)) h.free (r v (omega arith)) in
-        record {
-          free = ap (λ (x : Placement). x.free) to ∙ one.free;
-          before = λ w m. elim (cases_eq w v) [
-            | inl e ↦ subst (λ (n : ℕ). slot_of (leave_all p (first_pages i (suc v))) (Text i n) ≡ rest_slot (frame_holding t.slots (Text i n))) (sym e) (ap (λ (x : Placement). slot_of x (Text i v)) to ∙ one.slot)
-            | inr d ↦ ap (λ (x : Placement). slot_of x (Text i w)) to ∙ leave_other l (Text i v) (Text i w) (λ e. d (page_number i v w e)) ∙ h.before w (omega arith)
-          ];
-          behind = λ w m. ap (λ (x : Placement). slot_of x (Text i w)) to ∙ leave_other l (Text i v) (Text i w) (λ e. let x = page_number i v w e in absurd (omega arith)) ∙ h.behind w (omega arith);
-        }

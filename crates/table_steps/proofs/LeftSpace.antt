@@ -120,15 +120,13 @@ module _ (l : Lists) (m : Frames) (sid : ℕ) (texts : List SharedText) (s : Sam
       → ((j v : ℕ) → length (slots_of p (Text j v)) ≡ length (slots_of (placement_of l) (Text j v))) → ((j v : ℕ) → slot_of (placement_of (gone_to l m sid texts)) (Text j v) ≡ slot_of p (Text j v))
       → placement_of (gone_to l m sid texts) ≡ p
   gone_ext p spaces numbers holds free transfers front back residents due lengths each =
+      let long : (j : ℕ) → length (slots_of (placement_of (gone_to l m sid texts)) (Text j 0)) ≡ length (slots_of (placement_of l) (Text j 0)) = λ j.
+      ap length (texts_shown (gone_to l m sid texts) 1 j l.facts) ∙ text_length (gone_to l m sid texts) j (pages_in 1 j l.facts)
+      ∙ sym (ap length (texts_shown l 1 j l.facts) ∙ text_length l j (pages_in 1 j l.facts)) in
       placement_ext (placement_of (gone_to l m sid texts)) p (spaces_same ∙ sym spaces)
       (texts_ext (placement_of (gone_to l m sid texts)).texts p.texts (text_numbers l (gone_to l m sid texts) 1 l.facts ∙ sym numbers) (texts_differ (gone_to l m sid texts) 1 l.facts)
       (λ j. slots_ext (slots_of (placement_of (gone_to l m sid texts)) (Text j 0)) (slots_of p (Text j 0)) (long j ∙ sym (lengths j 0)) (λ v. each j v)))
       (held_same ∙ sym holds) (sym free) (sym transfers) (sym front) (sym back) (sym residents) (sym due)
-    where
-      long : (j : ℕ) → length (slots_of (placement_of (gone_to l m sid texts)) (Text j 0)) ≡ length (slots_of (placement_of l) (Text j 0))
-      long j =
-          ap length (texts_shown (gone_to l m sid texts) 1 j l.facts) ∙ text_length (gone_to l m sid texts) j (pages_in 1 j l.facts)
-          ∙ sym (ap length (texts_shown l 1 j l.facts) ∙ text_length l j (pages_in 1 j l.facts))
 
 -- What leaving a page of text keeps.
 pub record Keeps (p q : Placement) : Type 0 where

@@ -98,12 +98,10 @@ twins_pids pid (x ∷ xs) (y ∷ ys) t = ap₂ (λ (n : ℕ) (ns : List ℕ). n 
 
 twins_orphaned : (pid n : ℕ) (xs ys : List Proc) → Twins pid xs ys → Twins pid (orphaned_procs xs n) (orphaned_procs ys n)
 twins_orphaned pid n xs ys t =
+    let test : Proc → Bool = λ q. not ((q.parent == n) && is_ended q.life) in
     twins_map pid (λ (q : Proc). record q { parent = cond (q.parent == n) 0 q.parent })
     (λ x y o. record { first = o.first; second = o.second; parent = ap (λ (m : ℕ). cond (m == n) 0 m) o.parent; life = o.life })
     (filter test xs) (filter test ys) (twins_filter pid test (λ x y o. ap₂ (λ (m : ℕ) (l : Life). not ((m == n) && is_ended l)) o.parent o.life) xs ys t)
-  where
-    test : Proc → Bool
-    test q = not ((q.parent == n) && is_ended q.life)
 
 -- The one process of a number.
 

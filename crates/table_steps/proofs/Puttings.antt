@@ -39,14 +39,12 @@ use Rattle.table_steps.proofs.Launchings.{begun_place, begun_frames, named_resid
 pub rest_ring : (t u : Tables) (w : Tables) → u ≡ record t { core = u.core; spaces = u.spaces } → w ≡ record u { ring = w.ring }
     → w ≡ record t { core = w.core; spaces = w.spaces; ring = w.ring; front = w.front; back = w.back }
 rest_ring t u w e r =
+    let refl_ring : (u w : Tables) → record u { ring = w.ring } ≡ record u { ring = w.ring } = λ u w. refl in
     let x : w ≡ record t { core = u.core; spaces = u.spaces; ring = w.ring } = r ∙ ap (λ (z : Tables). record z { ring = w.ring }) e in
     x
     ∙ ap (λ (z : Tables). record t { core = z.core; spaces = z.spaces; ring = w.ring }) (sym (r ∙ refl_ring u w))
     ∙ ap (λ (n : ℕ). record t { core = w.core; spaces = w.spaces; ring = w.ring; front = n }) (sym (ap (λ (z : Tables). z.front) x))
     ∙ ap (λ (n : ℕ). record t { core = w.core; spaces = w.spaces; ring = w.ring; front = w.front; back = n }) (sym (ap (λ (z : Tables). z.back) x))
-  where
-    refl_ring : (u w : Tables) → record u { ring = w.ring } ≡ record u { ring = w.ring }
-    refl_ring u w = refl
 
 -- The write of a run.
 

@@ -91,6 +91,10 @@ pub retire_moves : (t u : Tables) (q : Page) (f : ℕ) → Known (lists_of t) �
     → is_marked_dirty q (mark_of (placement_of (lists_of t)) q) ≡ false → RetiredPage t u q f
     → MovedOn t u (retire (placement_of (lists_of t)) q)
 retire_moves t u q f k r clean m =
+    let rest_wide : (t u : Tables) → u ≡ record t { core = u.core; spaces = u.spaces } → record t { core = u.core; spaces = u.spaces } ≡ record t { core = u.core; spaces = u.spaces; ring = u.ring; front = u.front; back = u.back } = λ t u e.
+    ap (λ r. record t { core = u.core; spaces = u.spaces; ring = r }) (sym (ap (λ (x : Tables). x.ring) e))
+    ∙ ap (λ (n : ℕ). record t { core = u.core; spaces = u.spaces; ring = u.ring; front = n }) (sym (ap (λ (x : Tables). x.front) e))
+    ∙ ap (λ (n : ℕ). record t { core = u.core; spaces = u.spaces; ring = u.ring; front = u.front; back = n }) (sym (ap (λ (x : Tables). x.back) e)) in
     let l : Lists = lists_of t in
     let n : Lists = retired l q f r.token in
     let is : lists_of u ≡ n = retired_lists t u q f r m in
@@ -104,12 +108,6 @@ retire_moves t u q f k r clean m =
       ring = inl (ap (λ (x : Tables). x.ring) m.rest);
       rest = m.rest ∙ rest_wide t u m.rest;
     }
-  where
-    rest_wide : (t u : Tables) → u ≡ record t { core = u.core; spaces = u.spaces } → record t { core = u.core; spaces = u.spaces } ≡ record t { core = u.core; spaces = u.spaces; ring = u.ring; front = u.front; back = u.back }
-    rest_wide t u e =
-        ap (λ r. record t { core = u.core; spaces = u.spaces; ring = r }) (sym (ap (λ (x : Tables). x.ring) e))
-        ∙ ap (λ (n : ℕ). record t { core = u.core; spaces = u.spaces; ring = u.ring; front = n }) (sym (ap (λ (x : Tables). x.front) e))
-        ∙ ap (λ (n : ℕ). record t { core = u.core; spaces = u.spaces; ring = u.ring; front = u.front; back = n }) (sym (ap (λ (x : Tables). x.back) e))
 
 -- From a frame that was lifted.
 pub retired_by : (t u : Tables) (core : Frames) (token given : Frame) (q : Page) (f g : ℕ) → g ≡ f → token ≡ token_of (slot_at t.core.slots g)

@@ -85,17 +85,16 @@ lost_image t sid e = found_is t.core.slots t.spaces sid ∙ ap or_zero e
 
 pub facts_low : (n image : ℕ) (facts : List Image) (x : Image) → facts_in n image facts ≡ Some x → (n ≤ image) × (image < n + length facts)
 facts_low n image [] x e = absurd cc
-facts_low n image (y ∷ more) x e = elim (cases_eq n image) [
-  | inl i ↦ (omega arith, omega arith)
-  | inr d ↦
-      let h = facts_low (n + 1) image more x (sym (skip d) ∙ e) in
-      let a = h.0 in
-      let b = h.1 in
-      (omega arith, omega arith)
-]
-  where
-    skip : n ≢ image → facts_in n image (y ∷ more) ≡ facts_in (n + 1) image more
-    skip d = grind (arith, nat_tests)
+facts_low n image (y ∷ more) x e =
+    let skip : n ≢ image → facts_in n image (y ∷ more) ≡ facts_in (n + 1) image more = λ d. grind (arith, nat_tests) in
+    elim (cases_eq n image) [
+      | inl i ↦ (omega arith, omega arith)
+      | inr d ↦
+          let h = facts_low (n + 1) image more x (sym (skip d) ∙ e) in
+          let a = h.0 in
+          let b = h.1 in
+          (omega arith, omega arith)
+    ]
 
 found_low : (facts : List Image) (ss : List Places) (sid i : ℕ) → EachSpace (IsFilled facts) ss → image_found ss sid ≡ Some i → (1 ≤ i) × (i < 1 + length facts)
 found_low facts [] sid i h e = absurd cc
@@ -116,12 +115,10 @@ image_range t sid i k e =
 none_shares : (facts : List Image) (slots : List Token) (ss : List Places) → EachSpace (IsFilled facts) ss → sharers_in 0 (map (space_shown slots) ss) ≡ 0
 none_shares facts slots [] h = refl
 none_shares facts slots (s ∷ ss) h =
+    let skip : s.image ≢ 0 → sharers_in 0 (map (space_shown slots) (s ∷ ss)) ≡ sharers_in 0 (map (space_shown slots) ss) = λ d. grind (arith, nat_tests) in
     let l = facts_low 1 s.image facts s.facts h.0.facts_are in
     let a = l.0 in
     skip (omega arith) ∙ none_shares facts slots ss h.1
-  where
-    skip : s.image ≢ 0 → sharers_in 0 (map (space_shown slots) (s ∷ ss)) ≡ sharers_in 0 (map (space_shown slots) ss)
-    skip d = grind (arith, nat_tests)
 
 -- The answers.
 

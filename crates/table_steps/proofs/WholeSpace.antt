@@ -81,10 +81,9 @@ data_there p sid n e = pages_from_each (IsThere p) (Data sid 0) 0 (n - 0) (λ w 
     there w l = l
 
 pub stack_there : (p : Placement) (sid n : ℕ) → n ≡ stack_count p sid → EachPage (IsThere p) (pages_from (Stack sid 0) 0 (n - 0))
-stack_there p sid n e = pages_from_each (IsThere p) (Stack sid 0) 0 (n - 0) (λ w l m. there w (omega arith))
-  where
-    there : (w : ℕ) → w < stack_count p sid → IsThere p (Stack sid w)
-    there w l = l
+stack_there p sid n e =
+    let there : (w : ℕ) → w < stack_count p sid → IsThere p (Stack sid w) = λ w l. l in
+    pages_from_each (IsThere p) (Stack sid 0) 0 (n - 0) (λ w l m. there w (omega arith))
 
 pub data_rest : (p : Placement) (sid n : ℕ) → IsSettled p sid → EachPage (λ q. AtRest (state_of p q)) (pages_from (Data sid 0) 0 n)
 data_rest p sid n h = pages_from_each (λ q. AtRest (state_of p q)) (Data sid 0) 0 n (λ w l m. h.data_rests w)
@@ -109,11 +108,9 @@ pub space_dropped : (t u w : Tables) (sid n m : ℕ) → n ≡ data_count (place
     → m ≡ stack_count (placement_of (lists_of t)) sid
     → Dropped t u (pages_from (Data sid 0) 0 (n - 0)) → Dropped u w (pages_from (Stack sid 0) 0 (m - 0)) → Dropped t w (pages_of_space (placement_of (lists_of t)) sid)
 space_dropped t u w sid n m a b d e =
+    let k : (x : ℕ) → x - 0 ≡ x = λ x. omega arith in
     subst (λ (qs : List Page). Dropped t w (qs ++ stack_from sid 0 (stack_count (placement_of (lists_of t)) sid))) (ap (pages_from (Data sid 0) 0) (k n ∙ a))
     (subst (λ (qs : List Page). Dropped t w (pages_from (Data sid 0) 0 (n - 0) ++ qs)) (ap (pages_from (Stack sid 0) 0) (k m ∙ b)) (dropped_more t u w (pages_from (Data sid 0) 0 (n - 0)) (pages_from (Stack sid 0) 0 (m - 0)) d e))
-  where
-    k : (x : ℕ) → x - 0 ≡ x
-    k x = omega arith
 
 -- The spaces have the names that they had.
 
