@@ -1,15 +1,13 @@
 -- Joining while writing gives the text of the joined entries.
 use Rattle.std.proofs.Common.{◌≡◌, ℕ, ◌+◌, ◌<◌, Bool, true, false, List, [], ◌∷◌, ◌++◌, length, get_or, drop, refl, sym, ◌∙◌, ap, subst, append_assoc, add_assoc, arith, drop-cons, add-one, codes}
-use Rattle.std.specs.Prelude.{Option, Some, None, Result, Err, ◌==◌}
+use Rattle.std.specs.Prelude.{Option, Some, None, ◌==◌}
 use Rattle.std.proofs.lemmas.List.{append-nil}
 use Rattle.vm_facts.specs.declared.entry.Entry.{Entry}
 use Rattle.vm_facts.specs.declared.entry.Entry.TheVariants.{Event, Turn, Ran, Out, Grew, Call, Refused, Sleeps, Ended, Zero, Get, Copy, Reclaim, Hands, Put, SwapOut, SwapIn, Owners}
 use Rattle.vm_facts.specs.declared.entry.Entry.TheVariants as entry
 use Rattle.run_text.specs.declared.waiting.Run.{Run}
-use Rattle.run_text.specs.Buffered.{Passes, Fails, Puts}
 use Rattle.run_text.specs.Text.{part, parts, line_of, lines_of, is_paging, join, join_ran, joined, unless, without_paging}
-use Rattle.run_text.specs.Running.{waiting, waiting_text, text_unless_same, lengthened, other_text, text_at, run_after, Progress}
-use Rattle.run_text.proofs.Passing.{passes_then, fails_then, fails_more, puts_then, puts_failed}
+use Rattle.run_text.specs.Running.{waiting, waiting_text, text_unless_same, lengthened, text_at, run_after}
 use Rattle.std.proofs.lemmas.Bool.Decides.{nat_tests}
 
 ended_parts : (x y z : List ℕ) → (x ++ []) ++ (y ++ z) ≡ (x ++ (y ++ [])) ++ z
@@ -77,58 +75,22 @@ left_at es i e h is =
     let split : drop i es ≡ e ∷ drop (i + 1) es = subst (λ (k : ℕ). drop i es ≡ get_or es i e ∷ drop k es) (sym (add-one i)) (drop-cons es i e h) ∙ ap (λ (x : Entry). x ∷ drop (i + 1) es) is in
     ap (λ (xs : List Entry). without_paging xs) split
 
--- the whole text at an entry
-whole_at : (front : List ℕ) (run : Option Run) (es whole : List Entry) (i : ℕ) (e : Entry) → i < length es → get_or es i e ≡ e
-    → front ++ lines_of (joined (waiting run ++ without_paging (drop i es))) ≡ lines_of (joined (without_paging whole))
-    → (front ++ text_at run e) ++ lines_of (joined (waiting (run_after run e) ++ without_paging (drop (i + 1) es))) ≡ lines_of (joined (without_paging whole))
-whole_at front run es whole i e h is rest =
-    let here : lines_of (joined (waiting run ++ without_paging (drop i es))) ≡ text_at run e ++ lines_of (joined (waiting (run_after run e) ++ without_paging (drop (i + 1) es))) =
-    ap (λ (xs : List Entry). lines_of (joined (waiting run ++ xs))) (left_at es i e h is) ∙ step run e (without_paging (drop (i + 1) es)) in
-    append_assoc front (text_at run e) (lines_of (joined (waiting (run_after run e) ++ without_paging (drop (i + 1) es)))) ∙ ap (λ (z : List ℕ). front ++ z) (sym here) ∙ rest
+-- the text of what waits and of the entries that are left, at an entry
+pub joined_at : (run : Option Run) (es : List Entry) (i : ℕ) (e : Entry) → i < length es → get_or es i e ≡ e
+    → lines_of (joined (waiting run ++ without_paging (drop i es))) ≡ text_at run e ++ lines_of (joined (waiting (run_after run e) ++ without_paging (drop (i + 1) es)))
+joined_at run es i e h is =
+    ap (λ (xs : List Entry). lines_of (joined (waiting run ++ xs))) (left_at es i e h is) ∙ step run e (without_paging (drop (i + 1) es))
 
--- an entry passes
-pub progress_step : (w : Option (List ℕ)) (p : List ℕ) (w' : Option (List ℕ)) (p' : List ℕ) (w'' : Option (List ℕ)) (p'' : List ℕ) (run run' : Option Run) (es : List Entry) (i : ℕ) (e : Entry)
-    → i < length es → get_or es i e ≡ e → Progress w p w' p' run (drop i es) es → Passes w' p' (text_at run e) w'' p'' → run' ≡ run_after run e
-    → Progress w p w'' p'' run' (drop (i + 1) es) es
-progress_step w p w' p' w'' p'' run run' es i e h is so_far b after =
-    subst (λ (r : Option Run). Progress w p w'' p'' r (drop (i + 1) es) es) (sym after) (record {
-      front = so_far.front ++ text_at run e;
-      passes = passes_then w p so_far.front w' p' (text_at run e) w'' p'' so_far.passes b;
-      rest = whole_at so_far.front run es es i e h is so_far.rest;
-    })
-
--- an entry fails
-pub progress_failed : {T E : Type 0} (r : Result T E) (f : E) (w : Option (List ℕ)) (p : List ℕ) (w' : Option (List ℕ)) (p' : List ℕ) (w'' : Option (List ℕ)) (p'' : List ℕ) (run : Option Run) (es : List Entry) (i : ℕ) (e : Entry)
-    → r ≡ Err f → i < length es → get_or es i e ≡ e → Progress w p w' p' run (drop i es) es → Fails w' p' (text_at run e) w'' p'' → Puts r w p (lines_of (joined (without_paging es))) w'' p''
-progress_failed {T} {E} r f w p w' p' w'' p'' run es i e failed h is so_far b =
-    subst (λ (r : Result T E). Puts r w p (lines_of (joined (without_paging es))) w'' p'') (sym failed)
-    (subst (λ (z : List ℕ). Fails w p z w'' p'') (whole_at so_far.front run es es i e h is so_far.rest)
-    (fails_more w p (so_far.front ++ text_at run e) (lines_of (joined (waiting (run_after run e) ++ without_paging (drop (i + 1) es)))) w'' p''
-    (fails_then w p so_far.front w' p' (text_at run e) w'' p'' so_far.passes b)))
+-- the same with what waits then
+pub joined_then : (run run' : Option Run) (es : List Entry) (i : ℕ) (e : Entry) → i < length es → get_or es i e ≡ e → run' ≡ run_after run e
+    → lines_of (joined (waiting run ++ without_paging (drop i es))) ≡ text_at run e ++ lines_of (joined (waiting run' ++ without_paging (drop (i + 1) es)))
+joined_then run run' es i e h is after =
+    joined_at run es i e h is ∙ ap (λ (r : Option Run). text_at run e ++ lines_of (joined (waiting r ++ without_paging (drop (i + 1) es)))) (sym after)
 
 waiting_lines : (run : Option Run) → lines_of (joined (waiting run ++ [])) ≡ waiting_text run
 waiting_lines None = refl
 waiting_lines (Some r) = append-nil (line_of (Ran r.pid r.count))
 
--- at the end what waits is written
-pub progress_end : {T E : Type 0} (r : Result T E) (w : Option (List ℕ)) (p : List ℕ) (w' : Option (List ℕ)) (p' : List ℕ) (w'' : Option (List ℕ)) (p'' : List ℕ) (run : Option Run) (es : List Entry) (left : List Entry)
-    → left ≡ [] → Progress w p w' p' run left es → Puts r w' p' (waiting_text run) w'' p''
-    → Puts r w p (lines_of (joined (without_paging es))) w'' p''
-progress_end r w p w' p' w'' p'' run es left none so_far b =
-    let last : lines_of (joined (waiting run ++ without_paging left)) ≡ waiting_text run =
-    ap (λ (xs : List Entry). lines_of (joined (waiting run ++ without_paging xs))) none ∙ waiting_lines run in
-    let whole : so_far.front ++ waiting_text run ≡ lines_of (joined (without_paging es)) =
-    ap (λ (z : List ℕ). so_far.front ++ z) (sym last) ∙ so_far.rest in
-    subst (λ (z : List ℕ). Puts r w p z w'' p'') whole
-    (puts_then r w p so_far.front w' p' (waiting_text run) w'' p'' so_far.passes b)
-
--- where an entry is no paging entry, and the waiting one fails, or passes and the entry follows it
-pub other_failed : {T E : Type 0} (b : Bool) (r : Result T E) (f : E) (w : Option (List ℕ)) (p : List ℕ) (run : Option Run) (e : Entry) (w' : Option (List ℕ)) (p' : List ℕ)
-    → b ≡ false → r ≡ Err f → Fails w p (waiting_text run) w' p' → Puts r w p (other_text b run e) w' p'
-other_failed b r f w p run e w' p' not failed h =
-    subst (λ (t : Bool). Puts r w p (other_text t run e) w' p') (sym not) (puts_failed r f w p (waiting_text run) (line_of e) w' p' failed h)
-
-pub other_passed : {T E : Type 0} (b : Bool) (r : Result T E) (w : Option (List ℕ)) (p : List ℕ) (run : Option Run) (e : Entry) (w' : Option (List ℕ)) (p' : List ℕ) (w'' : Option (List ℕ)) (p'' : List ℕ)
-    → b ≡ false → Passes w p (waiting_text run) w' p' → Puts r w' p' (line_of e) w'' p'' → Puts r w p (other_text b run e) w'' p''
-other_passed b r w p run e w' p' w'' p'' not h more =
-    subst (λ (t : Bool). Puts r w p (other_text t run e) w'' p'') (sym not) (puts_then r w p (waiting_text run) w' p' (line_of e) w'' p'' h more)
+-- where no entry is left
+pub joined_end : (run : Option Run) {left : List Entry} → left ≡ [] → lines_of (joined (waiting run ++ without_paging left)) ≡ waiting_text run
+joined_end run {left} none = ap (λ (xs : List Entry). lines_of (joined (waiting run ++ without_paging xs))) none ∙ waiting_lines run

@@ -8,6 +8,7 @@ pub mod Numbered
 pub mod NumberRows
 pub mod Parts
 pub mod Passing
+pub mod Putting
 pub mod Reading
 pub mod Words
 pub mod WrittenLines

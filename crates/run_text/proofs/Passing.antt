@@ -1,9 +1,7 @@
 -- Bytes that go through a buffer to a sink, one piece after another.
-use Rattle.std.proofs.Common.{◌≡◌, ℕ, ◌+◌, ◌<◌, List, [], ◌∷◌, ◌++◌, length, get_or, take, drop, refl, sym, ◌∙◌, ap, subst, append_assoc, arith, length-append}
+use Rattle.std.proofs.Common.{◌≡◌, ℕ, ◌+◌, List, [], ◌++◌, length, take, refl, sym, ◌∙◌, ap, subst, append_assoc, arith, length-append}
 use Rattle.std.specs.Prelude.{Option, Some, None, Result, Ok, Err, OnOk, OnErr}
-use Rattle.std.specs.List.{flat_map}
-use Rattle.std.proofs.lemmas.List.{append-nil, take_more, take-append-drop, take-append-le}
-use Rattle.std.proofs.lemmas.Grind.{flat_map-append}
+use Rattle.std.proofs.lemmas.List.{append-nil, take-append-le}
 use Rattle.std.proofs.Math.Seq.{take-append-add}
 use Rattle.io_edge.specs.Written.{Appends, AppendsSome}
 use Rattle.run_text.specs.Buffered.{Passes, Fails, Puts}
@@ -73,30 +71,6 @@ puts_failed {T} {E} r e w p x y w' p' is f = subst (λ (r : Result T E). Puts r 
 pub passes_none : (w : Option (List ℕ)) (p : List ℕ) → Passes w p [] w p
 passes_none None p = record { moved = []; appended = refl; kept = sym (append-nil p) }
 passes_none (Some u) p = record { moved = []; appended = ap (λ (z : List ℕ). Some z) (sym (append-nil u)); kept = sym (append-nil p) }
-
--- the text of one more item passes
-pub each_more : {X : Type 0} (f : X → List ℕ) (xs : List X) (i : ℕ) (d : X) (w : Option (List ℕ)) (p : List ℕ) (w' : Option (List ℕ)) (p' : List ℕ) (w'' : Option (List ℕ)) (p'' : List ℕ)
-    → i < length xs → Passes w p (flat_map f (take i xs)) w' p' → Passes w' p' (f (get_or xs i d)) w'' p''
-    → Passes w p (flat_map f (take (i + 1) xs)) w'' p''
-each_more {X} f xs i d w p w' p' w'' p'' h a b =
-    let e : flat_map f (take (i + 1) xs) ≡ flat_map f (take i xs) ++ f (get_or xs i d) =
-    ap (λ (zs : List X). flat_map f zs) (take_more xs i d h) ∙ flat_map-append f (take i xs) (get_or xs i d ∷ []) ∙ ap (λ (z : List ℕ). flat_map f (take i xs) ++ z) (append-nil (f (get_or xs i d))) in
-    subst (λ (z : List ℕ). Passes w p z w'' p'') (sym e) (passes_then w p (flat_map f (take i xs)) w' p' (f (get_or xs i d)) w'' p'' a b)
-
--- the text of one item fails
-pub each_failed : {X T E : Type 0} (r : Result T E) (e : E) (f : X → List ℕ) (xs : List X) (i : ℕ) (d : X) (w : Option (List ℕ)) (p : List ℕ) (w' : Option (List ℕ)) (p' : List ℕ) (w'' : Option (List ℕ)) (p'' : List ℕ)
-    → r ≡ Err e → i < length xs → Passes w p (flat_map f (take i xs)) w' p' → Fails w' p' (f (get_or xs i d)) w'' p'' → Puts r w p (flat_map f xs) w'' p''
-each_failed {X} {T} {E} r e f xs i d w p w' p' w'' p'' is h a b =
-    let one = f (get_or xs i d) in
-    let front = flat_map f (take i xs) in
-    let more = flat_map f (drop (i + 1) xs) in
-    let e : flat_map f (take (i + 1) xs) ≡ front ++ one =
-    ap (λ (zs : List X). flat_map f zs) (take_more xs i d h) ∙ flat_map-append f (take i xs) (get_or xs i d ∷ []) ∙ ap (λ (z : List ℕ). front ++ z) (append-nil one) in
-    let whole : (front ++ one) ++ more ≡ flat_map f xs =
-    ap (λ (z : List ℕ). z ++ more) (sym e) ∙ sym (flat_map-append f (take (i + 1) xs) (drop (i + 1) xs)) ∙ ap (λ (zs : List X). flat_map f zs) (take-append-drop (i + 1) xs) in
-    let failed : Fails w p (front ++ one) w'' p'' = fails_then w p front w' p' one w'' p'' a b in
-    subst (λ (r : Result T E). Puts r w p (flat_map f xs) w'' p'') (sym is)
-    (subst (λ (z : List ℕ). Fails w p z w'' p'') whole (fails_more w p (front ++ one) more w'' p'' failed))
 
 -- bytes pass that nothing waited before, and then what waits is written
 pub ends_done : {T E : Type 0} (r : Result T E) (w : Option (List ℕ)) (p x : List ℕ) (w' : Option (List ℕ)) (p' : List ℕ) (w'' : Option (List ℕ))

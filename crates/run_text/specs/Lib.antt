@@ -6,3 +6,4 @@ pub mod Running
 pub mod Schedule
 pub mod Text
 pub mod Transcript
+pub mod Writing

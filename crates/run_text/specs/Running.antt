@@ -1,10 +1,9 @@
 -- A `Ran` that may still be joined by the next one, while the other lines are written.
-use Rattle.std.specs.Prelude.{◌≡◌, ℕ, ◌+◌, ◌==◌, Bool, true, false, List, [], ◌∷◌, ◌++◌, Option, Some, None}
+use Rattle.std.specs.Prelude.{ℕ, ◌+◌, ◌==◌, Bool, true, false, List, [], ◌∷◌, ◌++◌, Option, Some, None}
 use Rattle.vm_facts.specs.declared.entry.Entry.{Entry}
 use Rattle.vm_facts.specs.declared.entry.Entry.TheVariants.{Ran}
 use Rattle.run_text.specs.declared.waiting.Run.{Run}
-use Rattle.run_text.specs.Buffered.{Passes}
-use Rattle.run_text.specs.Text.{line_of, lines_of, is_paging, joined, without_paging}
+use Rattle.run_text.specs.Text.{line_of, is_paging}
 
 -- the waiting entry
 abbrev pub waiting : Option Run → List Entry
@@ -57,9 +56,3 @@ text_at run e = other_text (is_paging e) run e
 abbrev pub run_after : Option Run → Entry → Option Run
 run_after run (Ran pid count) = Some (run_with run pid count)
 run_after run e = other_run (is_paging e) run
-
--- so far: what passed, and the text of what waits and of the entries that are left, make the whole text
-pub record Progress (written : Option (List ℕ)) (out : List ℕ) (written' : Option (List ℕ)) (out' : List ℕ) (run : Option Run) (left whole : List Entry) : Type 0 where
-  pub front : List ℕ
-  pub passes : Passes written out front written' out'
-  pub rest : front ++ lines_of (joined (waiting run ++ without_paging left)) ≡ lines_of (joined (without_paging whole))

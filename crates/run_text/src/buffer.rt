@@ -7,10 +7,10 @@ ghost use Rattle.run_text.specs.Buffered.{Puts};
 use io_edge::{Failed, Sink, put_all};
 use std::marker::Model;
 
-/// Bytes that wait to be written to a sink, at most 4,096, kept with no memory taken. Contracts see
-/// the list of them.
+// Bytes that wait to be written to a sink, at most 4,096, kept with no memory taken. Contracts see
+// the list of them.
 #[derive(Drop)]
-pub struct OutputBuffer {
+pub(crate) struct OutputBuffer {
     bytes: [u8; 4096],
     len: usize,
 }
@@ -24,8 +24,8 @@ impl Model for OutputBuffer {
 }
 
 impl OutputBuffer {
-    /// A buffer in which nothing waits.
-    pub fn new() -> OutputBuffer
+    // A buffer in which nothing waits.
+    pub(crate) fn new() -> OutputBuffer
         ensures { result ≡ [] }
     {
         OutputBuffer {
@@ -51,8 +51,8 @@ impl OutputBuffer {
         self.len = end;
     }
 
-    /// Writes the waiting bytes. Afterwards nothing waits, also where the sink failed.
-    pub fn flush<S: Sink>(&mut self, sink: &mut S) -> Result<(), Failed>
+    // Writes the waiting bytes. Afterwards nothing waits, also where the sink failed.
+    pub(crate) fn flush<S: Sink>(&mut self, sink: &mut S) -> Result<(), Failed>
         ensures leads { S.leads sink.old sink.new }
         ensures done { OnOk result (Appends (S.written sink.old) self.old (S.written sink.new)) }
         ensures failed { OnErr result (AppendsSome (S.written sink.old) self.old (S.written sink.new)) }
@@ -67,8 +67,8 @@ impl OutputBuffer {
         put_all(sink, &self.bytes[..len])
     }
 
-    /// Puts the piece after the waiting bytes, and writes where not all can wait.
-    pub fn put<S: Sink>(&mut self, sink: &mut S, piece: &[u8]) -> Result<(), Failed>
+    // Puts the piece after the waiting bytes, and writes where not all can wait.
+    pub(crate) fn put<S: Sink>(&mut self, sink: &mut S, piece: &[u8]) -> Result<(), Failed>
         ensures leads { S.leads sink.old sink.new }
         ensures puts { Puts result (S.written sink.old) self.old piece.now (S.written sink.new) self.new }
         ensures faults { CountsErr result (S.faults sink.old) (S.faults sink.new) }

@@ -14,9 +14,9 @@ mod schedule_reader;
 mod text;
 mod transcript_reader;
 mod waiting;
+mod writer;
 
 pub use answers::{Schedule, Transcript};
-pub use buffer::OutputBuffer;
 pub use entry_reader::page_from;
 pub use line::{put_named, put_page};
 pub use numbers::{Numbers, read_numbers};
@@ -25,3 +25,4 @@ pub use ranges::have_numbers;
 pub use schedule_reader::read_schedule;
 pub use text::{write_entry, write_text};
 pub use transcript_reader::read_transcript;
+pub use writer::Writer;

@@ -1,30 +1,26 @@
 // The text of a journal.
-#![tactic(auto, using(crate::proofs::Passing::puts_then, crate::proofs::Passing::puts_failed))]
+#![tactic(auto, using(crate::proofs::Putting::text_none))]
 
-ghost use Rattle.std.specs.Prelude.{◌≡◌, ℕ, ◌+◌, ◌^◌, ◌<◌, ◌≤◌, Bool, true, false, Option, Some, None, List, [], ◌∷◌, ◌++◌, codes, OnOk, OnErr};
-ghost use Rattle.io_edge.specs.Count.{Counts, OnDone, OnFailed};
-ghost use Rattle.io_edge.specs.Transfer.{CountsErr};
-ghost use Rattle.io_edge.specs.Written.{Appends, AppendsSome};
+ghost use Rattle.std.specs.Prelude.{◌≡◌, ℕ, ◌+◌, ◌^◌, ◌<◌, ◌≤◌, Bool, true, false, Option, Some, None, List, [], ◌∷◌, ◌++◌, codes, OnOk};
+ghost use Rattle.io_edge.specs.Calls.{PutsBytes};
 ghost use Rattle.vm_facts.specs.declared.entry.Entry.TheVariants.{Ran};
-ghost use Rattle.run_text.specs.Buffered.{Puts};
 ghost use Rattle.run_text.specs.Text.{part, line_of, lines_of, is_paging, joined, without_paging, text_of};
 ghost use Rattle.run_text.specs.Running.{waiting_text, waiting_count, text_before, run_with, other_text, other_run, text_at, run_after};
+ghost use Rattle.run_text.specs.Writing.{PutsText, WritesText};
 
-use crate::buffer::OutputBuffer;
 use crate::line::{put_both, put_entry, put_named};
 use crate::waiting::Run;
+use crate::writer::Writer;
 use io_edge::{Failed, Moved, Sink};
 use itoa::Buffer;
 use vm_facts::Entry;
 
 // Puts the lines of entries.
-fn put_lines<S: Sink>(out: &mut OutputBuffer, sink: &mut S, entries: &[Entry]) -> Result<(), Failed>
-    ensures leads { S.leads sink.old sink.new }
-    ensures puts { Puts result (S.written sink.old) out.old (lines_of entries.now) (S.written sink.new) out.new }
-    ensures faults { CountsErr result (S.faults sink.old) (S.faults sink.new) }
+fn put_lines<S: Sink>(out: &mut Writer<'_, S>, entries: &[Entry]) -> Result<(), Failed>
+    ensures { PutsText S.Sink result (lines_of entries.now) out.old out.new }
 {
     for e in entries {
-        put_entry(out, sink, e)?;
+        put_entry(out, e)?;
     }
     Ok(())
 }
@@ -57,72 +53,48 @@ fn is_paging(e: &Entry) -> bool
 }
 
 // Puts a number of any size after a space.
-fn put_large_number<S: Sink>(
-    out: &mut OutputBuffer,
-    sink: &mut S,
-    number: u128,
-) -> Result<(), Failed>
-    ensures leads { S.leads sink.old sink.new }
-    ensures puts { Puts result (S.written sink.old) out.old (part number) (S.written sink.new) out.new }
-    ensures faults { CountsErr result (S.faults sink.old) (S.faults sink.new) }
+fn put_large_number<S: Sink>(out: &mut Writer<'_, S>, number: u128) -> Result<(), Failed>
+    ensures { PutsText S.Sink result (part number) out.old out.new }
 {
     let mut digits = Buffer::new();
-    put_both(out, sink, b" ", digits.format(number).as_bytes())
+    put_both(out, b" ", digits.format(number).as_bytes())
 }
 
 // Puts a number of any size and the line's end.
-fn put_last_number<S: Sink>(
-    out: &mut OutputBuffer,
-    sink: &mut S,
-    number: u128,
-) -> Result<(), Failed>
-    ensures leads { S.leads sink.old sink.new }
-    ensures puts { Puts result (S.written sink.old) out.old (part number ++ codes "\n") (S.written sink.new) out.new }
-    ensures faults { CountsErr result (S.faults sink.old) (S.faults sink.new) }
+fn put_last_number<S: Sink>(out: &mut Writer<'_, S>, number: u128) -> Result<(), Failed>
+    ensures { PutsText S.Sink result (part number ++ codes "\n") out.old out.new }
 {
-    put_large_number(out, sink, number)?;
-    out.put(sink, b"\n")
+    put_large_number(out, number)?;
+    out.put(b"\n")
 }
 
 // Puts the line of a joined `Ran`.
-fn put_ran<S: Sink>(
-    out: &mut OutputBuffer,
-    sink: &mut S,
-    pid: u32,
-    count: u128,
-) -> Result<(), Failed>
-    ensures leads { S.leads sink.old sink.new }
-    ensures puts { Puts result (S.written sink.old) out.old (line_of (Ran pid count)) (S.written sink.new) out.new }
-    ensures faults { CountsErr result (S.faults sink.old) (S.faults sink.new) }
+fn put_ran<S: Sink>(out: &mut Writer<'_, S>, pid: u32, count: u128) -> Result<(), Failed>
+    ensures { PutsText S.Sink result (line_of (Ran pid count)) out.old out.new }
 {
-    put_named(out, sink, b"r", &[pid])?;
-    put_last_number(out, sink, count)
+    put_named(out, b"r", &[pid])?;
+    put_last_number(out, count)
 }
 
 // Puts the line of what waits.
-fn put_run<S: Sink>(out: &mut OutputBuffer, sink: &mut S, run: &Option<Run>) -> Result<(), Failed>
-    ensures leads { S.leads sink.old sink.new }
-    ensures puts { Puts result (S.written sink.old) out.old (waiting_text run.now) (S.written sink.new) out.new }
-    ensures faults { CountsErr result (S.faults sink.old) (S.faults sink.new) }
+fn put_run<S: Sink>(out: &mut Writer<'_, S>, run: &Option<Run>) -> Result<(), Failed>
+    ensures { PutsText S.Sink result (waiting_text run.now) out.old out.new }
 {
     match run {
         None => Ok(()),
-        Some(waiting) => put_ran(out, sink, waiting.pid, waiting.count),
+        Some(waiting) => put_ran(out, waiting.pid, waiting.count),
     }
 }
 
 // A `Ran` comes: it's joined to one of its process that waits; else it waits in place of that one.
 fn put_counted<S: Sink>(
-    out: &mut OutputBuffer,
-    sink: &mut S,
+    out: &mut Writer<'_, S>,
     run: &mut Option<Run>,
     pid: u32,
     count: u32,
 ) -> Result<(), Failed>
     requires { waiting_count run.old + 2 ^ 32 < 2 ^ 128 }
-    ensures leads { S.leads sink.old sink.new }
-    ensures puts { Puts result (S.written sink.old) out.old (text_before run.old pid) (S.written sink.new) out.new }
-    ensures faults { CountsErr result (S.faults sink.old) (S.faults sink.new) }
+    ensures puts { PutsText S.Sink result (text_before run.old pid) out.old out.new }
     ensures run { OnOk result (run.new ≡ Some (run_with run.old pid count)) }
     ensures count { OnOk result (waiting_count run.new ≤ waiting_count run.old + 2 ^ 32) }
 {
@@ -136,19 +108,16 @@ fn put_counted<S: Sink>(
         pid,
         count: count as u128,
     });
-    put_run(out, sink, &ended)
+    put_run(out, &ended)
 }
 
 // An entry comes that isn't a `Ran`: where it's no paging entry, it's put after what waits.
 fn put_other<S: Sink>(
-    out: &mut OutputBuffer,
-    sink: &mut S,
+    out: &mut Writer<'_, S>,
     run: &mut Option<Run>,
     e: &Entry,
 ) -> Result<(), Failed>
-    ensures leads { S.leads sink.old sink.new }
-    ensures puts { Puts result (S.written sink.old) out.old (other_text (is_paging e.now) run.old e.now) (S.written sink.new) out.new }
-    ensures faults { CountsErr result (S.faults sink.old) (S.faults sink.new) }
+    ensures puts { PutsText S.Sink result (other_text (is_paging e.now) run.old e.now) out.old out.new }
     ensures run { OnOk result (run.new ≡ other_run (is_paging e.now) run.old) }
     ensures count { OnOk result (waiting_count run.new ≤ waiting_count run.old) }
 {
@@ -156,101 +125,76 @@ fn put_other<S: Sink>(
         return Ok(());
     }
     let ended = run.take();
-    put_run(out, sink, &ended)?;
-    put_entry(out, sink, e)
+    put_run(out, &ended)?;
+    put_entry(out, e)
 }
 
 // An entry comes.
 fn put_next<S: Sink>(
-    out: &mut OutputBuffer,
-    sink: &mut S,
+    out: &mut Writer<'_, S>,
     run: &mut Option<Run>,
     e: &Entry,
 ) -> Result<(), Failed>
     requires { waiting_count run.old + 2 ^ 32 < 2 ^ 128 }
-    ensures leads { S.leads sink.old sink.new }
-    ensures puts { Puts result (S.written sink.old) out.old (text_at run.old e.now) (S.written sink.new) out.new }
-    ensures faults { CountsErr result (S.faults sink.old) (S.faults sink.new) }
+    ensures puts { PutsText S.Sink result (text_at run.old e.now) out.old out.new }
     ensures run { OnOk result (run.new ≡ run_after run.old e.now) }
     ensures count { OnOk result (waiting_count run.new ≤ waiting_count run.old + 2 ^ 32) }
 {
     match e {
-        Entry::Ran { pid, count } => put_counted(out, sink, run, *pid, *count),
-        _ => put_other(out, sink, run, e),
+        Entry::Ran { pid, count } => put_counted(out, run, *pid, *count),
+        _ => put_other(out, run, e),
     }
 }
 
 // Puts the lines of the entries without the paging entries, joined.
-fn put_joined<S: Sink>(
-    out: &mut OutputBuffer,
-    sink: &mut S,
-    entries: &[Entry],
-) -> Result<(), Failed>
-    ensures leads { S.leads sink.old sink.new }
-    ensures puts { Puts result (S.written sink.old) out.old (lines_of (joined (without_paging entries.now))) (S.written sink.new) out.new }
-    ensures faults { CountsErr result (S.faults sink.old) (S.faults sink.new) }
+fn put_joined<S: Sink>(out: &mut Writer<'_, S>, entries: &[Entry]) -> Result<(), Failed>
+    ensures { PutsText S.Sink result (lines_of (joined (without_paging entries.now))) out.old out.new }
 {
     let mut run = None;
     for e in entries {
-        put_next(out, sink, &mut run, e)?;
+        put_next(out, &mut run, e)?;
     }
-    put_run(out, sink, &run)
+    put_run(out, &run)
 }
 
 // Puts the text of a journal.
 #[tactic(auto, unfolding(crate::specs::Text::text_of))]
-fn put_text<S: Sink>(
-    out: &mut OutputBuffer,
-    sink: &mut S,
-    trace: bool,
-    entries: &[Entry],
-) -> Result<(), Failed>
-    ensures leads { S.leads sink.old sink.new }
-    ensures puts { Puts result (S.written sink.old) out.old (text_of trace entries.now) (S.written sink.new) out.new }
-    ensures faults { CountsErr result (S.faults sink.old) (S.faults sink.new) }
+fn put_text<S: Sink>(out: &mut Writer<'_, S>, trace: bool, entries: &[Entry]) -> Result<(), Failed>
+    ensures { PutsText S.Sink result (text_of trace entries.now) out.old out.new }
 {
     if trace {
-        put_lines(out, sink, entries)
+        put_lines(out, entries)
     } else {
-        put_joined(out, sink, entries)
+        put_joined(out, entries)
     }
 }
 
 // Puts the text of a journal and what follows it.
 fn put_text_and<S: Sink>(
-    out: &mut OutputBuffer,
-    sink: &mut S,
+    out: &mut Writer<'_, S>,
     trace: bool,
     entries: &[Entry],
     last: &[u8],
 ) -> Result<(), Failed>
-    ensures leads { S.leads sink.old sink.new }
-    ensures puts { Puts result (S.written sink.old) out.old (text_of trace entries.now ++ last.now) (S.written sink.new) out.new }
-    ensures faults { CountsErr result (S.faults sink.old) (S.faults sink.new) }
+    ensures { PutsText S.Sink result (text_of trace entries.now ++ last.now) out.old out.new }
 {
-    put_text(out, sink, trace, entries)?;
-    out.put(sink, last)
+    put_text(out, trace, entries)?;
+    out.put(last)
 }
 
 // Writes the line of an entry through a buffer of its own.
 fn write_line<S: Sink>(sink: &mut S, e: &Entry) -> Result<(), Failed>
-    ensures leads { S.leads sink.old sink.new }
-    ensures done { OnOk result (Appends (S.written sink.old) (line_of e.now) (S.written sink.new)) }
-    ensures failed { OnErr result (AppendsSome (S.written sink.old) (line_of e.now) (S.written sink.new)) }
-    ensures faults { CountsErr result (S.faults sink.old) (S.faults sink.new) }
+    ensures { WritesText S.Sink result (line_of e.now) sink.old sink.new }
 {
-    let mut out = OutputBuffer::new();
-    put_entry(&mut out, sink, e)?;
-    out.flush(sink)
+    let mut out = Writer::new(sink);
+    put_entry(&mut out, e)?;
+    out.flush()
 }
 
 /// Writes the line of an entry, with its end, and takes no memory. Where the sink failed, which its
 /// count of faults tells, a prefix of the line is written.
 pub fn write_entry<S: Sink>(sink: &mut S, e: &Entry) -> Moved
-    ensures leads { S.leads sink.old sink.new }
-    ensures done { OnDone result (Appends (S.written sink.old) (line_of e.now) (S.written sink.new)) }
-    ensures failed { OnFailed result (AppendsSome (S.written sink.old) (line_of e.now) (S.written sink.new)) }
-    ensures faults { Counts result (S.faults sink.old) (S.faults sink.new) }
+    ensures { PutsBytes S.Sink (line_of e.now) result sink.old sink.new }
 {
     match write_line(sink, e) {
         Ok(()) => Moved::Done,
@@ -265,14 +209,11 @@ fn write_whole<S: Sink>(
     entries: &[Entry],
     last: &[u8],
 ) -> Result<(), Failed>
-    ensures leads { S.leads sink.old sink.new }
-    ensures done { OnOk result (Appends (S.written sink.old) (text_of trace entries.now ++ last.now) (S.written sink.new)) }
-    ensures failed { OnErr result (AppendsSome (S.written sink.old) (text_of trace entries.now ++ last.now) (S.written sink.new)) }
-    ensures faults { CountsErr result (S.faults sink.old) (S.faults sink.new) }
+    ensures { WritesText S.Sink result (text_of trace entries.now ++ last.now) sink.old sink.new }
 {
-    let mut out = OutputBuffer::new();
-    put_text_and(&mut out, sink, trace, entries, last)?;
-    out.flush(sink)
+    let mut out = Writer::new(sink);
+    put_text_and(&mut out, trace, entries, last)?;
+    out.flush()
 }
 
 /// Writes the text of a journal, with the paging entries or without them, and after it the last
@@ -280,10 +221,7 @@ fn write_whole<S: Sink>(
 /// 4,096 bytes, so it costs few calls of the sink, and none where there is nothing to write. Where
 /// the sink failed, which its count of faults tells, a prefix of all this is written.
 pub fn write_text<S: Sink>(sink: &mut S, trace: bool, entries: &[Entry], last: &[u8]) -> Moved
-    ensures leads { S.leads sink.old sink.new }
-    ensures done { OnDone result (Appends (S.written sink.old) (text_of trace entries.now ++ last.now) (S.written sink.new)) }
-    ensures failed { OnFailed result (AppendsSome (S.written sink.old) (text_of trace entries.now ++ last.now) (S.written sink.new)) }
-    ensures faults { Counts result (S.faults sink.old) (S.faults sink.new) }
+    ensures { PutsBytes S.Sink (text_of trace entries.now ++ last.now) result sink.old sink.new }
 {
     match write_whole(sink, trace, entries, last) {
         Ok(()) => Moved::Done,

@@ -1,18 +1,23 @@
--- One more pair passes, or fails.
-use Rattle.std.proofs.Common.{rules, arith, ◌∙◌}
-use Rattle.run_text.specs.Text.{hex_pair}
-use Rattle.run_text.proofs.Passing.{each_more, each_failed}
+-- One more passes, or fails.
+use Rattle.std.proofs.Common.{rules, arith}
+use Rattle.std.specs.List.{flat_map}
+use Rattle.std.proofs.lemmas.List.{at_drop_more, at_drop_all}
+use Rattle.run_text.specs.Text.{hex_pair, hex_text}
+use Rattle.run_text.proofs.Putting.{leaves_all, leaves_rest, leaves_failed, leaves_none}
 use Rattle.run_text.proofs.line.put_hex.Goals as goal
 
-pub returns-in_err-put_pair-clause-puts : goal.returns-in_err-put_pair-clause-puts
-returns-in_err-put_pair-clause-puts g c =
-    each_failed c.from_residual.result c.in_err-put_pair.field-0.0 hex_pair c.args.bytes.now c.loop-byte.byte-index 0 (g.S.Sink.written c.args.sink.now) c.args.out.now (g.S.Sink.written c.loop-byte.sink) c.loop-byte.out (g.S.Sink.written c.put_pair.new.sink) c.put_pair.new.out
-    (search rules) (omega arith) c.loop-byte.invariant.1 c.in_err-put_pair.ensures.puts
+pub loop-byte-init : goal.loop-byte-init
+loop-byte-init g c = leaves_all (g.met.S.Sink.leads_nowhere c.args.out.now.sink.now)
+
+pub returns-in_err-put_pair : goal.returns-in_err-put_pair
+returns-in_err-put_pair g c =
+    let here = at_drop_more (flat_map hex_pair) c.args.bytes.now c.loop-byte.byte-index 0 (omega arith) in
+    leaves_failed g.met.S.Sink.leads_through c.loop-byte.invariant c.in_err-put_pair.ensures _ here (search rules)
 
 pub loop-byte-preserved : goal.loop-byte-preserved
-loop-byte-preserved g c = (
-  g.met.S.Sink.leads_through c.args.sink.now c.loop-byte.sink c.put_pair.new.sink c.loop-byte.invariant.0 c.in_ok-put_pair.ensures.leads,
-  each_more hex_pair c.args.bytes.now c.loop-byte.byte-index 0 (g.S.Sink.written c.args.sink.now) c.args.out.now (g.S.Sink.written c.loop-byte.sink) c.loop-byte.out (g.S.Sink.written c.put_pair.new.sink) c.put_pair.new.out
-      (omega arith) c.loop-byte.invariant.1 c.in_ok-put_pair.ensures.puts,
-  c.in_ok-put_pair.ensures.faults ∙ c.loop-byte.invariant.2,
-)
+loop-byte-preserved g c =
+    let here = at_drop_more (flat_map hex_pair) c.args.bytes.now c.loop-byte.byte-index 0 (omega arith) in
+    leaves_rest g.met.S.Sink.leads_through c.loop-byte.invariant c.in_ok-put_pair.ensures here
+
+pub returns : goal.returns
+returns g c = leaves_none c.loop-byte.invariant (at_drop_all hex_text c.args.bytes.now c.loop-byte.byte-index (omega arith))
