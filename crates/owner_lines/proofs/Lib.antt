@@ -1,4 +1,3 @@
-pub mod Progress
 pub mod Counting
 pub mod Owning
 pub mod Flights

@@ -1,13 +1,14 @@
 -- The pieces by their first blocks, and the one that begins next from a block on.
-use Rattle.std.proofs.Common.{◌≡◌, inl, inr, ℕ, suc, ◌+◌, ◌<◌, ◌≤◌, Bool, true, false, ltb, cond, List, [], ◌∷◌, ◌++◌, length, get_or, Option, Some, None, refl, sym, ap, ◌∙◌, subst, arith}
+use Rattle.std.proofs.Common.{◌≡◌, inl, inr, ℕ, suc, ◌+◌, ◌<◌, ◌≤◌, Bool, true, false, ltb, cond, List, [], ◌∷◌, ◌++◌, length, get_or, drop, Option, Some, None, refl, sym, ap, ◌∙◌, subst, arith}
 use Rattle.std.proofs.lemmas.Bool.{cases_Bool}
 use Rattle.std.proofs.lemmas.Bool.Decides.{nat_tests}
+use Rattle.std.proofs.lemmas.List.{at_drop_more}
 use Rattle.std.proofs.lemmas.Option.{same_Some}
 use Rattle.swap_book.specs.declared.Held.{Held}
 use Rattle.swap_book.specs.Holdings.{Holdings}
 use Rattle.swap_book.specs.Book.{IsBook, IsPiece, IsApart}
 use Rattle.owner_lines.specs.Owners.{placed, rising, blocks_from, gap_line, piece_line}
-use Rattle.owner_lines.specs.Pieces.{nearer, next_from}
+use Rattle.owner_lines.specs.Pieces.{nearer, nearer_from, next_from}
 
 below : (a b : ℕ) → ltb a b ≡ true → a < b
 below a b e = grind (arith, nat_tests)
@@ -67,6 +68,10 @@ pub next_is_first : (b : ℕ) (hs : Holdings) → next_from b hs ≡ first_from 
 next_is_first b [] = refl
 next_is_first b (h ∷ hs) =
     ap (λ (o : Option Held). cond (ltb h.start b) o (Some (nearer h o))) (next_is_first b hs) ∙ sym (first_placed b h (rising hs))
+
+-- the next of the pieces from a place on
+pub next_more : (b : ℕ) (hs : Holdings) (i : ℕ) (d : Held) (o : Option Held) → i < length hs → o ≡ next_from b (drop (i + 1) hs) → nearer_from b (get_or hs i d) o ≡ next_from b (drop i hs)
+next_more b hs i d o below rest = ap (nearer_from b (get_or hs i d)) rest ∙ sym (at_drop_more (next_from b) hs i d below)
 
 -- each piece has blocks, and begins after the end of the one before it
 abbrev pub Follow : ℕ → Holdings → Type 0

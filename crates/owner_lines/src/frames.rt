@@ -1,7 +1,7 @@
 // The lines of the frames.
+#![tactic(auto, using(run_text::proofs::Putting::text_none))]
 
 ghost use Rattle.std.specs.Prelude.{◌≡◌, ◌+◌, ◌<◌, ◌^◌, map, slice_get, false};
-ghost use Rattle.io_edge.specs.Transfer.{CountsErr};
 ghost use Rattle.core_map.specs.Slots.{owner_of, slot_at, is_dirty};
 ghost use Rattle.core_map.specs.declared.slot.Whose.TheVariants.{Resident as ResidentOwner};
 ghost use Rattle.page_model.specs.Pages.{is_valid};
@@ -9,8 +9,8 @@ ghost use Rattle.page_model.specs.Placement.{state_of, IsFrame};
 ghost use Rattle.page_model.specs.Ownership.{is_marked_dirty};
 ghost use Rattle.machine_state.specs.Showing.{ShowsCore};
 ghost use Rattle.machine_state.specs.View.{in_part, out_part, transfer_shown};
-ghost use Rattle.run_text.specs.Buffered.{Puts};
 ghost use Rattle.run_text.specs.Text.{parts};
+ghost use Rattle.run_text.specs.Writing.{PutsText};
 ghost use Rattle.owner_lines.specs.Owners.{kept_text, moved_text, used_by, free_text, free_place, owner_text, frame_line, frame_lines};
 ghost use Rattle.owner_lines.specs.Carried.{page_in, is_write, carried_in, carried_if, carried_from, carried_text};
 
@@ -18,7 +18,7 @@ use crate::words::{put_if, put_page_if};
 use core_map::{CoreMap, Whose};
 use io_edge::{Failed, Sink};
 use machine_state::Machine;
-use run_text::{OutputBuffer, put_named, put_page};
+use run_text::{Writer, put_named, put_page};
 use transfer_ring::{Inbound, Outbound, Transfer};
 use vm_facts::{Page, PageState};
 
@@ -143,56 +143,42 @@ fn is_unsaved(core: &CoreMap, frame: u32, page: Page) -> bool
 
 // Puts a page with the word for its state, and whether it is dirty.
 fn put_kept<S: Sink>(
-    out: &mut OutputBuffer,
-    sink: &mut S,
+    out: &mut Writer<'_, S>,
     word: &[u8],
     page: &Page,
     dirty: bool,
 ) -> Result<(), Failed>
-    ensures leads { S.leads sink.old sink.new }
-    ensures puts { Puts result (S.written sink.old) out.old (kept_text word.now page.now dirty) (S.written sink.new) out.new }
-    ensures faults { CountsErr result (S.faults sink.old) (S.faults sink.new) }
+    ensures { PutsText S.Sink result (kept_text word.now page.now dirty) out.old out.new }
 {
-    out.put(sink, word)?;
-    put_page(out, sink, page)?;
-    put_if(out, sink, dirty, b" dirty")
+    out.put(word)?;
+    put_page(out, page)?;
+    put_if(out, dirty, b" dirty")
 }
 
 // Puts a page with the word for its state, and the number of its transfer.
 fn put_moved<S: Sink>(
-    out: &mut OutputBuffer,
-    sink: &mut S,
+    out: &mut Writer<'_, S>,
     word: &[u8],
     number: u32,
     page: &Page,
 ) -> Result<(), Failed>
-    ensures leads { S.leads sink.old sink.new }
-    ensures puts { Puts result (S.written sink.old) out.old (moved_text word.now number page.now) (S.written sink.new) out.new }
-    ensures faults { CountsErr result (S.faults sink.old) (S.faults sink.new) }
+    ensures { PutsText S.Sink result (moved_text word.now number page.now) out.old out.new }
 {
-    put_named(out, sink, word, &[number])?;
-    put_page(out, sink, page)
+    put_named(out, word, &[number])?;
+    put_page(out, page)
 }
 
 // Puts the place of a frame on the free list, and the page that it still holds.
-fn put_free<S: Sink>(
-    out: &mut OutputBuffer,
-    sink: &mut S,
-    place: u32,
-    page: Option<Page>,
-) -> Result<(), Failed>
-    ensures leads { S.leads sink.old sink.new }
-    ensures puts { Puts result (S.written sink.old) out.old (free_text place page) (S.written sink.new) out.new }
-    ensures faults { CountsErr result (S.faults sink.old) (S.faults sink.new) }
+fn put_free<S: Sink>(out: &mut Writer<'_, S>, place: u32, page: Option<Page>) -> Result<(), Failed>
+    ensures { PutsText S.Sink result (free_text place page) out.old out.new }
 {
-    put_named(out, sink, b" free", &[place])?;
-    put_page_if(out, sink, page)
+    put_named(out, b" free", &[place])?;
+    put_page_if(out, page)
 }
 
 // Puts what is said of the page in a frame that is neither free nor in a transfer.
 fn put_used<S: Sink>(
-    out: &mut OutputBuffer,
-    sink: &mut S,
+    out: &mut Writer<'_, S>,
     machine: &Machine,
     core: &CoreMap,
     frame: u32,
@@ -202,35 +188,27 @@ fn put_used<S: Sink>(
     requires shows { ShowsCore machine.now.kernel.place core.now }
     requires frame { IsFrame machine.now.kernel.place frame }
     requires owner { owner_of (slot_at core.now.slots frame) ≡ ResidentOwner page }
-    ensures leads { S.leads sink.old sink.new }
-    ensures puts { Puts result (S.written sink.old) out.old (used_by machine.now.kernel.place page (state_of machine.now.kernel.place page)) (S.written sink.new) out.new }
-    ensures faults { CountsErr result (S.faults sink.old) (S.faults sink.new) }
+    ensures { PutsText S.Sink result (used_by machine.now.kernel.place page (state_of machine.now.kernel.place page)) out.old out.new }
 {
     machine.sound();
     let dirty = is_unsaved(core, frame, page);
     if is_valid(machine, page) {
-        put_kept(out, sink, b" valid", &page, dirty)
+        put_kept(out, b" valid", &page, dirty)
     } else {
-        put_kept(out, sink, b" invalid", &page, dirty)
+        put_kept(out, b" invalid", &page, dirty)
     }
 }
 
 // Puts what is said of a frame that a transfer has.
-fn put_carried<S: Sink>(
-    out: &mut OutputBuffer,
-    sink: &mut S,
-    found: Option<Carried>,
-) -> Result<(), Failed>
-    ensures leads { S.leads sink.old sink.new }
-    ensures puts { Puts result (S.written sink.old) out.old (carried_text found) (S.written sink.new) out.new }
-    ensures faults { CountsErr result (S.faults sink.old) (S.faults sink.new) }
+fn put_carried<S: Sink>(out: &mut Writer<'_, S>, found: Option<Carried>) -> Result<(), Failed>
+    ensures { PutsText S.Sink result (carried_text found) out.old out.new }
 {
     match found {
         Some(carried) => {
             if carried.is_write {
-                put_moved(out, sink, b" write", carried.number, &carried.page)
+                put_moved(out, b" write", carried.number, &carried.page)
             } else {
-                put_moved(out, sink, b" read", carried.number, &carried.page)
+                put_moved(out, b" read", carried.number, &carried.page)
             }
         }
         None => Ok(()),
@@ -239,8 +217,7 @@ fn put_carried<S: Sink>(
 
 // Puts what is said of a frame.
 fn put_owner<S: Sink>(
-    out: &mut OutputBuffer,
-    sink: &mut S,
+    out: &mut Writer<'_, S>,
     machine: &Machine,
     core: &CoreMap,
     frame: u32,
@@ -248,22 +225,19 @@ fn put_owner<S: Sink>(
     requires running { machine.now.kernel.stopped ≡ false }
     requires shows { ShowsCore machine.now.kernel.place core.now }
     requires frame { IsFrame machine.now.kernel.place frame }
-    ensures leads { S.leads sink.old sink.new }
-    ensures puts { Puts result (S.written sink.old) out.old (owner_text machine.now.kernel.place frame (free_place machine.now.kernel.place frame)) (S.written sink.new) out.new }
-    ensures faults { CountsErr result (S.faults sink.old) (S.faults sink.new) }
+    ensures { PutsText S.Sink result (owner_text machine.now.kernel.place frame (free_place machine.now.kernel.place frame)) out.old out.new }
 {
     machine.sound();
     match core.owner(frame) {
-        Whose::Free(page) => put_free(out, sink, core.free_place(frame), page),
-        Whose::Resident(page) => put_used(out, sink, machine, core, frame, page),
-        Whose::Away => put_carried(out, sink, find_carrier(machine, frame)),
+        Whose::Free(page) => put_free(out, core.free_place(frame), page),
+        Whose::Resident(page) => put_used(out, machine, core, frame, page),
+        Whose::Away => put_carried(out, find_carrier(machine, frame)),
     }
 }
 
 // Puts the line of a frame.
 fn put_frame<S: Sink>(
-    out: &mut OutputBuffer,
-    sink: &mut S,
+    out: &mut Writer<'_, S>,
     machine: &Machine,
     core: &CoreMap,
     frame: u32,
@@ -271,29 +245,21 @@ fn put_frame<S: Sink>(
     requires running { machine.now.kernel.stopped ≡ false }
     requires shows { ShowsCore machine.now.kernel.place core.now }
     requires frame { IsFrame machine.now.kernel.place frame }
-    ensures leads { S.leads sink.old sink.new }
-    ensures puts { Puts result (S.written sink.old) out.old (frame_line machine.now.kernel.place frame) (S.written sink.new) out.new }
-    ensures faults { CountsErr result (S.faults sink.old) (S.faults sink.new) }
+    ensures { PutsText S.Sink result (frame_line machine.now.kernel.place frame) out.old out.new }
 {
-    put_named(out, sink, b"frame", &[frame])?;
-    put_owner(out, sink, machine, core, frame)?;
-    out.put(sink, b"\n")
+    put_named(out, b"frame", &[frame])?;
+    put_owner(out, machine, core, frame)?;
+    out.put(b"\n")
 }
 
 /// Puts the lines of all frames, from 1 on.
-pub(crate) fn put_frames<S: Sink>(
-    out: &mut OutputBuffer,
-    sink: &mut S,
-    machine: &Machine,
-) -> Result<(), Failed>
+pub(crate) fn put_frames<S: Sink>(out: &mut Writer<'_, S>, machine: &Machine) -> Result<(), Failed>
     requires { machine.now.kernel.stopped ≡ false }
-    ensures leads { S.leads sink.old sink.new }
-    ensures puts { Puts result (S.written sink.old) out.old (frame_lines machine.now.kernel.place) (S.written sink.new) out.new }
-    ensures faults { CountsErr result (S.faults sink.old) (S.faults sink.new) }
+    ensures { PutsText S.Sink result (frame_lines machine.now.kernel.place) out.old out.new }
 {
     let core = machine.core();
     for before in 0..core.frames() {
-        put_frame(out, sink, machine, core, before + 1)?;
+        put_frame(out, machine, core, before + 1)?;
     }
     Ok(())
 }

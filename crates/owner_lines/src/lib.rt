@@ -1,6 +1,6 @@
 //! Who owns what in a machine, as lines of text: its frames, its transfers in flight, its processes, the pages that are
 //! due, and the pieces of its swap (this project's profile).
-#![tactic(auto, using(run_text::proofs::Passing::puts_then, run_text::proofs::Passing::puts_failed, run_text::proofs::Passing::passes_none))]
+#![tactic(auto)]
 
 mod due;
 mod frames;

@@ -1,49 +1,18 @@
 -- The number, what is said of the frame, and the line's end.
-use Rattle.std.proofs.Common.{rules, [], ◌∷◌, ◌++◌, codes}
-use Rattle.run_text.specs.Text.{parts}
-use Rattle.owner_lines.specs.Owners.{free_place, owner_text}
-use Rattle.run_text.proofs.Passing.{passes_then, puts_then, fails_then, fails_more, puts_failed}
+use Rattle.std.proofs.Common.{rules}
+use Rattle.run_text.proofs.Putting.{text_then, text_failed, text_more}
 use Rattle.owner_lines.proofs.frames.put_frame.Goals as goal
 
-pub returns-in_err-put_named-clause-puts : goal.returns-in_err-put_named-clause-puts
-returns-in_err-put_named-clause-puts g c =
-    let head = codes "frame" ++ parts (c.args.frame ∷ []) in
-    let owner = owner_text c.args.machine.now.kernel.place c.args.frame (free_place c.args.machine.now.kernel.place c.args.frame) in
-    let line_end = codes "\n" in
-    let w0 = g.S.Sink.written c.args.sink.now in
-    let p0 = c.args.out.now in
-    let w1 = g.S.Sink.written c.put_named.new.sink in
-    let p1 = c.put_named.new.out in
-    let or_owner = fails_more w0 p0 head owner w1 p1 c.in_err-put_named.ensures.puts in
-    puts_failed c.from_residual.result c.in_err-put_named.field-0.0 w0 p0 (head ++ owner) line_end w1 p1 (search rules) or_owner
+pub returns-in_err-put_named : goal.returns-in_err-put_named
+returns-in_err-put_named g c =
+    text_failed (text_more c.in_err-put_named.ensures _) _ (search rules)
 
-pub returns-in_err-put_owner-clause-puts : goal.returns-in_err-put_owner-clause-puts
-returns-in_err-put_owner-clause-puts g c =
-    let head = codes "frame" ++ parts (c.args.frame ∷ []) in
-    let owner = owner_text c.args.machine.now.kernel.place c.args.frame (free_place c.args.machine.now.kernel.place c.args.frame) in
-    let line_end = codes "\n" in
-    let w0 = g.S.Sink.written c.args.sink.now in
-    let p0 = c.args.out.now in
-    let w1 = g.S.Sink.written c.put_named.new.sink in
-    let p1 = c.put_named.new.out in
-    let w2 = g.S.Sink.written c.put_owner.new.sink in
-    let p2 = c.put_owner.new.out in
-    let failed = fails_then w0 p0 head w1 p1 owner w2 p2 c.in_ok-put_named.ensures.puts c.in_err-put_owner.ensures.puts in
-    puts_failed c.from_residual-in_err-put_owner.result c.in_err-put_owner.field-0.0 w0 p0 (head ++ owner) line_end w2 p2 (search rules) failed
+pub returns-in_err-put_owner : goal.returns-in_err-put_owner
+returns-in_err-put_owner g c =
+    let through = g.met.S.Sink.leads_through in
+    text_failed (text_then through c.in_ok-put_named.ensures c.in_err-put_owner.ensures) _ (search rules)
 
-pub returns-clause-puts : goal.returns-clause-puts
-returns-clause-puts g c =
-    let head = codes "frame" ++ parts (c.args.frame ∷ []) in
-    let owner = owner_text c.args.machine.now.kernel.place c.args.frame (free_place c.args.machine.now.kernel.place c.args.frame) in
-    let line_end = codes "\n" in
-    let w0 = g.S.Sink.written c.args.sink.now in
-    let p0 = c.args.out.now in
-    let w1 = g.S.Sink.written c.put_named.new.sink in
-    let p1 = c.put_named.new.out in
-    let w2 = g.S.Sink.written c.put_owner.new.sink in
-    let p2 = c.put_owner.new.out in
-    let w3 = g.S.Sink.written c.put.new.sink in
-    let p3 = c.put.new.self in
-    let one = c.in_ok-put_named.ensures.puts in
-    let two = passes_then w0 p0 head w1 p1 owner w2 p2 one c.in_ok-put_owner.ensures.puts in
-    puts_then c.put.result w0 p0 (head ++ owner) w2 p2 line_end w3 p3 two c.put.ensures.puts
+pub returns : goal.returns
+returns g c =
+    let through = g.met.S.Sink.leads_through in
+    text_then through (text_then through c.in_ok-put_named.ensures c.in_ok-put_owner.ensures) c.put.ensures

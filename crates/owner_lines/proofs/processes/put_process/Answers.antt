@@ -1,50 +1,18 @@
 -- The number, what the process has, and the line's end.
-use Rattle.std.proofs.Common.{rules, [], ◌∷◌, ◌++◌, codes}
-use Rattle.machine_state.specs.Machine.{life_shown}
-use Rattle.run_text.specs.Text.{parts}
-use Rattle.owner_lines.specs.Owners.{life_text}
-use Rattle.run_text.proofs.Passing.{passes_then, puts_then, fails_then, fails_more, puts_failed}
+use Rattle.std.proofs.Common.{rules}
+use Rattle.run_text.proofs.Putting.{text_then, text_failed, text_more}
 use Rattle.owner_lines.proofs.processes.put_process.Goals as goal
 
-pub returns-in_err-put_named-clause-puts : goal.returns-in_err-put_named-clause-puts
-returns-in_err-put_named-clause-puts g c =
-    let head = codes "process" ++ parts (c.args.process.now.pid ∷ []) in
-    let life = life_text c.args.process.now.out c.args.process.now.asleep (life_shown c.args.process.now.state) in
-    let line_end = codes "\n" in
-    let w0 = g.S.Sink.written c.args.sink.now in
-    let p0 = c.args.out.now in
-    let w1 = g.S.Sink.written c.put_named.new.sink in
-    let p1 = c.put_named.new.out in
-    let or_life = fails_more w0 p0 head life w1 p1 c.in_err-put_named.ensures.puts in
-    puts_failed c.from_residual.result c.in_err-put_named.field-0.0 w0 p0 (head ++ life) line_end w1 p1 (search rules) or_life
+pub returns-in_err-put_named : goal.returns-in_err-put_named
+returns-in_err-put_named g c =
+    text_failed (text_more c.in_err-put_named.ensures _) _ (search rules)
 
-pub returns-in_err-put_life-clause-puts : goal.returns-in_err-put_life-clause-puts
-returns-in_err-put_life-clause-puts g c =
-    let head = codes "process" ++ parts (c.args.process.now.pid ∷ []) in
-    let life = life_text c.args.process.now.out c.args.process.now.asleep (life_shown c.args.process.now.state) in
-    let line_end = codes "\n" in
-    let w0 = g.S.Sink.written c.args.sink.now in
-    let p0 = c.args.out.now in
-    let w1 = g.S.Sink.written c.put_named.new.sink in
-    let p1 = c.put_named.new.out in
-    let w2 = g.S.Sink.written c.put_life.new.sink in
-    let p2 = c.put_life.new.out in
-    let failed = fails_then w0 p0 head w1 p1 life w2 p2 c.in_ok-put_named.ensures.puts c.in_err-put_life.ensures.puts in
-    puts_failed c.from_residual-in_err-put_life.result c.in_err-put_life.field-0.0 w0 p0 (head ++ life) line_end w2 p2 (search rules) failed
+pub returns-in_err-put_life : goal.returns-in_err-put_life
+returns-in_err-put_life g c =
+    let through = g.met.S.Sink.leads_through in
+    text_failed (text_then through c.in_ok-put_named.ensures c.in_err-put_life.ensures) _ (search rules)
 
-pub returns-clause-puts : goal.returns-clause-puts
-returns-clause-puts g c =
-    let head = codes "process" ++ parts (c.args.process.now.pid ∷ []) in
-    let life = life_text c.args.process.now.out c.args.process.now.asleep (life_shown c.args.process.now.state) in
-    let line_end = codes "\n" in
-    let w0 = g.S.Sink.written c.args.sink.now in
-    let p0 = c.args.out.now in
-    let w1 = g.S.Sink.written c.put_named.new.sink in
-    let p1 = c.put_named.new.out in
-    let w2 = g.S.Sink.written c.put_life.new.sink in
-    let p2 = c.put_life.new.out in
-    let w3 = g.S.Sink.written c.put.new.sink in
-    let p3 = c.put.new.self in
-    let one = c.in_ok-put_named.ensures.puts in
-    let two = passes_then w0 p0 head w1 p1 life w2 p2 one c.in_ok-put_life.ensures.puts in
-    puts_then c.put.result w0 p0 (head ++ life) w2 p2 line_end w3 p3 two c.put.ensures.puts
+pub returns : goal.returns
+returns g c =
+    let through = g.met.S.Sink.leads_through in
+    text_then through (text_then through c.in_ok-put_named.ensures c.in_ok-put_life.ensures) c.put.ensures

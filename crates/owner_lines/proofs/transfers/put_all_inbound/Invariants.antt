@@ -1,12 +1,9 @@
--- The lines so far passed.
-use Rattle.std.proofs.Common.{◌≡◌, take}
+-- Some lines passed, and the rest is left.
+use Rattle.std.proofs.Common.{drop}
 use Rattle.std.specs.List.{flat_map}
-use Rattle.run_text.specs.Buffered.{Passes}
 use Rattle.owner_lines.specs.Carried.{inbound_line}
+use Rattle.run_text.proofs.Putting.{Leaves}
 use Rattle.owner_lines.proofs.transfers.put_all_inbound.Given as goal
 
 abbrev pub invariant-loop-part : goal.invariant-loop-part
-invariant-loop-part g l =
-    g.S.Sink.leads l.fn.sink l.sink
-    × Passes (g.S.Sink.written l.fn.sink) l.fn.out (flat_map inbound_line (take l.part-index l.parts)) (g.S.Sink.written l.sink) l.out
-    × (g.S.Sink.faults l.sink ≡ g.S.Sink.faults l.fn.sink)
+invariant-loop-part g l = Leaves g.S.Sink (flat_map inbound_line (drop l.part-index l.parts)) (flat_map inbound_line l.parts) l.fn.out l.out

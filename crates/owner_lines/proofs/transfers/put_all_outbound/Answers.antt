@@ -1,22 +1,23 @@
--- One more line passes, or fails.
-use Rattle.std.proofs.Common.{rules, arith, ◌∙◌, subst}
-use Rattle.transfer_ring.specs.declared.transfer.Outbound.{Outbound}
-use Rattle.run_text.specs.Buffered.{Passes, Fails}
-use Rattle.run_text.proofs.Passing.{each_more, each_failed}
+-- One more passes, or fails.
+use Rattle.std.proofs.Common.{rules, arith}
+use Rattle.std.specs.List.{flat_map}
+use Rattle.std.proofs.lemmas.List.{at_drop_all}
 use Rattle.owner_lines.specs.Carried.{outbound_line}
+use Rattle.run_text.proofs.Putting.{leaves_all, leaves_rest, leaves_failed, leaves_none, items_at}
 use Rattle.owner_lines.proofs.transfers.put_all_outbound.Goals as goal
 
-pub returns-in_err-put_outbound-clause-puts : goal.returns-in_err-put_outbound-clause-puts
-returns-in_err-put_outbound-clause-puts g c =
-    each_failed c.from_residual.result c.in_err-put_outbound.field-0.0 outbound_line c.args.parts.now c.loop-part.part-index c.part-item.result (g.S.Sink.written c.args.sink.now) c.args.out.now (g.S.Sink.written c.loop-part.sink) c.loop-part.out (g.S.Sink.written c.put_outbound.new.sink) c.put_outbound.new.out
-    (search rules) (omega arith) c.loop-part.invariant.1
-    (subst (λ (x : Outbound). Fails (g.S.Sink.written c.loop-part.sink) c.loop-part.out (outbound_line x) (g.S.Sink.written c.put_outbound.new.sink) c.put_outbound.new.out) c.part-item.is c.in_err-put_outbound.ensures.puts)
+pub loop-part-init : goal.loop-part-init
+loop-part-init g c = leaves_all (g.met.S.Sink.leads_nowhere c.args.out.now.sink.now)
+
+pub returns-in_err-put_outbound : goal.returns-in_err-put_outbound
+returns-in_err-put_outbound g c =
+    let here = items_at outbound_line c.args.parts.now c.loop-part.part-index c.part-item.result (omega arith) c.part-item.is in
+    leaves_failed g.met.S.Sink.leads_through c.loop-part.invariant c.in_err-put_outbound.ensures _ here (search rules)
 
 pub loop-part-preserved : goal.loop-part-preserved
-loop-part-preserved g c = (
-  g.met.S.Sink.leads_through c.args.sink.now c.loop-part.sink c.put_outbound.new.sink c.loop-part.invariant.0 c.in_ok-put_outbound.ensures.leads,
-  each_more outbound_line c.args.parts.now c.loop-part.part-index c.part-item.result (g.S.Sink.written c.args.sink.now) c.args.out.now (g.S.Sink.written c.loop-part.sink) c.loop-part.out (g.S.Sink.written c.put_outbound.new.sink) c.put_outbound.new.out
-      (omega arith) c.loop-part.invariant.1
-      (subst (λ (x : Outbound). Passes (g.S.Sink.written c.loop-part.sink) c.loop-part.out (outbound_line x) (g.S.Sink.written c.put_outbound.new.sink) c.put_outbound.new.out) c.part-item.is c.in_ok-put_outbound.ensures.puts),
-  c.in_ok-put_outbound.ensures.faults ∙ c.loop-part.invariant.2,
-)
+loop-part-preserved g c =
+    let here = items_at outbound_line c.args.parts.now c.loop-part.part-index c.part-item.result (omega arith) c.part-item.is in
+    leaves_rest g.met.S.Sink.leads_through c.loop-part.invariant c.in_ok-put_outbound.ensures here
+
+pub returns : goal.returns
+returns g c = leaves_none c.loop-part.invariant (at_drop_all (flat_map outbound_line) c.args.parts.now c.loop-part.part-index (omega arith))

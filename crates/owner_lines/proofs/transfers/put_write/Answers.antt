@@ -1,28 +1,13 @@
 -- The word, and the lines of all pages.
-use Rattle.std.proofs.Common.{rules, codes}
-use Rattle.std.specs.List.{flat_map}
-use Rattle.owner_lines.specs.Carried.{outbound_line}
-use Rattle.run_text.proofs.Passing.{puts_then, puts_failed}
+use Rattle.std.proofs.Common.{rules}
+use Rattle.run_text.proofs.Putting.{text_then, text_failed}
 use Rattle.owner_lines.proofs.transfers.put_write.Goals as goal
 
-pub returns-in_err-put-clause-puts : goal.returns-in_err-put-clause-puts
-returns-in_err-put-clause-puts g c =
-    let head = codes " write\n" in
-    let lines = flat_map outbound_line c.args.parts.now in
-    let w0 = g.S.Sink.written c.args.sink.now in
-    let p0 = c.args.out.now in
-    let w1 = g.S.Sink.written c.put.new.sink in
-    let p1 = c.put.new.self in
-    puts_failed c.from_residual.result c.in_err-put.field-0.0 w0 p0 head lines w1 p1 (search rules) c.in_err-put.ensures.puts
+pub returns-in_err-put : goal.returns-in_err-put
+returns-in_err-put g c =
+    text_failed c.in_err-put.ensures _ (search rules)
 
-pub returns-clause-puts : goal.returns-clause-puts
-returns-clause-puts g c =
-    let head = codes " write\n" in
-    let lines = flat_map outbound_line c.args.parts.now in
-    let w0 = g.S.Sink.written c.args.sink.now in
-    let p0 = c.args.out.now in
-    let w1 = g.S.Sink.written c.put.new.sink in
-    let p1 = c.put.new.self in
-    let w2 = g.S.Sink.written c.put_all_outbound.new.sink in
-    let p2 = c.put_all_outbound.new.out in
-    puts_then c.put_all_outbound.result w0 p0 head w1 p1 lines w2 p2 c.in_ok-put.ensures.puts c.put_all_outbound.ensures.puts
+pub returns : goal.returns
+returns g c =
+    let through = g.met.S.Sink.leads_through in
+    text_then through c.in_ok-put.ensures c.put_all_outbound.ensures
