@@ -5,3 +5,4 @@ pub mod Places
 pub mod Telling
 pub mod Area
 pub mod Auditing
+pub mod Noting

@@ -1,6 +1,7 @@
 ghost use Rattle.std.specs.Prelude.{◌≡◌, ℕ, Bool, List, Some};
 ghost use Rattle.std.specs.List.{flat_map};
 ghost use Rattle.vm_facts.specs.declared.entry.Entry.{Entry};
+ghost use Rattle.vm_facts.specs.declared.entry.Entry.TheVariants.{Owners};
 ghost use Rattle.flat_state.specs.Flat.{Inputs};
 ghost use Rattle.page_model.specs.Book.{IsBook};
 ghost use Rattle.page_model.specs.Holdings.{Holdings};
@@ -41,10 +42,12 @@ pub fn owners_are_told()
 {}
 
 /// The same is so wherever a run is: of what is printed at each state that its next units reach, after as many entries as its
-/// journal has. Where an audit is to come, the next unit is the entry with these numbers.
+/// journal has. A next unit that notes the owners has these numbers, and where an audit is to come there is such a one.
 pub fn runs_are_told()
     ensures told { (A : Inputs) (hs : Holdings) (journal : List Entry) (s : State) (entries : ℕ) (over : Bool) → CanRun A hs → Reaches A journal s
         → IsToldAt A entries over s (text_at A entries over s) }
     ensures audit { (A : Inputs) (hs : Holdings) (journal : List Entry) (s : State) → CanRun A hs → Reaches A journal s → s.mark ≡ Audit
         → next_unit A s ≡ Some (owners_of s.place s.holdings) }
+    ensures noted { (A : Inputs) (s : State) (free used moving held : ℕ) → next_unit A s ≡ Some (Owners free used moving held)
+        → Owners free used moving held ≡ owners_of s.place s.holdings }
 {}
