@@ -1,4 +1,5 @@
 ghost use Rattle.std.specs.Prelude.{◌≡◌, ℕ, List, [], ◌∷◌, ◌++◌};
+ghost use Rattle.vm_facts.specs.Ahead.{AreAhead, MayAhead};
 ghost use Rattle.vm_facts.specs.Answers.{Answers, ByteWrite, written};
 
 /// What a read of one byte answers.
@@ -49,6 +50,22 @@ pub trait Memory {
     fn write(&mut self, address: u32, byte: u8)
         requires { (answers self.old).may_write address ≡ MayWrite.May }
         ensures { wrote self.old (record { address = address; byte = byte } ∷ []) self.new };
+
+    /// Bytes that lie together from an address on, so that they are read at once. How many is the memory's choice: none
+    /// says nothing of the byte at the address.
+    fn ahead(&self, address: u32) -> &[u8]
+        ensures { AreAhead (answers self.now) address result.now }
+    {
+        &[]
+    }
+
+    /// So many bytes from an address on may be written. How many it tells is the memory's choice: 0 says nothing of the
+    /// byte at the address.
+    fn writable_ahead(&self, address: u32) -> u32
+        ensures { MayAhead (answers self.now) address result }
+    {
+        0
+    }
 
     /// No write leads from a memory to itself.
     ghost wrote_none: { (m : Self) → wrote m [] m };
