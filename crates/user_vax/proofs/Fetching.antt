@@ -19,7 +19,7 @@ use Rattle.user_vax.specs.Code.{held_from, reads_from, with_byte}
 use Rattle.user_vax.proofs.Runs.{then}
 use Rattle.user_vax.proofs.Numbers.{past-past}
 
-past-none : (address : ℕ) → address < 2 ^ 32 → past address 0 ≡ address
+pub past-none : (address : ℕ) → address < 2 ^ 32 → past address 0 ≡ address
 past-none address small = grind arith
 
 -- ---- reading bytes
@@ -73,11 +73,11 @@ settled_none front next = ap (λ (list : List ℕ). settled (decoded list) next)
 -- ---- fetching
 
 -- bytes that were read, and are no instruction
-abbrev refusing : Result (Unit {0}) Refused → Result Instr Refused
+abbrev pub refusing : Result (Unit {0}) Refused → Result Instr Refused
 refusing (Ok done) = Err (Signal sigill)
 refusing (Err refused) = Err refused
 
-abbrev unfetched : Answers → ℕ → ℕ → Result Instr Refused
+abbrev pub unfetched : Answers → ℕ → ℕ → Result Instr Refused
 unfetched memory address count = refusing (run memory (reads_from address count))
 
 -- where the next byte stands

@@ -4,6 +4,7 @@ pub mod Pushing
 pub mod Writing
 pub mod Allowed
 pub mod Fetching
+pub mod Ahead
 pub mod OwnSignals
 pub mod Order
 pub mod SignalOrder

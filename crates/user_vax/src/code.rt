@@ -1,12 +1,23 @@
 //! The bytes of an instruction, where they lie.
-ghost use Rattle.std.specs.Prelude.{◌≡◌};
+ghost use Rattle.std.specs.Prelude.{◌≡◌, OnOk, length, min, take};
+ghost use Rattle.vax_code.specs.Reading.{Decodes, decoded};
+ghost use Rattle.vax_code.specs.Valid.{HasOperands};
 ghost use Rattle.user_vax.specs.Code.{held_from};
 
-use vax_code::ByteSource;
+use vax_code::{ByteSource, Fault, Front, Instr, decode_into};
 use vm_facts::{ByteRead, Memory};
 
 /// An instruction has at most so many bytes.
 const MOST_BYTES: usize = 19;
+
+/// Reads the instruction that some bytes begin with, as far as an instruction has bytes.
+pub fn decode_first(bytes: &[u8], into: &mut Instr) -> Result<(), Fault>
+    ensures value { Decodes result into.new (decoded (take (min (length bytes.now) 19) bytes.now)) }
+    ensures sound { OnOk result (HasOperands into.new) }
+{
+    let most = bytes.len().min(MOST_BYTES);
+    decode_into(&mut Front::of(&bytes[..most]), into)
+}
 
 /// The bytes from an address on, before the first that isn't there, and no more than an instruction has.
 #[derive(Drop)]

@@ -26,9 +26,9 @@ fn test_byte<M: Memory>(memory: &M, address: u32) -> Result<(), Refused>
     }
 }
 
-/// The bytes of a number may be written.
+/// The bytes of a number may be written, one byte after another.
 #[tactic(auto, using(crate::proofs::Runs::run_bind, crate::proofs::Writing::tested_may), unfolding(crate::specs::Instruction::write_tests, crate::specs::Effects::bytes_at))]
-fn test_write<M: Memory>(memory: &M, write: &Write) -> Result<(), Refused>
+fn test_bytes<M: Memory>(memory: &M, write: &Write) -> Result<(), Refused>
     requires { IsSize write.now.size }
     ensures value { result ≡ run (M.answers memory.now) (write_tests (bytes_of write.now)) }
     ensures ready { OnOk result (IsReady (M.answers memory.now) write.now) }
@@ -47,6 +47,19 @@ fn test_write<M: Memory>(memory: &M, write: &Write) -> Result<(), Refused>
             test_byte(memory, address.wrapping_add(3))
         }
     }
+}
+
+/// The bytes of a number may be written.
+#[tactic(auto, using(crate::proofs::Ahead::tests_ahead, crate::proofs::Writing::tested_may))]
+fn test_write<M: Memory>(memory: &M, write: &Write) -> Result<(), Refused>
+    requires { IsSize write.now.size }
+    ensures value { result ≡ run (M.answers memory.now) (write_tests (bytes_of write.now)) }
+    ensures ready { OnOk result (IsReady (M.answers memory.now) write.now) }
+{
+    if memory.writable_ahead(write.address) >= u32::from(write.size) {
+        return Ok(());
+    }
+    test_bytes(memory, write)
 }
 
 /// The number, if there is one, may be written.

@@ -10,6 +10,7 @@ use vax_alu::Sum;
 
 /// The low bytes of a word to a place.
 #[tactic(auto, unfolding(crate::specs::Effects::store_effect))]
+#[inline(always)]
 pub fn store(outcome: &mut Outcome, size: u8, place: &Place, value: u32)
     requires fresh { IsFresh outcome.old }
     requires place { IsPlace place.now }
@@ -37,6 +38,7 @@ pub fn store(outcome: &mut Outcome, size: u8, place: &Place, value: u32)
 }
 
 /// A moved number to a place.
+#[inline(always)]
 pub fn move_to(outcome: &mut Outcome, size: u8, place: &Place, value: u32)
     requires fresh { IsFresh outcome.old }
     requires place { IsPlace place.now }
@@ -49,6 +51,7 @@ pub fn move_to(outcome: &mut Outcome, size: u8, place: &Place, value: u32)
 }
 
 /// A number with the codes of a test to a place.
+#[inline(always)]
 pub fn test_to(outcome: &mut Outcome, place: &Place, value: u32)
     requires fresh { IsFresh outcome.old }
     requires place { IsPlace place.now }
@@ -60,6 +63,7 @@ pub fn test_to(outcome: &mut Outcome, place: &Place, value: u32)
 }
 
 /// A result with its codes to a place.
+#[inline(always)]
 pub fn store_result(outcome: &mut Outcome, size: u8, place: &Place, sum: Sum)
     requires fresh { IsFresh outcome.old }
     requires place { IsPlace place.now }
@@ -83,6 +87,7 @@ pub fn jump_if(outcome: &mut Outcome, test: bool, target: u32)
 }
 
 /// The next index with its codes, but for C, to its place, and a jump where the test holds.
+#[inline(always)]
 pub fn count(outcome: &mut Outcome, place: &Place, sum: Sum, test: bool, target: u32)
     requires fresh { IsFresh outcome.old }
     requires place { IsPlace place.now }

@@ -3,6 +3,7 @@ ghost use Rattle.user_vax.specs.Program.{run};
 ghost use Rattle.user_vax.specs.Operands.{IsPlace, register, with_register, address_of, evaluation_at, evaluation_through, evaluation};
 ghost use Rattle.user_vax.specs.Outcomes.{LeavesWith};
 ghost use Rattle.vm_facts.specs.declared.regs.Regs.{Regs};
+ghost use Rattle.vax_code.specs.declared.instr.Operand.TheVariants.{Indexed};
 ghost use Rattle.vax_code.specs.Valid.{IsBase, IsOperand};
 
 use crate::reading::{read_long, read_number};
@@ -83,6 +84,7 @@ fn evaluate_at<M: Memory>(memory: &M, slot: Slot, address: u32) -> Result<Evalua
     }
 }
 
+#[inline(never)]
 #[tactic(auto, using(crate::proofs::Runs::run_bind), unfolding(crate::specs::Operands::evaluation_through))]
 fn evaluate_through<M: Memory>(
     memory: &M,
@@ -99,7 +101,29 @@ fn evaluate_through<M: Memory>(
     evaluate_at(memory, slot, address)
 }
 
+/// The operand at an index from a base, evaluated; the registers become those after it.
+#[inline(never)]
+#[tactic(auto, using(crate::proofs::Runs::run_bind), unfolding(crate::specs::Operands::evaluation))]
+fn evaluate_indexed<M: Memory>(
+    memory: &M,
+    slot: Slot,
+    regs: &mut Regs,
+    index: u8,
+    base: &Base,
+) -> Result<Evaluated, Refused>
+    requires index { index < 16 }
+    requires base { IsBase base.now }
+    requires size { (slot.size ≡ 1) ⊎ (slot.size ≡ 2) ⊎ (slot.size ≡ 4) }
+    ensures value { LeavesWith result regs.new (run (M.answers memory.now) (evaluation slot regs.old (Indexed index base.now))) }
+    ensures place { IfOk result (λ x. IsPlace x.place) }
+{
+    let address = address_of(memory, regs, slot.size, base)?;
+    let offset = regs.r[index as usize].wrapping_mul(u32::from(slot.size));
+    evaluate_at(memory, slot, address.wrapping_add(offset))
+}
+
 /// The operand evaluated; the registers become those after it.
+#[inline(always)]
 #[tactic(auto, using(crate::proofs::Runs::run_bind), unfolding(crate::specs::Operands::evaluation))]
 pub fn evaluate<M: Memory>(
     memory: &M,
@@ -136,9 +160,7 @@ pub fn evaluate<M: Memory>(
             });
         }
         Operand::Indexed { index, base } => {
-            let address = address_of(memory, regs, slot.size, base)?;
-            let offset = regs.r[*index as usize].wrapping_mul(u32::from(slot.size));
-            return evaluate_at(memory, slot, address.wrapping_add(offset));
+            return evaluate_indexed(memory, slot, regs, *index, base);
         }
         Operand::Deferred(reg) => Base::Deferred(*reg),
         Operand::AutoDec(reg) => Base::AutoDec(*reg),

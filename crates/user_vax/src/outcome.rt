@@ -59,6 +59,7 @@ impl Outcome {
     }
 
     /// What leaves some registers alone.
+    #[inline(always)]
     pub fn of_registers(regs: Regs) -> Outcome
         ensures regs { result.regs ≡ regs }
         ensures fresh { IsFresh result }

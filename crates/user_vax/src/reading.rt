@@ -29,9 +29,9 @@ fn read_byte_number<M: Memory>(memory: &M, address: u32) -> Result<u32, Refused>
     Ok(u32::from(read_byte(memory, address)?))
 }
 
-/// The little-endian word at an address, lowest address first.
+/// The word, one byte after another.
 #[tactic(auto, unfolding(crate::specs::Operands::number_at))]
-pub fn read_word<M: Memory>(memory: &M, address: u32) -> Result<u32, Refused>
+fn read_word_by_bytes<M: Memory>(memory: &M, address: u32) -> Result<u32, Refused>
     ensures { result ≡ run (M.answers memory.now) (number_at 2 address) }
 {
     let low = read_byte(memory, address)?;
@@ -39,9 +39,20 @@ pub fn read_word<M: Memory>(memory: &M, address: u32) -> Result<u32, Refused>
     Ok(u32::from(LittleEndian::read_u16(&[low, high])))
 }
 
-/// The little-endian longword at an address, lowest address first.
+/// The little-endian word at an address, lowest address first.
+pub fn read_word<M: Memory>(memory: &M, address: u32) -> Result<u32, Refused>
+    ensures { result ≡ run (M.answers memory.now) (number_at 2 address) }
+{
+    let bytes = memory.ahead(address);
+    if bytes.len() >= 2 {
+        return Ok(u32::from(LittleEndian::read_u16(bytes)));
+    }
+    read_word_by_bytes(memory, address)
+}
+
+/// The longword, one byte after another.
 #[tactic(auto, unfolding(crate::specs::Operands::number_at))]
-pub fn read_long<M: Memory>(memory: &M, address: u32) -> Result<u32, Refused>
+fn read_long_by_bytes<M: Memory>(memory: &M, address: u32) -> Result<u32, Refused>
     ensures { result ≡ run (M.answers memory.now) (number_at 4 address) }
 {
     let a = read_byte(memory, address)?;
@@ -49,6 +60,17 @@ pub fn read_long<M: Memory>(memory: &M, address: u32) -> Result<u32, Refused>
     let c = read_byte(memory, address.wrapping_add(2))?;
     let d = read_byte(memory, address.wrapping_add(3))?;
     Ok(LittleEndian::read_u32(&[a, b, c, d]))
+}
+
+/// The little-endian longword at an address, lowest address first.
+pub fn read_long<M: Memory>(memory: &M, address: u32) -> Result<u32, Refused>
+    ensures { result ≡ run (M.answers memory.now) (number_at 4 address) }
+{
+    let bytes = memory.ahead(address);
+    if bytes.len() >= 4 {
+        return Ok(LittleEndian::read_u32(bytes));
+    }
+    read_long_by_bytes(memory, address)
 }
 
 /// The little-endian number of 1, 2 or 4 bytes at an address.

@@ -6,7 +6,7 @@ ghost use Rattle.user_vax.specs.Instruction.{fetch, evaluations, instruction, an
 ghost use Rattle.user_vax.specs.Outcomes.{IsFresh, HasPlaces, LeavesInstr, LeavesOperands, Prepares, calls_procedure, completion, stepped_by};
 
 use crate::calling::call;
-use crate::code::Code;
+use crate::code::{Code, decode_first};
 use crate::commit::{put_all, put_one, test_all, test_one};
 use crate::compute::compute;
 use crate::operand::evaluate;
@@ -45,10 +45,10 @@ fn read_on<M: Memory>(memory: &M, pc: u32) -> Result<(), Refused>
     Ok(())
 }
 
-/// Reads the instruction at an address, each of its bytes once. Where they end within it, the first byte that isn't there
-/// decides.
+/// Reads the instruction at an address byte by byte, each of its bytes once. Where they end within it, the first byte that
+/// isn't there decides.
 #[tactic(auto, using(crate::proofs::Fetching::fetched))]
-fn fetch<M: Memory>(memory: &M, pc: u32, into: &mut Instr) -> Result<(), Refused>
+fn fetch_by_bytes<M: Memory>(memory: &M, pc: u32, into: &mut Instr) -> Result<(), Refused>
     ensures value { LeavesInstr result into.new (run (M.answers memory.now) (fetch 20 pc [])) }
     ensures valid { OnOk result (HasOperands into.new) }
 {
@@ -59,6 +59,19 @@ fn fetch<M: Memory>(memory: &M, pc: u32, into: &mut Instr) -> Result<(), Refused
             read_on(memory, pc)?;
             Err(Refused::Signal(SIGILL))
         }
+    }
+}
+
+/// Reads the instruction at an address: of the bytes that lie together, where they hold it whole.
+#[tactic(auto, using(crate::proofs::Ahead::fetched_first, crate::proofs::Ahead::refused_first))]
+fn fetch<M: Memory>(memory: &M, pc: u32, into: &mut Instr) -> Result<(), Refused>
+    ensures value { LeavesInstr result into.new (run (M.answers memory.now) (fetch 20 pc [])) }
+    ensures valid { OnOk result (HasOperands into.new) }
+{
+    match decode_first(memory.ahead(pc), into) {
+        Ok(()) => Ok(()),
+        Err(Fault::Bad) => Err(Refused::Signal(SIGILL)),
+        Err(Fault::Short) => fetch_by_bytes(memory, pc, into),
     }
 }
 

@@ -37,6 +37,7 @@ impl ByteSource for Front<'_> {
 
     ghost room = { λ s. length s.bytes.now };
 
+    #[inline(always)]
     fn next(&mut self) -> Option<u8> {
         match self.bytes {
             [] => None,
@@ -47,6 +48,7 @@ impl ByteSource for Front<'_> {
         }
     }
 
+    #[inline(always)]
     fn room(&self) -> usize {
         self.bytes.len()
     }

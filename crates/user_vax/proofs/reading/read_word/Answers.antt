@@ -1,0 +1,10 @@
+use Rattle.std.proofs.Common.{◌<◌, ◌^◌, ℕ, Ok, Result, sym, ap, ◌∙◌, arith}
+use Rattle.user_vax.specs.declared.refused.Refused.{Refused}
+use Rattle.user_vax.proofs.Ahead.{number_ahead}
+use Rattle.user_vax.proofs.reading.read_word.Goals as goal
+
+pub returns-then-bytes-ge2 : goal.returns-then-bytes-ge2
+returns-then-bytes-ge2 g c =
+    let small : c.args.address < 2 ^ 32 = omega arith in
+    ap (λ (x : ℕ). let r : Result ℕ Refused = Ok x in r) (c.from.ensures ∙ c.read_u16.ensures)
+    ∙ sym (number_ahead (g.M.Memory.answers c.args.memory.now) 2 c.args.address c.ahead-bytes.result.now c.ahead-bytes.ensures small c.if-bytes-ge2.true)
