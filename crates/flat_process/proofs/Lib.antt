@@ -3,3 +3,4 @@ pub mod Falling
 pub mod Short
 pub mod Hits
 pub mod Paging
+pub mod Ahead

@@ -1,4 +1,4 @@
-ghost use Rattle.std.specs.Prelude.{◌≡◌, ℕ, ◌+◌, ◌*◌, ◌/◌, ◌%◌, ◌^◌, ◌<◌, ◌≤◌, length, refl, IfOk, OnOk, OnErr};
+ghost use Rattle.std.specs.Prelude.{◌≡◌, ℕ, ◌+◌, ◌*◌, ◌/◌, ◌%◌, ◌-◌, ◌^◌, ◌<◌, ◌≤◌, drop, length, take, refl, IfOk, OnOk, OnErr};
 ghost use Rattle.flat_state.specs.Space.{Space, address_in, answers_of};
 ghost use Rattle.flat_state.specs.Change.{resized, resized_bytes};
 ghost use Rattle.flat_state.specs.Writes.{IsWithin, Wrote};
@@ -54,6 +54,16 @@ fn resize(bytes: &mut Vec<u8>, pages: u32) -> Result<(), NoMemory>
         return Err(NoMemory);
     }
     Ok(())
+}
+
+// The bytes of a page of the stack from one of them on.
+fn page_from(bytes: &[u8], index: u32) -> &[u8]
+    requires whole { length bytes.now % 1024 ≡ 0 }
+    requires within { index < length bytes.now }
+    ensures { result.now ≡ take (1024 - index % 1024) (drop index bytes.now) }
+{
+    let from = index as usize;
+    &bytes[from..from + 1024 - from % 1024]
 }
 
 impl FlatSpace {
@@ -218,6 +228,23 @@ impl Memory for FlatSpace {
             Spot::Data(index) => self.data[index as usize] = byte,
             Spot::Stack(index) => self.stack[index as usize] = byte,
             Spot::Text(_) | Spot::Below | Spot::Outside => {}
+        }
+    }
+
+    fn ahead(&self, address: u32) -> &[u8] {
+        match self.spot(address) {
+            Spot::Text(index) => &self.text[index as usize..],
+            Spot::Data(index) => &self.data[index as usize..],
+            Spot::Stack(index) => page_from(self.stack.as_slice(), index),
+            Spot::Below | Spot::Outside => &[],
+        }
+    }
+
+    fn writable_ahead(&self, address: u32) -> u32 {
+        match self.spot(address) {
+            Spot::Data(index) => self.data.len() as u32 - index,
+            Spot::Stack(index) => PAGE - index % PAGE,
+            Spot::Text(_) | Spot::Below | Spot::Outside => 0,
         }
     }
 

@@ -2,4 +2,5 @@ pub mod Joins
 pub mod PageNames
 pub mod Processes
 pub mod Spots
+pub mod SpotsBeside
 pub mod SpaceLaws
