@@ -44,6 +44,7 @@ pub mod Settling
 pub mod Counts
 pub mod Dirty
 pub mod Layouts
+pub mod Beside
 pub mod FlatMemory
 pub mod FlatSteps
 pub mod ByNumber

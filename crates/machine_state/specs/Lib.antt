@@ -25,5 +25,6 @@ pub mod Wants
 pub mod Fields
 pub mod Showing
 pub mod Beginning
+pub mod Ahead
 pub mod Lent
 pub mod UserMemoryLaws

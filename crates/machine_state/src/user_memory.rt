@@ -1,5 +1,5 @@
 //! The memory of one process, as an instruction meets it: the bytes of the frames of its valid pages.
-ghost use Rattle.std.specs.Prelude.{◌≡◌, ℕ, ◌<◌, ◌/◌, false, length, map, Some, IfSome, slice_get, slice_index};
+ghost use Rattle.std.specs.Prelude.{◌≡◌, ℕ, ◌<◌, ◌/◌, false, drop, length, map, Some, IfSome, slice_get, slice_index};
 ghost use Rattle.vm_facts.specs.declared.page.Page.{Page};
 ghost use Rattle.vm_facts.specs.declared.page.PageState.{PageState};
 ghost use Rattle.vm_facts.specs.declared.page.PageState.TheVariants.{Valid};
@@ -9,6 +9,7 @@ ghost use Rattle.page_model.specs.PageBytes.{IsWritable};
 ghost use Rattle.page_model.specs.Ownership.{OwnsFrames};
 ghost use Rattle.kernel_model.specs.Kernel.{frame_bytes, write_step, HoldsSpace};
 ghost use Rattle.table_steps.specs.Calls.{life_in};
+ghost use Rattle.machine_state.specs.Ahead.{MayFrom, ReadsFrom};
 ghost use Rattle.table_steps.specs.UserMemory.{spot_in, page_in, read_page, valid_frame, may_write_by, NamesFrames, IsOwnPage, IsLaidOut, HasLengths, CanLend, IsHeld, AreWhole, WrotePage};
 
 use crate::machine::Machine;
@@ -64,6 +65,17 @@ fn may_write_in(frame: Option<u32>) -> MayWrite
     }
 }
 
+// How many bytes of a page may be written from a place on, by the frame of the page where it is valid.
+fn writable_in(frame: Option<u32>, at: u32) -> u32
+    requires { at < 1024 }
+    ensures { (state : PageState) → frame ≡ valid_frame state → MayFrom state at result }
+{
+    match frame {
+        Some(_) => PAGE - at,
+        None => 0,
+    }
+}
+
 impl Machine {
     // The entries of the space that stands at `index`, and of its text.
     fn space_at(&self, index: usize) -> &SpaceMap
@@ -86,6 +98,18 @@ impl Machine {
     {
         let _frames = self.tables.core.frames();
         self.tables.core.bytes(frame)[at as usize]
+    }
+
+    // The bytes of the frame of a valid page from a place on.
+    fn frame_from(&self, frame: u32, at: u32) -> &[u8]
+        requires running { self.now.kernel.stopped ≡ false }
+        requires held { IsHeld self.now.kernel.place frame }
+        requires within { at < 1024 }
+        ensures bytes { result.now ≡ drop at (frame_bytes self.now.kernel frame) }
+        ensures whole { length (frame_bytes self.now.kernel frame) ≡ 1024 }
+    {
+        let _frames = self.tables.core.frames();
+        &self.tables.core.bytes(frame)[at as usize..]
     }
 
     // A byte of a valid page of data or stack is written. The page's space stands at `index`.
@@ -232,6 +256,19 @@ impl SpaceMemory<'_> {
         }
     }
 
+    // The bytes of a page from a place on, by its frame where the page is valid; none where it isn't.
+    fn page_from(&self, frame: Option<u32>, at: u32) -> &[u8]
+        requires held { IfSome frame (IsHeld self.now.machine.now.kernel.place) }
+        requires within { at < 1024 }
+        ensures { (page : Page) → frame ≡ valid_frame (state_of self.now.machine.now.kernel.place page)
+            → ReadsFrom self.now.machine.now.kernel page at result.now }
+    {
+        match frame {
+            Some(frame) => self.machine.frame_from(frame, at),
+            None => &[],
+        }
+    }
+
     // A byte of a page is written, by its frame.
     fn write_page(&mut self, page: Page, frame: Option<u32>, at: u32, byte: u8)
         requires own { IsOwnPage self.old.machine.now.kernel.place self.old.layout.index page }
@@ -291,6 +328,23 @@ impl Memory for SpaceMemory<'_> {
                 self.write_page(self.stack_page(at), frame, at % PAGE, byte)
             }
             Spot::Text(_) | Spot::Below | Spot::Outside => unreachable!(),
+        }
+    }
+
+    fn ahead(&self, address: u32) -> &[u8] {
+        match self.spot(address) {
+            Spot::Text(at) => self.page_from(self.text_frame(at), at % PAGE),
+            Spot::Data(at) => self.page_from(self.data_frame(at), at % PAGE),
+            Spot::Stack(at) => self.page_from(self.stack_frame(at), at % PAGE),
+            Spot::Below | Spot::Outside => &[],
+        }
+    }
+
+    fn writable_ahead(&self, address: u32) -> u32 {
+        match self.spot(address) {
+            Spot::Data(at) => writable_in(self.data_frame(at), at % PAGE),
+            Spot::Stack(at) => writable_in(self.stack_frame(at), at % PAGE),
+            Spot::Text(_) | Spot::Below | Spot::Outside => 0,
         }
     }
 

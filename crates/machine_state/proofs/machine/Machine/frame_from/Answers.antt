@@ -1,0 +1,39 @@
+use Rattle.std.proofs.Common.{◌≡◌, ◌-◌, ℕ, List, drop, length, take, sym, ap, ◌∙◌, subst}
+use Rattle.std.proofs.lemmas.List.{take_rest}
+use Rattle.kernel_model.specs.Kernel.{frame_bytes}
+use Rattle.table_steps.specs.Tables.{Tables}
+use Rattle.table_steps.specs.Known.{Known}
+use Rattle.table_steps.specs.Machine.{Standing, lists_of}
+use Rattle.table_steps.specs.UserMemory.{IsHeld}
+use Rattle.machine_state.proofs.Standings.{stands_now}
+use Rattle.table_steps.proofs.UserFrames.{known_by, held_resident, held_bytes}
+use Rattle.machine_state.proofs.machine.Machine.frame_from.Goals as goal
+
+pub bytes-requires : goal.bytes-requires
+bytes-requires c =
+    let t : Tables = c.self.inside.tables in
+    let now = stands_now c.self.inside c.args.self.now c.self.invariant c.self.view_is c.requires.running in
+    let k : Known (lists_of t) = known_by t c.self.inside.journal.items c.self.inside.stopped c.frames-frames.ensures.sound now.stands in
+    held_resident (lists_of t) c.args.frame k (subst (λ (s : Standing). IsHeld s.kernel.place c.args.frame) (sym c.self.view_is) c.requires.held)
+
+pub returns-clause-bytes : goal.returns-clause-bytes
+returns-clause-bytes c =
+    let t : Tables = c.self.inside.tables in
+    let now = stands_now c.self.inside c.args.self.now c.self.invariant c.self.view_is c.requires.running in
+    let k : Known (lists_of t) = known_by t c.self.inside.journal.items c.self.inside.stopped c.frames-frames.ensures.sound now.stands in
+    let held : List ℕ = c.bytes.result.now in
+    let is : held ≡ frame_bytes c.args.self.now.kernel c.args.frame =
+    c.bytes.ensures.value ∙ held_bytes (lists_of t) c.args.frame k (subst (λ (s : Standing). IsHeld s.kernel.place c.args.frame) (sym c.self.view_is) c.requires.held)
+    ∙ ap (λ (s : Standing). frame_bytes s.kernel c.args.frame) c.self.view_is in
+    ap (λ (n : ℕ). take (n - c.args.at) (drop c.args.at held)) (sym c.bytes.ensures.whole) ∙ take_rest held c.args.at ∙ ap (drop c.args.at) is
+
+pub returns-clause-whole : goal.returns-clause-whole
+returns-clause-whole c =
+    let t : Tables = c.self.inside.tables in
+    let now = stands_now c.self.inside c.args.self.now c.self.invariant c.self.view_is c.requires.running in
+    let k : Known (lists_of t) = known_by t c.self.inside.journal.items c.self.inside.stopped c.frames-frames.ensures.sound now.stands in
+    let held : List ℕ = c.bytes.result.now in
+    let is : held ≡ frame_bytes c.args.self.now.kernel c.args.frame =
+    c.bytes.ensures.value ∙ held_bytes (lists_of t) c.args.frame k (subst (λ (s : Standing). IsHeld s.kernel.place c.args.frame) (sym c.self.view_is) c.requires.held)
+    ∙ ap (λ (s : Standing). frame_bytes s.kernel c.args.frame) c.self.view_is in
+    sym (ap length is) ∙ c.bytes.ensures.whole
