@@ -3,8 +3,8 @@ ghost use Rattle.std.specs.Prelude.{◌≡◌, ◌≤◌, ◌↔◌, IsTrue};
 ghost use Rattle.io_edge.specs.Count.{Rose, next_count};
 ghost use Rattle.io_edge.specs.Plan.{FailsNext, IsNewPlan, LaterCalls, NextCall};
 
-// The count after one more fault.
-pub(crate) fn raised(count: u64) -> u64
+/// The count after one more fault. At its last value it stands still.
+pub fn raised(count: u64) -> u64
     ensures rose { Rose count result }
     ensures next { result ≡ next_count count }
 {

@@ -1,35 +1,25 @@
 //! What a run reads and writes: its files, its swap devices and its output, each as a trait whose
-//! contract says what a call moves and what a failed one leaves, with forms in memory and thin
-//! adapters over the system.
+//! contract says what a call moves and what a failed one leaves, with forms in memory.
 #![tactic(auto)]
 
 mod count;
-pub mod dir_files;
 mod failures;
-pub mod file_swap;
 pub mod files;
 pub mod mem_files;
 pub mod mem_sink;
 pub mod mem_swap;
 mod octets;
-pub mod out_sink;
-pub mod own_file;
-pub mod refusal;
 pub mod sink;
 pub mod swap_dev;
 pub mod swap_pair;
 mod transfer;
 
-pub use dir_files::DirFiles;
-pub use file_swap::FileSwap;
+pub use count::raised;
 pub use files::Files;
 pub use mem_files::{MemFiles, SureFiles};
 pub use mem_sink::{MemSink, SureSink};
 pub use mem_swap::{MemSwap, SureSwap};
 pub use octets::are_octet_files;
-pub use out_sink::OutSink;
-pub use own_file::LockFile;
-pub use refusal::Refusal;
 pub use sink::Sink;
 pub use swap_dev::SwapDev;
 pub use swap_pair::SwapPair;

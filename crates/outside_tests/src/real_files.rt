@@ -1,12 +1,13 @@
 // Real files that aren't plain ones of a run's own: pipes, files of /proc, folders, links, and files that another run has. They are
 // made and removed in the folder that the tests run in.
-use io_edge::{DirFiles, FileSwap, Files, Found, Moved, Refusal, SureSwap, SwapDev};
+use io_edge::{Files, Found, Moved, SureSwap, SwapDev};
 use std::alloc::{AllocError, Global};
 use std::io::Write;
 use std::os::unix::fs::symlink;
 use std::os::unix::io::AsRawFd;
 use std::test::Fail;
 use std::{fs, io};
+use system_edge::{DirFiles, FileSwap, Refusal};
 
 // The name of an open descriptor.
 fn descriptor_name(alloc: Global, fd: i32) -> Result<String, AllocError> {

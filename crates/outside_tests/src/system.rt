@@ -1,8 +1,6 @@
 // The adapters over the system: a real folder, an output that takes little at a time, and a disk that is full. No clause can
 // say what a disk gives.
-use io_edge::{
-    DirFiles, FileSwap, Files, Found, LockFile, Moved, OutSink, Sink, SureSwap, SwapDev, SwapPair,
-};
+use io_edge::{Files, Found, Moved, Sink, SureSwap, SwapDev, SwapPair};
 use std::alloc::{AllocError, Allocator, Global};
 use std::cell::Cell;
 use std::fmt::Display;
@@ -10,6 +8,7 @@ use std::fs::{Metadata, OpenFile, OpenOptions};
 use std::io::{ErrorKind, Read, Seek, SeekFrom, Write};
 use std::test::Fail;
 use std::{fs, io, rt};
+use system_edge::{DirFiles, FileSwap, LockFile, OutSink};
 
 #[test]
 fn an_absent_file_is_told_from_one_that_cannot_be_read(rt: HostRuntime) -> Result<(), Fail> {

@@ -3,10 +3,10 @@
 //! and ends with the status.
 #![tactic(auto)]
 
-use io_edge::{DirFiles, FileSwap, OutSink, Refusal, Sink};
 use std::env;
 use std::io::{ErrorKind, Write};
 use std::process::ExitCode;
+use system_edge::{DirFiles, FileSwap, OutSink, Refusal, Sink};
 use vm_run::{explain, vmrun};
 
 // The blocks of each swap device.

@@ -3,9 +3,9 @@ ghost use Rattle.std.specs.Prelude.{◌≡◌, ◌*◌, ◌≤◌, None, refl};
 ghost use Rattle.io_edge.specs.Told.{untold_length};
 ghost use Rattle.std.proofs.Common.{◌∙◌, le_refl, le_trans};
 
-use crate::count::raised;
 use crate::own_file::open_own;
-use crate::{LockFile, Moved, Refusal, SwapDev};
+use crate::{LockFile, Refusal};
+use io_edge::{Moved, SwapDev, raised};
 use std::io::{Read, Seek, SeekFrom, Write};
 use std::{io, rt};
 

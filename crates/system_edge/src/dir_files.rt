@@ -2,8 +2,8 @@
 ghost use Rattle.std.specs.Prelude.{◌≡◌, ◌≤◌, None, refl};
 ghost use Rattle.std.proofs.Common.{le_refl, le_trans};
 
-use crate::count::raised;
-use crate::{Files, Found, Moved, Refusal};
+use crate::Refusal;
+use io_edge::{Files, Found, Moved, raised};
 use std::alloc::{AllocError, Allocator};
 use std::fs::OpenFile;
 use std::io::{ErrorKind, Read, Seek, SeekFrom};

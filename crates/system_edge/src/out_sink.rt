@@ -2,8 +2,7 @@
 ghost use Rattle.std.specs.Prelude.{◌≡◌, ◌≤◌, None, [], refl};
 ghost use Rattle.std.proofs.Common.{le_refl, le_trans};
 
-use crate::count::raised;
-use crate::{Moved, Sink};
+use io_edge::{Moved, Sink, raised};
 
 /// The standard output of a runtime. It doesn't tell what was written.
 #[derive(Drop)]
