@@ -1,0 +1,8 @@
+use Rattle.load_laws.proofs.Ending.{under_way, finished_counts}
+use Rattle.load_laws.proofs.loads_count.Goals as goal
+
+pub returns-clause-way : goal.returns-clause-way
+returns-clause-way c = under_way
+
+pub returns-clause-finished : goal.returns-clause-finished
+returns-clause-finished c = finished_counts
