@@ -4,7 +4,8 @@ ghost use Rattle.page_model.specs.Serve.{force_entry};
 ghost use Rattle.page_model.specs.Rank.{HasRoom, far};
 ghost use Rattle.page_model.specs.Conditions.{Spares};
 ghost use Rattle.machine_state.specs.Files.{AreFiles};
-ghost use Rattle.machine_state.specs.Done.{KeepsThrough, CountsPages, CountsReads, CountsWrites};
+ghost use Rattle.machine_state.specs.Done.{KeepsThrough};
+ghost use Rattle.machine_state.specs.Outside.{stop_of, TransfersPages};
 ghost use Rattle.paging_units.specs.Made.{ground, MakesUnit};
 ghost use Rattle.paging_units.specs.LastMoves.{last_moves};
 ghost use Rattle.paging_units.specs.Stops.{StopsAt};
@@ -35,14 +36,7 @@ fn force_once<F: Files, D: SwapDev>(
     ensures stopped { IfErr result (λ stop. StopsAt (force_entry m.old.kernel.place.transfers) m.old.kernel (D.image swap.old) stop m.new (D.image swap.new)) }
     ensures params { m.new.params ≡ m.old.params }
     ensures images { m.new.images ≡ m.old.images }
-    ensures files_lead { F.leads files.old files.new }
-    ensures swap_leads { D.leads swap.old swap.new }
-    ensures holds { F.holds files.new ≡ F.holds files.old }
-    ensures blocks { D.blocks swap.new ≡ D.blocks swap.old }
-    ensures open_faults { F.open_faults files.new ≡ F.open_faults files.old }
-    ensures page_faults { CountsPages result (F.page_faults files.old) (F.page_faults files.new) }
-    ensures read_faults { CountsReads result (D.read_faults swap.old) (D.read_faults swap.new) }
-    ensures write_faults { CountsWrites result (D.write_faults swap.old) (D.write_faults swap.new) }
+    ensures outside { TransfersPages F.Files D.SwapDev (stop_of result) files.old files.new swap.old swap.new }
 {
     if m.done(files, swap)? {
         return Ok(());
@@ -67,14 +61,7 @@ fn force_frame<F: Files, D: SwapDev>(
     ensures forced { OnOk result (Forced locked.now m.old m.new (F.holds files.old) (D.image swap.old) (D.image swap.new)) }
     ensures keeps { OnOk result (KeepsThrough m.old m.new (F.holds files.old) (D.image swap.old) (D.image swap.new)) }
     ensures stopped { IfErr result (λ stop. StopsForcing locked.now m.old stop m.new (F.holds files.old) (D.image swap.old) (D.image swap.new)) }
-    ensures files_lead { F.leads files.old files.new }
-    ensures swap_leads { D.leads swap.old swap.new }
-    ensures holds { F.holds files.new ≡ F.holds files.old }
-    ensures blocks { D.blocks swap.new ≡ D.blocks swap.old }
-    ensures open_faults { F.open_faults files.new ≡ F.open_faults files.old }
-    ensures page_faults { CountsPages result (F.page_faults files.old) (F.page_faults files.new) }
-    ensures read_faults { CountsReads result (D.read_faults swap.old) (D.read_faults swap.new) }
-    ensures write_faults { CountsWrites result (D.write_faults swap.old) (D.write_faults swap.new) }
+    ensures outside { TransfersPages F.Files D.SwapDev (stop_of result) files.old files.new swap.old swap.new }
 {
     while m.free_frames() == 0 {
         m.sound();
@@ -105,14 +92,7 @@ pub fn make_room<F: Files, D: SwapDev>(
     ensures flights { OnOk result (length m.new.kernel.place.transfers ≤ length m.old.kernel.place.transfers) }
     ensures counted { OnOk result (last_moves m.new.kernel.journal ≤ last_moves m.old.kernel.journal + length m.old.kernel.place.holds) }
     ensures spares { OnOk result (Spares m.old.kernel.place m.new.kernel.place locked.now) }
-    ensures files_lead { F.leads files.old files.new }
-    ensures swap_leads { D.leads swap.old swap.new }
-    ensures holds { F.holds files.new ≡ F.holds files.old }
-    ensures blocks { D.blocks swap.new ≡ D.blocks swap.old }
-    ensures open_faults { F.open_faults files.new ≡ F.open_faults files.old }
-    ensures page_faults { CountsPages result (F.page_faults files.old) (F.page_faults files.new) }
-    ensures read_faults { CountsReads result (D.read_faults swap.old) (D.read_faults swap.new) }
-    ensures write_faults { CountsWrites result (D.write_faults swap.old) (D.write_faults swap.new) }
+    ensures outside { TransfersPages F.Files D.SwapDev (stop_of result) files.old files.new swap.old swap.new }
 {
     m.sound();
     force_frame(m, files, swap, locked)

@@ -3,7 +3,8 @@ ghost use Rattle.std.specs.Prelude.{◌≡◌, ◌<◌, ◌≤◌, ◌+◌, ◌/
 ghost use Rattle.page_model.specs.Hands.{wants_moves};
 ghost use Rattle.page_model.specs.Rank.{HasRoom};
 ghost use Rattle.machine_state.specs.Files.{AreFiles};
-ghost use Rattle.machine_state.specs.Done.{KeepsThrough, CountsPages, CountsReads, CountsWrites};
+ghost use Rattle.machine_state.specs.Done.{KeepsThrough};
+ghost use Rattle.machine_state.specs.Outside.{stop_of, TransfersPages};
 ghost use Rattle.run_model.specs.Next.{move_unit};
 ghost use Rattle.paging_units.specs.Made.{ground, MakesUnit};
 ghost use Rattle.paging_units.specs.LastMoves.{last_moves};
@@ -45,14 +46,7 @@ fn move_once<F: Files, D: SwapDev>(
     ensures stopped { IfErr result (λ stop. StopsAt (move_unit m.old.kernel.place []) m.old.kernel (D.image swap.old) stop m.new (D.image swap.new)) }
     ensures params { m.new.params ≡ m.old.params }
     ensures images { m.new.images ≡ m.old.images }
-    ensures files_lead { F.leads files.old files.new }
-    ensures swap_leads { D.leads swap.old swap.new }
-    ensures holds { F.holds files.new ≡ F.holds files.old }
-    ensures blocks { D.blocks swap.new ≡ D.blocks swap.old }
-    ensures open_faults { F.open_faults files.new ≡ F.open_faults files.old }
-    ensures page_faults { CountsPages result (F.page_faults files.old) (F.page_faults files.new) }
-    ensures read_faults { CountsReads result (D.read_faults swap.old) (D.read_faults swap.new) }
-    ensures write_faults { CountsWrites result (D.write_faults swap.old) (D.write_faults swap.new) }
+    ensures outside { TransfersPages F.Files D.SwapDev (stop_of result) files.old files.new swap.old swap.new }
 {
     m.sound();
     let (lo, n) = next_write(m, &[]);
@@ -80,14 +74,7 @@ pub fn move_hands<F: Files, D: SwapDev>(
     ensures moved { IfOk result (λ made. Moved n m.old m.new made (F.holds files.old) (D.image swap.old) (D.image swap.new)) }
     ensures keeps { OnOk result (KeepsThrough m.old m.new (F.holds files.old) (D.image swap.old) (D.image swap.new)) }
     ensures stopped { IfErr result (λ stop. StopsMoving n m.old stop m.new (F.holds files.old) (D.image swap.old) (D.image swap.new)) }
-    ensures files_lead { F.leads files.old files.new }
-    ensures swap_leads { D.leads swap.old swap.new }
-    ensures holds { F.holds files.new ≡ F.holds files.old }
-    ensures blocks { D.blocks swap.new ≡ D.blocks swap.old }
-    ensures open_faults { F.open_faults files.new ≡ F.open_faults files.old }
-    ensures page_faults { CountsPages result (F.page_faults files.old) (F.page_faults files.new) }
-    ensures read_faults { CountsReads result (D.read_faults swap.old) (D.read_faults swap.new) }
-    ensures write_faults { CountsWrites result (D.write_faults swap.old) (D.write_faults swap.new) }
+    ensures outside { TransfersPages F.Files D.SwapDev (stop_of result) files.old files.new swap.old swap.new }
 {
     let mut left = n;
     while left > 0 && wants_moves(m) {

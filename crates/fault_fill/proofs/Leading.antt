@@ -20,7 +20,7 @@ use Rattle.machine_state.specs.Machine.{Standing}
 use Rattle.machine_state.specs.Sourced.{ImageNamed}
 use Rattle.machine_state.specs.Files.{AreFiles}
 use Rattle.machine_state.specs.Conditions.{HasStopped, KeepsFlat}
-use Rattle.machine_state.specs.Done.{KeepsThrough, CountsPages, CountsReads, CountsWrites}
+use Rattle.machine_state.specs.Done.{KeepsThrough}
 use Rattle.machine_state.specs.Settled.{IsSameBeside}
 use Rattle.clock_hands.specs.Made.{Ground, ground, MadeBy, ImageBy, SameBeside}
 use Rattle.clock_hands.specs.Stops.{CauseBy, SpoilsBy}
@@ -305,30 +305,3 @@ pub end_stops_now : (locked : List Page) (q : Page) (old next new : Standing) (h
     → is_flying (state_of old.kernel.place q) ≡ true → EndStops next new h j stop → StopsServing true locked q old new holds i j stop
 end_stops_now locked q old next new holds i h j stop n f m =
     stops_here true locked q old new holds i j stop (end_stops true q old new i j stop (unit_waits old.kernel.place q f) (stop_same old next new i h j stop n m))
-
--- The counts of faults of a step that calls no device.
-
-module _ {A : Type 0} (n : ℕ) where
-  pub pages_stay : (r : Result A Stop) → OnErr r ((r ≡ Err stops.JournalFull) ⊎ (r ≡ Err stops.NoMemory)) → CountsPages r n n
-  pages_stay (Ok x) h = refl
-  pages_stay (Err stops.JournalFull) h = refl
-  pages_stay (Err stops.NoMemory) h = refl
-  pages_stay (Err stops.SwapReadFault) h = refl
-  pages_stay (Err stops.SwapWriteFault) h = refl
-  pages_stay (Err stops.FileFault) h = absurd (elim h [ Rattle.std.proofs.Common.inl e ↦ cc | Rattle.std.proofs.Common.inr e ↦ cc ])
-
-  pub reads_stay : (r : Result A Stop) → OnErr r ((r ≡ Err stops.JournalFull) ⊎ (r ≡ Err stops.NoMemory)) → CountsReads r n n
-  reads_stay (Ok x) h = refl
-  reads_stay (Err stops.JournalFull) h = refl
-  reads_stay (Err stops.NoMemory) h = refl
-  reads_stay (Err stops.FileFault) h = refl
-  reads_stay (Err stops.SwapWriteFault) h = refl
-  reads_stay (Err stops.SwapReadFault) h = absurd (elim h [ Rattle.std.proofs.Common.inl e ↦ cc | Rattle.std.proofs.Common.inr e ↦ cc ])
-
-  pub writes_stay : (r : Result A Stop) → OnErr r ((r ≡ Err stops.JournalFull) ⊎ (r ≡ Err stops.NoMemory)) → CountsWrites r n n
-  writes_stay (Ok x) h = refl
-  writes_stay (Err stops.JournalFull) h = refl
-  writes_stay (Err stops.NoMemory) h = refl
-  writes_stay (Err stops.FileFault) h = refl
-  writes_stay (Err stops.SwapReadFault) h = refl
-  writes_stay (Err stops.SwapWriteFault) h = absurd (elim h [ Rattle.std.proofs.Common.inl e ↦ cc | Rattle.std.proofs.Common.inr e ↦ cc ])

@@ -1,7 +1,7 @@
 //! Pages are served, unit by unit.
 ghost use Rattle.std.specs.Prelude.{◌≡◌, ◌≤◌, true, false, [], MatchResult};
 ghost use Rattle.machine_state.specs.Files.{AreFiles};
-ghost use Rattle.machine_state.specs.Done.{CountsPages, CountsReads, CountsWrites};
+ghost use Rattle.machine_state.specs.Outside.{stop_of, TransfersPages};
 ghost use Rattle.page_model.specs.Rank.{HasRoom};
 ghost use Rattle.clock_hands.specs.LastMoves.{last_moves};
 ghost use Rattle.fault_fill.specs.Serving.{CanServe, StopsServing};
@@ -39,14 +39,7 @@ pub(crate) fn serve_on<F: Files, D: SwapDev>(
     requires can { CanServe m.old.kernel.place page }
     ensures served { MatchResult result (λ answer. ServesAs answer page m.old m.new (F.holds files.old) (D.image swap.old) (D.image swap.new))
         (StopsServing false [] page m.old m.new (F.holds files.old) (D.image swap.old) (D.image swap.new)) }
-    ensures files_lead { F.leads files.old files.new }
-    ensures swap_leads { D.leads swap.old swap.new }
-    ensures holds { F.holds files.new ≡ F.holds files.old }
-    ensures blocks { D.blocks swap.new ≡ D.blocks swap.old }
-    ensures open_faults { F.open_faults files.new ≡ F.open_faults files.old }
-    ensures page_faults { CountsPages result (F.page_faults files.old) (F.page_faults files.new) }
-    ensures read_faults { CountsReads result (D.read_faults swap.old) (D.read_faults swap.new) }
-    ensures write_faults { CountsWrites result (D.write_faults swap.old) (D.write_faults swap.new) }
+    ensures outside { TransfersPages F.Files D.SwapDev (stop_of result) files.old files.new swap.old swap.new }
 {
     m.sound();
     let unit = match serve_unit(m, files, swap, page) {
@@ -78,14 +71,7 @@ fn serve_further<F: Files, D: SwapDev>(
     requires low { m.old.kernel.place.free ≡ [] → last_moves m.old.kernel.journal ≤ 1000000 }
     ensures made { MatchResult result (λ more. GoesFurther more locked.now page m.old m.new (F.holds files.old) (D.image swap.old) (D.image swap.new))
         (StopsServing true locked.now page m.old m.new (F.holds files.old) (D.image swap.old) (D.image swap.new)) }
-    ensures files_lead { F.leads files.old files.new }
-    ensures swap_leads { D.leads swap.old swap.new }
-    ensures holds { F.holds files.new ≡ F.holds files.old }
-    ensures blocks { D.blocks swap.new ≡ D.blocks swap.old }
-    ensures open_faults { F.open_faults files.new ≡ F.open_faults files.old }
-    ensures page_faults { CountsPages result (F.page_faults files.old) (F.page_faults files.new) }
-    ensures read_faults { CountsReads result (D.read_faults swap.old) (D.read_faults swap.new) }
-    ensures write_faults { CountsWrites result (D.write_faults swap.old) (D.write_faults swap.new) }
+    ensures outside { TransfersPages F.Files D.SwapDev (stop_of result) files.old files.new swap.old swap.new }
 {
     m.sound();
     let unit = match serve_unit(m, files, swap, page) {
@@ -123,14 +109,7 @@ pub(crate) fn serve_now_on<F: Files, D: SwapDev>(
     requires low { m.old.kernel.place.free ≡ [] → last_moves m.old.kernel.journal ≤ 1000000 }
     ensures served { MatchResult result (λ u. ServesNow locked.now page m.old m.new (F.holds files.old) (D.image swap.old) (D.image swap.new))
         (StopsServing true locked.now page m.old m.new (F.holds files.old) (D.image swap.old) (D.image swap.new)) }
-    ensures files_lead { F.leads files.old files.new }
-    ensures swap_leads { D.leads swap.old swap.new }
-    ensures holds { F.holds files.new ≡ F.holds files.old }
-    ensures blocks { D.blocks swap.new ≡ D.blocks swap.old }
-    ensures open_faults { F.open_faults files.new ≡ F.open_faults files.old }
-    ensures page_faults { CountsPages result (F.page_faults files.old) (F.page_faults files.new) }
-    ensures read_faults { CountsReads result (D.read_faults swap.old) (D.read_faults swap.new) }
-    ensures write_faults { CountsWrites result (D.write_faults swap.old) (D.write_faults swap.new) }
+    ensures outside { TransfersPages F.Files D.SwapDev (stop_of result) files.old files.new swap.old swap.new }
 {
     m.sound();
     let more = match serve_further(m, files, swap, page, locked) {

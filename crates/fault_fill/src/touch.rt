@@ -8,9 +8,9 @@ ghost use Rattle.machine_state.specs.Views.{ShowsSpace};
 ghost use Rattle.machine_state.specs.Machine.{proc_shown};
 ghost use Rattle.machine_state.specs.Showing.{ShowsCore};
 ghost use Rattle.machine_state.specs.Files.{AreFiles};
-ghost use Rattle.machine_state.specs.Done.{CountsPages, CountsReads, CountsWrites};
 ghost use Rattle.machine_state.specs.Conditions.{HasStopped};
 ghost use Rattle.machine_state.specs.UserMemory.{CanLend};
+ghost use Rattle.machine_state.specs.Outside.{stop_of, TransfersPages};
 ghost use Rattle.clock_hands.specs.LastMoves.{last_moves};
 ghost use Rattle.fault_fill.specs.Growth.{proc_in, space_held, access_by, IsAsked, AsksGrowth, IsGrowth, GrowsBy};
 ghost use Rattle.fault_fill.specs.Touches.{Reaches, ReadyIf, TouchedAs, TouchedNow, AccessComes, AccessStops};
@@ -178,14 +178,7 @@ pub fn serve<F: Files, D: SwapDev>(
         (λ answer. AccessComes (λ came q from. TouchedAs came q from m.new (F.holds files.old) (D.image swap.old) (D.image swap.new))
         (access_by m.old.kernel pid address write) answer pid m.old m.new (D.image swap.old) (D.image swap.new))
         (AccessStops false [] (access_by m.old.kernel pid address write) pid m.old m.new (F.holds files.old) (D.image swap.old) (D.image swap.new)) }
-    ensures files_lead { F.leads files.old files.new }
-    ensures swap_leads { D.leads swap.old swap.new }
-    ensures holds { F.holds files.new ≡ F.holds files.old }
-    ensures blocks { D.blocks swap.new ≡ D.blocks swap.old }
-    ensures open_faults { F.open_faults files.new ≡ F.open_faults files.old }
-    ensures page_faults { CountsPages result (F.page_faults files.old) (F.page_faults files.new) }
-    ensures read_faults { CountsReads result (D.read_faults swap.old) (D.read_faults swap.new) }
-    ensures write_faults { CountsWrites result (D.write_faults swap.old) (D.write_faults swap.new) }
+    ensures outside { TransfersPages F.Files D.SwapDev (stop_of result) files.old files.new swap.old swap.new }
 {
     match page_for(m, pid, address, write)? {
         Ok(page) => match serve_page(m, files, swap, page) {
@@ -222,14 +215,7 @@ pub fn serve_now<F: Files, D: SwapDev>(
         (λ answer. AccessComes (λ came q from. TouchedNow locked.now came q from m.new (F.holds files.old) (D.image swap.old) (D.image swap.new))
         (access_by m.old.kernel pid address write) answer pid m.old m.new (D.image swap.old) (D.image swap.new))
         (AccessStops true locked.now (access_by m.old.kernel pid address write) pid m.old m.new (F.holds files.old) (D.image swap.old) (D.image swap.new)) }
-    ensures files_lead { F.leads files.old files.new }
-    ensures swap_leads { D.leads swap.old swap.new }
-    ensures holds { F.holds files.new ≡ F.holds files.old }
-    ensures blocks { D.blocks swap.new ≡ D.blocks swap.old }
-    ensures open_faults { F.open_faults files.new ≡ F.open_faults files.old }
-    ensures page_faults { CountsPages result (F.page_faults files.old) (F.page_faults files.new) }
-    ensures read_faults { CountsReads result (D.read_faults swap.old) (D.read_faults swap.new) }
-    ensures write_faults { CountsWrites result (D.write_faults swap.old) (D.write_faults swap.new) }
+    ensures outside { TransfersPages F.Files D.SwapDev (stop_of result) files.old files.new swap.old swap.new }
 {
     match page_for(m, pid, address, write)? {
         Ok(page) => match serve_page_now(m, files, swap, page, locked) {

@@ -1,5 +1,5 @@
 //! One unit of serving a page, by the state of the page.
-ghost use Rattle.std.specs.Prelude.{◌≡◌, ℕ, ◌+◌, ◌<◌, ◌≤◌, ◌^◌, true, false, [], length, None, MatchResult};
+ghost use Rattle.std.specs.Prelude.{◌≡◌, ◌⊎◌, ◌+◌, ◌<◌, ◌≤◌, ◌^◌, true, false, [], length, None, Err, OnErr, MatchResult};
 ghost use Rattle.core_map.specs.Frames.{Frames};
 ghost use Rattle.page_model.specs.Pages.{frame_of};
 ghost use Rattle.page_model.specs.Placement.{IsThere, state_of, filling_of};
@@ -12,7 +12,7 @@ ghost use Rattle.machine_state.specs.Views.{IsNamedBy, ShowsSpace};
 ghost use Rattle.machine_state.specs.Showing.{ShowsCore};
 ghost use Rattle.machine_state.specs.PlaceOf.{is_blank};
 ghost use Rattle.machine_state.specs.Files.{AreFiles};
-ghost use Rattle.machine_state.specs.Done.{CountsPages, CountsReads, CountsWrites};
+ghost use Rattle.machine_state.specs.Outside.{stop_of, TransfersPages};
 ghost use Rattle.fault_fill.specs.Homes.{IsHome};
 ghost use Rattle.fault_fill.specs.Serving.{CanServe};
 ghost use Rattle.fault_fill.specs.Units.{PlainMade, PlainStop, AnyUnit, AnyStop, EndMade, EndStops, ComesTo};
@@ -100,9 +100,7 @@ fn zero(m: &mut Machine, page: Page) -> Result<(), Stop>
     requires blank { is_blank (state_of m.old.kernel.place page) (filling_of m.old.kernel.place page) ≡ true }
     requires free { 0 < length m.old.kernel.place.free }
     ensures made { MatchResult result (λ u. PlainMade page m.old m.new) (PlainStop page m.old m.new) }
-    ensures page_faults { (n : ℕ) → CountsPages result n n }
-    ensures read_faults { (n : ℕ) → CountsReads result n n }
-    ensures write_faults { (n : ℕ) → CountsWrites result n n }
+    ensures cause { OnErr result ((result ≡ Err Stop.JournalFull) ⊎ (result ≡ Err Stop.NoMemory)) }
 {
     m.fill_zero(page)
 }
@@ -117,9 +115,7 @@ fn read(m: &mut Machine, page: Page) -> Result<(), Stop>
     requires free { 0 < length m.old.kernel.place.free }
     requires few { length m.old.kernel.place.transfers < 16 }
     ensures made { MatchResult result (λ u. PlainMade page m.old m.new) (PlainStop page m.old m.new) }
-    ensures page_faults { (n : ℕ) → CountsPages result n n }
-    ensures read_faults { (n : ℕ) → CountsReads result n n }
-    ensures write_faults { (n : ℕ) → CountsWrites result n n }
+    ensures cause { OnErr result ((result ≡ Err Stop.JournalFull) ⊎ (result ≡ Err Stop.NoMemory)) }
 {
     m.sound();
     let (lo, n) = run_of(m, page);
@@ -133,9 +129,7 @@ fn revive(m: &mut Machine, page: Page, frame: u32) -> Result<(), Stop>
     requires can { CanServe m.old.kernel.place page }
     requires invalid { state_of m.old.kernel.place page ≡ Invalid frame }
     ensures made { MatchResult result (λ u. PlainMade page m.old m.new) (PlainStop page m.old m.new) }
-    ensures page_faults { (n : ℕ) → CountsPages result n n }
-    ensures read_faults { (n : ℕ) → CountsReads result n n }
-    ensures write_faults { (n : ℕ) → CountsWrites result n n }
+    ensures cause { OnErr result ((result ≡ Err Stop.JournalFull) ⊎ (result ≡ Err Stop.NoMemory)) }
 {
     m.reclaim(page)
 }
@@ -153,14 +147,7 @@ pub(crate) fn finish<F: Files, D: SwapDev>(
     requires some { 0 < length m.old.kernel.place.transfers }
     ensures made { MatchResult result (λ u. EndMade m.old m.new (F.holds files.old) (D.image swap.old) (D.image swap.new))
         (EndStops m.old m.new (D.image swap.old) (D.image swap.new)) }
-    ensures files_lead { F.leads files.old files.new }
-    ensures swap_leads { D.leads swap.old swap.new }
-    ensures holds { F.holds files.new ≡ F.holds files.old }
-    ensures blocks { D.blocks swap.new ≡ D.blocks swap.old }
-    ensures open_faults { F.open_faults files.new ≡ F.open_faults files.old }
-    ensures page_faults { CountsPages result (F.page_faults files.old) (F.page_faults files.new) }
-    ensures read_faults { CountsReads result (D.read_faults swap.old) (D.read_faults swap.new) }
-    ensures write_faults { CountsWrites result (D.write_faults swap.old) (D.write_faults swap.new) }
+    ensures outside { TransfersPages F.Files D.SwapDev (stop_of result) files.old files.new swap.old swap.new }
 {
     m.done(files, swap)?;
     Ok(())
@@ -183,14 +170,7 @@ fn fill<F: Files, D: SwapDev>(
     requires free { 0 < length m.old.kernel.place.free }
     ensures made { MatchResult result (λ u. AnyUnit page m.old m.new (F.holds files.old) (D.image swap.old) (D.image swap.new))
         (AnyStop page m.old m.new (D.image swap.old) (D.image swap.new)) }
-    ensures files_lead { F.leads files.old files.new }
-    ensures swap_leads { D.leads swap.old swap.new }
-    ensures holds { F.holds files.new ≡ F.holds files.old }
-    ensures blocks { D.blocks swap.new ≡ D.blocks swap.old }
-    ensures open_faults { F.open_faults files.new ≡ F.open_faults files.old }
-    ensures page_faults { CountsPages result (F.page_faults files.old) (F.page_faults files.new) }
-    ensures read_faults { CountsReads result (D.read_faults swap.old) (D.read_faults swap.new) }
-    ensures write_faults { CountsWrites result (D.write_faults swap.old) (D.write_faults swap.new) }
+    ensures outside { TransfersPages F.Files D.SwapDev (stop_of result) files.old files.new swap.old swap.new }
 {
     m.sound();
     if m.is_blank(page) {
@@ -216,14 +196,7 @@ pub(crate) fn serve_unit<F: Files, D: SwapDev>(
     requires can { CanServe m.old.kernel.place page }
     ensures made { MatchResult result (λ u. ComesTo u page m.old m.new (F.holds files.old) (D.image swap.old) (D.image swap.new))
         (AnyStop page m.old m.new (D.image swap.old) (D.image swap.new)) }
-    ensures files_lead { F.leads files.old files.new }
-    ensures swap_leads { D.leads swap.old swap.new }
-    ensures holds { F.holds files.new ≡ F.holds files.old }
-    ensures blocks { D.blocks swap.new ≡ D.blocks swap.old }
-    ensures open_faults { F.open_faults files.new ≡ F.open_faults files.old }
-    ensures page_faults { CountsPages result (F.page_faults files.old) (F.page_faults files.new) }
-    ensures read_faults { CountsReads result (D.read_faults swap.old) (D.read_faults swap.new) }
-    ensures write_faults { CountsWrites result (D.write_faults swap.old) (D.write_faults swap.new) }
+    ensures outside { TransfersPages F.Files D.SwapDev (stop_of result) files.old files.new swap.old swap.new }
 {
     match m.state_of(page) {
         Some(PageState::Valid(_)) => return Ok(Unit::Served),

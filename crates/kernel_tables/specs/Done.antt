@@ -3,7 +3,6 @@ use Rattle.std.specs.Prelude.{◌≡◌, ◌⊎◌, ◌↔◌, ℕ, ◌<◌, ◌
 use Rattle.flat_state.specs.Flat.{FlatState, NamedImage}
 use Rattle.vm_facts.specs.declared.stop.Stop.{Stop}
 use Rattle.vm_facts.specs.declared.stop.Stop.TheVariants as stops
-use Rattle.transfer_ring.specs.Count.{Rose}
 use Rattle.transfer_ring.specs.FileHolding.{NamedFile}
 use Rattle.page_model.specs.Placement.{Transfer, Part, Source, FromSwap, FromFile, Errand, Writes, Reads}
 use Rattle.page_model.specs.Ownership.{block_of}
@@ -79,19 +78,6 @@ SpoilsBy k image (t ∷ ts) after = (t.errand ≡ Writes) × SpoilsAll k image t
 abbrev pub SpoilsAfter : Kernel → Option (List ℕ) → Option (List ℕ) → Type 0
 SpoilsAfter k None after = after ≡ None
 SpoilsAfter k (Some image) after = (spoiled : List ℕ) × (after ≡ Some spoiled) × SpoilsBy k image k.place.transfers spoiled
-
--- the counts of faults over a call: each rises with its own fault, and stays in every other case
-abbrev pub CountsPages : {A : Type 0} → Result A Stop → ℕ → ℕ → Type 0
-CountsPages (Err stops.FileFault) old new = Rose old new
-CountsPages _ old new = new ≡ old
-
-abbrev pub CountsReads : {A : Type 0} → Result A Stop → ℕ → ℕ → Type 0
-CountsReads (Err stops.SwapReadFault) old new = Rose old new
-CountsReads _ old new = new ≡ old
-
-abbrev pub CountsWrites : {A : Type 0} → Result A Stop → ℕ → ℕ → Type 0
-CountsWrites (Err stops.SwapWriteFault) old new = Rose old new
-CountsWrites _ old new = new ≡ old
 
 -- what the oldest transfer is for
 abbrev pub IsReadFrom : Source → Errand → Type 0

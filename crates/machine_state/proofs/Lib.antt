@@ -63,3 +63,4 @@ pub mod ZeroRuns
 pub mod ReclaimRuns
 pub mod GetRuns
 pub mod WriteStanding
+pub mod Transfers

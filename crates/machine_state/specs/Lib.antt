@@ -28,3 +28,4 @@ pub mod Beginning
 pub mod Ahead
 pub mod Lent
 pub mod UserMemoryLaws
+pub mod Outside

@@ -12,8 +12,9 @@ ghost use Rattle.machine_state.specs.Texts.{TextsStand};
 ghost use Rattle.page_model.specs.Swapper.{is_settled};
 ghost use Rattle.table_steps.specs.Settled.{SettledBy, IsSameBeside, StopsSettling};
 ghost use Rattle.table_steps.specs.Files.{AreFiles};
-ghost use Rattle.table_steps.specs.Done.{sources, IsDone, KeepsThrough, ImageAfter, SwapAfter, StopsFor, CountsPages, CountsReads, CountsWrites};
+ghost use Rattle.table_steps.specs.Done.{sources, IsDone, KeepsThrough, ImageAfter, SwapAfter, StopsFor};
 ghost use Rattle.table_steps.specs.Conditions.{CanZero, CanBringIn, CanReclaim, HasStopped, KeepsFlat, SameElsewhere, SameEverywhere, SameOutside};
+ghost use Rattle.machine_state.specs.Outside.{stop_of, TransfersPages};
 
 use core_map::CoreMap;
 use io_edge::{Files, SwapDev};
@@ -227,14 +228,7 @@ impl Machine {
         ensures stop { OnErr result (HasStopped self.old self.new) }
         ensures cause { StopsFor result self.old.kernel.place.transfers }
         ensures full { (result ≡ Err Stop.JournalFull) ↔ ((0 < length self.old.kernel.place.transfers) × (self.old.params.journal ≤ length self.old.kernel.journal)) }
-        ensures files_lead { F.leads files.old files.new }
-        ensures swap_leads { D.leads swap.old swap.new }
-        ensures holds { F.holds files.new ≡ F.holds files.old }
-        ensures blocks { D.blocks swap.new ≡ D.blocks swap.old }
-        ensures open_faults { F.open_faults files.new ≡ F.open_faults files.old }
-        ensures page_faults { CountsPages result (F.page_faults files.old) (F.page_faults files.new) }
-        ensures read_faults { CountsReads result (D.read_faults swap.old) (D.read_faults swap.new) }
-        ensures write_faults { CountsWrites result (D.write_faults swap.old) (D.write_faults swap.new) }
+        ensures outside { TransfersPages F.Files D.SwapDev (stop_of result) files.old files.new swap.old swap.new }
     {
         if self.tables.ring.len() == 0 {
             return Ok(false);
@@ -291,14 +285,7 @@ impl Machine {
         ensures rest { OnOk result (IsSameBeside self.old self.new) }
         ensures keeps { OnOk result (KeepsThrough self.old self.new (F.holds files.old) (D.image swap.old) (D.image swap.new)) }
         ensures stops { IfErr result (StopsSettling sid self.old self.new (F.holds files.old) (D.image swap.old) (D.image swap.new)) }
-        ensures files_lead { F.leads files.old files.new }
-        ensures swap_leads { D.leads swap.old swap.new }
-        ensures holds { F.holds files.new ≡ F.holds files.old }
-        ensures blocks { D.blocks swap.new ≡ D.blocks swap.old }
-        ensures open_faults { F.open_faults files.new ≡ F.open_faults files.old }
-        ensures page_faults { CountsPages result (F.page_faults files.old) (F.page_faults files.new) }
-        ensures read_faults { CountsReads result (D.read_faults swap.old) (D.read_faults swap.new) }
-        ensures write_faults { CountsWrites result (D.write_faults swap.old) (D.write_faults swap.new) }
+        ensures outside { TransfersPages F.Files D.SwapDev (stop_of result) files.old files.new swap.old swap.new }
     {
         if self.settled(sid) {
             return Ok(());

@@ -9,8 +9,8 @@ ghost use Rattle.kernel_model.specs.Kernel.{out_step};
 ghost use Rattle.table_steps.specs.Lives.{space_held};
 ghost use Rattle.table_steps.specs.Calls.{CanGoOut, CanComeIn};
 ghost use Rattle.table_steps.specs.Conditions.{HasStopped};
-ghost use Rattle.table_steps.specs.Done.{CountsReads, CountsWrites};
 ghost use Rattle.table_steps.specs.Swapping.{IsIn, WritesU, SwapBehind, CallsNone, KeepsOut, KeepsIn, MovedRecord, IsUPage};
+ghost use Rattle.machine_state.specs.Outside.{stop_of, MovesSwapPages};
 
 use crate::machine::Machine;
 use io_edge::{Moved, SwapDev};
@@ -102,10 +102,7 @@ impl Machine {
         ensures stop { OnErr result (HasStopped self.old self.new) }
         ensures cause { OnErr result ((result ≡ Err Stop.JournalFull) ⊎ ((result ≡ Err Stop.NoMemory) ⊎ (result ≡ Err Stop.SwapWriteFault))) }
         ensures full { (result ≡ Err Stop.JournalFull) ↔ (self.old.params.journal ≤ length self.old.kernel.journal) }
-        ensures leads { D.leads swap.old swap.new }
-        ensures blocks { D.blocks swap.new ≡ D.blocks swap.old }
-        ensures read_faults { CountsReads result (D.read_faults swap.old) (D.read_faults swap.new) }
-        ensures write_faults { CountsWrites result (D.write_faults swap.old) (D.write_faults swap.new) }
+        ensures outside { MovesSwapPages D.SwapDev (stop_of result) swap.old swap.new }
     {
         notes::make_room(
             &mut self.journal,
@@ -143,10 +140,7 @@ impl Machine {
         ensures stop { OnErr result (HasStopped self.old self.new) }
         ensures cause { OnErr result ((result ≡ Err Stop.JournalFull) ⊎ ((result ≡ Err Stop.NoMemory) ⊎ (result ≡ Err Stop.SwapReadFault))) }
         ensures full { (result ≡ Err Stop.JournalFull) ↔ (self.old.params.journal ≤ length self.old.kernel.journal) }
-        ensures leads { D.leads swap.old swap.new }
-        ensures blocks { D.blocks swap.new ≡ D.blocks swap.old }
-        ensures read_faults { CountsReads result (D.read_faults swap.old) (D.read_faults swap.new) }
-        ensures write_faults { CountsWrites result (D.write_faults swap.old) (D.write_faults swap.new) }
+        ensures outside { MovesSwapPages D.SwapDev (stop_of result) swap.old swap.new }
     {
         notes::make_room(
             &mut self.journal,

@@ -55,12 +55,12 @@ fn see_more_frames(rt: &impl Abort, m: &Machine)
 #[test]
 fn wait_with_no_child_fails(rt: HostRuntime) {
     let alloc = rt.alloc();
-    let mut files = file(&rt, alloc);
-    let mut swap = area(&rt, alloc, Vec::new(alloc));
+    let files = file(&rt, alloc);
+    let swap = area(&rt, alloc, Vec::new(alloc));
     let mut m = with_stack(&rt, alloc, &files, &swap, of_two_text_pages());
     see_caller(&rt, &m);
     let regs = with_arguments(0);
-    wait(&mut m, &mut files, &mut swap, 1, &regs).expect(&rt, "a reply");
+    wait(&mut m, 1, &regs).expect(&rt, "a reply");
     let lines = Ok(String::new(alloc));
     see_lines(&rt, alloc, &m, lines, "Z s 1 0\nc 1 84 1 10 0\n");
     m.end();
@@ -69,12 +69,12 @@ fn wait_with_no_child_fails(rt: HostRuntime) {
 #[test]
 fn getpid_tells_the_process_and_no_parent(rt: HostRuntime) {
     let alloc = rt.alloc();
-    let mut files = file(&rt, alloc);
-    let mut swap = area(&rt, alloc, Vec::new(alloc));
+    let files = file(&rt, alloc);
+    let swap = area(&rt, alloc, Vec::new(alloc));
     let mut m = with_stack(&rt, alloc, &files, &swap, of_two_text_pages());
     see_caller(&rt, &m);
     let regs = with_arguments(0);
-    getpid(&mut m, &mut files, &mut swap, 1, &regs).expect(&rt, "a reply");
+    getpid(&mut m, 1, &regs).expect(&rt, "a reply");
     let lines = Ok(String::new(alloc));
     see_lines(&rt, alloc, &m, lines, "Z s 1 0\nc 1 20 0 1 0\n");
     m.end();
@@ -89,7 +89,7 @@ fn a_vfork_copies_nothing(rt: HostRuntime) {
     bring(&rt, &mut m, &mut files, &mut swap, data(0));
     see_caller(&rt, &m);
     let regs = with_arguments(0);
-    vfork(&mut m, &mut files, &mut swap, 1, &regs).expect(&rt, "a reply");
+    vfork(&mut m, 1, &regs).expect(&rt, "a reply");
     let lines = Ok(String::new(alloc));
     see_lines(&rt, alloc, &m, lines, "Z s 1 0\nZ d 1 0\nc 1 66 0 2 0\n");
     m.end();
@@ -98,12 +98,12 @@ fn a_vfork_copies_nothing(rt: HostRuntime) {
 #[test]
 fn a_vfork_whose_child_finds_no_place_fails(rt: HostRuntime) {
     let alloc = rt.alloc();
-    let mut files = file(&rt, alloc);
-    let mut swap = area(&rt, alloc, Vec::new(alloc));
+    let files = file(&rt, alloc);
+    let swap = area(&rt, alloc, Vec::new(alloc));
     let mut m = with_stack(&rt, alloc, &files, &swap, of_zeros());
     see_caller(&rt, &m);
     let regs = with_arguments(0);
-    vfork(&mut m, &mut files, &mut swap, 1, &regs).expect(&rt, "a reply");
+    vfork(&mut m, 1, &regs).expect(&rt, "a reply");
     let lines = Ok(String::new(alloc));
     see_lines(&rt, alloc, &m, lines, "Z s 1 0\nf 1\nc 1 66 1 12 0\n");
     m.end();
@@ -179,12 +179,12 @@ fn an_execve_whose_pieces_find_no_place_fails(rt: HostRuntime) {
 #[test]
 fn a_write_of_no_bytes_only_replies(rt: HostRuntime) {
     let alloc = rt.alloc();
-    let mut files = file(&rt, alloc);
-    let mut swap = area(&rt, alloc, Vec::new(alloc));
+    let files = file(&rt, alloc);
+    let swap = area(&rt, alloc, Vec::new(alloc));
     let mut m = with_stack(&rt, alloc, &files, &swap, of_two_text_pages());
     see_caller(&rt, &m);
     let regs = with_arguments(ARGUMENTS - 4);
-    write(alloc, &mut m, &mut files, &mut swap, 1, &regs).expect(&rt, "a reply");
+    write(alloc, &mut m, 1, &regs).expect(&rt, "a reply");
     let lines = Ok(String::new(alloc));
     see_lines(&rt, alloc, &m, lines, "Z s 1 0\nc 1 4 0 0 0\n");
     m.end();

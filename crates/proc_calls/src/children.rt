@@ -13,7 +13,6 @@ ghost use Rattle.proc_calls.specs.Waiting.{wait_reply, FoundAmong};
 use crate::replying::{Called, fail, process, replied_both, reply};
 use flat_model::{ECHILD, SystemCall};
 use flat_state::Change;
-use io_edge::{Files, SwapDev};
 use machine_state::Machine;
 use proc_table::{Life, ProcTable};
 use vm_facts::{Entry, Regs, Stop};
@@ -50,13 +49,7 @@ fn children_of(processes: &ProcTable, parent: u32) -> Children
 }
 
 /// The process waits for the end of a child.
-pub fn wait<F: Files, D: SwapDev>(
-    m: &mut Machine,
-    _files: &mut F,
-    _swap: &mut D,
-    pid: u32,
-    regs: &Regs,
-) -> Result<Called, Stop>
+pub fn wait(m: &mut Machine, pid: u32, regs: &Regs) -> Result<Called, Stop>
     requires running { m.old.kernel.stopped ≡ false }
     requires whole { m.old.before ≡ m.old.kernel.holdings }
     requires clear { m.old.kernel.place.due ≡ [] }
@@ -65,8 +58,6 @@ pub fn wait<F: Files, D: SwapDev>(
     ensures stop { OnErr result (HasStopped m.old m.new) }
     ensures cause { OnErr result ((result ≡ Err Stop.JournalFull) ⊎ (result ≡ Err Stop.NoMemory)) }
     ensures full { (result ≡ Err Stop.JournalFull) ↔ (m.old.params.journal ≤ length m.old.kernel.journal) }
-    ensures files { _files.new ≡ _files.old }
-    ensures swap { _swap.new ≡ _swap.old }
 {
     match children_of(m.processes(), pid) {
         Children::None => fail(m, pid, SystemCall::Wait, regs, ECHILD),
@@ -83,13 +74,7 @@ pub fn wait<F: Files, D: SwapDev>(
 }
 
 /// The process asks for its number, and its parent's.
-pub fn getpid<F: Files, D: SwapDev>(
-    m: &mut Machine,
-    _files: &mut F,
-    _swap: &mut D,
-    pid: u32,
-    regs: &Regs,
-) -> Result<Called, Stop>
+pub fn getpid(m: &mut Machine, pid: u32, regs: &Regs) -> Result<Called, Stop>
     requires running { m.old.kernel.stopped ≡ false }
     requires whole { m.old.before ≡ m.old.kernel.holdings }
     requires clear { m.old.kernel.place.due ≡ [] }
@@ -98,8 +83,6 @@ pub fn getpid<F: Files, D: SwapDev>(
     ensures stop { OnErr result (HasStopped m.old m.new) }
     ensures cause { OnErr result ((result ≡ Err Stop.JournalFull) ⊎ (result ≡ Err Stop.NoMemory)) }
     ensures full { (result ≡ Err Stop.JournalFull) ↔ (m.old.params.journal ≤ length m.old.kernel.journal) }
-    ensures files { _files.new ≡ _files.old }
-    ensures swap { _swap.new ≡ _swap.old }
 {
     let parent = process(m, pid).parent;
     let after = replied_both(regs, pid, parent);

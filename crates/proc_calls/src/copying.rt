@@ -1,8 +1,8 @@
 //! The pages of a child are copied from its parent's.
 ghost use Rattle.std.specs.Prelude.{◌≡◌, ◌≤◌, ◌∷◌, [], false, OnOk, MatchResult};
 ghost use Rattle.page_model.specs.Rank.{HasRoom};
-ghost use Rattle.machine_state.specs.Done.{CountsPages, CountsReads, CountsWrites};
 ghost use Rattle.machine_state.specs.Files.{AreFiles};
+ghost use Rattle.machine_state.specs.Outside.{stop_of, TransfersPages};
 ghost use Rattle.fault_fill.specs.LastMoves.{last_moves};
 ghost use Rattle.proc_calls.specs.Copying.{in_space, AreCopiesFrom, IsCopyFirst, CopiesPage, StopsPage, GoesOn, CopiesAll, HasCopied, StopsCopying};
 
@@ -41,14 +41,7 @@ fn copy_page<F: Files, D: SwapDev>(
     ensures copied { MatchResult result (λ u. CopiesPage child parent m.old m.new (F.holds files.old) (D.image swap.old) (D.image swap.new))
         (StopsPage child parent m.old m.new (F.holds files.old) (D.image swap.old) (D.image swap.new)) }
     ensures on { OnOk result (GoesOn child m.old m.new) }
-    ensures files_lead { F.leads files.old files.new }
-    ensures swap_leads { D.leads swap.old swap.new }
-    ensures holds { F.holds files.new ≡ F.holds files.old }
-    ensures blocks { D.blocks swap.new ≡ D.blocks swap.old }
-    ensures open_faults { F.open_faults files.new ≡ F.open_faults files.old }
-    ensures page_faults { CountsPages result (F.page_faults files.old) (F.page_faults files.new) }
-    ensures read_faults { CountsReads result (D.read_faults swap.old) (D.read_faults swap.new) }
-    ensures write_faults { CountsWrites result (D.write_faults swap.old) (D.write_faults swap.new) }
+    ensures outside { TransfersPages F.Files D.SwapDev (stop_of result) files.old files.new swap.old swap.new }
 {
     m.sound();
     serve_page_now(m, files, swap, parent, &[parent])?;
@@ -74,14 +67,7 @@ pub fn copy_due<F: Files, D: SwapDev>(
     ensures copied { MatchResult result (λ u. CopiesAll m.old.kernel.place.due m.old m.new (F.holds files.old) (D.image swap.old) (D.image swap.new))
         (StopsCopying m.old.kernel.place.due m.old m.new (F.holds files.old) (D.image swap.old) (D.image swap.new)) }
     ensures on { OnOk result (HasCopied m.old m.new) }
-    ensures files_lead { F.leads files.old files.new }
-    ensures swap_leads { D.leads swap.old swap.new }
-    ensures holds { F.holds files.new ≡ F.holds files.old }
-    ensures blocks { D.blocks swap.new ≡ D.blocks swap.old }
-    ensures open_faults { F.open_faults files.new ≡ F.open_faults files.old }
-    ensures page_faults { CountsPages result (F.page_faults files.old) (F.page_faults files.new) }
-    ensures read_faults { CountsReads result (D.read_faults swap.old) (D.read_faults swap.new) }
-    ensures write_faults { CountsWrites result (D.write_faults swap.old) (D.write_faults swap.new) }
+    ensures outside { TransfersPages F.Files D.SwapDev (stop_of result) files.old files.new swap.old swap.new }
 {
     while let Some(child) = m.due() {
         copy_page(m, files, swap, child, page_in(parent, child))?;

@@ -4,9 +4,9 @@ ghost use Rattle.user_vax.specs.Program.{run};
 ghost use Rattle.flat_model.specs.Calls.{exit_reply};
 ghost use Rattle.flat_model.specs.declared.calls.Reply.TheVariants.{Exits};
 ghost use Rattle.kernel_model.specs.Unit.{has_lender, lender_among};
-ghost use Rattle.machine_state.specs.Done.{CountsPages, CountsReads, CountsWrites};
 ghost use Rattle.machine_state.specs.Files.{AreFiles};
 ghost use Rattle.machine_state.specs.UserMemory.{CanLend, kernel_answers};
+ghost use Rattle.machine_state.specs.Outside.{stop_of, TransfersPages};
 ghost use Rattle.vfork_pass.specs.Passed.{HasGivenBack};
 ghost use Rattle.proc_calls.specs.Callers.{proc_in, space_held, IsCaller};
 ghost use Rattle.proc_calls.specs.Leaving.{HasLeft, HasEnded, IsExit, ExitComes, StopsLeaving, StopsAlive, StopsExit};
@@ -58,14 +58,7 @@ pub fn leave_space<F: Files, D: SwapDev>(
     ensures left { OnOk result (HasLeft m.old m.new pid (F.holds files.old) (D.image swap.old) (D.image swap.new)) }
     ensures given { OnOk result (has_lender m.old.kernel.processes pid ≡ true → HasGivenBack m.old.kernel m.new.kernel pid (lender_among m.old.kernel.processes pid)) }
     ensures stops { IfErr result (StopsLeaving m.old m.new pid (F.holds files.old) (D.image swap.old) (D.image swap.new)) }
-    ensures files_lead { F.leads files.old files.new }
-    ensures swap_leads { D.leads swap.old swap.new }
-    ensures holds { F.holds files.new ≡ F.holds files.old }
-    ensures blocks { D.blocks swap.new ≡ D.blocks swap.old }
-    ensures open_faults { F.open_faults files.new ≡ F.open_faults files.old }
-    ensures page_faults { CountsPages result (F.page_faults files.old) (F.page_faults files.new) }
-    ensures read_faults { CountsReads result (D.read_faults swap.old) (D.read_faults swap.new) }
-    ensures write_faults { CountsWrites result (D.write_faults swap.old) (D.write_faults swap.new) }
+    ensures outside { TransfersPages F.Files D.SwapDev (stop_of result) files.old files.new swap.old swap.new }
 {
     if is_borrower(m, pid) {
         m.make_room()?;
@@ -89,14 +82,7 @@ pub fn end<F: Files, D: SwapDev>(
     requires files { AreFiles m.old.images (F.holds files.old) }
     ensures ended { OnOk result (HasEnded m.old m.new pid status (F.holds files.old) (D.image swap.old) (D.image swap.new)) }
     ensures stops { IfErr result (StopsAlive m.old m.new pid (F.holds files.old) (D.image swap.old) (D.image swap.new)) }
-    ensures files_lead { F.leads files.old files.new }
-    ensures swap_leads { D.leads swap.old swap.new }
-    ensures holds { F.holds files.new ≡ F.holds files.old }
-    ensures blocks { D.blocks swap.new ≡ D.blocks swap.old }
-    ensures open_faults { F.open_faults files.new ≡ F.open_faults files.old }
-    ensures page_faults { CountsPages result (F.page_faults files.old) (F.page_faults files.new) }
-    ensures read_faults { CountsReads result (D.read_faults swap.old) (D.read_faults swap.new) }
-    ensures write_faults { CountsWrites result (D.write_faults swap.old) (D.write_faults swap.new) }
+    ensures outside { TransfersPages F.Files D.SwapDev (stop_of result) files.old files.new swap.old swap.new }
 {
     let regs = process(m, pid).regs;
     leave_space(m, files, swap, pid)?;
@@ -121,14 +107,7 @@ pub fn kill<F: Files, D: SwapDev>(
     requires files { AreFiles m.old.images (F.holds files.old) }
     ensures ended { OnOk result (HasEnded m.old m.new pid signal (F.holds files.old) (D.image swap.old) (D.image swap.new)) }
     ensures stops { IfErr result (StopsAlive m.old m.new pid (F.holds files.old) (D.image swap.old) (D.image swap.new)) }
-    ensures files_lead { F.leads files.old files.new }
-    ensures swap_leads { D.leads swap.old swap.new }
-    ensures holds { F.holds files.new ≡ F.holds files.old }
-    ensures blocks { D.blocks swap.new ≡ D.blocks swap.old }
-    ensures open_faults { F.open_faults files.new ≡ F.open_faults files.old }
-    ensures page_faults { CountsPages result (F.page_faults files.old) (F.page_faults files.new) }
-    ensures read_faults { CountsReads result (D.read_faults swap.old) (D.read_faults swap.new) }
-    ensures write_faults { CountsWrites result (D.write_faults swap.old) (D.write_faults swap.new) }
+    ensures outside { TransfersPages F.Files D.SwapDev (stop_of result) files.old files.new swap.old swap.new }
 {
     end(m, files, swap, pid, u32::from(signal))
 }
@@ -167,14 +146,7 @@ pub fn exit<F: Files, D: SwapDev>(
     requires files { AreFiles m.old.images (F.holds files.old) }
     ensures comes { IfOk result (λ called. ExitComes m.old m.new pid regs.now (run (kernel_answers m.old.kernel (space_held m.old.kernel pid)) (exit_reply regs.now)) (F.holds files.old) (D.image swap.old) (D.image swap.new) called) }
     ensures stops { IfErr result (StopsExit m.old m.new pid (run (kernel_answers m.old.kernel (space_held m.old.kernel pid)) (exit_reply regs.now)) (F.holds files.old) (D.image swap.old) (D.image swap.new)) }
-    ensures files_lead { F.leads files.old files.new }
-    ensures swap_leads { D.leads swap.old swap.new }
-    ensures holds { F.holds files.new ≡ F.holds files.old }
-    ensures blocks { D.blocks swap.new ≡ D.blocks swap.old }
-    ensures open_faults { F.open_faults files.new ≡ F.open_faults files.old }
-    ensures page_faults { CountsPages result (F.page_faults files.old) (F.page_faults files.new) }
-    ensures read_faults { CountsReads result (D.read_faults swap.old) (D.read_faults swap.new) }
-    ensures write_faults { CountsWrites result (D.write_faults swap.old) (D.write_faults swap.new) }
+    ensures outside { TransfersPages F.Files D.SwapDev (stop_of result) files.old files.new swap.old swap.new }
 {
     match read_status(m, pid, regs) {
         Err(refused) => refuse(m, pid, SystemCall::Exit, regs, refused),

@@ -4,9 +4,9 @@ ghost use Rattle.user_vax.specs.Program.{run};
 ghost use Rattle.flat_state.specs.Flat.{NamedImage};
 ghost use Rattle.flat_model.specs.Calls.{three_arguments, string_limit, string_from, execve_of, execve_reply};
 ghost use Rattle.page_model.specs.Rank.{HasRoom};
-ghost use Rattle.machine_state.specs.Done.{CountsPages, CountsReads, CountsWrites};
 ghost use Rattle.machine_state.specs.Files.{AreFiles};
 ghost use Rattle.machine_state.specs.UserMemory.{CanLend, kernel_answers};
+ghost use Rattle.machine_state.specs.Outside.{stop_of, TransfersPages};
 ghost use Rattle.proc_calls.specs.Callers.{space_held, IsCaller};
 ghost use Rattle.proc_calls.specs.Reading.{AreNamed, StartsAs, execve_from};
 ghost use Rattle.proc_calls.specs.Starting.{IsImageOf, execve_read, ExecComes, StopsExec};
@@ -135,14 +135,7 @@ pub fn execve<F: Files, D: SwapDev>(
         → IfOk result (ExecComes m.old m.new pid regs.now (execve_read known m.old pid regs.now) (F.holds files.old) (D.image swap.old) (D.image swap.new)) }
     ensures stops { (known : List NamedImage) → AreNamed known m.old.images
         → IfErr result (StopsExec m.old m.new pid (execve_read known m.old pid regs.now) (F.holds files.old) (D.image swap.old) (D.image swap.new)) }
-    ensures files_lead { F.leads files.old files.new }
-    ensures swap_leads { D.leads swap.old swap.new }
-    ensures holds { F.holds files.new ≡ F.holds files.old }
-    ensures blocks { D.blocks swap.new ≡ D.blocks swap.old }
-    ensures open_faults { F.open_faults files.new ≡ F.open_faults files.old }
-    ensures page_faults { CountsPages result (F.page_faults files.old) (F.page_faults files.new) }
-    ensures read_faults { CountsReads result (D.read_faults swap.old) (D.read_faults swap.new) }
-    ensures write_faults { CountsWrites result (D.write_faults swap.old) (D.write_faults swap.new) }
+    ensures outside { TransfersPages F.Files D.SwapDev (stop_of result) files.old files.new swap.old swap.new }
 {
     let asked = read_call(alloc, m, pid, regs);
     match or_stop(asked)? {

@@ -5,8 +5,8 @@ ghost use Rattle.swap_book.specs.declared.Owner.TheVariants.{U as UOf};
 ghost use Rattle.page_model.specs.Rank.{HasRoom};
 ghost use Rattle.flat_state.specs.declared.change.Change.TheVariants.{Fork as ForkOf, Lend as LendOf};
 ghost use Rattle.kernel_model.specs.Asks.{HasSpace};
-ghost use Rattle.machine_state.specs.Done.{CountsPages, CountsReads, CountsWrites};
 ghost use Rattle.machine_state.specs.Files.{AreFiles};
+ghost use Rattle.machine_state.specs.Outside.{stop_of, TransfersPages};
 ghost use Rattle.proc_calls.specs.Callers.{space_held, IsCaller};
 ghost use Rattle.proc_calls.specs.Copying.{HasCopied};
 ghost use Rattle.proc_calls.specs.Forking.{fork_wants, ForkAnswered, Forked, StopsForking};
@@ -42,19 +42,11 @@ fn u_want(child: u32) -> Want
 }
 
 /// A child borrows the process's space.
-pub fn vfork<F: Files, D: SwapDev>(
-    m: &mut Machine,
-    _files: &mut F,
-    _swap: &mut D,
-    pid: u32,
-    regs: &Regs,
-) -> Result<Called, Stop>
+pub fn vfork(m: &mut Machine, pid: u32, regs: &Regs) -> Result<Called, Stop>
     requires calls { IsCaller m.old pid }
     ensures ready { IfOk result (λ called. called ≡ Called.Ready) }
     ensures vforked { OnOk result (Vforked m.old m.new pid regs.now) }
     ensures stop { StopsMakingBy m.old m.new pid (LendOf m.old.kernel.next_pid) result }
-    ensures files { _files.new ≡ _files.old }
-    ensures swap { _swap.new ≡ _swap.old }
 {
     if !is_below_limit(m) {
         return fail(m, pid, SystemCall::Vfork, regs, EAGAIN);
@@ -131,14 +123,7 @@ pub fn fork<F: Files, D: SwapDev>(
     ensures forked { OnOk result (Forked m.old m.new pid regs.now (F.holds files.old) (D.image swap.old) (D.image swap.new)) }
     ensures on { OnOk result (HasCopied m.old m.new) }
     ensures stop { IfErr result (StopsForking m.old m.new pid regs.now (F.holds files.old) (D.image swap.old) (D.image swap.new)) }
-    ensures files_lead { F.leads files.old files.new }
-    ensures swap_leads { D.leads swap.old swap.new }
-    ensures holds { F.holds files.new ≡ F.holds files.old }
-    ensures blocks { D.blocks swap.new ≡ D.blocks swap.old }
-    ensures open_faults { F.open_faults files.new ≡ F.open_faults files.old }
-    ensures page_faults { CountsPages result (F.page_faults files.old) (F.page_faults files.new) }
-    ensures read_faults { CountsReads result (D.read_faults swap.old) (D.read_faults swap.new) }
-    ensures write_faults { CountsWrites result (D.write_faults swap.old) (D.write_faults swap.new) }
+    ensures outside { TransfersPages F.Files D.SwapDev (stop_of result) files.old files.new swap.old swap.new }
 {
     let parent = space_held(m, pid);
     let called = enter_fork(m, pid, parent, regs)?;

@@ -2,9 +2,9 @@
 ghost use Rattle.std.specs.Prelude.{◌≡◌, ◌<◌, ◌≤◌, [], true, false, length, IfOk, OnOk, IfErr, Ok};
 ghost use Rattle.page_model.specs.Rank.{HasRoom};
 ghost use Rattle.kernel_model.specs.Unit.{has_lender, lender_among};
-ghost use Rattle.machine_state.specs.Done.{CountsPages, CountsReads, CountsWrites};
 ghost use Rattle.machine_state.specs.Files.{AreFiles};
 ghost use Rattle.machine_state.specs.Wants.{CanAsk};
+ghost use Rattle.machine_state.specs.Outside.{stop_of, TransfersPages};
 ghost use Rattle.vfork_pass.specs.Passed.{HasGivenBack};
 ghost use Rattle.proc_calls.specs.Callers.{IsCaller};
 ghost use Rattle.proc_calls.specs.Starting.{image_found, wants_found, is_shared, AreNextWants, Finds, Starts, StopsFinding, StopsImage};
@@ -34,14 +34,7 @@ fn find_pieces<F: Files, D: SwapDev>(
     ensures finds { IfOk result (λ fits. Finds (wants_found wants.now) fits m.old m.new pid (F.holds files.old) (D.image swap.old) (D.image swap.new)) }
     ensures given { result ≡ Ok true → has_lender m.old.kernel.processes pid ≡ true → HasGivenBack m.old.kernel m.new.kernel pid (lender_among m.old.kernel.processes pid) }
     ensures stops { IfErr result (StopsFinding (wants_found wants.now) m.old m.new pid (F.holds files.old) (D.image swap.old) (D.image swap.new)) }
-    ensures files_lead { F.leads files.old files.new }
-    ensures swap_leads { D.leads swap.old swap.new }
-    ensures holds { F.holds files.new ≡ F.holds files.old }
-    ensures blocks { D.blocks swap.new ≡ D.blocks swap.old }
-    ensures open_faults { F.open_faults files.new ≡ F.open_faults files.old }
-    ensures page_faults { CountsPages result (F.page_faults files.old) (F.page_faults files.new) }
-    ensures read_faults { CountsReads result (D.read_faults swap.old) (D.read_faults swap.new) }
-    ensures write_faults { CountsWrites result (D.write_faults swap.old) (D.write_faults swap.new) }
+    ensures outside { TransfersPages F.Files D.SwapDev (stop_of result) files.old files.new swap.old swap.new }
 {
     if !m.fits(wants)? {
         return m.ask(pid, wants);
@@ -87,14 +80,7 @@ fn find_space<F: Files, D: SwapDev>(
     ensures finds { IfOk result (λ fits. Finds (image_found image) fits m.old m.new pid (F.holds files.old) (D.image swap.old) (D.image swap.new)) }
     ensures given { result ≡ Ok true → has_lender m.old.kernel.processes pid ≡ true → HasGivenBack m.old.kernel m.new.kernel pid (lender_among m.old.kernel.processes pid) }
     ensures stops { IfErr result (StopsFinding (image_found image) m.old m.new pid (F.holds files.old) (D.image swap.old) (D.image swap.new)) }
-    ensures files_lead { F.leads files.old files.new }
-    ensures swap_leads { D.leads swap.old swap.new }
-    ensures holds { F.holds files.new ≡ F.holds files.old }
-    ensures blocks { D.blocks swap.new ≡ D.blocks swap.old }
-    ensures open_faults { F.open_faults files.new ≡ F.open_faults files.old }
-    ensures page_faults { CountsPages result (F.page_faults files.old) (F.page_faults files.new) }
-    ensures read_faults { CountsReads result (D.read_faults swap.old) (D.read_faults swap.new) }
-    ensures write_faults { CountsWrites result (D.write_faults swap.old) (D.write_faults swap.new) }
+    ensures outside { TransfersPages F.Files D.SwapDev (stop_of result) files.old files.new swap.old swap.new }
 {
     m.sound();
     let [text, data, stack] = next_wants(m, image);
@@ -127,14 +113,7 @@ pub fn start_image<F: Files, D: SwapDev>(
     ensures ready { IfOk result (λ called. called ≡ Called.Ready) }
     ensures starts { OnOk result (Starts m.old m.new pid regs.now after.now image top (F.holds files.old) (D.image swap.old) (D.image swap.new)) }
     ensures stops { IfErr result (StopsImage m.old m.new pid after.now image top (F.holds files.old) (D.image swap.old) (D.image swap.new)) }
-    ensures files_lead { F.leads files.old files.new }
-    ensures swap_leads { D.leads swap.old swap.new }
-    ensures holds { F.holds files.new ≡ F.holds files.old }
-    ensures blocks { D.blocks swap.new ≡ D.blocks swap.old }
-    ensures open_faults { F.open_faults files.new ≡ F.open_faults files.old }
-    ensures page_faults { CountsPages result (F.page_faults files.old) (F.page_faults files.new) }
-    ensures read_faults { CountsReads result (D.read_faults swap.old) (D.read_faults swap.new) }
-    ensures write_faults { CountsWrites result (D.write_faults swap.old) (D.write_faults swap.new) }
+    ensures outside { TransfersPages F.Files D.SwapDev (stop_of result) files.old files.new swap.old swap.new }
 {
     let page = Page::Stack {
         sid: m.next_numbers().1,

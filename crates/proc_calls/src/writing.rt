@@ -13,7 +13,6 @@ ghost use Rattle.proc_calls.specs.Writing.{IsWrite, StopsBy, StopsOut, bytes_of}
 use crate::replying::{Called, fail, process, refuse, replied_one, reply};
 use flat_model::{Asked, Reply, SystemCall, write_reply};
 use flat_state::Change;
-use io_edge::{Files, SwapDev};
 use machine_state::{Machine, or_stop};
 use std::alloc::Global;
 use vm_facts::{Bytes, Entry, NoMemory, Regs, Stop};
@@ -91,22 +90,13 @@ fn answer(m: &mut Machine, pid: u32, regs: &Regs, reply: Reply) -> Result<Called
 }
 
 /// The process writes bytes to the output.
-pub fn write<F: Files, D: SwapDev>(
-    alloc: Global,
-    m: &mut Machine,
-    _files: &mut F,
-    _swap: &mut D,
-    pid: u32,
-    regs: &Regs,
-) -> Result<Called, Stop>
+pub fn write(alloc: Global, m: &mut Machine, pid: u32, regs: &Regs) -> Result<Called, Stop>
     requires running { m.old.kernel.stopped ≡ false }
     requires whole { m.old.before ≡ m.old.kernel.holdings }
     requires clear { m.old.kernel.place.due ≡ [] }
     requires lends { CanLend m.old.kernel pid }
     ensures comes { IfOk result (Comes m.old m.new pid Write regs.now (run (kernel_answers m.old.kernel (space_held m.old.kernel pid)) (write_reply regs.now))) }
     ensures stop { IfErr result (StopsOut m.old m.new pid (run (kernel_answers m.old.kernel (space_held m.old.kernel pid)) (write_reply regs.now))) }
-    ensures files { _files.new ≡ _files.old }
-    ensures swap { _swap.new ≡ _swap.old }
 {
     let asked = read_bytes(alloc, m, pid, regs);
     match or_stop(asked)? {

@@ -3,9 +3,9 @@ ghost use Rattle.std.specs.Prelude.{◌≡◌, ◌≤◌, Some, Ok, IfOk, OnOk, 
 ghost use Rattle.user_vax.specs.Program.{run};
 ghost use Rattle.user_vax.specs.Effects.{Effect};
 ghost use Rattle.user_vax.specs.Instruction.{instruction};
-ghost use Rattle.machine_state.specs.Done.{CountsPages, CountsReads, CountsWrites};
 ghost use Rattle.machine_state.specs.Files.{AreFiles};
 ghost use Rattle.machine_state.specs.UserMemory.{CanLend};
+ghost use Rattle.machine_state.specs.Outside.{stop_of, TransfersPages};
 ghost use Rattle.steady_laws.specs.Callers.{regs_of};
 ghost use Rattle.steady_laws.specs.Holders.{HoldersStand};
 ghost use Rattle.steady_laws.specs.Ready.{Continues};
@@ -40,24 +40,17 @@ fn make<F: Files, D: SwapDev>(
     requires files { AreFiles m.old.images (F.holds files.old) }
     ensures comes { IfOk result (CallComes call m.old m.new pid regs.now (F.holds files.old) (D.image swap.old) (D.image swap.new)) }
     ensures stops { IfErr result (CallStops call m.old m.new pid regs.now (F.holds files.old) (D.image swap.old) (D.image swap.new)) }
-    ensures files_lead { F.leads files.old files.new }
-    ensures swap_leads { D.leads swap.old swap.new }
-    ensures holds { F.holds files.new ≡ F.holds files.old }
-    ensures blocks { D.blocks swap.new ≡ D.blocks swap.old }
-    ensures open_faults { F.open_faults files.new ≡ F.open_faults files.old }
-    ensures page_faults { CountsPages result (F.page_faults files.old) (F.page_faults files.new) }
-    ensures read_faults { CountsReads result (D.read_faults swap.old) (D.read_faults swap.new) }
-    ensures write_faults { CountsWrites result (D.write_faults swap.old) (D.write_faults swap.new) }
+    ensures outside { TransfersPages F.Files D.SwapDev (stop_of result) files.old files.new swap.old swap.new }
 {
     match call {
         SystemCall::Exit => exit(m, files, swap, pid, regs),
         SystemCall::Fork => fork(m, files, swap, pid, regs),
-        SystemCall::Write => write(alloc, m, files, swap, pid, regs),
+        SystemCall::Write => write(alloc, m, pid, regs),
         SystemCall::Break => brk(m, files, swap, pid, regs),
-        SystemCall::Getpid => getpid(m, files, swap, pid, regs),
+        SystemCall::Getpid => getpid(m, pid, regs),
         SystemCall::Execve => execve(alloc, m, files, swap, pid, regs),
-        SystemCall::Vfork => vfork(m, files, swap, pid, regs),
-        SystemCall::Wait => wait(m, files, swap, pid, regs),
+        SystemCall::Vfork => vfork(m, pid, regs),
+        SystemCall::Wait => wait(m, pid, regs),
     }
 }
 
@@ -84,14 +77,7 @@ pub fn call<F: Files, D: SwapDev>(
     ensures stops { IfErr result (StopsAdvancing m.old m.new pid (is_now patience) (F.holds files.old) (D.image swap.old) (D.image swap.new)) }
     ensures continues { IfOk result (λ advance. Continues m.old m.new (counts advance)) }
     ensures holders { OnOk result (HoldersStand m.new.kernel) }
-    ensures files_lead { F.leads files.old files.new }
-    ensures swap_leads { D.leads swap.old swap.new }
-    ensures holds { F.holds files.new ≡ F.holds files.old }
-    ensures blocks { D.blocks swap.new ≡ D.blocks swap.old }
-    ensures open_faults { F.open_faults files.new ≡ F.open_faults files.old }
-    ensures page_faults { CountsPages result (F.page_faults files.old) (F.page_faults files.new) }
-    ensures read_faults { CountsReads result (D.read_faults swap.old) (D.read_faults swap.new) }
-    ensures write_faults { CountsWrites result (D.write_faults swap.old) (D.write_faults swap.new) }
+    ensures outside { TransfersPages F.Files D.SwapDev (stop_of result) files.old files.new swap.old swap.new }
 {
     m.sound();
     let Some(call) = SystemCall::numbered(number) else {

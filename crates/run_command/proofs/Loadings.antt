@@ -7,7 +7,7 @@ use Rattle.io_edge.specs.Count.{Rose}
 use Rattle.io_edge.specs.Striping.{zero_needs, one_needs, MeetsNeeds}
 use Rattle.flat_state.specs.Flat.{NamedImage, Inputs}
 use Rattle.flat_model.specs.Asked.{start_held}
-use Rattle.machine_state.specs.Done.{CountsPages}
+use Rattle.machine_state.specs.Outside.{stop_of, CountsFileFaults}
 use Rattle.machine_state.specs.Machine.{Standing}
 use Rattle.machine_state.specs.Sourced.{ImageNamed}
 use Rattle.vm_core.specs.Cores.{Underway}
@@ -63,7 +63,7 @@ no_file_fault A (inl low) = absurd (omega arith)
 no_file_fault A (inr last) = absurd (let most = last.0 in omega arith)
 
 -- so the run didn't halt by one
-files_hold : (r : Ending) → IfErr r IsRunFault → CountsPages (stopped_as (unfinished_of r)) 0 0 → IsRunEnding r
+files_hold : (r : Ending) → IfErr r IsRunFault → CountsFileFaults (stop_of (stopped_as (unfinished_of r))) 0 0 → IsRunEnding r
 files_hold (Ok done) kind pages = tt
 files_hold (Err faults.FileFault) kind pages = no_file_fault (IsRunEnding (Err faults.FileFault)) pages
 files_hold (Err (faults.SwapReadFault device)) kind pages = tt
@@ -126,7 +126,8 @@ load_runs IsOf Starts number seen status journal r began caused space ended (inr
   ended = λ A image is told. counts_starve seen A journal image r began lost caused (ended A image is told);
 }
 
-pub load_ran : (IsOf : Inputs → List ℕ → Type 0) (Starts : Inputs → Type 0) (number : ℕ) (seen : Seen) (status : ℕ) (journal : List Entry) (r : Ending) → IfErr r IsRunFault → CountsPages (stopped_as (unfinished_of r)) 0 0 → NoFaults seen.faults
+pub load_ran : (IsOf : Inputs → List ℕ → Type 0) (Starts : Inputs → Type 0) (number : ℕ) (seen : Seen) (status : ℕ) (journal : List Entry) (r : Ending) → IfErr r IsRunFault → CountsFileFaults (stop_of (stopped_as (unfinished_of r))) 0 0
+    → NoFaults seen.faults
     → ReadsFail r seen.reads → WritesFail r seen.writes → ((pid : ℕ) → r ≡ Err (faults.NoSpace pid) → journal ≡ []) → ((pid : ℕ) → r ≡ Err (faults.NoSpace pid) → seen.swap_after ≡ seen.swap_before)
     → (r ≡ Err faults.JournalFull → length journal ≡ journal_entries) → OnOk r (length journal ≤ journal_entries)
     → ((A : Inputs) → Starts A → (pid : ℕ) → r ≡ Err (faults.NoSpace pid) → start_held A ≡ Err pid)

@@ -6,7 +6,7 @@ use Rattle.vm_facts.specs.declared.stop.Stop.{Stop}
 use Rattle.vm_facts.specs.declared.stop.Stop.TheVariants as stops
 use Rattle.io_edge.specs.PairFailures.{AddsFailures}
 use Rattle.flat_state.specs.Flat.{Inputs}
-use Rattle.machine_state.specs.Done.{CountsReads, CountsWrites}
+use Rattle.machine_state.specs.Outside.{CountsReadFaults, CountsWriteFaults}
 use Rattle.vm_core.specs.declared.schedule.Unfinished.{Unfinished}
 use Rattle.vm_core.specs.declared.schedule.Unfinished.TheVariants as ends
 use Rattle.vm_core.specs.RunEnds.{RunEnds}
@@ -38,14 +38,14 @@ stop_of : (stop : Stop) (fault : Fault) (other : Stop) → IsFaultOf stop fault 
 stop_of stop fault other (inl e) full never same = never (e ∙ ap (λ (s : Stop). ends.Stopped s) same)
 stop_of stop fault other (inr (is, lacks)) full never same = full (sym is ∙ same)
 
-reads_stay : (stop : Stop) (old new : ℕ) → (stop ≡ stops.SwapReadFault → ⊥) → CountsReads {A = Unit {0}} (Err stop) old new → new ≡ old
+reads_stay : (stop : Stop) (old new : ℕ) → (stop ≡ stops.SwapReadFault → ⊥) → CountsReadFaults (Some stop) old new → new ≡ old
 reads_stay stops.SwapReadFault old new other c = absurd (other refl)
 reads_stay stops.NoMemory old new other c = c
 reads_stay stops.JournalFull old new other c = c
 reads_stay stops.FileFault old new other c = c
 reads_stay stops.SwapWriteFault old new other c = c
 
-writes_stay : (stop : Stop) (old new : ℕ) → (stop ≡ stops.SwapWriteFault → ⊥) → CountsWrites {A = Unit {0}} (Err stop) old new → new ≡ old
+writes_stay : (stop : Stop) (old new : ℕ) → (stop ≡ stops.SwapWriteFault → ⊥) → CountsWriteFaults (Some stop) old new → new ≡ old
 writes_stay stops.SwapWriteFault old new other c = absurd (other refl)
 writes_stay stops.NoMemory old new other c = c
 writes_stay stops.JournalFull old new other c = c
@@ -53,13 +53,13 @@ writes_stay stops.FileFault old new other c = c
 writes_stay stops.SwapReadFault old new other c = c
 
 module _ (f : DeviceFaults) (old new : ℕ) (before after : Option ℕ) (a : AddsFailures old new before after f.zero_before f.zero_after f.one_before f.one_after) (zero : old ≡ 0) (none : before ≡ None) (low : ForSome after (λ (d : ℕ). d < 2)) (stop : Stop) where
-  reads_none : (fault : Fault) → CountsReads {A = Unit {0}} (Err stop) old new → IsFaultOf stop fault → (unfinished_by fault ≡ ends.Stopped stops.SwapReadFault → ⊥) → NoneFailed f
+  reads_none : (fault : Fault) → CountsReadFaults (Some stop) old new → IsFaultOf stop fault → (unfinished_by fault ≡ ends.Stopped stops.SwapReadFault → ⊥) → NoneFailed f
   reads_none fault c is never = none_failed f old new before after a zero (reads_stay stop old new (stop_of stop fault stops.SwapReadFault is (λ e. cc) never) c)
 
-  writes_none : (fault : Fault) → CountsWrites {A = Unit {0}} (Err stop) old new → IsFaultOf stop fault → (unfinished_by fault ≡ ends.Stopped stops.SwapWriteFault → ⊥) → NoneFailed f
+  writes_none : (fault : Fault) → CountsWriteFaults (Some stop) old new → IsFaultOf stop fault → (unfinished_by fault ≡ ends.Stopped stops.SwapWriteFault → ⊥) → NoneFailed f
   writes_none fault c is never = none_failed f old new before after a zero (writes_stay stop old new (stop_of stop fault stops.SwapWriteFault is (λ e. cc) never) c)
 
-  pub reads_fail : (fault : Fault) → CountsReads {A = Unit {0}} (Err stop) old new → IsFaultOf stop fault → IsRunFault fault → ((device : ℕ) → fault ≡ SwapReadFault device → after ≡ Some device) → ReadsFail (Err fault) f
+  pub reads_fail : (fault : Fault) → CountsReadFaults (Some stop) old new → IsFaultOf stop fault → IsRunFault fault → ((device : ℕ) → fault ≡ SwapReadFault device → after ≡ Some device) → ReadsFail (Err fault) f
   reads_fail (SwapReadFault device) c is kind named = device_failed f old new before after device a none low (named device refl)
   reads_fail FileFault c is kind named = reads_none FileFault c is (λ e. cc)
   reads_fail (SwapWriteFault device) c is kind named = reads_none (SwapWriteFault device) c is (λ e. cc)
@@ -68,7 +68,7 @@ module _ (f : DeviceFaults) (old new : ℕ) (before after : Option ℕ) (a : Add
   reads_fail (NoSpace pid) c is kind named = reads_none (NoSpace pid) c is (λ e. cc)
   reads_fail _ c is kind named = absurd kind
 
-  pub writes_fail : (fault : Fault) → CountsWrites {A = Unit {0}} (Err stop) old new → IsFaultOf stop fault → IsRunFault fault → ((device : ℕ) → fault ≡ SwapWriteFault device → after ≡ Some device) → WritesFail (Err fault) f
+  pub writes_fail : (fault : Fault) → CountsWriteFaults (Some stop) old new → IsFaultOf stop fault → IsRunFault fault → ((device : ℕ) → fault ≡ SwapWriteFault device → after ≡ Some device) → WritesFail (Err fault) f
   writes_fail (SwapWriteFault device) c is kind named = device_failed f old new before after device a none low (named device refl)
   writes_fail FileFault c is kind named = writes_none FileFault c is (λ e. cc)
   writes_fail (SwapReadFault device) c is kind named = writes_none (SwapReadFault device) c is (λ e. cc)

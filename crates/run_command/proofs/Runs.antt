@@ -10,7 +10,7 @@ use Rattle.io_edge.proofs.Stripes.{largest_swap}
 use Rattle.aout_image.specs.declared.Image.{Image}
 use Rattle.flat_state.specs.Flat.{Inputs}
 use Rattle.machine_state.specs.Applying.{facts_named}
-use Rattle.machine_state.specs.Done.{CountsPages}
+use Rattle.machine_state.specs.Outside.{stop_of, CountsFileFaults}
 use Rattle.machine_state.specs.Machine.{Standing}
 use Rattle.machine_state.specs.New.{fresh_kernel}
 use Rattle.machine_state.specs.Sourced.{ImageNamed}
@@ -68,7 +68,8 @@ room_told zero_size one_size swap zero one image zero_whole one_whole meets most
 
 -- Why a run that was opened isn't finished.
 
-pub run_caused : (seen : Seen) (es : List Entry) (r : Ending) → IfErr r IsRunFault → seen.faults.open_after ≡ seen.faults.open_before → CountsPages (stopped_as (unfinished_of r)) seen.faults.page_before seen.faults.page_after
+pub run_caused : (seen : Seen) (es : List Entry) (r : Ending) → IfErr r IsRunFault → seen.faults.open_after ≡ seen.faults.open_before
+    → CountsFileFaults (stop_of (stopped_as (unfinished_of r))) seen.faults.page_before seen.faults.page_after
     → ReadsFail r seen.reads → WritesFail r seen.writes → ((pid : ℕ) → r ≡ Err (NoSpace pid) → es ≡ []) → ((pid : ℕ) → r ≡ Err (NoSpace pid) → seen.swap_after ≡ seen.swap_before)
     → (r ≡ Err JournalFull → length es ≡ journal_entries) → OnOk r (length es ≤ journal_entries) → StopCaused seen es r
 run_caused seen es (Ok done) kind opens pages reads writes none same full within =

@@ -4,8 +4,8 @@ ghost use Rattle.io_edge.specs.FailedDevice.{failed_read_of, failed_write_of};
 ghost use Rattle.io_edge.specs.Striping.{most_blocks, pair_blocks, MeetsNeeds};
 ghost use Rattle.flat_state.specs.Flat.{Inputs};
 ghost use Rattle.flat_model.specs.Asked.{start_held};
-ghost use Rattle.machine_state.specs.Done.{CountsPages};
 ghost use Rattle.machine_state.specs.Files.{AreFiles};
+ghost use Rattle.machine_state.specs.Outside.{stop_of, ReadsFilePages};
 ghost use Rattle.vm_core.specs.RunStartStarting.{StartsFrom};
 ghost use Rattle.vm_core.specs.Starting.{IsFresh};
 ghost use Rattle.vm_core.specs.Schedules.{HaveFewMoves};
@@ -88,12 +88,9 @@ fn run_over<'a, 'd, F: Files, D: SwapDev, E: SwapDev>(
     ensures kind { IfErr result IsRunFault }
     ensures zero_leads { D.leads pair.old.zero.now pair.new.zero.now }
     ensures one_leads { E.leads pair.old.one.now pair.new.one.now }
-    ensures files_lead { F.leads files.old files.new }
     ensures zero_reference { pair.new.zero.ghost_name ≡ pair.old.zero.ghost_name }
     ensures one_reference { pair.new.one.ghost_name ≡ pair.old.one.ghost_name }
-    ensures holds { F.holds files.new ≡ F.holds files.old }
-    ensures open_faults { F.open_faults files.new ≡ F.open_faults files.old }
-    ensures page_faults { CountsPages (stopped_as (unfinished_of result)) (F.page_faults files.old) (F.page_faults files.new) }
+    ensures files_read { ReadsFilePages F.Files (stop_of (stopped_as (unfinished_of result))) files.old files.new }
     ensures reads { ReadsFail result (record { zero_before = D.read_faults pair.old.zero.now; zero_after = D.read_faults pair.new.zero.now; one_before = E.read_faults pair.old.one.now; one_after = E.read_faults pair.new.one.now }) }
     ensures writes { WritesFail result (record { zero_before = D.write_faults pair.old.zero.now; zero_after = D.write_faults pair.new.zero.now; one_before = E.write_faults pair.old.one.now; one_after = E.write_faults pair.new.one.now }) }
 {
@@ -139,10 +136,7 @@ pub fn run_paired<'a, F: Files, D: SwapDev, E: SwapDev>(
     ensures kind { IfErr result IsRunFault }
     ensures zero_leads { D.leads zero.old zero.new }
     ensures one_leads { E.leads one.old one.new }
-    ensures files_lead { F.leads files.old files.new }
-    ensures holds { F.holds files.new ≡ F.holds files.old }
-    ensures open_faults { F.open_faults files.new ≡ F.open_faults files.old }
-    ensures page_faults { CountsPages (stopped_as (unfinished_of result)) (F.page_faults files.old) (F.page_faults files.new) }
+    ensures files_read { ReadsFilePages F.Files (stop_of (stopped_as (unfinished_of result))) files.old files.new }
     ensures reads { ReadsFail result (record { zero_before = D.read_faults zero.old; zero_after = D.read_faults zero.new; one_before = E.read_faults one.old; one_after = E.read_faults one.new }) }
     ensures writes { WritesFail result (record { zero_before = D.write_faults zero.old; zero_after = D.write_faults zero.new; one_before = E.write_faults one.old; one_after = E.write_faults one.new }) }
 {

@@ -1,8 +1,8 @@
 //! The new stack pages that are due are filled in turn.
 ghost use Rattle.std.specs.Prelude.{◌≡◌, ◌≤◌, [], false, MatchResult};
 ghost use Rattle.page_model.specs.Rank.{HasRoom};
-ghost use Rattle.machine_state.specs.Done.{CountsPages, CountsReads, CountsWrites};
 ghost use Rattle.machine_state.specs.Files.{AreFiles};
+ghost use Rattle.machine_state.specs.Outside.{stop_of, TransfersPages};
 ghost use Rattle.steady_laws.specs.LastMoves.{last_moves};
 ghost use Rattle.run_start.specs.Filling.{AreStarts, FillsAll, StopsFilling};
 
@@ -26,14 +26,7 @@ pub(crate) fn fill_due<F: Files, D: SwapDev>(
     requires low { last_moves m.old.kernel.journal ≤ 1000000 }
     ensures filled { MatchResult result (λ u. FillsAll m.old.kernel.place.due m.old m.new (F.holds files.old) (D.image swap.old) (D.image swap.new))
         (StopsFilling m.old.kernel.place.due m.old m.new (F.holds files.old) (D.image swap.old) (D.image swap.new)) }
-    ensures files_lead { F.leads files.old files.new }
-    ensures swap_leads { D.leads swap.old swap.new }
-    ensures holds { F.holds files.new ≡ F.holds files.old }
-    ensures blocks { D.blocks swap.new ≡ D.blocks swap.old }
-    ensures open_faults { F.open_faults files.new ≡ F.open_faults files.old }
-    ensures page_faults { CountsPages result (F.page_faults files.old) (F.page_faults files.new) }
-    ensures read_faults { CountsReads result (D.read_faults swap.old) (D.read_faults swap.new) }
-    ensures write_faults { CountsWrites result (D.write_faults swap.old) (D.write_faults swap.new) }
+    ensures outside { TransfersPages F.Files D.SwapDev (stop_of result) files.old files.new swap.old swap.new }
 {
     let Some(page) = m.due() else {
         return Ok(());

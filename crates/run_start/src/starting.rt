@@ -2,8 +2,8 @@
 ghost use Rattle.std.specs.Prelude.{◌≡◌, ◌≤◌, ℕ, false, List, [], length, Some, IfOk, IfErr, Ok};
 ghost use Rattle.flat_state.specs.Flat.{Inputs};
 ghost use Rattle.flat_model.specs.Asked.{start_held};
-ghost use Rattle.machine_state.specs.Done.{CountsPages, CountsReads, CountsWrites};
 ghost use Rattle.machine_state.specs.Files.{AreFiles};
+ghost use Rattle.machine_state.specs.Outside.{stop_of, TransfersPages};
 ghost use Rattle.run_start.specs.Starting.{IsNew, AreAmong, StartsFrom, started_by, HasStarted};
 ghost use Rattle.run_start.specs.Leading.{IsTold, StartLeads, StartStops};
 
@@ -46,14 +46,7 @@ pub fn start<F: Files, D: SwapDev>(
         → result ≡ Ok Started.Ok → StartLeads A m.new (F.holds files.old) image (D.image swap.new) }
     ensures stops { (A : Inputs) (image : List ℕ) → IsTold A m.old first.now (F.holds files.old) image → D.image swap.old ≡ Some image
         → IfErr result (λ stop. StartStops A m.new image stop (D.image swap.new)) }
-    ensures files_lead { F.leads files.old files.new }
-    ensures swap_leads { D.leads swap.old swap.new }
-    ensures holds { F.holds files.new ≡ F.holds files.old }
-    ensures blocks { D.blocks swap.new ≡ D.blocks swap.old }
-    ensures open_faults { F.open_faults files.new ≡ F.open_faults files.old }
-    ensures page_faults { CountsPages result (F.page_faults files.old) (F.page_faults files.new) }
-    ensures read_faults { CountsReads result (D.read_faults swap.old) (D.read_faults swap.new) }
-    ensures write_faults { CountsWrites result (D.write_faults swap.old) (D.write_faults swap.new) }
+    ensures outside { TransfersPages F.Files D.SwapDev (stop_of result) files.old files.new swap.old swap.new }
 {
     m.sound();
     let started = begin_all(m, first)?;

@@ -6,7 +6,7 @@ ghost use Rattle.page_model.specs.Swapper.{swap_choice, choice_of_out, brings, l
 ghost use Rattle.machine_state.specs.Alike.{AreRecords};
 ghost use Rattle.machine_state.specs.Machine.{processes_of, residents_of};
 ghost use Rattle.machine_state.specs.Files.{AreFiles};
-ghost use Rattle.machine_state.specs.Done.{CountsPages, CountsReads, CountsWrites};
+ghost use Rattle.machine_state.specs.Outside.{stop_of, TransfersPages};
 ghost use Rattle.swapper.specs.Runners.{runners_in, runners_of, HasResidents, choice_of, in_choice, out_choice};
 ghost use Rattle.swapper.specs.declared.Turned.{Turned as Chosen};
 ghost use Rattle.swapper.specs.Turns.{HoldersHaveSpaces, MayTurn, Turns, KeepsTurn, StopsTurning};
@@ -85,17 +85,10 @@ fn carry_out<F: Files, D: SwapDev>(
     ensures did { OnOk result (Turns chosen m.old m.new (F.holds files.old) (D.image swap.old) (D.image swap.new)) }
     ensures keeps { OnOk result (KeepsTurn chosen m.old m.new (F.holds files.old) (D.image swap.old) (D.image swap.new)) }
     ensures stopped { IfErr result (λ stop. StopsTurning chosen m.old stop m.new (F.holds files.old) (D.image swap.old) (D.image swap.new)) }
-    ensures files_lead { F.leads files.old files.new }
-    ensures swap_leads { D.leads swap.old swap.new }
-    ensures holds { F.holds files.new ≡ F.holds files.old }
-    ensures blocks { D.blocks swap.new ≡ D.blocks swap.old }
-    ensures open_faults { F.open_faults files.new ≡ F.open_faults files.old }
-    ensures page_faults { CountsPages result (F.page_faults files.old) (F.page_faults files.new) }
-    ensures read_faults { CountsReads result (D.read_faults swap.old) (D.read_faults swap.new) }
-    ensures write_faults { CountsWrites result (D.write_faults swap.old) (D.write_faults swap.new) }
+    ensures outside { TransfersPages F.Files D.SwapDev (stop_of result) files.old files.new swap.old swap.new }
 {
     match chosen {
-        Turned::In(pid) => swap_in(m, files, swap, pid),
+        Turned::In(pid) => swap_in(m, swap, pid),
         Turned::Out(pid) => swap_out(m, files, swap, pid),
         Turned::Nothing => Ok(()),
     }
@@ -120,14 +113,7 @@ pub fn turn<F: Files, D: SwapDev>(
     ensures keeps { IfOk result (λ t. KeepsTurn t m.old m.new (F.holds files.old) (D.image swap.old) (D.image swap.new)) }
     ensures stopped { IfErr result (λ stop. (t : Chosen) × (choice_of t ≡ swap_choice m.old.kernel.place (runners_of m.old.kernel))
         × StopsTurning t m.old stop m.new (F.holds files.old) (D.image swap.old) (D.image swap.new)) }
-    ensures files_lead { F.leads files.old files.new }
-    ensures swap_leads { D.leads swap.old swap.new }
-    ensures holds { F.holds files.new ≡ F.holds files.old }
-    ensures blocks { D.blocks swap.new ≡ D.blocks swap.old }
-    ensures open_faults { F.open_faults files.new ≡ F.open_faults files.old }
-    ensures page_faults { CountsPages result (F.page_faults files.old) (F.page_faults files.new) }
-    ensures read_faults { CountsReads result (D.read_faults swap.old) (D.read_faults swap.new) }
-    ensures write_faults { CountsWrites result (D.write_faults swap.old) (D.write_faults swap.new) }
+    ensures outside { TransfersPages F.Files D.SwapDev (stop_of result) files.old files.new swap.old swap.new }
 {
     m.sound();
     let chosen = choose(m);

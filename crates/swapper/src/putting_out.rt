@@ -12,9 +12,10 @@ ghost use Rattle.kernel_model.specs.Unit.{has_lender};
 ghost use Rattle.machine_state.specs.Files.{AreFiles};
 ghost use Rattle.machine_state.specs.Calls.{CanComeIn};
 ghost use Rattle.machine_state.specs.Conditions.{KeepsFlat};
-ghost use Rattle.machine_state.specs.Done.{KeepsThrough, CountsPages, CountsReads, CountsWrites};
+ghost use Rattle.machine_state.specs.Done.{KeepsThrough};
 ghost use Rattle.machine_state.specs.Settled.{IsSameBeside};
 ghost use Rattle.machine_state.specs.Swapping.{IsIn, KeepsIn, KeepsOut};
+ghost use Rattle.machine_state.specs.Outside.{stop_of, MovesSwapPages, TransfersPages};
 ghost use Rattle.paging_units.specs.Made.{ground, MakesUnit};
 ghost use Rattle.paging_units.specs.Stops.{StopsAt};
 ghost use Rattle.swapper.specs.Putting.{HasView, IsOfSegment, IsStepFor, IsStep, IsNext, HoldsThere, PutOut, StopsPutting};
@@ -114,14 +115,7 @@ fn complete<F: Files, D: SwapDev>(m: &mut Machine, files: &mut F, swap: &mut D) 
     ensures stopped { IfErr result (λ stop. StopsAt entries.Done m.old.kernel (D.image swap.old) stop m.new (D.image swap.new)) }
     ensures params { m.new.params ≡ m.old.params }
     ensures images { m.new.images ≡ m.old.images }
-    ensures files_lead { F.leads files.old files.new }
-    ensures swap_leads { D.leads swap.old swap.new }
-    ensures holds { F.holds files.new ≡ F.holds files.old }
-    ensures blocks { D.blocks swap.new ≡ D.blocks swap.old }
-    ensures open_faults { F.open_faults files.new ≡ F.open_faults files.old }
-    ensures page_faults { CountsPages result (F.page_faults files.old) (F.page_faults files.new) }
-    ensures read_faults { CountsReads result (D.read_faults swap.old) (D.read_faults swap.new) }
-    ensures write_faults { CountsWrites result (D.write_faults swap.old) (D.write_faults swap.new) }
+    ensures outside { TransfersPages F.Files D.SwapDev (stop_of result) files.old files.new swap.old swap.new }
 {
     m.done(files, swap)?;
     Ok(())
@@ -170,14 +164,7 @@ fn put_once<F: Files, D: SwapDev>(
     ensures stopped { IfErr result (λ stop. StopsAt (put_out_unit m.old.kernel.place _pid sid) m.old.kernel (D.image swap.old) stop m.new (D.image swap.new)) }
     ensures params { m.new.params ≡ m.old.params }
     ensures images { m.new.images ≡ m.old.images }
-    ensures files_lead { F.leads files.old files.new }
-    ensures swap_leads { D.leads swap.old swap.new }
-    ensures holds { F.holds files.new ≡ F.holds files.old }
-    ensures blocks { D.blocks swap.new ≡ D.blocks swap.old }
-    ensures open_faults { F.open_faults files.new ≡ F.open_faults files.old }
-    ensures page_faults { CountsPages result (F.page_faults files.old) (F.page_faults files.new) }
-    ensures read_faults { CountsReads result (D.read_faults swap.old) (D.read_faults swap.new) }
-    ensures write_faults { CountsWrites result (D.write_faults swap.old) (D.write_faults swap.new) }
+    ensures outside { TransfersPages F.Files D.SwapDev (stop_of result) files.old files.new swap.old swap.new }
 {
     match step {
         Step::Wait => complete(m, files, swap),
@@ -199,10 +186,7 @@ fn leave<D: SwapDev>(m: &mut Machine, swap: &mut D, pid: u32, sid: u32) -> Resul
     ensures stopped { (holds : Option (List NamedFile))
         → IfErr result (λ stop. StopsPutting pid sid m.old stop m.new holds (D.image swap.old) (D.image swap.new)) }
     ensures cause { OnErr result ((result ≡ Err Stop.JournalFull) ⊎ ((result ≡ Err Stop.NoMemory) ⊎ (result ≡ Err Stop.SwapWriteFault))) }
-    ensures swap_leads { D.leads swap.old swap.new }
-    ensures blocks { D.blocks swap.new ≡ D.blocks swap.old }
-    ensures read_faults { CountsReads result (D.read_faults swap.old) (D.read_faults swap.new) }
-    ensures write_faults { CountsWrites result (D.write_faults swap.old) (D.write_faults swap.new) }
+    ensures outside { MovesSwapPages D.SwapDev (stop_of result) swap.old swap.new }
 {
     m.sound();
     m.u_out(swap, pid)
@@ -226,14 +210,7 @@ fn put_all<F: Files, D: SwapDev>(
     ensures put { OnOk result (PutOut pid sid m.old m.new (F.holds files.old) (D.image swap.old) (D.image swap.new)) }
     ensures keeps { OnOk result (KeepsThrough m.old m.new (F.holds files.old) (D.image swap.old) (D.image swap.new)) }
     ensures stopped { IfErr result (λ stop. StopsPutting pid sid m.old stop m.new (F.holds files.old) (D.image swap.old) (D.image swap.new)) }
-    ensures files_lead { F.leads files.old files.new }
-    ensures swap_leads { D.leads swap.old swap.new }
-    ensures holds { F.holds files.new ≡ F.holds files.old }
-    ensures blocks { D.blocks swap.new ≡ D.blocks swap.old }
-    ensures open_faults { F.open_faults files.new ≡ F.open_faults files.old }
-    ensures page_faults { CountsPages result (F.page_faults files.old) (F.page_faults files.new) }
-    ensures read_faults { CountsReads result (D.read_faults swap.old) (D.read_faults swap.new) }
-    ensures write_faults { CountsWrites result (D.write_faults swap.old) (D.write_faults swap.new) }
+    ensures outside { TransfersPages F.Files D.SwapDev (stop_of result) files.old files.new swap.old swap.new }
 {
     while let Some(step) = next_step(m, sid) {
         m.sound();
@@ -277,26 +254,14 @@ pub fn swap_out<F: Files, D: SwapDev>(
     ensures keeps { OnOk result (KeepsThrough m.old m.new (F.holds files.old) (D.image swap.old) (D.image swap.new)) }
     ensures stopped { IfErr result (λ stop. (sid : ℕ) × HoldsThere m.old.kernel pid sid
         × StopsPutting pid sid m.old stop m.new (F.holds files.old) (D.image swap.old) (D.image swap.new)) }
-    ensures files_lead { F.leads files.old files.new }
-    ensures swap_leads { D.leads swap.old swap.new }
-    ensures holds_still { F.holds files.new ≡ F.holds files.old }
-    ensures blocks { D.blocks swap.new ≡ D.blocks swap.old }
-    ensures open_faults { F.open_faults files.new ≡ F.open_faults files.old }
-    ensures page_faults { CountsPages result (F.page_faults files.old) (F.page_faults files.new) }
-    ensures read_faults { CountsReads result (D.read_faults swap.old) (D.read_faults swap.new) }
-    ensures write_faults { CountsWrites result (D.write_faults swap.old) (D.write_faults swap.new) }
+    ensures outside { TransfersPages F.Files D.SwapDev (stop_of result) files.old files.new swap.old swap.new }
 {
     let sid = held_by(m, pid);
     put_all(m, files, swap, pid, sid)
 }
 
 /// Brings a process in that is out: its u page is read, which gives it its registers.
-pub fn swap_in<F: Files, D: SwapDev>(
-    m: &mut Machine,
-    _files: &mut F,
-    swap: &mut D,
-    pid: u32,
-) -> Result<(), Stop>
+pub fn swap_in<D: SwapDev>(m: &mut Machine, swap: &mut D, pid: u32) -> Result<(), Stop>
     requires running { m.old.kernel.stopped ≡ false }
     requires whole { m.old.before ≡ m.old.kernel.holdings }
     requires area { m.old.params.swap_blocks ≤ D.blocks swap.old }
@@ -308,14 +273,8 @@ pub fn swap_in<F: Files, D: SwapDev>(
     ensures stopped { IfErr result (λ stop. StopsAt (entries.SwapIn pid) m.old.kernel (D.image swap.old) stop m.new (D.image swap.new)) }
     ensures params { m.new.params ≡ m.old.params }
     ensures images { m.new.images ≡ m.old.images }
-    ensures files_lead { F.leads _files.old _files.new }
-    ensures swap_leads { D.leads swap.old swap.new }
-    ensures holds { F.holds _files.new ≡ F.holds _files.old }
-    ensures blocks { D.blocks swap.new ≡ D.blocks swap.old }
-    ensures open_faults { F.open_faults _files.new ≡ F.open_faults _files.old }
-    ensures page_faults { CountsPages result (F.page_faults _files.old) (F.page_faults _files.new) }
-    ensures read_faults { CountsReads result (D.read_faults swap.old) (D.read_faults swap.new) }
-    ensures write_faults { CountsWrites result (D.write_faults swap.old) (D.write_faults swap.new) }
+    ensures cause { OnErr result ((result ≡ Err Stop.JournalFull) ⊎ ((result ≡ Err Stop.NoMemory) ⊎ (result ≡ Err Stop.SwapReadFault))) }
+    ensures outside { MovesSwapPages D.SwapDev (stop_of result) swap.old swap.new }
 {
     m.u_in(swap, pid)
 }

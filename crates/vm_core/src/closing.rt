@@ -5,7 +5,7 @@ ghost use Rattle.page_model.specs.Swapper.{is_out};
 ghost use Rattle.kernel_model.specs.Kernel.{HoldsSpace};
 ghost use Rattle.machine_state.specs.Calls.{life_in};
 ghost use Rattle.machine_state.specs.Files.{AreFiles};
-ghost use Rattle.machine_state.specs.Done.{CountsPages, CountsReads, CountsWrites};
+ghost use Rattle.machine_state.specs.Outside.{stop_of, TransfersPages};
 ghost use Rattle.proc_run.specs.Choosing.{next_turned};
 ghost use Rattle.proc_run.specs.Runs.{IsSteady};
 ghost use Rattle.proc_run.specs.Running.{CountsTo};
@@ -54,19 +54,12 @@ fn come_in<F: Files, D: SwapDev>(
     ensures comes { OnOk result ((counted : ℕ) → ComesIn m.old m.new pid counted (F.holds files.old) (D.image swap.old) (D.image swap.new)) }
     ensures stops { IfErr result (λ stop. (counted : ℕ) → StopsComingIn m.old m.new pid counted (F.holds files.old) (D.image swap.old) (D.image swap.new) stop) }
     ensures steady { OnOk result (StaysSteady m.old m.new 0) }
-    ensures files_lead { F.leads files.old files.new }
-    ensures swap_leads { D.leads swap.old swap.new }
-    ensures holds { F.holds files.new ≡ F.holds files.old }
-    ensures blocks { D.blocks swap.new ≡ D.blocks swap.old }
-    ensures open_faults { F.open_faults files.new ≡ F.open_faults files.old }
-    ensures page_faults { CountsPages result (F.page_faults files.old) (F.page_faults files.new) }
-    ensures read_faults { CountsReads result (D.read_faults swap.old) (D.read_faults swap.new) }
-    ensures write_faults { CountsWrites result (D.write_faults swap.old) (D.write_faults swap.new) }
+    ensures outside { TransfersPages F.Files D.SwapDev (stop_of result) files.old files.new swap.old swap.new }
 {
     if !is_out(m, pid) {
         return Ok(());
     }
-    swap_in(m, files, swap, pid)
+    swap_in(m, swap, pid)
 }
 
 // A turn of a process, which comes in first where it is out. The answer is how many instructions are counted then.
@@ -85,14 +78,7 @@ fn turn<F: Files, D: SwapDev>(
     ensures had { IfOk result (λ count. HasTurn m.old m.new pid counted count (F.holds files.old) (D.image swap.old) (D.image swap.new)) }
     ensures stops { IfErr result (StopsTurn m.old m.new pid counted (F.holds files.old) (D.image swap.old) (D.image swap.new)) }
     ensures counts { IfOk result (λ count. CountsTo m.old m.new counted count) }
-    ensures files_lead { F.leads files.old files.new }
-    ensures swap_leads { D.leads swap.old swap.new }
-    ensures holds { F.holds files.new ≡ F.holds files.old }
-    ensures blocks { D.blocks swap.new ≡ D.blocks swap.old }
-    ensures open_faults { F.open_faults files.new ≡ F.open_faults files.old }
-    ensures page_faults { CountsPages result (F.page_faults files.old) (F.page_faults files.new) }
-    ensures read_faults { CountsReads result (D.read_faults swap.old) (D.read_faults swap.new) }
-    ensures write_faults { CountsWrites result (D.write_faults swap.old) (D.write_faults swap.new) }
+    ensures outside { TransfersPages F.Files D.SwapDev (stop_of result) files.old files.new swap.old swap.new }
 {
     m.note(Entry::Turn { pid })?;
     come_in(m, files, swap, pid)?;
@@ -141,14 +127,7 @@ fn close<F: Files, D: SwapDev>(
     ensures closes { IfOk result (λ count. Closes m.old m.new counted count (F.holds files.old) (D.image swap.old) (D.image swap.new)) }
     ensures stops { IfErr result (StopsClosing m.old m.new counted (F.holds files.old) (D.image swap.old) (D.image swap.new)) }
     ensures counts { IfOk result (λ count. CountsTo m.old m.new counted count) }
-    ensures files_lead { F.leads files.old files.new }
-    ensures swap_leads { D.leads swap.old swap.new }
-    ensures holds { F.holds files.new ≡ F.holds files.old }
-    ensures blocks { D.blocks swap.new ≡ D.blocks swap.old }
-    ensures open_faults { F.open_faults files.new ≡ F.open_faults files.old }
-    ensures page_faults { CountsPages result (F.page_faults files.old) (F.page_faults files.new) }
-    ensures read_faults { CountsReads result (D.read_faults swap.old) (D.read_faults swap.new) }
-    ensures write_faults { CountsWrites result (D.write_faults swap.old) (D.write_faults swap.new) }
+    ensures outside { TransfersPages F.Files D.SwapDev (stop_of result) files.old files.new swap.old swap.new }
 {
     let mut count = counted;
     let mut last = 0;
@@ -177,14 +156,7 @@ impl Core {
         ensures goes_on { OnOk result (GoesOn self.new) }
         ensures params { OnOk result (self.new.machine.params ≡ self.old.machine.params) }
         ensures images { OnOk result (self.new.machine.images ≡ self.old.machine.images) }
-        ensures files_lead { F.leads files.old files.new }
-        ensures swap_leads { D.leads swap.old swap.new }
-        ensures holds { F.holds files.new ≡ F.holds files.old }
-        ensures blocks { D.blocks swap.new ≡ D.blocks swap.old }
-        ensures open_faults { F.open_faults files.new ≡ F.open_faults files.old }
-        ensures page_faults { CountsPages result (F.page_faults files.old) (F.page_faults files.new) }
-        ensures read_faults { CountsReads result (D.read_faults swap.old) (D.read_faults swap.new) }
-        ensures write_faults { CountsWrites result (D.write_faults swap.old) (D.write_faults swap.new) }
+        ensures outside { TransfersPages F.Files D.SwapDev (stop_of result) files.old files.new swap.old swap.new }
     {
         self.counted = close(self.alloc, &mut self.machine, files, swap, self.counted)?;
         Ok(())

@@ -1,7 +1,7 @@
 //! The lines of a schedule.
 ghost use Rattle.std.specs.Prelude.{◌≡◌, ◌<◌, ◌≤◌, ◌↔◌, false, OnOk, IfOk, IfErr};
 ghost use Rattle.machine_state.specs.Files.{AreFiles};
-ghost use Rattle.machine_state.specs.Done.{CountsPages, CountsReads, CountsWrites};
+ghost use Rattle.machine_state.specs.Outside.{stop_of, TransfersPages};
 ghost use Rattle.journal_laws.specs.LastMoves.{last_moves};
 ghost use Rattle.flat_state.specs.Journal.{instructions_of};
 ghost use Rattle.proc_run.specs.Runs.{IsSteady};
@@ -44,14 +44,7 @@ fn carry_out<F: Files, D: SwapDev>(
     ensures done { IfOk result (λ count. CarriesOut m.old m.new counted count e (F.holds files.old) (D.image swap.old) (D.image swap.new)) }
     ensures stops { IfErr result (StopsCarrying m.old m.new counted e (F.holds files.old) (D.image swap.old) (D.image swap.new)) }
     ensures counts { IfOk result (λ count. CountsTo m.old m.new counted count) }
-    ensures files_lead { F.leads files.old files.new }
-    ensures swap_leads { D.leads swap.old swap.new }
-    ensures holds { F.holds files.new ≡ F.holds files.old }
-    ensures blocks { D.blocks swap.new ≡ D.blocks swap.old }
-    ensures open_faults { F.open_faults files.new ≡ F.open_faults files.old }
-    ensures page_faults { CountsPages result (F.page_faults files.old) (F.page_faults files.new) }
-    ensures read_faults { CountsReads result (D.read_faults swap.old) (D.read_faults swap.new) }
-    ensures write_faults { CountsWrites result (D.write_faults swap.old) (D.write_faults swap.new) }
+    ensures outside { TransfersPages F.Files D.SwapDev (stop_of result) files.old files.new swap.old swap.new }
 {
     match e {
         Event::Dispatch { pid, count } => dispatch(alloc, m, files, swap, pid, counted, count),
@@ -68,7 +61,7 @@ fn carry_out<F: Files, D: SwapDev>(
             Ok(counted)
         }
         Event::Audit => {
-            audit(m, files, swap)?;
+            audit(m)?;
             Ok(counted)
         }
     }
@@ -93,14 +86,7 @@ impl Core {
         ensures limit { IfOk result (λ went. (went ≡ Went.LimitReached) ↔ (self.new.machine.params.limit ≤ self.new.counted)) }
         ensures params { OnOk result (self.new.machine.params ≡ self.old.machine.params) }
         ensures images { OnOk result (self.new.machine.images ≡ self.old.machine.images) }
-        ensures files_lead { F.leads files.old files.new }
-        ensures swap_leads { D.leads swap.old swap.new }
-        ensures holds { F.holds files.new ≡ F.holds files.old }
-        ensures blocks { D.blocks swap.new ≡ D.blocks swap.old }
-        ensures open_faults { F.open_faults files.new ≡ F.open_faults files.old }
-        ensures page_faults { CountsPages result (F.page_faults files.old) (F.page_faults files.new) }
-        ensures read_faults { CountsReads result (D.read_faults swap.old) (D.read_faults swap.new) }
-        ensures write_faults { CountsWrites result (D.write_faults swap.old) (D.write_faults swap.new) }
+        ensures outside { TransfersPages F.Files D.SwapDev (stop_of result) files.old files.new swap.old swap.new }
     {
         self.machine.note(Entry::Event { line })?;
         self.counted = carry_out(self.alloc, &mut self.machine, files, swap, self.counted, e)?;

@@ -1,8 +1,9 @@
 //! What a line of the schedule asks for, but to run a process.
-ghost use Rattle.std.specs.Prelude.{◌≡◌, ◌≤◌, false, OnOk, IfErr};
+ghost use Rattle.std.specs.Prelude.{◌≡◌, ◌⊎◌, ◌≤◌, ℕ, List, Option, Err, false, OnOk, OnErr, IfErr};
+ghost use Rattle.io_edge.specs.FileHolding.{NamedFile};
 ghost use Rattle.vm_facts.specs.declared.event.Event.{Event as AnyEvent};
 ghost use Rattle.machine_state.specs.Files.{AreFiles};
-ghost use Rattle.machine_state.specs.Done.{CountsPages, CountsReads, CountsWrites};
+ghost use Rattle.machine_state.specs.Outside.{stop_of, TransfersPages};
 ghost use Rattle.journal_laws.specs.LastMoves.{last_moves};
 ghost use Rattle.proc_run.specs.Runs.{IsSteady};
 ghost use Rattle.vm_core.specs.Steady.{StaysSteady};
@@ -27,14 +28,7 @@ pub(crate) fn interrupt<F: Files, D: SwapDev>(
     ensures made { OnOk result (MakesLine Event.Interrupt m.old m.new (F.holds files.old) (D.image swap.old) (D.image swap.new)) }
     ensures stops { IfErr result (StopsLine Event.Interrupt m.old m.new (F.holds files.old) (D.image swap.old) (D.image swap.new)) }
     ensures steady { OnOk result (StaysSteady m.old m.new 0) }
-    ensures files_lead { F.leads files.old files.new }
-    ensures swap_leads { D.leads swap.old swap.new }
-    ensures holds { F.holds files.new ≡ F.holds files.old }
-    ensures blocks { D.blocks swap.new ≡ D.blocks swap.old }
-    ensures open_faults { F.open_faults files.new ≡ F.open_faults files.old }
-    ensures page_faults { CountsPages result (F.page_faults files.old) (F.page_faults files.new) }
-    ensures read_faults { CountsReads result (D.read_faults swap.old) (D.read_faults swap.new) }
-    ensures write_faults { CountsWrites result (D.write_faults swap.old) (D.write_faults swap.new) }
+    ensures outside { TransfersPages F.Files D.SwapDev (stop_of result) files.old files.new swap.old swap.new }
 {
     m.done(files, swap)?;
     Ok(())
@@ -55,14 +49,7 @@ pub(crate) fn hands<F: Files, D: SwapDev>(
     ensures made { OnOk result (MakesLine (Event.Hands count) m.old m.new (F.holds files.old) (D.image swap.old) (D.image swap.new)) }
     ensures stops { IfErr result (StopsLine (Event.Hands count) m.old m.new (F.holds files.old) (D.image swap.old) (D.image swap.new)) }
     ensures steady { OnOk result (StaysSteady m.old m.new 0) }
-    ensures files_lead { F.leads files.old files.new }
-    ensures swap_leads { D.leads swap.old swap.new }
-    ensures holds { F.holds files.new ≡ F.holds files.old }
-    ensures blocks { D.blocks swap.new ≡ D.blocks swap.old }
-    ensures open_faults { F.open_faults files.new ≡ F.open_faults files.old }
-    ensures page_faults { CountsPages result (F.page_faults files.old) (F.page_faults files.new) }
-    ensures read_faults { CountsReads result (D.read_faults swap.old) (D.read_faults swap.new) }
-    ensures write_faults { CountsWrites result (D.write_faults swap.old) (D.write_faults swap.new) }
+    ensures outside { TransfersPages F.Files D.SwapDev (stop_of result) files.old files.new swap.old swap.new }
 {
     move_hands(m, files, swap, count)?;
     Ok(())
@@ -80,34 +67,19 @@ pub(crate) fn swapper<F: Files, D: SwapDev>(
     ensures made { OnOk result (MakesLine Event.Swapper m.old m.new (F.holds files.old) (D.image swap.old) (D.image swap.new)) }
     ensures stops { IfErr result (StopsLine Event.Swapper m.old m.new (F.holds files.old) (D.image swap.old) (D.image swap.new)) }
     ensures steady { OnOk result (StaysSteady m.old m.new 0) }
-    ensures files_lead { F.leads files.old files.new }
-    ensures swap_leads { D.leads swap.old swap.new }
-    ensures holds { F.holds files.new ≡ F.holds files.old }
-    ensures blocks { D.blocks swap.new ≡ D.blocks swap.old }
-    ensures open_faults { F.open_faults files.new ≡ F.open_faults files.old }
-    ensures page_faults { CountsPages result (F.page_faults files.old) (F.page_faults files.new) }
-    ensures read_faults { CountsReads result (D.read_faults swap.old) (D.read_faults swap.new) }
-    ensures write_faults { CountsWrites result (D.write_faults swap.old) (D.write_faults swap.new) }
+    ensures outside { TransfersPages F.Files D.SwapDev (stop_of result) files.old files.new swap.old swap.new }
 {
     turn(m, files, swap)?;
     Ok(())
 }
 
 /// The numbers of frames and blocks are noted.
-pub(crate) fn audit<F: Files, D: SwapDev>(
-    m: &mut Machine,
-    _files: &mut F,
-    _swap: &mut D,
-) -> Result<(), Stop>
+pub(crate) fn audit(m: &mut Machine) -> Result<(), Stop>
     requires steady { IsSteady m.old }
-    ensures made { OnOk result (MakesLine Event.Audit m.old m.new (F.holds _files.old) (D.image _swap.old) (D.image _swap.old)) }
-    ensures stops { IfErr result (StopsLine Event.Audit m.old m.new (F.holds _files.old) (D.image _swap.old) (D.image _swap.old)) }
+    ensures made { (holds : Option (List NamedFile)) (i : Option (List ℕ)) → OnOk result (MakesLine Event.Audit m.old m.new holds i i) }
+    ensures stops { (holds : Option (List NamedFile)) (i : Option (List ℕ)) → IfErr result (StopsLine Event.Audit m.old m.new holds i i) }
     ensures steady { OnOk result (StaysSteady m.old m.new 0) }
-    ensures files_lead { _files.new ≡ _files.old }
-    ensures swap_leads { _swap.new ≡ _swap.old }
-    ensures page_faults { CountsPages result (F.page_faults _files.old) (F.page_faults _files.new) }
-    ensures read_faults { CountsReads result (D.read_faults _swap.old) (D.read_faults _swap.new) }
-    ensures write_faults { CountsWrites result (D.write_faults _swap.old) (D.write_faults _swap.new) }
+    ensures cause { OnErr result ((result ≡ Err Stop.JournalFull) ⊎ (result ≡ Err Stop.NoMemory)) }
 {
     let entry = owners(m);
     m.note(entry)

@@ -1,7 +1,7 @@
 //! A process runs, for a dispatch or a turn.
 ghost use Rattle.std.specs.Prelude.{◌≡◌, ◌+◌, ◌≤◌, min, IfOk, IfErr};
 ghost use Rattle.machine_state.specs.Files.{AreFiles};
-ghost use Rattle.machine_state.specs.Done.{CountsPages, CountsReads, CountsWrites};
+ghost use Rattle.machine_state.specs.Outside.{stop_of, TransfersPages};
 ghost use Rattle.flat_state.specs.Journal.{instructions_of};
 ghost use Rattle.proc_run.specs.Runs.{IsSteady};
 ghost use Rattle.proc_run.specs.Running.{CountsTo};
@@ -41,14 +41,7 @@ pub(crate) fn dispatch<F: Files, D: SwapDev>(
     ensures done { IfOk result (λ more. CarriesOut m.old m.new counted more (Event.Dispatch pid count) (F.holds files.old) (D.image swap.old) (D.image swap.new)) }
     ensures stops { IfErr result (StopsCarrying m.old m.new counted (Event.Dispatch pid count) (F.holds files.old) (D.image swap.old) (D.image swap.new)) }
     ensures counts { IfOk result (λ more. CountsTo m.old m.new counted more) }
-    ensures files_lead { F.leads files.old files.new }
-    ensures swap_leads { D.leads swap.old swap.new }
-    ensures holds { F.holds files.new ≡ F.holds files.old }
-    ensures blocks { D.blocks swap.new ≡ D.blocks swap.old }
-    ensures open_faults { F.open_faults files.new ≡ F.open_faults files.old }
-    ensures page_faults { CountsPages result (F.page_faults files.old) (F.page_faults files.new) }
-    ensures read_faults { CountsReads result (D.read_faults swap.old) (D.read_faults swap.new) }
-    ensures write_faults { CountsWrites result (D.write_faults swap.old) (D.write_faults swap.new) }
+    ensures outside { TransfersPages F.Files D.SwapDev (stop_of result) files.old files.new swap.old swap.new }
 {
     let until = count_behind(m, counted, count);
     run(alloc, m, files, swap, pid, counted, until, Patience::Stops)
@@ -70,14 +63,7 @@ pub(crate) fn finish<F: Files, D: SwapDev>(
     ensures done { IfOk result (λ more. FinishesTurn m.old m.new pid counted more (F.holds files.old) (D.image swap.old) (D.image swap.new)) }
     ensures stops { IfErr result (StopsFinishing m.old m.new pid counted (F.holds files.old) (D.image swap.old) (D.image swap.new)) }
     ensures counts { IfOk result (λ more. CountsTo m.old m.new counted more) }
-    ensures files_lead { F.leads files.old files.new }
-    ensures swap_leads { D.leads swap.old swap.new }
-    ensures holds { F.holds files.new ≡ F.holds files.old }
-    ensures blocks { D.blocks swap.new ≡ D.blocks swap.old }
-    ensures open_faults { F.open_faults files.new ≡ F.open_faults files.old }
-    ensures page_faults { CountsPages result (F.page_faults files.old) (F.page_faults files.new) }
-    ensures read_faults { CountsReads result (D.read_faults swap.old) (D.read_faults swap.new) }
-    ensures write_faults { CountsWrites result (D.write_faults swap.old) (D.write_faults swap.new) }
+    ensures outside { TransfersPages F.Files D.SwapDev (stop_of result) files.old files.new swap.old swap.new }
 {
     let until = count_behind(m, counted, TURN);
     run(alloc, m, files, swap, pid, counted, until, Patience::Waits)

@@ -2,8 +2,8 @@
 ghost use Rattle.std.specs.Prelude.{◌≡◌, ◌<◌, ◌≤◌, ◌^◌, ℕ, List, [], length, Some, Err, All, IfOk, IfErr, OnOk};
 ghost use Rattle.flat_state.specs.Flat.{Inputs};
 ghost use Rattle.flat_model.specs.Asked.{start_held};
-ghost use Rattle.machine_state.specs.Done.{CountsPages, CountsReads, CountsWrites};
 ghost use Rattle.machine_state.specs.Files.{AreFiles};
+ghost use Rattle.machine_state.specs.Outside.{stop_of, TransfersPages};
 ghost use Rattle.run_start.specs.Starting.{StartsFrom};
 ghost use Rattle.vm_core.specs.Cores.{GoesOn};
 ghost use Rattle.vm_core.specs.Starting.{IsFresh};
@@ -54,14 +54,7 @@ fn take_lines<F: Files, D: SwapDev>(
     ensures goes_on { OnOk result (GoesOn core.new) }
     ensures params { OnOk result (core.new.machine.params ≡ core.old.machine.params) }
     ensures images { OnOk result (core.new.machine.images ≡ core.old.machine.images) }
-    ensures files_lead { F.leads files.old files.new }
-    ensures swap_leads { D.leads swap.old swap.new }
-    ensures holds { F.holds files.new ≡ F.holds files.old }
-    ensures blocks { D.blocks swap.new ≡ D.blocks swap.old }
-    ensures open_faults { F.open_faults files.new ≡ F.open_faults files.old }
-    ensures page_faults { CountsPages result (F.page_faults files.old) (F.page_faults files.new) }
-    ensures read_faults { CountsReads result (D.read_faults swap.old) (D.read_faults swap.new) }
-    ensures write_faults { CountsWrites result (D.write_faults swap.old) (D.write_faults swap.new) }
+    ensures outside { TransfersPages F.Files D.SwapDev (stop_of result) files.old files.new swap.old swap.new }
 {
     let mut line = 0;
     for e in lines {
@@ -92,14 +85,7 @@ fn finish<F: Files, D: SwapDev>(
     ensures images { OnOk result (core.new.machine.images ≡ core.old.machine.images) }
     ensures finishes { OnOk result (FinishesLines core.old core.new lines.now (F.holds files.old) (D.image swap.old) (D.image swap.new)) }
     ensures stops { IfErr result (StopsLines core.old core.new lines.now (F.holds files.old) (D.image swap.old) (D.image swap.new)) }
-    ensures files_lead { F.leads files.old files.new }
-    ensures swap_leads { D.leads swap.old swap.new }
-    ensures holds { F.holds files.new ≡ F.holds files.old }
-    ensures blocks { D.blocks swap.new ≡ D.blocks swap.old }
-    ensures open_faults { F.open_faults files.new ≡ F.open_faults files.old }
-    ensures page_faults { CountsPages result (F.page_faults files.old) (F.page_faults files.new) }
-    ensures read_faults { CountsReads result (D.read_faults swap.old) (D.read_faults swap.new) }
-    ensures write_faults { CountsWrites result (D.write_faults swap.old) (D.write_faults swap.new) }
+    ensures outside { TransfersPages F.Files D.SwapDev (stop_of result) files.old files.new swap.old swap.new }
 {
     match take_lines(core, files, swap, lines)? {
         Went::LimitReached => Ok(()),
@@ -145,14 +131,7 @@ pub fn run_schedule<F: Files, D: SwapDev>(
     ensures within { OnOk result (length core.new.machine.kernel.journal ≤ core.old.machine.params.journal) }
     ensures none_made { (pid : ℕ) → result ≡ Err (Unfinished.NoSpace pid) → core.new.machine.kernel.journal ≡ [] }
     ensures untouched { (pid : ℕ) → result ≡ Err (Unfinished.NoSpace pid) → swap.new ≡ swap.old }
-    ensures files_lead { F.leads files.old files.new }
-    ensures swap_leads { D.leads swap.old swap.new }
-    ensures holds { F.holds files.new ≡ F.holds files.old }
-    ensures blocks { D.blocks swap.new ≡ D.blocks swap.old }
-    ensures open_faults { F.open_faults files.new ≡ F.open_faults files.old }
-    ensures page_faults { CountsPages (stopped_as result) (F.page_faults files.old) (F.page_faults files.new) }
-    ensures read_faults { CountsReads (stopped_as result) (D.read_faults swap.old) (D.read_faults swap.new) }
-    ensures write_faults { CountsWrites (stopped_as result) (D.write_faults swap.old) (D.write_faults swap.new) }
+    ensures outside { TransfersPages F.Files D.SwapDev (stop_of (stopped_as result)) files.old files.new swap.old swap.new }
 {
     match core.start(files, swap, first)? {
         Started::NoSpace(pid) => {

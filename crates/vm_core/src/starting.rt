@@ -2,8 +2,8 @@
 ghost use Rattle.std.specs.Prelude.{◌≡◌, ◌≤◌, ℕ, false, List, [], length, Some, IfOk, IfErr, Ok};
 ghost use Rattle.flat_state.specs.Flat.{Inputs};
 ghost use Rattle.flat_model.specs.Asked.{start_held};
-ghost use Rattle.machine_state.specs.Done.{CountsPages, CountsReads, CountsWrites};
 ghost use Rattle.machine_state.specs.Files.{AreFiles};
+ghost use Rattle.machine_state.specs.Outside.{stop_of, TransfersPages};
 ghost use Rattle.run_start.specs.Starting.{AreAmong, StartsFrom, started_by};
 ghost use Rattle.run_start.specs.Leading.{IsTold};
 ghost use Rattle.vm_core.specs.Cores.{GoesOn};
@@ -41,14 +41,7 @@ impl Core {
         ensures params { result ≡ Ok Started.Ok → self.new.machine.params ≡ self.old.machine.params }
         ensures images { result ≡ Ok Started.Ok → self.new.machine.images ≡ self.old.machine.images }
         ensures counted { self.new.counted ≡ self.old.counted }
-        ensures files_lead { F.leads files.old files.new }
-        ensures swap_leads { D.leads swap.old swap.new }
-        ensures holds { F.holds files.new ≡ F.holds files.old }
-        ensures blocks { D.blocks swap.new ≡ D.blocks swap.old }
-        ensures open_faults { F.open_faults files.new ≡ F.open_faults files.old }
-        ensures page_faults { CountsPages result (F.page_faults files.old) (F.page_faults files.new) }
-        ensures read_faults { CountsReads result (D.read_faults swap.old) (D.read_faults swap.new) }
-        ensures write_faults { CountsWrites result (D.write_faults swap.old) (D.write_faults swap.new) }
+        ensures outside { TransfersPages F.Files D.SwapDev (stop_of result) files.old files.new swap.old swap.new }
     {
         start(&mut self.machine, files, swap, first)
     }

@@ -1,10 +1,11 @@
-use Rattle.std.proofs.Common.{◌≡◌, ◌<◌, [], ◌∙◌, refl, arith}
+use Rattle.std.proofs.Common.{◌≡◌, ◌<◌, [], arith, None}
 use Rattle.std.proofs.lemmas.Result.{err_from_is_err_and}
 use Rattle.page_model.specs.Rank.{far}
 use Rattle.page_model.specs.Serve.{force_entry}
 use Rattle.paging_units.specs.Made.{ground}
 use Rattle.clock_hands.proofs.Units.{asks_on}
 use Rattle.clock_hands.proofs.Forces.{none_free, falls_on, room_on, fits_on, forced_none, stops_here, forces_none, forces_one}
+use Rattle.machine_state.proofs.Transfers.{transfers_none, transfers_then}
 use Rattle.clock_hands.proofs.forcing.force_frame.Goals as goal
 
 pub loop-m-init : goal.loop-m-init
@@ -13,14 +14,7 @@ loop-m-init g c = record {
   room = c.requires.room;
   fits = c.requires.fits;
   so_far = forces_none c.args.locked.now c.args.m.now (g.F.Files.holds c.args.files.now) (g.D.SwapDev.image c.args.swap.now);
-  files_lead = g.met.F.Files.leads_nowhere c.args.files.now;
-  swap_leads = g.met.D.SwapDev.leads_nowhere c.args.swap.now;
-  holds = refl;
-  blocks = refl;
-  open_faults = refl;
-  page_faults = refl;
-  read_faults = refl;
-  write_faults = refl;
+  outside = transfers_none g.met.F.Files.leads_nowhere g.met.D.SwapDev.leads_nowhere c.args.files.now c.args.swap.now;
 }
 
 pub loop-m-preserved : goal.loop-m-preserved
@@ -40,19 +34,12 @@ loop-m-preserved g c =
     let falls : far next.kernel.place locked < far now.kernel.place locked = falls_on locked now next later h k s.owner.frames s.hands so.room none made in
     record {
       asks = asks_on (ground now later locked) (force_entry now.kernel.place.transfers) now next h k later latest (g.D.SwapDev.blocks c.loop-m.swap) (g.D.SwapDev.blocks c.force_once.new.swap)
-          made c.in_ok-force_once.ensures.holds c.in_ok-force_once.ensures.blocks so.asks;
+          made c.in_ok-force_once.ensures.outside.files.holds c.in_ok-force_once.ensures.outside.swap.blocks so.asks;
       room = room_on locked now next later h k s.owner.frames so.room made;
       fits = fits_on locked now next later h k falls made so.fits;
-      so_far = forces_one locked c.args.m.now now next holds later latest (g.D.SwapDev.image c.args.swap.now) h k c.in_ok-force_once.ensures.holds s.owner.frames s.hands so.room none made
-          c.in_ok-force_once.ensures.keeps so.so_far;
-      files_lead = g.met.F.Files.leads_through c.args.files.now c.loop-m.files c.force_once.new.files so.files_lead c.in_ok-force_once.ensures.files_lead;
-      swap_leads = g.met.D.SwapDev.leads_through c.args.swap.now c.loop-m.swap c.force_once.new.swap so.swap_leads c.in_ok-force_once.ensures.swap_leads;
-      holds = c.in_ok-force_once.ensures.holds ∙ so.holds;
-      blocks = c.in_ok-force_once.ensures.blocks ∙ so.blocks;
-      open_faults = c.in_ok-force_once.ensures.open_faults ∙ so.open_faults;
-      page_faults = c.in_ok-force_once.ensures.page_faults ∙ so.page_faults;
-      read_faults = c.in_ok-force_once.ensures.read_faults ∙ so.read_faults;
-      write_faults = c.in_ok-force_once.ensures.write_faults ∙ so.write_faults;
+      so_far = forces_one locked c.args.m.now now next holds later latest (g.D.SwapDev.image c.args.swap.now) h k c.in_ok-force_once.ensures.outside.files.holds
+          s.owner.frames s.hands so.room none made c.in_ok-force_once.ensures.keeps so.so_far;
+      outside = transfers_then {stop = None} g.met.F.Files.leads_through g.met.D.SwapDev.leads_through so.outside c.in_ok-force_once.ensures.outside;
     }
 
 pub loop-m-smaller : goal.loop-m-smaller

@@ -1,8 +1,9 @@
-use Rattle.std.proofs.Common.{◌≡◌, ◌+◌, ◌<◌, ◌^◌}
+use Rattle.std.proofs.Common.{◌+◌, ◌<◌, ◌^◌, None}
 use Rattle.page_model.specs.Rank.{HasRoom, far}
 use Rattle.paging_units.specs.LastMoves.{last_moves}
 use Rattle.clock_hands.proofs.Units.{Asks}
 use Rattle.clock_hands.proofs.Forces.{ForcesSoFar}
+use Rattle.machine_state.specs.Outside.{TransfersPages}
 use Rattle.clock_hands.proofs.forcing.force_frame.Given as goal
 
 -- the next unit may be made, and the units so far and what is left force the frame
@@ -12,14 +13,7 @@ invariant-loop-m g l = record {
   room : HasRoom l.m.kernel.place l.locked;
   fits : last_moves l.m.kernel.journal + far l.m.kernel.place l.locked < 2 ^ 32;
   so_far : ForcesSoFar l.locked l.fn.m l.m (g.F.Files.holds l.fn.files) (g.F.Files.holds l.files) (g.D.SwapDev.image l.fn.swap) (g.D.SwapDev.image l.swap);
-  files_lead : g.F.Files.leads l.fn.files l.files;
-  swap_leads : g.D.SwapDev.leads l.fn.swap l.swap;
-  holds : g.F.Files.holds l.files ≡ g.F.Files.holds l.fn.files;
-  blocks : g.D.SwapDev.blocks l.swap ≡ g.D.SwapDev.blocks l.fn.swap;
-  open_faults : g.F.Files.open_faults l.files ≡ g.F.Files.open_faults l.fn.files;
-  page_faults : g.F.Files.page_faults l.files ≡ g.F.Files.page_faults l.fn.files;
-  read_faults : g.D.SwapDev.read_faults l.swap ≡ g.D.SwapDev.read_faults l.fn.swap;
-  write_faults : g.D.SwapDev.write_faults l.swap ≡ g.D.SwapDev.write_faults l.fn.swap;
+  outside : TransfersPages g.F.Files g.D.SwapDev None l.fn.files l.files l.fn.swap l.swap;
 }
 
 abbrev pub decreases-loop-m : goal.decreases-loop-m

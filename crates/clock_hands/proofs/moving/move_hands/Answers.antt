@@ -1,4 +1,4 @@
-use Rattle.std.proofs.Common.{◌≡◌, true, false, Bool, ◌<◌, ◌∙◌, [], refl, sym, subst, arith}
+use Rattle.std.proofs.Common.{◌≡◌, true, false, Bool, ◌<◌, ◌∙◌, [], sym, subst, arith, None}
 use Rattle.std.proofs.lemmas.Result.{err_from_is_err_and}
 use Rattle.page_model.specs.Hands.{wants_moves}
 use Rattle.run_model.specs.Next.{move_unit}
@@ -7,6 +7,7 @@ use Rattle.clock_hands.specs.Moved.{IsMoveOf}
 use Rattle.clock_hands.proofs.Units.{asks_on}
 use Rattle.clock_hands.proofs.Moves.{stops_moving, move_flies, done_flies, move_last, done_last, moves_none, moves_one, moves_done, moves_all}
 use Rattle.clock_hands.proofs.moving.move_hands.Goals.{then-loop-left-test+else-wants_moves, else-loop-left-test}
+use Rattle.machine_state.proofs.Transfers.{transfers_none, transfers_then}
 use Rattle.clock_hands.proofs.moving.move_hands.Goals as goal
 
 pub loop-left-init : goal.loop-left-init
@@ -15,14 +16,7 @@ loop-left-init g c = record {
   few = omega arith;
   fits = c.requires.fits;
   so_far = moves_none c.args.n c.args.m.now (g.F.Files.holds c.args.files.now) (g.D.SwapDev.image c.args.swap.now);
-  files_lead = g.met.F.Files.leads_nowhere c.args.files.now;
-  swap_leads = g.met.D.SwapDev.leads_nowhere c.args.swap.now;
-  holds = refl;
-  blocks = refl;
-  open_faults = refl;
-  page_faults = refl;
-  read_faults = refl;
-  write_faults = refl;
+  outside = transfers_none g.met.F.Files.leads_nowhere g.met.D.SwapDev.leads_nowhere c.args.files.now c.args.swap.now;
 }
 
 pub loop-left-preserved-then-branch : goal.loop-left-preserved-then-branch
@@ -41,18 +35,12 @@ loop-left-preserved-then-branch g c =
     let w : wants_moves now.kernel.place ≡ true = sym c.wants_moves.ensures ∙ c.if-wants_moves.true in
     record {
       asks = asks_on (ground now later []) (move_unit now.kernel.place []) now next h k later latest (g.D.SwapDev.blocks c.loop-left.swap) (g.D.SwapDev.blocks c.move_once.new.swap)
-          made c.in_ok-move_once.ensures.holds c.in_ok-move_once.ensures.blocks so.asks;
+          made c.in_ok-move_once.ensures.outside.files.holds c.in_ok-move_once.ensures.outside.swap.blocks so.asks;
       few = let few = so.few in omega arith;
       fits = move_last left now next later h k some u made so.fits;
-      so_far = moves_one c.args.n left c.args.m.now now next (g.F.Files.holds c.args.files.now) later latest (g.D.SwapDev.image c.args.swap.now) h k c.in_ok-move_once.ensures.holds so.few some w made u c.in_ok-move_once.ensures.keeps so.so_far;
-      files_lead = g.met.F.Files.leads_through c.args.files.now c.loop-left.files c.move_once.new.files so.files_lead c.in_ok-move_once.ensures.files_lead;
-      swap_leads = g.met.D.SwapDev.leads_through c.args.swap.now c.loop-left.swap c.move_once.new.swap so.swap_leads c.in_ok-move_once.ensures.swap_leads;
-      holds = c.in_ok-move_once.ensures.holds ∙ so.holds;
-      blocks = c.in_ok-move_once.ensures.blocks ∙ so.blocks;
-      open_faults = c.in_ok-move_once.ensures.open_faults ∙ so.open_faults;
-      page_faults = c.in_ok-move_once.ensures.page_faults ∙ so.page_faults;
-      read_faults = c.in_ok-move_once.ensures.read_faults ∙ so.read_faults;
-      write_faults = c.in_ok-move_once.ensures.write_faults ∙ so.write_faults;
+      so_far = moves_one c.args.n left c.args.m.now now next (g.F.Files.holds c.args.files.now) later latest (g.D.SwapDev.image c.args.swap.now) h k
+          c.in_ok-move_once.ensures.outside.files.holds so.few some w made u c.in_ok-move_once.ensures.keeps so.so_far;
+      outside = transfers_then {stop = None} g.met.F.Files.leads_through g.met.D.SwapDev.leads_through so.outside c.in_ok-move_once.ensures.outside;
     }
 
 pub loop-left-preserved : goal.loop-left-preserved
@@ -71,18 +59,12 @@ loop-left-preserved g c =
     let w : wants_moves now.kernel.place ≡ true = sym c.wants_moves.ensures ∙ c.if-wants_moves.true in
     record {
       asks = asks_on (ground now later []) (move_unit now.kernel.place []) now next h k later latest (g.D.SwapDev.blocks c.loop-left.swap) (g.D.SwapDev.blocks c.move_once.new.swap)
-          made c.in_ok-move_once.ensures.holds c.in_ok-move_once.ensures.blocks so.asks;
+          made c.in_ok-move_once.ensures.outside.files.holds c.in_ok-move_once.ensures.outside.swap.blocks so.asks;
       few = let few = so.few in omega arith;
       fits = done_last left now next later h k u made so.fits;
-      so_far = moves_done c.args.n left c.args.m.now now next (g.F.Files.holds c.args.files.now) later latest (g.D.SwapDev.image c.args.swap.now) h k c.in_ok-move_once.ensures.holds some w made u c.in_ok-move_once.ensures.keeps so.so_far;
-      files_lead = g.met.F.Files.leads_through c.args.files.now c.loop-left.files c.move_once.new.files so.files_lead c.in_ok-move_once.ensures.files_lead;
-      swap_leads = g.met.D.SwapDev.leads_through c.args.swap.now c.loop-left.swap c.move_once.new.swap so.swap_leads c.in_ok-move_once.ensures.swap_leads;
-      holds = c.in_ok-move_once.ensures.holds ∙ so.holds;
-      blocks = c.in_ok-move_once.ensures.blocks ∙ so.blocks;
-      open_faults = c.in_ok-move_once.ensures.open_faults ∙ so.open_faults;
-      page_faults = c.in_ok-move_once.ensures.page_faults ∙ so.page_faults;
-      read_faults = c.in_ok-move_once.ensures.read_faults ∙ so.read_faults;
-      write_faults = c.in_ok-move_once.ensures.write_faults ∙ so.write_faults;
+      so_far = moves_done c.args.n left c.args.m.now now next (g.F.Files.holds c.args.files.now) later latest (g.D.SwapDev.image c.args.swap.now) h k
+          c.in_ok-move_once.ensures.outside.files.holds some w made u c.in_ok-move_once.ensures.keeps so.so_far;
+      outside = transfers_then {stop = None} g.met.F.Files.leads_through g.met.D.SwapDev.leads_through so.outside c.in_ok-move_once.ensures.outside;
     }
 
 pub loop-left-smaller-then-branch : goal.loop-left-smaller-then-branch

@@ -1,7 +1,8 @@
-use Rattle.std.proofs.Common.{◌≡◌, ◌+◌, ◌*◌, ◌<◌, ◌≤◌, ◌^◌, length}
+use Rattle.std.proofs.Common.{◌+◌, ◌*◌, ◌<◌, ◌≤◌, ◌^◌, length, None}
 use Rattle.paging_units.specs.LastMoves.{last_moves}
 use Rattle.clock_hands.proofs.Units.{Asks}
 use Rattle.clock_hands.proofs.Moves.{MovesSoFar}
+use Rattle.machine_state.specs.Outside.{TransfersPages}
 use Rattle.clock_hands.proofs.moving.move_hands.Given as goal
 
 -- the next unit may be made, and the moves so far and those that are left are the whole
@@ -11,14 +12,7 @@ invariant-loop-left g l = record {
   few : l.left ≤ l.n;
   fits : last_moves l.m.kernel.journal + l.left < 2 ^ 32;
   so_far : MovesSoFar l.n l.left l.fn.m l.m (g.F.Files.holds l.fn.files) (g.F.Files.holds l.files) (g.D.SwapDev.image l.fn.swap) (g.D.SwapDev.image l.swap);
-  files_lead : g.F.Files.leads l.fn.files l.files;
-  swap_leads : g.D.SwapDev.leads l.fn.swap l.swap;
-  holds : g.F.Files.holds l.files ≡ g.F.Files.holds l.fn.files;
-  blocks : g.D.SwapDev.blocks l.swap ≡ g.D.SwapDev.blocks l.fn.swap;
-  open_faults : g.F.Files.open_faults l.files ≡ g.F.Files.open_faults l.fn.files;
-  page_faults : g.F.Files.page_faults l.files ≡ g.F.Files.page_faults l.fn.files;
-  read_faults : g.D.SwapDev.read_faults l.swap ≡ g.D.SwapDev.read_faults l.fn.swap;
-  write_faults : g.D.SwapDev.write_faults l.swap ≡ g.D.SwapDev.write_faults l.fn.swap;
+  outside : TransfersPages g.F.Files g.D.SwapDev None l.fn.files l.files l.fn.swap l.swap;
 }
 
 -- each move may begin one transfer, of those that end

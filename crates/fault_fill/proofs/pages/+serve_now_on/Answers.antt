@@ -33,9 +33,9 @@ serve_now_on-requires g t c κs out =
             (
               whole_on old new f.serves.makes.beside o c.requires.whole,
               (
-                area_on old new _ _ f.serves.makes.beside c.in-Ok.ensures.blocks c.requires.area,
+                area_on old new _ _ f.serves.makes.beside c.in-Ok.ensures.outside.swap.blocks c.requires.area,
                 (
-                  files_on old new holds _ f.serves.makes.beside c.in-Ok.ensures.holds c.requires.files,
+                  files_on old new holds _ f.serves.makes.beside c.in-Ok.ensures.outside.files.holds c.requires.files,
                   (b.can, (b.room c.requires.room, f.low)),
                 ),
               ),
@@ -60,6 +60,6 @@ returns-then-more-clause-served g t c =
     let f : Further locked q old next holds i h = subst (λ (b : Bool). GoesFurther b locked q old next holds i h) c.if-more.true c.in-Ok.ensures.made in
     match_map (λ u. ServesNow locked q next new later h j) (λ u. ServesNow locked q old new holds i j)
     (StopsServing true locked q next new later h j) (StopsServing true locked q old new holds i j) c.serve_now_on.result
-    (λ u m. served_now_later locked q old next new holds later i h j c.in-Ok.ensures.holds f.serves m)
-    (λ stop m. stops_later true locked q old next new holds later i h j stop c.in-Ok.ensures.holds f.serves m)
+    (λ u m. served_now_later locked q old next new holds later i h j c.in-Ok.ensures.outside.files.holds f.serves m)
+    (λ stop m. stops_later true locked q old next new holds later i h j stop c.in-Ok.ensures.outside.files.holds f.serves m)
     c.serve_now_on.ensures.served

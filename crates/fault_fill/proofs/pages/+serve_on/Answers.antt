@@ -38,8 +38,8 @@ serve_on-requires g t c κs out =
             (
               whole_on old new u.rest o c.requires.whole,
               (
-                area_on old new _ _ u.rest c.in-Ok.ensures.blocks c.requires.area,
-                (files_on old new holds _ u.rest c.in-Ok.ensures.holds c.requires.files, b.can),
+                area_on old new _ _ u.rest c.in-Ok.ensures.outside.swap.blocks c.requires.area,
+                (files_on old new holds _ u.rest c.in-Ok.ensures.outside.files.holds c.requires.files, b.can),
               ),
             ),
           ),
@@ -62,6 +62,6 @@ returns-in-Nearer-clause-served g t c =
     let s : ServesTo false [] q old next holds i h = one_serves false [] q old next holds i h c.requires.can (any false []) in
     match_map (λ (a : Served). ServesAs a q next new later h j) (λ (a : Served). ServesAs a q old new holds i j)
     (StopsServing false [] q next new later h j) (StopsServing false [] q old new holds i j) c.serve_on.result
-    (λ a m. served_later a q old next new holds later i h j c.in-Ok.ensures.holds s m)
-    (λ stop m. stops_later false [] q old next new holds later i h j stop c.in-Ok.ensures.holds s m)
+    (λ a m. served_later a q old next new holds later i h j c.in-Ok.ensures.outside.files.holds s m)
+    (λ stop m. stops_later false [] q old next new holds later i h j stop c.in-Ok.ensures.outside.files.holds s m)
     c.serve_on.ensures.served

@@ -48,7 +48,7 @@ returns-in-Ok-finish-clause-made g c =
     let j = g.D.SwapDev.image c.finish.new.swap in
     let waits : NoneMade old next i h × (is_flying (state_of old.kernel.place q) ≡ true) =
     subst (λ (u : Came). ComesTo u q old next holds i h) c.in-Waits.is c.in-Ok.ensures.made in
-    end_further c.args.locked.now q old next c.finish.new.m holds later i h j waits.0 c.in-Ok.ensures.holds c.requires.can waits.1 c.in-Ok-finish.ensures.made
+    end_further c.args.locked.now q old next c.finish.new.m holds later i h j waits.0 c.in-Ok.ensures.outside.files.holds c.requires.can waits.1 c.in-Ok-finish.ensures.made
 
 pub returns-in-Err-finish-clause-made : goal.returns-in-Err-finish-clause-made
 returns-in-Err-finish-clause-made g c =
@@ -75,7 +75,7 @@ returns-in-Ok-make_room-clause-made g c =
     let j = g.D.SwapDev.image c.make_room.new.swap in
     let starves : NoneMade old next i h × NeedsFrame old.kernel.place q =
     subst (λ (u : Came). ComesTo u q old next holds i h) c.in-Starves.is c.in-Ok.ensures.made in
-    room_further c.args.locked.now q old next c.make_room.new.m holds later i h j starves.0 c.in-Ok.ensures.holds c.sound.ensures.sound.owner.frames starves.1
+    room_further c.args.locked.now q old next c.make_room.new.m holds later i h j starves.0 c.in-Ok.ensures.outside.files.holds c.sound.ensures.sound.owner.frames starves.1
     c.in-Ok-make_room.ensures.forced c.in-Ok-make_room.ensures.keeps
 
 pub returns-in-Err-make_room-clause-made : goal.returns-in-Err-make_room-clause-made
@@ -90,5 +90,5 @@ returns-in-Err-make_room-clause-made g c =
     let j = g.D.SwapDev.image c.make_room.new.swap in
     let starves : NoneMade old next i h × NeedsFrame old.kernel.place q =
     subst (λ (u : Came). ComesTo u q old next holds i h) c.in-Starves.is c.in-Ok.ensures.made in
-    room_stops c.args.locked.now q old next c.make_room.new.m holds later i h j c.in-Err-make_room.stop starves.0 c.in-Ok.ensures.holds c.sound.ensures.sound.owner.frames starves.1
+    room_stops c.args.locked.now q old next c.make_room.new.m holds later i h j c.in-Err-make_room.stop starves.0 c.in-Ok.ensures.outside.files.holds c.sound.ensures.sound.owner.frames starves.1
     c.in-Err-make_room.ensures.stopped

@@ -6,7 +6,7 @@ use Rattle.std.proofs.Common.{Some}
 use Rattle.machine_state.specs.Conditions.{CanBringIn}
 use Rattle.fault_fill.proofs.Readings.{can_read}
 use Rattle.fault_fill.proofs.Serving.{not_full, of_image, unit_reads}
-use Rattle.fault_fill.proofs.Leading.{get_calls, plain_either, pages_stay, reads_stay, writes_stay}
+use Rattle.fault_fill.proofs.Leading.{get_calls, plain_either}
 use Rattle.fault_fill.proofs.unit.read.Goals as goal
 
 pub begin_get-requires-clause-can : goal.begin_get-requires-clause-can
@@ -27,12 +27,3 @@ returns-clause-made c =
     (λ now. unit_reads p q now false (not_full p c.requires.few) c.requires.frameless c.requires.filled c.requires.free ∙ ap (λ (r : Run). Some (entries.Get q r.lo r.n)) c.run_of-lo.ensures.run)
     (λ h g i. h)
     c.begin_get.ensures.step c.begin_get.ensures.rest c.begin_get.ensures.keeps c.begin_get.ensures.stop c.requires.whole c.begin_get.ensures.cause c.begin_get.ensures.full
-
-pub returns-clause-page_faults : goal.returns-clause-page_faults
-returns-clause-page_faults c = λ n. pages_stay n c.begin_get.result c.begin_get.ensures.cause
-
-pub returns-clause-read_faults : goal.returns-clause-read_faults
-returns-clause-read_faults c = λ n. reads_stay n c.begin_get.result c.begin_get.ensures.cause
-
-pub returns-clause-write_faults : goal.returns-clause-write_faults
-returns-clause-write_faults c = λ n. writes_stay n c.begin_get.result c.begin_get.ensures.cause

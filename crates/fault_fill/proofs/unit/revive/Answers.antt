@@ -1,6 +1,6 @@
 use Rattle.vm_facts.specs.declared.entry.Entry.TheVariants as entries
 use Rattle.fault_fill.proofs.Serving.{unit_reclaims}
-use Rattle.fault_fill.proofs.Leading.{reclaim_calls, plain_either, pages_stay, reads_stay, writes_stay}
+use Rattle.fault_fill.proofs.Leading.{reclaim_calls, plain_either}
 use Rattle.fault_fill.proofs.unit.revive.Goals as goal
 
 pub returns-clause-made : goal.returns-clause-made
@@ -10,12 +10,3 @@ returns-clause-made c =
     plain_either c.reclaim.result q (entries.Reclaim q) c.args.m.now c.reclaim.new.self (reclaim_calls q)
     (λ now. unit_reclaims p q now c.args.frame c.requires.invalid) (λ h g i. h)
     c.reclaim.ensures.step c.reclaim.ensures.rest c.reclaim.ensures.keeps c.reclaim.ensures.stop c.requires.whole c.reclaim.ensures.cause c.reclaim.ensures.full
-
-pub returns-clause-page_faults : goal.returns-clause-page_faults
-returns-clause-page_faults c = λ n. pages_stay n c.reclaim.result c.reclaim.ensures.cause
-
-pub returns-clause-read_faults : goal.returns-clause-read_faults
-returns-clause-read_faults c = λ n. reads_stay n c.reclaim.result c.reclaim.ensures.cause
-
-pub returns-clause-write_faults : goal.returns-clause-write_faults
-returns-clause-write_faults c = λ n. writes_stay n c.reclaim.result c.reclaim.ensures.cause

@@ -1,6 +1,6 @@
 use Rattle.vm_facts.specs.declared.entry.Entry.TheVariants as entries
 use Rattle.fault_fill.proofs.Serving.{unit_blank}
-use Rattle.fault_fill.proofs.Leading.{zero_calls, plain_either, pages_stay, reads_stay, writes_stay}
+use Rattle.fault_fill.proofs.Leading.{zero_calls, plain_either}
 use Rattle.fault_fill.proofs.unit.zero.Goals as goal
 
 pub returns-clause-made : goal.returns-clause-made
@@ -10,12 +10,3 @@ returns-clause-made c =
     plain_either c.fill_zero.result q (entries.Zero q) c.args.m.now c.fill_zero.new.self (zero_calls q)
     (λ now. unit_blank p q now c.requires.blank c.requires.free) (λ h g i. h)
     c.fill_zero.ensures.step c.fill_zero.ensures.rest c.fill_zero.ensures.keeps c.fill_zero.ensures.stop c.requires.whole c.fill_zero.ensures.cause c.fill_zero.ensures.full
-
-pub returns-clause-page_faults : goal.returns-clause-page_faults
-returns-clause-page_faults c = λ n. pages_stay n c.fill_zero.result c.fill_zero.ensures.cause
-
-pub returns-clause-read_faults : goal.returns-clause-read_faults
-returns-clause-read_faults c = λ n. reads_stay n c.fill_zero.result c.fill_zero.ensures.cause
-
-pub returns-clause-write_faults : goal.returns-clause-write_faults
-returns-clause-write_faults c = λ n. writes_stay n c.fill_zero.result c.fill_zero.ensures.cause

@@ -17,17 +17,17 @@ use Rattle.proc_calls.proofs.Waits.{wait_is, zombie_ended}
 use Rattle.proc_calls.proofs.children.wait.Goals as goal
 
 pub reply-requires-clause-can : goal.reply-requires-clause-can
-reply-requires-clause-can g c =
+reply-requires-clause-can c =
     can_reap c.args.m.now c.args.pid c.in-Zombie.child (call_entry c.args.pid Wait c.replied_both-after.result) c.requires.whole c.requires.clear c.requires.lends
     (refl, tt)
     (zombie_ended c.args.m.now.kernel c.processes.result.now c.args.pid c.in-Zombie.child c.in-Zombie.status c.children_of.result c.processes.ensures.processes
     (c.processes.ensures.records c.requires.running) c.children_of.ensures c.in-Zombie.is)
 
 pub flat-requires-clause-can : goal.flat-requires-clause-can
-flat-requires-clause-can g c = can_sleep c.args.m.now c.args.pid (Sleeps c.args.pid) c.requires.whole c.requires.clear c.requires.lends refl
+flat-requires-clause-can c = can_sleep c.args.m.now c.args.pid (Sleeps c.args.pid) c.requires.whole c.requires.clear c.requires.lends refl
 
 pub returns-in-None-clause-replied : goal.returns-in-None-clause-replied
-returns-in-None-clause-replied g c =
+returns-in-None-clause-replied c =
     let is : wait_reply c.args.m.now.kernel c.args.pid c.args.regs.now ≡ reply_by children.None c.args.regs.now =
     wait_is c.args.m.now.kernel c.processes.result.now c.args.pid c.children_of.result c.args.regs.now c.processes.ensures.processes
     (c.processes.ensures.records c.requires.running) c.children_of.ensures
@@ -35,7 +35,7 @@ returns-in-None-clause-replied g c =
     subst (λ (r : Reply). IfOk c.fail.result (Replied c.args.m.now c.fail.new.m c.args.pid Wait c.args.regs.now r)) (sym is) c.fail.ensures.replied
 
 pub returns-in-Zombie-clause-replied : goal.returns-in-Zombie-clause-replied
-returns-in-Zombie-clause-replied g c =
+returns-in-Zombie-clause-replied c =
     let is : wait_reply c.args.m.now.kernel c.args.pid c.args.regs.now ≡ reply_by (children.Zombie c.in-Zombie.child c.in-Zombie.status) c.args.regs.now =
     wait_is c.args.m.now.kernel c.processes.result.now c.args.pid c.children_of.result c.args.regs.now c.processes.ensures.processes
     (c.processes.ensures.records c.requires.running) c.children_of.ensures
@@ -47,7 +47,7 @@ returns-in-Zombie-clause-replied g c =
     (Answered c.args.m.now c.reply.new.m c.args.pid Wait c.replied_both-after.result (Reap c.in-Zombie.child)) c.reply.ensures.ready c.reply.ensures.answered))
 
 pub returns-in_ok-flat-in-Living-clause-replied : goal.returns-in_ok-flat-in-Living-clause-replied
-returns-in_ok-flat-in-Living-clause-replied g c =
+returns-in_ok-flat-in-Living-clause-replied c =
     let is : wait_reply c.args.m.now.kernel c.args.pid c.args.regs.now ≡ reply_by children.Living c.args.regs.now =
     wait_is c.args.m.now.kernel c.processes.result.now c.args.pid c.children_of.result c.args.regs.now c.processes.ensures.processes
     (c.processes.ensures.records c.requires.running) c.children_of.ensures

@@ -1,8 +1,9 @@
-use Rattle.std.proofs.Common.{refl, sym, ◌∙◌, subst, arith}
+use Rattle.std.proofs.Common.{sym, ◌∙◌, subst, arith, None}
 use Rattle.std.proofs.lemmas.Result.{err_from_is_err_and}
 use Rattle.proc_calls.specs.Copying.{AreCopiesFrom, IsCopyFirst, GoesOn}
 use Rattle.proc_calls.proofs.Copies.{room_for}
 use Rattle.proc_calls.proofs.CopiedPages.{FirstOf, first_of, copy_first, list_first, others_due, stops_first, fewer_due, area_next, files_next, copies_none, copies_one, copies_all, copied_all}
+use Rattle.machine_state.proofs.Transfers.{transfers_none, transfers_then}
 use Rattle.proc_calls.proofs.copying.copy_due.Goals as goal
 
 pub loop-child-init : goal.loop-child-init
@@ -14,14 +15,7 @@ loop-child-init g c = record {
   room = c.requires.room;
   low = c.requires.low;
   so_far = copies_none c.args.m.now (g.F.Files.holds c.args.files.now) (g.D.SwapDev.image c.args.swap.now);
-  files_lead = g.met.F.Files.leads_nowhere c.args.files.now;
-  swap_leads = g.met.D.SwapDev.leads_nowhere c.args.swap.now;
-  holds = refl;
-  blocks = refl;
-  open_faults = refl;
-  page_faults = refl;
-  read_faults = refl;
-  write_faults = refl;
+  outside = transfers_none g.met.F.Files.leads_nowhere g.met.D.SwapDev.leads_nowhere c.args.files.now c.args.swap.now;
 }
 
 pub copy_page-requires-clause-first : goal.copy_page-requires-clause-first
@@ -71,23 +65,16 @@ loop-child-preserved g c =
     let zero = on.last in
     record {
       on = record { running = on.running; whole = on.whole };
-      area = area_next now next _ _ on.params c.in_ok-copy_page.ensures.blocks so.area;
-      files = files_next now next (g.F.Files.holds c.loop-child.files) _ on.images c.in_ok-copy_page.ensures.holds so.files;
+      area = area_next now next _ _ on.params c.in_ok-copy_page.ensures.outside.swap.blocks so.area;
+      files = files_next now next (g.F.Files.holds c.loop-child.files) _ on.images c.in_ok-copy_page.ensures.outside.files.holds so.files;
       due = subst (AreCopiesFrom c.args.parent) (sym (others_due now.kernel.place next.kernel.place c.args.parent child f on.due)) f.rest;
       room = λ page. room_for now.kernel.place next.kernel.place page page on.frames (so.room page);
       low = omega (arith, zero);
       so_far = copies_one c.args.m.now now next f.others child c.page_in.result (g.F.Files.holds c.args.files.now) (g.F.Files.holds c.loop-child.files) (g.F.Files.holds c.copy_page.new.files)
           (g.D.SwapDev.image c.args.swap.now) (g.D.SwapDev.image c.loop-child.swap) (g.D.SwapDev.image c.copy_page.new.swap)
           (list_first now.kernel.place c.args.parent child c.page_in.result c.page_in.ensures f) (others_due now.kernel.place next.kernel.place c.args.parent child f on.due)
-          c.in_ok-copy_page.ensures.holds c.in_ok-copy_page.ensures.copied on so.so_far;
-      files_lead = g.met.F.Files.leads_through c.args.files.now c.loop-child.files c.copy_page.new.files so.files_lead c.in_ok-copy_page.ensures.files_lead;
-      swap_leads = g.met.D.SwapDev.leads_through c.args.swap.now c.loop-child.swap c.copy_page.new.swap so.swap_leads c.in_ok-copy_page.ensures.swap_leads;
-      holds = c.in_ok-copy_page.ensures.holds ∙ so.holds;
-      blocks = c.in_ok-copy_page.ensures.blocks ∙ so.blocks;
-      open_faults = c.in_ok-copy_page.ensures.open_faults ∙ so.open_faults;
-      page_faults = c.in_ok-copy_page.ensures.page_faults ∙ so.page_faults;
-      read_faults = c.in_ok-copy_page.ensures.read_faults ∙ so.read_faults;
-      write_faults = c.in_ok-copy_page.ensures.write_faults ∙ so.write_faults;
+          c.in_ok-copy_page.ensures.outside.files.holds c.in_ok-copy_page.ensures.copied on so.so_far;
+      outside = transfers_then {stop = None} g.met.F.Files.leads_through g.met.D.SwapDev.leads_through so.outside c.in_ok-copy_page.ensures.outside;
     }
 
 pub returns-clause-copied : goal.returns-clause-copied

@@ -1,11 +1,9 @@
-use Rattle.std.proofs.Common.{inl, inr, ℕ, [], ◌∷◌, refl, sym, ◌∙◌, subst}
+use Rattle.std.proofs.Common.{inl, inr, [], ◌∷◌, refl}
 use Rattle.std.proofs.lemmas.Result.{err_from_is_err_and}
 use Rattle.vm_facts.specs.declared.entry.Entry.TheVariants as entries
 use Rattle.page_laws.proofs.Ends.Hands.{room_still}
 use Rattle.fault_fill.proofs.Stopping.{call_stops, plain_full}
-use Rattle.machine_state.specs.Done.{CountsPages, CountsReads, CountsWrites}
 use Rattle.fault_fill.specs.Answers.{ServesNow}
-use Rattle.fault_fill.proofs.Leading.{pages_stay, reads_stay, writes_stay}
 use Rattle.proc_calls.proofs.Copies.{can_serve, can_copy, first_stays}
 use Rattle.proc_calls.proofs.CopiedPages.{IsOn, served_on, forced_on, served_stay, forced_stay, forcing_stops, copied_by, goes_on}
 use Rattle.proc_calls.proofs.copying.copy_page.Goals as goal
@@ -48,7 +46,7 @@ returns-in_err-make_room-clause-copied g c =
       serves = (c.in_ok-serve_page_now.ensures.served.0.serves, c.in_ok-serve_page_now.ensures.served.1);
       stops = inl (forcing_stops c.args.parent c.serve_page_now.new.m c.make_room.new.m c.in_err-make_room.field-0.0 (g.F.Files.holds c.args.files.now)
           (g.F.Files.holds c.serve_page_now.new.files) (g.D.SwapDev.image c.serve_page_now.new.swap) (g.D.SwapDev.image c.make_room.new.swap)
-          c.in_ok-serve_page_now.ensures.holds c.in_err-make_room.ensures.stopped);
+          c.in_ok-serve_page_now.ensures.outside.files.holds c.in_err-make_room.ensures.stopped);
     }))
 
 pub sound-requires-2 : goal.sound-requires-2
@@ -98,7 +96,7 @@ returns-clause-copied g c =
     let j = g.D.SwapDev.image c.make_room.new.swap in
     copied_by c.copy.result c.args.child c.args.parent c.args.m.now c.serve_page_now.new.m roomy c.copy.new.self (g.F.Files.holds c.args.files.now)
     (g.F.Files.holds c.serve_page_now.new.files) (g.D.SwapDev.image c.args.swap.now) (g.D.SwapDev.image c.serve_page_now.new.swap) j
-    c.in_ok-serve_page_now.ensures.holds (c.in_ok-serve_page_now.ensures.served.0.serves, c.in_ok-serve_page_now.ensures.served.1)
+    c.in_ok-serve_page_now.ensures.outside.files.holds (c.in_ok-serve_page_now.ensures.served.0.serves, c.in_ok-serve_page_now.ensures.served.1)
     c.in_ok-make_room.ensures.forced c.in_ok-make_room.ensures.keeps c.copy.ensures.step c.copy.ensures.rest c.copy.ensures.keeps
     (call_stops c.copy.result (entries.Copy c.args.child) roomy c.copy.new.self j (λ s h. h) (λ s. refl)
     (plain_full (entries.Copy c.args.child) roomy.kernel.journal roomy.params.journal _ tt c.copy.ensures.full) c.copy.ensures.stop c.copy.ensures.cause
@@ -123,21 +121,3 @@ returns-clause-on g c =
     (served_on c.args.parent c.args.m.now served holds i h (record { running = c.requires.running; whole = c.requires.whole }) serves) c.in_ok-make_room.ensures.forced in
     goes_on c.copy.result c.args.child c.args.parent c.args.m.now served roomy c.copy.new.self holds (g.F.Files.holds c.serve_page_now.new.files) i h j on both serves c.in_ok-make_room.ensures.forced
     c.copy.ensures.step c.copy.ensures.rest
-
-pub returns-clause-page_faults : goal.returns-clause-page_faults
-returns-clause-page_faults g c =
-    let before = g.F.Files.page_faults c.args.files.now in
-    subst (λ (n : ℕ). CountsPages c.copy.result before n) (sym (c.in_ok-make_room.ensures.page_faults ∙ c.in_ok-serve_page_now.ensures.page_faults))
-    (pages_stay before c.copy.result c.copy.ensures.cause)
-
-pub returns-clause-read_faults : goal.returns-clause-read_faults
-returns-clause-read_faults g c =
-    let before = g.D.SwapDev.read_faults c.args.swap.now in
-    subst (λ (n : ℕ). CountsReads c.copy.result before n) (sym (c.in_ok-make_room.ensures.read_faults ∙ c.in_ok-serve_page_now.ensures.read_faults))
-    (reads_stay before c.copy.result c.copy.ensures.cause)
-
-pub returns-clause-write_faults : goal.returns-clause-write_faults
-returns-clause-write_faults g c =
-    let before = g.D.SwapDev.write_faults c.args.swap.now in
-    subst (λ (n : ℕ). CountsWrites c.copy.result before n) (sym (c.in_ok-make_room.ensures.write_faults ∙ c.in_ok-serve_page_now.ensures.write_faults))
-    (writes_stay before c.copy.result c.copy.ensures.cause)

@@ -35,7 +35,7 @@ returns-clause-filled g c =
     let roomy = c.make_room.new.m in
     let j = g.D.SwapDev.image c.make_room.new.swap in
     filled_by c.fill_zero.result c.args.page c.args.m.now roomy c.fill_zero.new.self (g.F.Files.holds c.args.files.now)
-    (g.F.Files.holds c.make_room.new.files) (g.D.SwapDev.image c.args.swap.now) j c.in_ok-make_room.ensures.holds
+    (g.F.Files.holds c.make_room.new.files) (g.D.SwapDev.image c.args.swap.now) j c.in_ok-make_room.ensures.outside.files.holds
     c.in_ok-make_room.ensures.forced c.in_ok-make_room.ensures.keeps c.fill_zero.ensures.step c.fill_zero.ensures.rest c.fill_zero.ensures.keeps
     (call_stops c.fill_zero.result (entries.Zero c.args.page) roomy c.fill_zero.new.self j (λ s h. h) (λ s. refl)
     (plain_full (entries.Zero c.args.page) roomy.kernel.journal roomy.params.journal _ tt c.fill_zero.ensures.full) c.fill_zero.ensures.stop c.fill_zero.ensures.cause

@@ -7,7 +7,7 @@ use Rattle.proc_calls.proofs.Makes.{vfork_asks, asked_found, asked_fits, behind_
 use Rattle.proc_calls.proofs.making.vfork.Goals as goal
 
 pub returns-then-not-branch-clause-vforked : goal.returns-then-not-branch-clause-vforked
-returns-then-not-branch-clause-vforked g c =
+returns-then-not-branch-clause-vforked c =
     let child = c.next_numbers-child.result.0 in
     let no = ap (λ (b : Bool). Ok b) c.if-not-branch.true in
     let asks =
@@ -20,7 +20,7 @@ returns-then-not-branch-clause-vforked g c =
     c.fail-then-not-branch.ensures.replied
 
 pub returns-then-not-branch-clause-stop : goal.returns-then-not-branch-clause-stop
-returns-then-not-branch-clause-stop g c =
+returns-then-not-branch-clause-stop c =
     let child = c.next_numbers-child.result.0 in
     let no = ap (λ (b : Bool). Ok b) c.if-not-branch.true in
     let asks =
@@ -32,7 +32,7 @@ returns-then-not-branch-clause-stop g c =
     c.requires.calls.whole c.fail-then-not-branch.ensures.stop c.fail-then-not-branch.ensures.cause c.fail-then-not-branch.ensures.full
 
 pub reply-requires-clause-can : goal.reply-requires-clause-can
-reply-requires-clause-can g c =
+reply-requires-clause-can c =
     let found = c.in_ok-ask.ensures.found (ap (λ (b : Bool). Ok b) c.if-not-branch.false) in
     let child = c.next_numbers-child.result.0 in
     let asks =
@@ -43,25 +43,25 @@ reply-requires-clause-can g c =
     (asked_found c.args.m.now c.args.pid (Lend child) (c.u_want.result ∷ []) found.0 asks found.1)
 
 pub lend-requires-clause-holds : goal.lend-requires-clause-holds
-lend-requires-clause-holds g c =
+lend-requires-clause-holds c =
     let found = c.in_ok-ask.ensures.found (ap (λ (b : Bool). Ok b) c.if-not-branch.false) in
     (behind_found c.args.m.now c.ask.new.self c.reply.new.m c.args.pid c.replied_both-after.result (call_entry c.args.pid Vfork c.replied_both-after.result)
     found.0 found.2 c.requires.calls c.sound.ensures.numbered c.next_numbers-child.result.0 c.next_numbers-child.ensures.process c.in_ok-reply.ensures.answered.step).0
 
 pub lend-requires-clause-there : goal.lend-requires-clause-there
-lend-requires-clause-there g c =
+lend-requires-clause-there c =
     let found = c.in_ok-ask.ensures.found (ap (λ (b : Bool). Ok b) c.if-not-branch.false) in
     (behind_found c.args.m.now c.ask.new.self c.reply.new.m c.args.pid c.replied_both-after.result (call_entry c.args.pid Vfork c.replied_both-after.result)
     found.0 found.2 c.requires.calls c.sound.ensures.numbered c.next_numbers-child.result.0 c.next_numbers-child.ensures.process c.in_ok-reply.ensures.answered.step).1
 
 pub lend-requires-clause-fresh : goal.lend-requires-clause-fresh
-lend-requires-clause-fresh g c =
+lend-requires-clause-fresh c =
     let found = c.in_ok-ask.ensures.found (ap (λ (b : Bool). Ok b) c.if-not-branch.false) in
     (behind_found c.args.m.now c.ask.new.self c.reply.new.m c.args.pid c.replied_both-after.result (call_entry c.args.pid Vfork c.replied_both-after.result)
     found.0 found.2 c.requires.calls c.sound.ensures.numbered c.next_numbers-child.result.0 c.next_numbers-child.ensures.process c.in_ok-reply.ensures.answered.step).2
 
 pub returns-clause-vforked : goal.returns-clause-vforked
-returns-clause-vforked g c =
+returns-clause-vforked c =
     let found = c.in_ok-ask.ensures.found (ap (λ (b : Bool). Ok b) c.if-not-branch.false) in
     let child = c.next_numbers-child.result.0 in
     let asks =

@@ -80,5 +80,5 @@ returns-in_err-fill_start-clause-stops g c =
     rw (p.1, p.2)
     (fill_stops _ c.in_ok-find_space.field-0 c.args.m.now c.find_space.new.m c.reply.new.m c.fill_start.new.m c.args.pid c.args.image c.args.after.now c.args.top
     (Stack c.next_numbers.result.1 0) (g.F.Files.holds c.args.files.now) (g.F.Files.holds c.find_space.new.files) (g.D.SwapDev.image c.args.swap.now)
-    (g.D.SwapDev.image c.find_space.new.swap) (g.D.SwapDev.image c.fill_start.new.swap) c.in_ok-find_space.ensures.holds c.if-not-branch.false
+    (g.D.SwapDev.image c.find_space.new.swap) (g.D.SwapDev.image c.fill_start.new.swap) c.in_ok-find_space.ensures.outside.files.holds c.if-not-branch.false
     (ap (λ (n : ℕ). Stack n 0) c.next_numbers.ensures.space) c.in_ok-find_space.ensures.finds c.in_ok-called.ensures.answered c.in_err-fill_start.ensures.filled)

@@ -15,7 +15,7 @@ use Rattle.proc_calls.proofs.Stopping.{out_starved}
 use Rattle.proc_calls.proofs.writing.write.Goals as goal
 
 pub answer-requires-clause-writes : goal.answer-requires-clause-writes
-answer-requires-clause-writes g c =
+answer-requires-clause-writes c =
     let asked : c.in_ok-refused.field-0 ≡ run (kernel_answers c.args.m.now.kernel (space_held c.args.m.now.kernel c.args.pid)) (write_reply c.args.regs.now) =
     subst
     (λ (r : Result (Result Reply Refused) NoMemory). IfOk r (λ a. a ≡ run (kernel_answers c.args.m.now.kernel (space_held c.args.m.now.kernel c.args.pid)) (write_reply c.args.regs.now)))
@@ -24,7 +24,7 @@ answer-requires-clause-writes g c =
     (may_write (kernel_answers c.args.m.now.kernel (space_held c.args.m.now.kernel c.args.pid)) c.args.regs.now c.in_ok-refused.field-0 asked)
 
 pub returns-in_err-refused-clause-stop : goal.returns-in_err-refused-clause-stop
-returns-in_err-refused-clause-stop g c =
+returns-in_err-refused-clause-stop c =
     let cause : c.in_err-refused.field-0.0 ≡ stops.NoMemory = let e = c.in_err-refused.ensures.cause in cc in
     let p = err_from_is_err_and c.from_residual.result c.from_residual.ensures.1 in
     rw (p.1, p.2)

@@ -62,7 +62,7 @@ serve_access-requires-clause-area g c =
     unchanged c.args.m.now c.make.new.m c.args.pid c.args.before.now c.args.number c.args.regs.now c.in-Some.call (g.F.Files.holds c.args.files.now) (g.D.SwapDev.image c.args.swap.now)
     (g.D.SwapDev.image c.make.new.swap) (is_now c.args.patience) c.requires.steady c.requires.lends c.requires.registers c.requires.made (ap call_of (sym (to_z-of_z w32 c.args.number c.ranges.number)) ∙ sym c.numbered.ensures ∙ c.in-Some.is)
     c.in-Miss.address c.in_ok-make.field-0 c.in-Miss.is c.in_ok-make.ensures.comes in
-    rw (same, c.make.ensures.blocks) c.requires.area
+    rw (same, c.make.ensures.outside.swap.blocks) c.requires.area
 
 pub serve_access-requires-clause-files : goal.serve_access-requires-clause-files
 serve_access-requires-clause-files g c =
@@ -70,7 +70,7 @@ serve_access-requires-clause-files g c =
     unchanged c.args.m.now c.make.new.m c.args.pid c.args.before.now c.args.number c.args.regs.now c.in-Some.call (g.F.Files.holds c.args.files.now) (g.D.SwapDev.image c.args.swap.now)
     (g.D.SwapDev.image c.make.new.swap) (is_now c.args.patience) c.requires.steady c.requires.lends c.requires.registers c.requires.made (ap call_of (sym (to_z-of_z w32 c.args.number c.ranges.number)) ∙ sym c.numbered.ensures ∙ c.in-Some.is)
     c.in-Miss.address c.in_ok-make.field-0 c.in-Miss.is c.in_ok-make.ensures.comes in
-    rw (same, c.make.ensures.holds) c.requires.files
+    rw (same, c.make.ensures.outside.files.holds) c.requires.files
 
 pub serve_access-requires-clause-quiet : goal.serve_access-requires-clause-quiet
 serve_access-requires-clause-quiet g c =
@@ -124,14 +124,14 @@ pub returns-in-Miss-clause-advances : goal.returns-in-Miss-clause-advances
 returns-in-Miss-clause-advances g c =
     missed_advances c.args.m.now c.make.new.m c.args.pid c.args.before.now c.args.number c.args.regs.now c.in-Some.call (g.F.Files.holds c.args.files.now) (g.D.SwapDev.image c.args.swap.now)
     (g.D.SwapDev.image c.make.new.swap) (is_now c.args.patience) c.requires.steady c.requires.lends c.requires.registers c.requires.made (ap call_of (sym (to_z-of_z w32 c.args.number c.ranges.number)) ∙ sym c.numbered.ensures ∙ c.in-Some.is)
-    c.in-Miss.address c.in_ok-make.field-0 c.in-Miss.is c.in_ok-make.ensures.comes c.serve_access.new.m (g.F.Files.holds c.make.new.files) (g.D.SwapDev.image c.serve_access.new.swap) c.make.ensures.holds c.serve_access.result
+    c.in-Miss.address c.in_ok-make.field-0 c.in-Miss.is c.in_ok-make.ensures.comes c.serve_access.new.m (g.F.Files.holds c.make.new.files) (g.D.SwapDev.image c.serve_access.new.swap) c.make.ensures.outside.files.holds c.serve_access.result
     c.serve_access.ensures.advances
 
 pub returns-in-Miss-clause-stops : goal.returns-in-Miss-clause-stops
 returns-in-Miss-clause-stops g c =
     missed_stops c.args.m.now c.make.new.m c.args.pid c.args.before.now c.args.number c.args.regs.now c.in-Some.call (g.F.Files.holds c.args.files.now) (g.D.SwapDev.image c.args.swap.now)
     (g.D.SwapDev.image c.make.new.swap) (is_now c.args.patience) c.requires.steady c.requires.lends c.requires.registers c.requires.made (ap call_of (sym (to_z-of_z w32 c.args.number c.ranges.number)) ∙ sym c.numbered.ensures ∙ c.in-Some.is)
-    c.in-Miss.address c.in_ok-make.field-0 c.in-Miss.is c.in_ok-make.ensures.comes c.serve_access.new.m (g.F.Files.holds c.make.new.files) (g.D.SwapDev.image c.serve_access.new.swap) c.make.ensures.holds c.serve_access.result
+    c.in-Miss.address c.in_ok-make.field-0 c.in-Miss.is c.in_ok-make.ensures.comes c.serve_access.new.m (g.F.Files.holds c.make.new.files) (g.D.SwapDev.image c.serve_access.new.swap) c.make.ensures.outside.files.holds c.serve_access.result
     c.serve_access.ensures.stops
 
 pub returns-in-Miss-clause-continues : goal.returns-in-Miss-clause-continues

@@ -1,9 +1,10 @@
-use Rattle.std.proofs.Common.{◌∙◌, subst, refl, arith}
+use Rattle.std.proofs.Common.{◌∙◌, subst, refl, arith, None}
 use Rattle.std.proofs.lemmas.Result.{err_from_is_err_and}
 use Rattle.steady_laws.specs.Ready.{Continues}
 use Rattle.proc_run.specs.declared.advancing.Advance.TheVariants as advances
 use Rattle.proc_run.specs.Runs.{is_now, Advances, StopsAdvancing, counts}
 use Rattle.proc_run.proofs.SoFar.{none_so_far, counted_far, served_far, stuck_runs, stops_far, idle_runs, done_runs, waited_runs, steady_on, lends_there}
+use Rattle.machine_state.proofs.Transfers.{transfers_none, transfers_then}
 use Rattle.proc_run.proofs.running.run.Goals as goal
 
 pub loop-count-init : goal.loop-count-init
@@ -15,14 +16,7 @@ loop-count-init g c = record {
   more = omega arith;
   few = omega arith;
   so_far = none_so_far c.args.m.now c.args.pid (is_now c.args.patience) c.args.counted c.args.until (g.F.Files.holds c.args.files.now) (g.D.SwapDev.image c.args.swap.now);
-  files_lead = g.met.F.Files.leads_nowhere c.args.files.now;
-  swap_leads = g.met.D.SwapDev.leads_nowhere c.args.swap.now;
-  holds = refl;
-  blocks = refl;
-  open_faults = refl;
-  page_faults = refl;
-  read_faults = refl;
-  write_faults = refl;
+  outside = transfers_none g.met.F.Files.leads_nowhere g.met.D.SwapDev.leads_nowhere c.args.files.now c.args.swap.now;
 }
 
 pub returns-in_default-clause-runs : goal.returns-in_default-clause-runs
@@ -39,14 +33,14 @@ returns-in_err-next_step-clause-stops g c =
     let e = err_from_is_err_and c.from_residual.result c.from_residual.ensures.1 in
     rw (e.1, e.2) (
     stops_far c.args.m.now c.loop-count.m c.next_step.new.m c.args.pid (is_now c.args.patience) c.args.counted c.args.until (g.F.Files.holds c.args.files.now) (g.D.SwapDev.image c.args.swap.now) (g.D.SwapDev.image c.loop-count.swap) (g.D.SwapDev.image c.next_step.new.swap) c.loop-count.count c.loop-count.waits so.so_far c.loop-count-test.true c.in-Some.ensures.ready c.in_err-next_step.field-0.0
-    (subst (λ hs. StopsAdvancing c.loop-count.m c.next_step.new.m c.args.pid (is_now c.args.patience) hs (g.D.SwapDev.image c.loop-count.swap) (g.D.SwapDev.image c.next_step.new.swap) c.in_err-next_step.field-0.0) so.holds c.in_err-next_step.ensures.stops))
+    (subst (λ hs. StopsAdvancing c.loop-count.m c.next_step.new.m c.args.pid (is_now c.args.patience) hs (g.D.SwapDev.image c.loop-count.swap) (g.D.SwapDev.image c.next_step.new.swap) c.in_err-next_step.field-0.0) so.outside.files.holds c.in_err-next_step.ensures.stops))
 
 pub loop-count-preserved-in-Counted : goal.loop-count-preserved-in-Counted
 loop-count-preserved-in-Counted g c =
     let so = c.loop-count.invariant in
     let on : Continues c.loop-count.m c.next_step.new.m (counts advances.Counted) = subst (λ a. Continues c.loop-count.m c.next_step.new.m (counts a)) c.in-Counted.is c.in_ok-next_step.ensures.continues in
     let led : Advances c.loop-count.m c.next_step.new.m c.args.pid (is_now c.args.patience) (g.F.Files.holds c.args.files.now) (g.D.SwapDev.image c.loop-count.swap) (g.D.SwapDev.image c.next_step.new.swap) advances.Counted =
-    subst (λ hs. Advances c.loop-count.m c.next_step.new.m c.args.pid (is_now c.args.patience) hs (g.D.SwapDev.image c.loop-count.swap) (g.D.SwapDev.image c.next_step.new.swap) advances.Counted) so.holds
+    subst (λ hs. Advances c.loop-count.m c.next_step.new.m c.args.pid (is_now c.args.patience) hs (g.D.SwapDev.image c.loop-count.swap) (g.D.SwapDev.image c.next_step.new.swap) advances.Counted) so.outside.files.holds
     (subst (λ a. Advances c.loop-count.m c.next_step.new.m c.args.pid (is_now c.args.patience) (g.F.Files.holds c.loop-count.files) (g.D.SwapDev.image c.loop-count.swap) (g.D.SwapDev.image c.next_step.new.swap) a) c.in-Counted.is c.in_ok-next_step.ensures.advances) in
     record {
       steady = steady_on c.loop-count.m c.next_step.new.m 1 so.steady on (c.in_ok-next_step.ensures.holders);
@@ -56,14 +50,7 @@ loop-count-preserved-in-Counted g c =
       more = let a = so.more in omega arith;
       few = omega arith;
       so_far = counted_far c.args.m.now c.loop-count.m c.next_step.new.m c.args.pid (is_now c.args.patience) c.args.counted c.args.until (g.F.Files.holds c.args.files.now) (g.D.SwapDev.image c.args.swap.now) (g.D.SwapDev.image c.loop-count.swap) (g.D.SwapDev.image c.next_step.new.swap) c.loop-count.count c.loop-count.waits so.so_far c.loop-count-test.true c.in-Some.ensures.ready on.params on.images led;
-      files_lead = g.met.F.Files.leads_through c.args.files.now c.loop-count.files c.next_step.new.files so.files_lead c.in_ok-next_step.ensures.files_lead;
-      swap_leads = g.met.D.SwapDev.leads_through c.args.swap.now c.loop-count.swap c.next_step.new.swap so.swap_leads c.in_ok-next_step.ensures.swap_leads;
-      holds = c.in_ok-next_step.ensures.holds ∙ so.holds;
-      blocks = c.in_ok-next_step.ensures.blocks ∙ so.blocks;
-      open_faults = c.in_ok-next_step.ensures.open_faults ∙ so.open_faults;
-      page_faults = c.in_ok-next_step.ensures.page_faults ∙ so.page_faults;
-      read_faults = c.in_ok-next_step.ensures.read_faults ∙ so.read_faults;
-      write_faults = c.in_ok-next_step.ensures.write_faults ∙ so.write_faults;
+      outside = transfers_then {stop = None} g.met.F.Files.leads_through g.met.D.SwapDev.leads_through so.outside c.in_ok-next_step.ensures.outside;
     }
 
 pub loop-count-preserved : goal.loop-count-preserved
@@ -71,7 +58,7 @@ loop-count-preserved g c =
     let so = c.loop-count.invariant in
     let on : Continues c.loop-count.m c.next_step.new.m (counts advances.Served) = subst (λ a. Continues c.loop-count.m c.next_step.new.m (counts a)) c.in-Served.is c.in_ok-next_step.ensures.continues in
     let led : Advances c.loop-count.m c.next_step.new.m c.args.pid (is_now c.args.patience) (g.F.Files.holds c.args.files.now) (g.D.SwapDev.image c.loop-count.swap) (g.D.SwapDev.image c.next_step.new.swap) advances.Served =
-    subst (λ hs. Advances c.loop-count.m c.next_step.new.m c.args.pid (is_now c.args.patience) hs (g.D.SwapDev.image c.loop-count.swap) (g.D.SwapDev.image c.next_step.new.swap) advances.Served) so.holds
+    subst (λ hs. Advances c.loop-count.m c.next_step.new.m c.args.pid (is_now c.args.patience) hs (g.D.SwapDev.image c.loop-count.swap) (g.D.SwapDev.image c.next_step.new.swap) advances.Served) so.outside.files.holds
     (subst (λ a. Advances c.loop-count.m c.next_step.new.m c.args.pid (is_now c.args.patience) (g.F.Files.holds c.loop-count.files) (g.D.SwapDev.image c.loop-count.swap) (g.D.SwapDev.image c.next_step.new.swap) a) c.in-Served.is c.in_ok-next_step.ensures.advances) in
     record {
       steady = steady_on c.loop-count.m c.next_step.new.m 0 so.steady on (c.in_ok-next_step.ensures.holders);
@@ -81,14 +68,7 @@ loop-count-preserved g c =
       more = so.more;
       few = let w = c.if-waits-lt-MOST_WAITS.true in omega arith;
       so_far = served_far c.args.m.now c.loop-count.m c.next_step.new.m c.args.pid (is_now c.args.patience) c.args.counted c.args.until (g.F.Files.holds c.args.files.now) (g.D.SwapDev.image c.args.swap.now) (g.D.SwapDev.image c.loop-count.swap) (g.D.SwapDev.image c.next_step.new.swap) c.loop-count.count c.loop-count.waits so.so_far c.loop-count-test.true c.in-Some.ensures.ready on.params on.images led;
-      files_lead = g.met.F.Files.leads_through c.args.files.now c.loop-count.files c.next_step.new.files so.files_lead c.in_ok-next_step.ensures.files_lead;
-      swap_leads = g.met.D.SwapDev.leads_through c.args.swap.now c.loop-count.swap c.next_step.new.swap so.swap_leads c.in_ok-next_step.ensures.swap_leads;
-      holds = c.in_ok-next_step.ensures.holds ∙ so.holds;
-      blocks = c.in_ok-next_step.ensures.blocks ∙ so.blocks;
-      open_faults = c.in_ok-next_step.ensures.open_faults ∙ so.open_faults;
-      page_faults = c.in_ok-next_step.ensures.page_faults ∙ so.page_faults;
-      read_faults = c.in_ok-next_step.ensures.read_faults ∙ so.read_faults;
-      write_faults = c.in_ok-next_step.ensures.write_faults ∙ so.write_faults;
+      outside = transfers_then {stop = None} g.met.F.Files.leads_through g.met.D.SwapDev.leads_through so.outside c.in_ok-next_step.ensures.outside;
     }
 
 pub returns-in-Stuck-clause-runs : goal.returns-in-Stuck-clause-runs
@@ -96,7 +76,7 @@ returns-in-Stuck-clause-runs g c =
     let so = c.loop-count.invariant in
     let on : Continues c.loop-count.m c.next_step.new.m (counts advances.Stuck) = subst (λ a. Continues c.loop-count.m c.next_step.new.m (counts a)) c.in-Stuck.is c.in_ok-next_step.ensures.continues in
     let led : Advances c.loop-count.m c.next_step.new.m c.args.pid (is_now c.args.patience) (g.F.Files.holds c.args.files.now) (g.D.SwapDev.image c.loop-count.swap) (g.D.SwapDev.image c.next_step.new.swap) advances.Stuck =
-    subst (λ hs. Advances c.loop-count.m c.next_step.new.m c.args.pid (is_now c.args.patience) hs (g.D.SwapDev.image c.loop-count.swap) (g.D.SwapDev.image c.next_step.new.swap) advances.Stuck) so.holds
+    subst (λ hs. Advances c.loop-count.m c.next_step.new.m c.args.pid (is_now c.args.patience) hs (g.D.SwapDev.image c.loop-count.swap) (g.D.SwapDev.image c.next_step.new.swap) advances.Stuck) so.outside.files.holds
     (subst (λ a. Advances c.loop-count.m c.next_step.new.m c.args.pid (is_now c.args.patience) (g.F.Files.holds c.loop-count.files) (g.D.SwapDev.image c.loop-count.swap) (g.D.SwapDev.image c.next_step.new.swap) a) c.in-Stuck.is c.in_ok-next_step.ensures.advances) in
     stuck_runs c.args.m.now c.loop-count.m c.next_step.new.m c.args.pid (is_now c.args.patience) c.args.counted c.args.until (g.F.Files.holds c.args.files.now) (g.D.SwapDev.image c.args.swap.now) (g.D.SwapDev.image c.loop-count.swap) (g.D.SwapDev.image c.next_step.new.swap) c.loop-count.count c.loop-count.waits so.so_far c.loop-count-test.true c.in-Some.ensures.ready on.params on.images led
 

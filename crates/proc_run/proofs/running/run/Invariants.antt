@@ -1,7 +1,8 @@
-use Rattle.std.proofs.Common.{◌-◌, ◌≡◌, ◌≤◌, ◌+◌, ◌*◌}
+use Rattle.std.proofs.Common.{◌-◌, ◌≡◌, ◌≤◌, ◌+◌, ◌*◌, None}
 use Rattle.flat_state.specs.Journal.{instructions_of}
 use Rattle.proc_run.specs.Runs.{IsSteady, is_now}
 use Rattle.proc_run.proofs.SoFar.{LedSoFar}
+use Rattle.machine_state.specs.Outside.{TransfersPages}
 use Rattle.proc_run.proofs.running.run.Given as goal
 
 -- the machine goes on, and what the process did so far is units of a run
@@ -14,14 +15,7 @@ invariant-loop-count g l = record {
   more : l.counted ≤ l.count;
   few : l.waits ≤ 32;
   so_far : LedSoFar l.fn.m l.m l.pid (is_now l.patience) l.counted l.until (g.F.Files.holds l.fn.files) (g.D.SwapDev.image l.fn.swap) (g.D.SwapDev.image l.swap) l.count l.waits;
-  files_lead : g.F.Files.leads l.fn.files l.files;
-  swap_leads : g.D.SwapDev.leads l.fn.swap l.swap;
-  holds : g.F.Files.holds l.files ≡ g.F.Files.holds l.fn.files;
-  blocks : g.D.SwapDev.blocks l.swap ≡ g.D.SwapDev.blocks l.fn.swap;
-  open_faults : g.F.Files.open_faults l.files ≡ g.F.Files.open_faults l.fn.files;
-  page_faults : g.F.Files.page_faults l.files ≡ g.F.Files.page_faults l.fn.files;
-  read_faults : g.D.SwapDev.read_faults l.swap ≡ g.D.SwapDev.read_faults l.fn.swap;
-  write_faults : g.D.SwapDev.write_faults l.swap ≡ g.D.SwapDev.write_faults l.fn.swap;
+  outside : TransfersPages g.F.Files g.D.SwapDev None l.fn.files l.files l.fn.swap l.swap;
 }
 
 -- an instruction more is counted, or one page more that an instruction waits for

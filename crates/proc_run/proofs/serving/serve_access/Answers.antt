@@ -93,7 +93,7 @@ returns-in_err-kill-clause-stops g c =
     (g.D.SwapDev.image c.serve_by.new.swap) (g.D.SwapDev.image c.kill.new.swap) image c.args.pid p x c.args.address c.args.write before c.in_ok-served.served c.match-served.signal
     c.in_err-kill.field-0.0 ends on r w c.in_ok-served.ensures.served
     (subst (λ h. StopsAlive c.serve_by.new.m c.kill.new.m c.args.pid h (g.D.SwapDev.image c.serve_by.new.swap) (g.D.SwapDev.image c.kill.new.swap) c.in_err-kill.field-0.0)
-    c.serve_by.ensures.holds c.in_err-kill.ensures.stops))
+    c.serve_by.ensures.outside.files.holds c.in_err-kill.ensures.stops))
 
 pub returns-clause-advances : goal.returns-clause-advances
 returns-clause-advances g c =
@@ -110,7 +110,7 @@ returns-clause-advances g c =
     (g.D.SwapDev.image c.serve_by.new.swap) (g.D.SwapDev.image c.kill.new.swap) image c.args.pid p x c.args.address c.args.write before c.in_ok-served.served c.match-served.signal
     ends on r w c.in_ok-served.ensures.served
     (subst (λ h. HasEnded c.serve_by.new.m c.kill.new.m c.args.pid c.match-served.signal h (g.D.SwapDev.image c.serve_by.new.swap) (g.D.SwapDev.image c.kill.new.swap))
-    c.serve_by.ensures.holds c.in_ok-kill.ensures.ended)
+    c.serve_by.ensures.outside.files.holds c.in_ok-kill.ensures.ended)
 
 pub returns-clause-continues : goal.returns-clause-continues
 returns-clause-continues g c =

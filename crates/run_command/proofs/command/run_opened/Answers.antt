@@ -66,7 +66,7 @@ returns-clause-runs g c =
     let written : WritesSome c.args.traced es r seen.written_before seen.written_after seen.sink_faults_before seen.sink_faults_after c.write_run-status.result
     = subst (λ (entries : List Entry). WritesSome c.args.traced entries r seen.written_before seen.written_after seen.sink_faults_before seen.sink_faults_after c.write_run-status.result) c.journal.ensures c.write_run-status.ensures.writes in
     let machine = c.in-Ok.ensures.machine ∙ ap (λ (images : List OpenedImage). machine_of c.args.numbers (map shown_as images)) c.as_slice.ensures.value in
-    let caused : StopCaused seen es r = run_caused seen es r ran.kind ran.open_faults ran.page_faults ran.reads ran.writes ran.none_made ran.untouched ran.full
+    let caused : StopCaused seen es r = run_caused seen es r ran.kind ran.files_read.open_faults ran.files_read.page_faults ran.reads ran.writes ran.none_made ran.untouched ran.full
     (subst (λ (m : Standing). OnOk r (length es ≤ m.params.journal)) machine ran.within) in
     opened_runs (IsOfOpening c.args.numbers c.args.opening.now (g.F.Files.holds files)) c.args.traced seen es r c.write_run-status.result written (subst HaveNumbers c.journal.ensures c.write_run-status.ensures.numbers) caused ran.kind
     (λ A image is told.
@@ -81,7 +81,7 @@ returns-clause-kept g c =
     let ran = c.run_paired-ending in
     let wrote = c.write_run-status in
     record {
-      files = record { leads = ran.ensures.files_lead; holds = ran.ensures.holds };
+      files = record { leads = ran.ensures.files_read.leads; holds = ran.ensures.files_read.holds };
       devices = record {
         zero = record { leads = ran.ensures.zero_leads; blocks = g.met.D.SwapDev.blocks_stay c.args.zero.now ran.new.zero ran.ensures.zero_leads };
         one = record { leads = ran.ensures.one_leads; blocks = g.met.E.SwapDev.blocks_stay c.args.one.now ran.new.one ran.ensures.one_leads };

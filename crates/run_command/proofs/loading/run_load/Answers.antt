@@ -17,7 +17,7 @@ pub returns-clause-runs : goal.returns-clause-runs
 returns-clause-runs g c = λ told opens pages.
     let ran = c.run_paired-ending in
     let journal = ran.new.core.machine.kernel.journal in
-    load_ran _ _ c.args.number _ c.write_counts-status.result journal ran.result ran.ensures.kind ran.ensures.page_faults (record { open_same = refl; page_same = refl }) ran.ensures.reads ran.ensures.writes
+    load_ran _ _ c.args.number _ c.write_counts-status.result journal ran.result ran.ensures.kind ran.ensures.files_read.page_faults (record { open_same = refl; page_same = refl }) ran.ensures.reads ran.ensures.writes
     ran.ensures.none_made ran.ensures.untouched ran.ensures.full
     (subst (λ (m : Standing). OnOk ran.result (length journal ≤ m.params.journal)) c.in-Ok.ensures.machine ran.ensures.within)
     (λ A starts. ran.ensures.no_space A (subst (λ (m : Standing). StartsFrom A m load_first) (sym c.in-Ok.ensures.machine) starts))

@@ -1,5 +1,5 @@
 use Rattle.std.proofs.Common.{Err, sym, ◌∙◌, subst}
-use Rattle.machine_state.specs.Done.{CountsReads, CountsWrites}
+use Rattle.machine_state.specs.Outside.{stop_of, CountsReadFaults, CountsWriteFaults}
 use Rattle.vm_core.specs.declared.schedule.Unfinished.{Unfinished}
 use Rattle.vm_core.specs.RunEnds.{stopped_as, RunEnds}
 use Rattle.run_command.specs.Seen.{DeviceFaults}
@@ -17,7 +17,7 @@ returns-in-Ok-clause-reads g c =
       one_before = g.E.SwapDev.read_faults old.one.now;
       one_after = g.E.SwapDev.read_faults new.one.now;
     } in
-    none_failed f old.reads.count new.reads.count old.reads.last new.reads.last c.run_schedule.ensures.swap_leads.4 c.requires.no_reads c.in-Ok.ensures.read_faults
+    none_failed f old.reads.count new.reads.count old.reads.last new.reads.last c.run_schedule.ensures.outside.swap.leads.4 c.requires.no_reads c.in-Ok.ensures.outside.swap.read_faults
 
 pub returns-in-Ok-clause-writes : goal.returns-in-Ok-clause-writes
 returns-in-Ok-clause-writes g c =
@@ -29,7 +29,7 @@ returns-in-Ok-clause-writes g c =
       one_before = g.E.SwapDev.write_faults old.one.now;
       one_after = g.E.SwapDev.write_faults new.one.now;
     } in
-    none_failed f old.writes.count new.writes.count old.writes.last new.writes.last c.run_schedule.ensures.swap_leads.5 c.requires.no_writes c.in-Ok.ensures.write_faults
+    none_failed f old.writes.count new.writes.count old.writes.last new.writes.last c.run_schedule.ensures.outside.swap.leads.5 c.requires.no_writes c.in-Ok.ensures.outside.swap.write_faults
 
 pub returns-in-Err-NoSpace-clause-ends : goal.returns-in-Err-NoSpace-clause-ends
 returns-in-Err-NoSpace-clause-ends g c A image is told =
@@ -54,9 +54,10 @@ returns-in-Err-Stopped-clause-reads g c =
       one_before = g.E.SwapDev.read_faults old.one.now;
       one_after = g.E.SwapDev.read_faults new.one.now;
     } in
-    reads_fail f old.reads.count new.reads.count old.reads.last new.reads.last c.run_schedule.ensures.swap_leads.4 c.requires.no_reads c.requires.no_read new.reads.device
+    reads_fail f old.reads.count new.reads.count old.reads.last new.reads.last c.run_schedule.ensures.outside.swap.leads.4 c.requires.no_reads c.requires.no_read new.reads.device
     c.in-Err-Stopped.stop c.fault_of.result
-    (subst (λ (u : Unfinished). CountsReads {A = Unit {0}} (stopped_as (Err u)) old.reads.count new.reads.count) c.in-Err-Stopped.field-0-is c.in-Err-Stopped.ensures.read_faults) c.fault_of.ensures.unfinished c.fault_of.ensures.kind
+    (subst (λ (u : Unfinished). CountsReadFaults (stop_of (stopped_as (Err u))) old.reads.count new.reads.count) c.in-Err-Stopped.field-0-is c.in-Err-Stopped.ensures.outside.swap.read_faults)
+    c.fault_of.ensures.unfinished c.fault_of.ensures.kind
     (λ device e. sym c.failed_read.ensures.device ∙ c.fault_of.ensures.read_device device e)
 
 pub returns-in-Err-Stopped-clause-writes : goal.returns-in-Err-Stopped-clause-writes
@@ -69,7 +70,8 @@ returns-in-Err-Stopped-clause-writes g c =
       one_before = g.E.SwapDev.write_faults old.one.now;
       one_after = g.E.SwapDev.write_faults new.one.now;
     } in
-    writes_fail f old.writes.count new.writes.count old.writes.last new.writes.last c.run_schedule.ensures.swap_leads.5 c.requires.no_writes c.requires.no_write new.writes.device
+    writes_fail f old.writes.count new.writes.count old.writes.last new.writes.last c.run_schedule.ensures.outside.swap.leads.5 c.requires.no_writes c.requires.no_write new.writes.device
     c.in-Err-Stopped.stop c.fault_of.result
-    (subst (λ (u : Unfinished). CountsWrites {A = Unit {0}} (stopped_as (Err u)) old.writes.count new.writes.count) c.in-Err-Stopped.field-0-is c.in-Err-Stopped.ensures.write_faults) c.fault_of.ensures.unfinished c.fault_of.ensures.kind
+    (subst (λ (u : Unfinished). CountsWriteFaults (stop_of (stopped_as (Err u))) old.writes.count new.writes.count) c.in-Err-Stopped.field-0-is c.in-Err-Stopped.ensures.outside.swap.write_faults)
+    c.fault_of.ensures.unfinished c.fault_of.ensures.kind
     (λ device e. sym c.failed_write.ensures.device ∙ c.fault_of.ensures.write_device device e)

@@ -29,9 +29,9 @@ fill_due-requires g t c κs out =
             (
               d.on.whole,
               (
-                area_next old next _ _ d.on.params c.in_ok-fill_start.ensures.blocks c.requires.area,
+                area_next old next _ _ d.on.params c.in_ok-fill_start.ensures.outside.swap.blocks c.requires.area,
                 (
-                  files_next old next (g.F.Files.holds c.args.files.now) _ d.on.images c.in_ok-fill_start.ensures.holds c.requires.files,
+                  files_next old next (g.F.Files.holds c.args.files.now) _ d.on.images c.in_ok-fill_start.ensures.outside.files.holds c.requires.files,
                   (
                     subst AreStarts (sym d.due) f.rest,
                     (room_still old.kernel.place next.kernel.place _ d.on.frames c.requires.room, omega (arith, few, low)),
@@ -55,4 +55,4 @@ returns-clause-filled g t c =
     (record { running = c.requires.running; whole = c.requires.whole }) f.first c.in_ok-fill_start.ensures.filled in
     fills_more c.fill_due.result old.kernel.place.due f.others next.kernel.place.due page old next c.fill_due.new.m
     (g.F.Files.holds c.args.files.now) (g.F.Files.holds c.fill_start.new.files) (g.D.SwapDev.image c.args.swap.now) (g.D.SwapDev.image c.fill_start.new.swap)
-    (g.D.SwapDev.image c.fill_due.new.swap) f.first d.due c.in_ok-fill_start.ensures.holds c.in_ok-fill_start.ensures.filled c.fill_due.ensures.filled
+    (g.D.SwapDev.image c.fill_due.new.swap) f.first d.due c.in_ok-fill_start.ensures.outside.files.holds c.in_ok-fill_start.ensures.filled c.fill_due.ensures.filled

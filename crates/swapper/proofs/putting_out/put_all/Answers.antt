@@ -1,6 +1,7 @@
-use Rattle.std.proofs.Common.{refl, ◌∙◌, subst, rules}
+use Rattle.std.proofs.Common.{subst, rules, None}
 use Rattle.swapper.specs.Putting.{IsStep, IsNext}
 use Rattle.swapper.proofs.PutUnits.{puts_on, falls_on, stops_here, holder_resides, on_ok, if_err, puts_none, puts_one}
+use Rattle.machine_state.proofs.Transfers.{transfers_none, transfers_then}
 use Rattle.swapper.proofs.putting_out.put_all.Goals as goal
 
 pub loop-step-init : goal.loop-step-init
@@ -9,14 +10,7 @@ loop-step-init g c =
     record {
       puts = record { running = r.running; whole = r.whole; area = r.area; files = r.files; clear = r.clear; holds_there = r.holds; resident = r.resident };
       so_far = puts_none c.args.pid c.args.sid c.args.m.now (g.F.Files.holds c.args.files.now) (g.D.SwapDev.image c.args.swap.now);
-      files_lead = g.met.F.Files.leads_nowhere c.args.files.now;
-      swap_leads = g.met.D.SwapDev.leads_nowhere c.args.swap.now;
-      holds = refl;
-      blocks = refl;
-      open_faults = refl;
-      page_faults = refl;
-      read_faults = refl;
-      write_faults = refl;
+      outside = transfers_none g.met.F.Files.leads_nowhere g.met.D.SwapDev.leads_nowhere c.args.files.now c.args.swap.now;
     }
 
 pub loop-step-preserved : goal.loop-step-preserved
@@ -32,17 +26,10 @@ loop-step-preserved g c =
     let k = g.D.SwapDev.image c.put_once.new.swap in
     record {
       puts = puts_on now next c.args.pid c.args.sid c.in-Some.step later h k s m latest (g.D.SwapDev.blocks c.loop-step.swap) (g.D.SwapDev.blocks c.put_once.new.swap)
-          c.in_ok-put_once.ensures.holds c.in_ok-put_once.ensures.blocks so.puts;
+          c.in_ok-put_once.ensures.outside.files.holds c.in_ok-put_once.ensures.outside.swap.blocks so.puts;
       so_far = puts_one c.args.pid c.args.sid c.args.m.now now next c.in-Some.step (g.F.Files.holds c.args.files.now) later latest (g.D.SwapDev.image c.args.swap.now) h k
-          c.in_ok-put_once.ensures.holds s so.puts.resident m c.in_ok-put_once.ensures.keeps so.so_far;
-      files_lead = g.met.F.Files.leads_through c.args.files.now c.loop-step.files c.put_once.new.files so.files_lead c.in_ok-put_once.ensures.files_lead;
-      swap_leads = g.met.D.SwapDev.leads_through c.args.swap.now c.loop-step.swap c.put_once.new.swap so.swap_leads c.in_ok-put_once.ensures.swap_leads;
-      holds = c.in_ok-put_once.ensures.holds ∙ so.holds;
-      blocks = c.in_ok-put_once.ensures.blocks ∙ so.blocks;
-      open_faults = c.in_ok-put_once.ensures.open_faults ∙ so.open_faults;
-      page_faults = c.in_ok-put_once.ensures.page_faults ∙ so.page_faults;
-      read_faults = c.in_ok-put_once.ensures.read_faults ∙ so.read_faults;
-      write_faults = c.in_ok-put_once.ensures.write_faults ∙ so.write_faults;
+          c.in_ok-put_once.ensures.outside.files.holds s so.puts.resident m c.in_ok-put_once.ensures.keeps so.so_far;
+      outside = transfers_then {stop = None} g.met.F.Files.leads_through g.met.D.SwapDev.leads_through so.outside c.in_ok-put_once.ensures.outside;
     }
 
 pub loop-step-smaller : goal.loop-step-smaller

@@ -1,7 +1,8 @@
-use Rattle.std.proofs.Common.{◌∙◌, subst, refl, arith}
+use Rattle.std.proofs.Common.{◌∙◌, subst, refl, arith, None}
 use Rattle.vm_core.specs.Closing.{StopsClosing, HasTurn, StopsTurn}
 use Rattle.vm_core.proofs.Noting.{stops_on}
 use Rattle.vm_core.proofs.Closings.{closing_starts, closing_on, closing_stops, closing_ends}
+use Rattle.machine_state.proofs.Transfers.{transfers_none, transfers_then}
 use Rattle.vm_core.proofs.closing.close.Goals as goal
 
 pub loop-pid-init : goal.loop-pid-init
@@ -13,14 +14,7 @@ loop-pid-init g c = record {
   counted = c.requires.counted;
   more = omega arith;
   few = omega arith;
-  files_lead = g.met.F.Files.leads_nowhere c.args.files.now;
-  swap_leads = g.met.D.SwapDev.leads_nowhere c.args.swap.now;
-  holds = refl;
-  blocks = refl;
-  open_faults = refl;
-  page_faults = refl;
-  read_faults = refl;
-  write_faults = refl;
+  outside = transfers_none g.met.F.Files.leads_nowhere g.met.D.SwapDev.leads_nowhere c.args.files.now c.args.swap.now;
 }
 
 pub returns-in_err-more-clause-stops : goal.returns-in_err-more-clause-stops
@@ -33,7 +27,7 @@ returns-in_err-more-clause-stops g c =
     let stop = c.in_err-more.field-0.0 in
     stops_on c.from_residual.result stop (StopsClosing old c.turn.new.m c.args.counted holds i j) c.from_residual.ensures.1
     (closing_stops old c.loop-pid.m c.turn.new.m holds i h j c.args.counted c.loop-pid.count c.loop-pid.last c.loop-pid.idle c.in-Some.pid stop c.loop-pid.invariant.closes c.in-Some.ensures.some c.in-Some.ensures.below
-    (subst (λ hs. StopsTurn c.loop-pid.m c.turn.new.m c.in-Some.pid c.loop-pid.count hs h j stop) c.loop-pid.invariant.holds c.in_err-more.ensures.stops))
+    (subst (λ hs. StopsTurn c.loop-pid.m c.turn.new.m c.in-Some.pid c.loop-pid.count hs h j stop) c.loop-pid.invariant.outside.files.holds c.in_err-more.ensures.stops))
 
 pub loop-pid-preserved : goal.loop-pid-preserved
 loop-pid-preserved g c =
@@ -46,21 +40,14 @@ loop-pid-preserved g c =
     record {
       closes = closing_on old c.loop-pid.m c.turn.new.m holds i h j c.args.counted c.loop-pid.count c.loop-pid.last c.loop-pid.idle c.in-Some.pid c.in_ok-more.more c.idle_behind-idle.result
           so.closes c.in-Some.ensures.some c.in-Some.ensures.below
-          (subst (λ hs. HasTurn c.loop-pid.m c.turn.new.m c.in-Some.pid c.loop-pid.count c.in_ok-more.more hs h j) so.holds c.in_ok-more.ensures.had) c.idle_behind-idle.ensures.kind;
+          (subst (λ hs. HasTurn c.loop-pid.m c.turn.new.m c.in-Some.pid c.loop-pid.count c.in_ok-more.more hs h j) so.outside.files.holds c.in_ok-more.ensures.had) c.idle_behind-idle.ensures.kind;
       steady = c.in_ok-more.ensures.counts.steady;
       params = c.in_ok-more.ensures.counts.params ∙ so.params;
       images = c.in_ok-more.ensures.counts.images ∙ so.images;
       counted = c.in_ok-more.ensures.counts.counts;
       more = let a = c.in_ok-more.ensures.counts.more in let b = so.more in omega arith;
       few = c.idle_behind-idle.ensures.few;
-      files_lead = g.met.F.Files.leads_through c.args.files.now c.loop-pid.files c.turn.new.files so.files_lead c.in_ok-more.ensures.files_lead;
-      swap_leads = g.met.D.SwapDev.leads_through c.args.swap.now c.loop-pid.swap c.turn.new.swap so.swap_leads c.in_ok-more.ensures.swap_leads;
-      holds = c.in_ok-more.ensures.holds ∙ so.holds;
-      blocks = c.in_ok-more.ensures.blocks ∙ so.blocks;
-      open_faults = c.in_ok-more.ensures.open_faults ∙ so.open_faults;
-      page_faults = c.in_ok-more.ensures.page_faults ∙ so.page_faults;
-      read_faults = c.in_ok-more.ensures.read_faults ∙ so.read_faults;
-      write_faults = c.in_ok-more.ensures.write_faults ∙ so.write_faults;
+      outside = transfers_then {stop = None} g.met.F.Files.leads_through g.met.D.SwapDev.leads_through so.outside c.in_ok-more.ensures.outside;
     }
 
 pub returns-clause-closes : goal.returns-clause-closes

@@ -1,7 +1,8 @@
-use Rattle.std.proofs.Common.{◌≡◌, ◌≤◌, ◌+◌, ◌-◌, ◌*◌}
+use Rattle.std.proofs.Common.{◌≡◌, ◌≤◌, ◌+◌, ◌-◌, ◌*◌, None}
 use Rattle.flat_state.specs.Journal.{instructions_of}
 use Rattle.proc_run.specs.Runs.{IsSteady}
 use Rattle.vm_core.specs.Closing.{ClosesTo}
+use Rattle.machine_state.specs.Outside.{TransfersPages}
 use Rattle.vm_core.proofs.closing.close.Given as goal
 
 abbrev pub invariant-loop-pid : goal.invariant-loop-pid
@@ -13,14 +14,7 @@ invariant-loop-pid g l = record {
   counted : instructions_of l.m.kernel.journal ≡ l.count;
   more : l.fn.counted ≤ l.count;
   few : l.idle ≤ 65;
-  files_lead : g.F.Files.leads l.fn.files l.files;
-  swap_leads : g.D.SwapDev.leads l.fn.swap l.swap;
-  holds : g.F.Files.holds l.files ≡ g.F.Files.holds l.fn.files;
-  blocks : g.D.SwapDev.blocks l.swap ≡ g.D.SwapDev.blocks l.fn.swap;
-  open_faults : g.F.Files.open_faults l.files ≡ g.F.Files.open_faults l.fn.files;
-  page_faults : g.F.Files.page_faults l.files ≡ g.F.Files.page_faults l.fn.files;
-  read_faults : g.D.SwapDev.read_faults l.swap ≡ g.D.SwapDev.read_faults l.fn.swap;
-  write_faults : g.D.SwapDev.write_faults l.swap ≡ g.D.SwapDev.write_faults l.fn.swap;
+  outside : TransfersPages g.F.Files g.D.SwapDev None l.fn.files l.files l.fn.swap l.swap;
 }
 
 abbrev pub decreases-loop-pid : goal.decreases-loop-pid

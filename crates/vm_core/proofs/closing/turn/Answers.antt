@@ -51,7 +51,8 @@ returns-clause-had g c =
     ok_two c.finish.result (λ count. FinishesTurn in_ new c.args.pid c.args.counted count holds h j) (λ count. CountsTo in_ new c.args.counted count)
     (λ count. HasTurn old new c.args.pid c.args.counted count holds i j)
     (λ count f to. has_turn old c.note.new.self in_ new c.args.pid c.args.counted count holds i h j (noted_steady old c.note.new.self (entries.Turn c.args.pid) c.requires.steady tt c.in_ok-note.ensures.step c.in_ok-note.ensures.rest) c.in_ok-note.ensures.step (c.in_ok-come_in.ensures.comes c.args.counted) f to)
-    (subst (λ hs. IfOk c.finish.result (λ count. FinishesTurn in_ new c.args.pid c.args.counted count hs h j)) c.in_ok-come_in.ensures.holds c.finish.ensures.done) c.finish.ensures.counts
+    (subst (λ hs. IfOk c.finish.result (λ count. FinishesTurn in_ new c.args.pid c.args.counted count hs h j))
+    c.in_ok-come_in.ensures.outside.files.holds c.finish.ensures.done) c.finish.ensures.counts
 
 pub returns-clause-stops : goal.returns-clause-stops
 returns-clause-stops g c =
@@ -64,4 +65,5 @@ returns-clause-stops g c =
     let j = g.D.SwapDev.image c.finish.new.swap in
     stops_weaker c.finish.result (λ stop. StopsFinishing in_ new c.args.pid c.args.counted holds h j stop) (λ stop. StopsTurn old new c.args.pid c.args.counted holds i j stop)
     (λ stop f. turn_finish_stops old c.note.new.self in_ new c.args.pid c.args.counted holds i h j stop (noted_steady old c.note.new.self (entries.Turn c.args.pid) c.requires.steady tt c.in_ok-note.ensures.step c.in_ok-note.ensures.rest) c.in_ok-note.ensures.step (c.in_ok-come_in.ensures.comes c.args.counted) f)
-    (subst (λ hs. IfErr c.finish.result (λ stop. StopsFinishing in_ new c.args.pid c.args.counted hs h j stop)) c.in_ok-come_in.ensures.holds c.finish.ensures.stops)
+    (subst (λ hs. IfErr c.finish.result (λ stop. StopsFinishing in_ new c.args.pid c.args.counted hs h j stop))
+    c.in_ok-come_in.ensures.outside.files.holds c.finish.ensures.stops)

@@ -32,8 +32,6 @@ returns-in_ok-swapper-in-Swapper-clause-done g c =
 pub returns-in_ok-audit-in-Audit-clause-done : goal.returns-in_ok-audit-in-Audit-clause-done
 returns-in_ok-audit-in-Audit-clause-done g c =
     let i = g.D.SwapDev.image c.args.swap.now in
-    let j = g.D.SwapDev.image c.audit.new._swap in
     let holds = g.F.Files.holds c.args.files.now in
-    subst (λ (e : Event). CarriesOut c.args.m.now c.audit.new.m c.args.counted c.args.counted e holds i j) (sym c.in-Audit.is)
-    (subst (λ d. CarriesOut c.args.m.now c.audit.new.m c.args.counted c.args.counted events.Audit holds i (g.D.SwapDev.image d)) (sym c.in_ok-audit-in-Audit.ensures.swap_leads)
-    (makes_carries c.args.m.now c.audit.new.m holds i i c.args.counted events.Audit c.in_ok-audit-in-Audit.ensures.made))
+    subst (λ (e : Event). CarriesOut c.args.m.now c.audit.new.m c.args.counted c.args.counted e holds i i) (sym c.in-Audit.is)
+    (makes_carries c.args.m.now c.audit.new.m holds i i c.args.counted events.Audit (c.in_ok-audit-in-Audit.ensures.made holds i))

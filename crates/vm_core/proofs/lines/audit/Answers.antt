@@ -14,22 +14,20 @@ use Rattle.vm_core.proofs.Asked.{audit_makes, audit_halts}
 use Rattle.vm_core.proofs.lines.audit.Goals as goal
 
 pub returns-clause-made : goal.returns-clause-made
-returns-clause-made g c =
+returns-clause-made c holds i =
     let old = c.args.m.now in
     on_ok_weaker c.note.result
-    (λ k. audit_makes old c.note.new.self (g.F.Files.holds c.args._files.now) (g.D.SwapDev.image c.args._swap.now) (k ∙ ap (λ (e : Entry). note_step old.kernel e) c.owners-entry.ensures))
+    (λ k. audit_makes old c.note.new.self holds i (k ∙ ap (λ (e : Entry). note_step old.kernel e) c.owners-entry.ensures))
     c.note.ensures.step
 
 pub returns-clause-stops : goal.returns-clause-stops
-returns-clause-stops g c =
+returns-clause-stops c holds i =
     let old = c.args.m.now in
-    let holds = g.F.Files.holds c.args._files.now in
-    let i = g.D.SwapDev.image c.args._swap.now in
     stops_weaker c.note.result (λ stop. StopsNoting old c.note.new.self stop) (λ stop. StopsLine events.Audit old c.note.new.self holds i i stop)
     (λ stop h. audit_halts old c.note.new.self holds i stop h) (stops_noting c.note.result old c.note.new.self c.requires.steady.whole c.note.ensures.stop c.note.ensures.cause c.note.ensures.full)
 
 pub returns-clause-steady : goal.returns-clause-steady
-returns-clause-steady g c =
+returns-clause-steady c =
     let old : Standing = c.args.m.now in
     let new : Standing = c.note.new.self in
     let e : Entry = owners_of old.kernel.place old.kernel.holdings in

@@ -22,7 +22,7 @@ returns-in-Next-clause-finishes g c =
     ok_so c.close_run.result (ClosesRun c.take_lines.new.core c.close_run.new.self (g.F.Files.holds c.take_lines.new.files) h j) (FinishesLines c.args.core.now c.close_run.new.self c.args.lines.now holds i j)
     (λ x. closing_finishes c.args.core.now c.take_lines.new.core c.close_run.new.self c.args.lines.now holds i h j
     (subst (λ went. TakesLines c.args.core.now c.take_lines.new.core went c.args.lines.now holds i h) c.in-Next.is c.in_ok-take_lines.ensures.takes)
-    (subst (λ hs. ClosesRun c.take_lines.new.core c.close_run.new.self hs h j) c.take_lines.ensures.holds x))
+    (subst (λ hs. ClosesRun c.take_lines.new.core c.close_run.new.self hs h j) c.take_lines.ensures.outside.files.holds x))
     c.close_run.ensures.closes
 
 pub returns-in-Next-clause-stops : goal.returns-in-Next-clause-stops
@@ -34,5 +34,5 @@ returns-in-Next-clause-stops g c =
     stops_weaker c.close_run.result (StopsClosingRun c.take_lines.new.core c.close_run.new.self (g.F.Files.holds c.take_lines.new.files) h j) (StopsLines c.args.core.now c.close_run.new.self c.args.lines.now holds i j)
     (λ stop x. closing_stops c.args.core.now c.take_lines.new.core c.close_run.new.self c.args.lines.now holds i h j stop
     (subst (λ went. TakesLines c.args.core.now c.take_lines.new.core went c.args.lines.now holds i h) c.in-Next.is c.in_ok-take_lines.ensures.takes)
-    (subst (λ hs. StopsClosingRun c.take_lines.new.core c.close_run.new.self hs h j stop) c.take_lines.ensures.holds x))
+    (subst (λ hs. StopsClosingRun c.take_lines.new.core c.close_run.new.self hs h j stop) c.take_lines.ensures.outside.files.holds x))
     c.close_run.ensures.stops

@@ -48,7 +48,7 @@ returns-in_err-finish-in-Ok-clause-ends g c A image is told =
     let j = g.D.SwapDev.image c.finish.new.swap in
     stopped_so c.from_residual-in_err-finish-in-Ok.result stop (λ r. RunEnds A new.machine.kernel.journal image r j) c.from_residual-in_err-finish-in-Ok.ensures.1
     (lines_stop A c.args.core.now c.args.first.now c.args.lines.now holds image c.requires.few is mid i h told (c.start.ensures.starts ok) new stop j
-    (subst (λ hs. StopsLines mid new c.args.lines.now hs h j stop) c.start.ensures.holds c.in_err-finish-in-Ok.ensures.stops))
+    (subst (λ hs. StopsLines mid new c.args.lines.now hs h j stop) c.start.ensures.outside.files.holds c.in_err-finish-in-Ok.ensures.stops))
 
 pub returns-in_err-finish-in-Ok-clause-full : goal.returns-in_err-finish-in-Ok-clause-full
 returns-in_err-finish-in-Ok-clause-full g c A image is told =
@@ -62,7 +62,7 @@ returns-in_err-finish-in-Ok-clause-full g c A image is told =
     let j = g.D.SwapDev.image c.finish.new.swap in
     stopped_so c.from_residual-in_err-finish-in-Ok.result stop (λ r. r ≡ Err (Stopped stops.JournalFull) → RunFull A new.machine) c.from_residual-in_err-finish-in-Ok.ensures.1
     (λ full. lines_full A c.args.core.now c.args.first.now c.args.lines.now holds image c.requires.few is mid i h told (c.start.ensures.starts ok) new stop j (same_stop stop stops.JournalFull full)
-    (subst (λ hs. StopsLines mid new c.args.lines.now hs h j stop) c.start.ensures.holds c.in_err-finish-in-Ok.ensures.stops))
+    (subst (λ hs. StopsLines mid new c.args.lines.now hs h j stop) c.start.ensures.outside.files.holds c.in_err-finish-in-Ok.ensures.stops))
 
 pub returns-in_ok-finish-in-Ok-clause-ends : goal.returns-in_ok-finish-in-Ok-clause-ends
 returns-in_ok-finish-in-Ok-clause-ends g c A image is told =
@@ -74,7 +74,7 @@ returns-in_ok-finish-in-Ok-clause-ends g c A image is told =
     let h = g.D.SwapDev.image c.start.new.swap in
     let j = g.D.SwapDev.image c.finish.new.swap in
     lines_finish A c.args.core.now c.args.first.now c.args.lines.now holds image c.requires.few is mid i h told (c.start.ensures.starts ok) new j
-    (subst (λ hs. FinishesLines mid new c.args.lines.now hs h j) c.start.ensures.holds c.in_ok-finish-in-Ok.ensures.finishes)
+    (subst (λ hs. FinishesLines mid new c.args.lines.now hs h j) c.start.ensures.outside.files.holds c.in_ok-finish-in-Ok.ensures.finishes)
 
 pub returns-in_ok-finish-in-Ok-clause-over : goal.returns-in_ok-finish-in-Ok-clause-over
 returns-in_ok-finish-in-Ok-clause-over g c A image is told =
@@ -86,7 +86,7 @@ returns-in_ok-finish-in-Ok-clause-over g c A image is told =
     let h = g.D.SwapDev.image c.start.new.swap in
     let j = g.D.SwapDev.image c.finish.new.swap in
     lines_over A c.args.core.now c.args.first.now c.args.lines.now holds image c.requires.few is mid i h told (c.start.ensures.starts ok) new j
-    (subst (λ hs. FinishesLines mid new c.args.lines.now hs h j) c.start.ensures.holds c.in_ok-finish-in-Ok.ensures.finishes) c.in_ok-finish-in-Ok.ensures.goes_on
+    (subst (λ hs. FinishesLines mid new c.args.lines.now hs h j) c.start.ensures.outside.files.holds c.in_ok-finish-in-Ok.ensures.finishes) c.in_ok-finish-in-Ok.ensures.goes_on
 
 pub returns-in_ok-finish-in-Ok-clause-whole : goal.returns-in_ok-finish-in-Ok-clause-whole
 returns-in_ok-finish-in-Ok-clause-whole g c A image is told =
@@ -98,4 +98,4 @@ returns-in_ok-finish-in-Ok-clause-whole g c A image is told =
     let h = g.D.SwapDev.image c.start.new.swap in
     let j = g.D.SwapDev.image c.finish.new.swap in
     lines_whole A c.args.core.now c.args.first.now c.args.lines.now holds image c.requires.few is mid i h told (c.start.ensures.starts ok) new j
-    (subst (λ hs. FinishesLines mid new c.args.lines.now hs h j) c.start.ensures.holds c.in_ok-finish-in-Ok.ensures.finishes)
+    (subst (λ hs. FinishesLines mid new c.args.lines.now hs h j) c.start.ensures.outside.files.holds c.in_ok-finish-in-Ok.ensures.finishes)

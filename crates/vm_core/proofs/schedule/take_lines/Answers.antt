@@ -1,10 +1,11 @@
-use Rattle.std.proofs.Common.{◌≡◌, ◌+◌, ℕ, slice_index_or, slice_get, Some, sym, ap, ◌∙◌, subst, refl, arith}
+use Rattle.std.proofs.Common.{◌≡◌, ◌+◌, ℕ, slice_index_or, slice_get, Some, sym, ap, ◌∙◌, subst, refl, arith, None}
 use Rattle.std.proofs.lemmas.Option.{slice_get-get_or}
 use Rattle.vm_facts.specs.declared.event.Event.TheVariants.{Dispatch}
 use Rattle.vm_core.specs.Cores.{TakesLine, StopsTaking}
 use Rattle.vm_core.specs.Schedules.{StopsLines}
 use Rattle.vm_core.proofs.Noting.{stops_on}
 use Rattle.vm_core.proofs.Going.{HasTaken, few_at, none_taken, line_taken, line_stops, limit_taken, goes_below}
+use Rattle.machine_state.proofs.Transfers.{transfers_none, transfers_then}
 use Rattle.vm_core.proofs.schedule.take_lines.Goals as goal
 
 pub loop-e-init : goal.loop-e-init
@@ -15,14 +16,7 @@ loop-e-init g c = record {
   number = refl;
   params = refl;
   images = refl;
-  files_lead = g.met.F.Files.leads_nowhere c.args.files.now;
-  swap_leads = g.met.D.SwapDev.leads_nowhere c.args.swap.now;
-  holds = refl;
-  blocks = refl;
-  open_faults = refl;
-  page_faults = refl;
-  read_faults = refl;
-  write_faults = refl;
+  outside = transfers_none g.met.F.Files.leads_nowhere g.met.D.SwapDev.leads_nowhere c.args.files.now c.args.swap.now;
 }
 
 pub event-requires-clause-few : goal.event-requires-clause-few
@@ -42,7 +36,7 @@ returns-in_err-event-clause-stops g c =
     stops_on c.from_residual.result stop (StopsLines c.args.core.now c.event.new.self lines holds i j) c.from_residual.ensures.1
     (line_stops c.args.core.now c.loop-e.core c.event.new.self c.loop-e.line e lines holds i h j stop so.takes
     (subst (λ (n : ℕ). slice_get lines n ≡ Some e) (sym so.number) (slice_get-get_or lines c.loop-e.e-index (Dispatch 0 0) c.loop-e-test.true)) so.below
-    (subst (λ hs. StopsTaking c.loop-e.core c.event.new.self (c.loop-e.line + 1) e hs h j stop) so.holds c.in_err-event.ensures.stops))
+    (subst (λ hs. StopsTaking c.loop-e.core c.event.new.self (c.loop-e.line + 1) e hs h j stop) so.outside.files.holds c.in_err-event.ensures.stops))
 
 pub returns-in-LimitReached-clause-takes : goal.returns-in-LimitReached-clause-takes
 returns-in-LimitReached-clause-takes g c =
@@ -56,7 +50,7 @@ returns-in-LimitReached-clause-takes g c =
     limit_taken c.args.core.now c.event.new.self (c.loop-e.line + 1) lines holds i j
     (line_taken c.args.core.now c.loop-e.core c.event.new.self c.loop-e.line e lines holds i h j so.takes
     (subst (λ (n : ℕ). slice_get lines n ≡ Some e) (sym so.number) (slice_get-get_or lines c.loop-e.e-index (Dispatch 0 0) c.loop-e-test.true)) so.below
-    (subst (λ hs. TakesLine c.loop-e.core c.event.new.self (c.loop-e.line + 1) e hs h j) so.holds c.in_ok-event.ensures.takes))
+    (subst (λ hs. TakesLine c.loop-e.core c.event.new.self (c.loop-e.line + 1) e hs h j) so.outside.files.holds c.in_ok-event.ensures.takes))
     (c.in_ok-event.ensures.limit.0 c.in-LimitReached.is)
 
 pub loop-e-preserved : goal.loop-e-preserved
@@ -71,20 +65,13 @@ loop-e-preserved g c =
     record {
       takes = line_taken c.args.core.now c.loop-e.core c.event.new.self c.loop-e.line e lines holds i h j so.takes
           (subst (λ (n : ℕ). slice_get lines n ≡ Some e) (sym so.number) (slice_get-get_or lines c.loop-e.e-index (Dispatch 0 0) c.loop-e-test.true)) so.below
-          (subst (λ hs. TakesLine c.loop-e.core c.event.new.self (c.loop-e.line + 1) e hs h j) so.holds c.in_ok-event.ensures.takes);
+          (subst (λ hs. TakesLine c.loop-e.core c.event.new.self (c.loop-e.line + 1) e hs h j) so.outside.files.holds c.in_ok-event.ensures.takes);
       goes_on = c.in_ok-event.ensures.goes_on;
       below = goes_below c.in_ok-event.field-0 c.event.new.self.machine.params.limit c.event.new.self.counted c.in-Next.is c.in_ok-event.ensures.limit;
       number = ap (λ (n : ℕ). n + 1) so.number;
       params = c.in_ok-event.ensures.params ∙ so.params;
       images = c.in_ok-event.ensures.images ∙ so.images;
-      files_lead = g.met.F.Files.leads_through c.args.files.now c.loop-e.files c.event.new.files so.files_lead c.in_ok-event.ensures.files_lead;
-      swap_leads = g.met.D.SwapDev.leads_through c.args.swap.now c.loop-e.swap c.event.new.swap so.swap_leads c.in_ok-event.ensures.swap_leads;
-      holds = c.in_ok-event.ensures.holds ∙ so.holds;
-      blocks = c.in_ok-event.ensures.blocks ∙ so.blocks;
-      open_faults = c.in_ok-event.ensures.open_faults ∙ so.open_faults;
-      page_faults = c.in_ok-event.ensures.page_faults ∙ so.page_faults;
-      read_faults = c.in_ok-event.ensures.read_faults ∙ so.read_faults;
-      write_faults = c.in_ok-event.ensures.write_faults ∙ so.write_faults;
+      outside = transfers_then {stop = None} g.met.F.Files.leads_through g.met.D.SwapDev.leads_through so.outside c.in_ok-event.ensures.outside;
     }
 
 pub returns-clause-takes : goal.returns-clause-takes

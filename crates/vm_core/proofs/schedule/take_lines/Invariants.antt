@@ -1,6 +1,7 @@
-use Rattle.std.proofs.Common.{◌≡◌, ◌<◌}
+use Rattle.std.proofs.Common.{◌≡◌, ◌<◌, None}
 use Rattle.vm_core.specs.Cores.{GoesOn}
 use Rattle.vm_core.proofs.Going.{HasTaken}
+use Rattle.machine_state.specs.Outside.{TransfersPages}
 use Rattle.vm_core.proofs.schedule.take_lines.Given as goal
 
 abbrev pub invariant-loop-e : goal.invariant-loop-e
@@ -11,12 +12,5 @@ invariant-loop-e g l = record {
   number : l.line ≡ l.e-index;
   params : l.core.machine.params ≡ l.fn.core.machine.params;
   images : l.core.machine.images ≡ l.fn.core.machine.images;
-  files_lead : g.F.Files.leads l.fn.files l.files;
-  swap_leads : g.D.SwapDev.leads l.fn.swap l.swap;
-  holds : g.F.Files.holds l.files ≡ g.F.Files.holds l.fn.files;
-  blocks : g.D.SwapDev.blocks l.swap ≡ g.D.SwapDev.blocks l.fn.swap;
-  open_faults : g.F.Files.open_faults l.files ≡ g.F.Files.open_faults l.fn.files;
-  page_faults : g.F.Files.page_faults l.files ≡ g.F.Files.page_faults l.fn.files;
-  read_faults : g.D.SwapDev.read_faults l.swap ≡ g.D.SwapDev.read_faults l.fn.swap;
-  write_faults : g.D.SwapDev.write_faults l.swap ≡ g.D.SwapDev.write_faults l.fn.swap;
+  outside : TransfersPages g.F.Files g.D.SwapDev None l.fn.files l.files l.fn.swap l.swap;
 }

@@ -26,9 +26,9 @@ settle-requires g t c κs out =
     let o : GoesOn c.args.self.now c.done.new.self = goes_on c.args.self.now c.done.new.self from i c.requires.whole d (c.in_ok-done.ensures.rest yes) in
     let area = c.requires.area in
     let size = ap (λ (x : Params). x.swap_blocks) o.params in
-    let blocks = c.in_ok-done.ensures.blocks in
+    let blocks = c.in_ok-done.ensures.outside.swap.blocks in
     let files : AreFiles c.done.new.self.images (g.F.Files.holds c.done.new.files) =
-    subst (λ (ns : List ImageNamed). AreFiles ns (g.F.Files.holds c.done.new.files)) (sym o.images) (subst (λ (h : Option (List NamedFile)). AreFiles c.args.self.now.images h) (sym c.in_ok-done.ensures.holds) c.requires.files) in
+    subst (λ (ns : List ImageNamed). AreFiles ns (g.F.Files.holds c.done.new.files)) (sym o.images) (subst (λ (h : Option (List NamedFile)). AreFiles c.args.self.now.images h) (sym c.in_ok-done.ensures.outside.files.holds) c.requires.files) in
     let less = o.fewer in
     (omega (arith, c.decreases, less), (out.0, (out.1, (o.stopped ∙ c.requires.running, (o.whole, (omega (arith, area, size, blocks), files))))))
 
@@ -41,7 +41,7 @@ returns-then-branch-clause-settled g t c =
     let d : IsDone from i old.kernel c.done.new.self.kernel = c.in_ok-done.ensures.step yes in
     on_ok c.settle.result
     (one_more from (sources c.done.new.self (g.F.Files.holds c.done.new.files)) c.args.sid old.kernel c.done.new.self.kernel c.settle.new.self.kernel i (g.D.SwapDev.image c.done.new.swap) (g.D.SwapDev.image c.settle.new.swap)
-    (same_sources old c.done.new.self (g.F.Files.holds c.args.files.now) (g.F.Files.holds c.done.new.files) c.in_ok-done.ensures.holds (beside_done old c.done.new.self (c.in_ok-done.ensures.rest yes)))
+    (same_sources old c.done.new.self (g.F.Files.holds c.args.files.now) (g.F.Files.holds c.done.new.files) c.in_ok-done.ensures.outside.files.holds (beside_done old c.done.new.self (c.in_ok-done.ensures.rest yes)))
     (sym c.settled.ensures ∙ c.if-settled.false) d c.in_ok-done.ensures.swapped) c.settle.ensures.settled
 
 pub returns-then-branch-clause-keeps : goal.returns-then-branch-clause-keeps
@@ -52,7 +52,7 @@ returns-then-branch-clause-keeps g t c =
     let d : IsDone from i c.args.self.now.kernel c.done.new.self.kernel = c.in_ok-done.ensures.step yes in
     let o : GoesOn c.args.self.now c.done.new.self = goes_on c.args.self.now c.done.new.self from i c.requires.whole d (c.in_ok-done.ensures.rest yes) in
     on_ok c.settle.result (through c.args.self.now c.done.new.self c.settle.new.self (g.F.Files.holds c.args.files.now) (g.F.Files.holds c.done.new.files) (g.D.SwapDev.image c.args.swap.now) (g.D.SwapDev.image c.done.new.swap) (g.D.SwapDev.image c.settle.new.swap) o
-    c.in_ok-done.ensures.holds c.in_ok-done.ensures.keeps) c.settle.ensures.keeps
+    c.in_ok-done.ensures.outside.files.holds c.in_ok-done.ensures.keeps) c.settle.ensures.keeps
 
 pub returns-then-branch-clause-stops : goal.returns-then-branch-clause-stops
 returns-then-branch-clause-stops g t c =
@@ -63,5 +63,5 @@ returns-then-branch-clause-stops g t c =
     let d : IsDone (sources old holds) i old.kernel c.done.new.self.kernel = c.in_ok-done.ensures.step yes in
     if_err c.settle.result
     (λ stop. one_stopped c.args.sid old c.done.new.self c.settle.new.self holds (g.F.Files.holds c.done.new.files) i (g.D.SwapDev.image c.done.new.swap) (g.D.SwapDev.image c.settle.new.swap) stop
-    c.in_ok-done.ensures.holds (beside_done old c.done.new.self (c.in_ok-done.ensures.rest yes))
+    c.in_ok-done.ensures.outside.files.holds (beside_done old c.done.new.self (c.in_ok-done.ensures.rest yes))
     (sym c.settled.ensures ∙ c.if-settled.false) d c.in_ok-done.ensures.swapped) c.settle.ensures.stops

@@ -137,14 +137,10 @@ returns-in-Done g c =
       stop = search rules;
       cause = search rules;
       full = search rules;
-      files_lead = search rules;
-      swap_leads = search rules;
-      holds = search rules;
-      blocks = search rules;
-      open_faults = search rules;
-      page_faults = search rules;
-      read_faults = search rules;
-      write_faults = search rules;
+      outside = record {
+        files = record { leads = search rules; holds = search rules; open_faults = search rules; page_faults = search rules };
+        swap = record { leads = search rules; blocks = search rules; read_faults = search rules; write_faults = search rules };
+      };
     }
 
 pub returns-in-SwapWriteFault-clause-spoiled : goal.returns-in-SwapWriteFault-clause-spoiled

@@ -112,8 +112,5 @@ returns-in-Done u c =
       stop = search rules;
       cause = search rules;
       full = search rules;
-      leads = search rules;
-      blocks = search rules;
-      read_faults = search rules;
-      write_faults = search rules;
+      outside = record { leads = search rules; blocks = search rules; read_faults = search rules; write_faults = search rules };
     }

@@ -1,0 +1,46 @@
+-- What a call that moves pages does to the files and the swap device, by why it stopped, over bounds `F: Files` and `D: SwapDev`.
+use Rattle.std.specs.Prelude.{◌≡◌, ℕ, Option, Some, None, Result, Ok, Err}
+use Rattle.vm_facts.specs.declared.stop.Stop.{Stop}
+use Rattle.vm_facts.specs.declared.stop.Stop.TheVariants as stops
+use Rattle.io_edge.specs.Count.{Rose}
+use Rattle.io_edge.specs.declared.files.Files.{Ghosts as FilesGhosts}
+use Rattle.io_edge.specs.declared.swap_dev.SwapDev.{Ghosts as SwapGhosts}
+
+-- why a call stopped; none where it went on
+abbrev pub stop_of : {A : Type 0} → Result A Stop → Option Stop
+stop_of (Ok answer) = None
+stop_of (Err stop) = Some stop
+
+-- a count of failed reads of pages from files: it rises where such a read is why the call stopped, and stays in every other case
+abbrev pub CountsFileFaults : Option Stop → ℕ → ℕ → Type 0
+CountsFileFaults (Some stops.FileFault) old new = Rose old new
+CountsFileFaults _ old new = new ≡ old
+
+-- the same of failed reads from the swap device
+abbrev pub CountsReadFaults : Option Stop → ℕ → ℕ → Type 0
+CountsReadFaults (Some stops.SwapReadFault) old new = Rose old new
+CountsReadFaults _ old new = new ≡ old
+
+-- the same of failed writes to the swap device
+abbrev pub CountsWriteFaults : Option Stop → ℕ → ℕ → Type 0
+CountsWriteFaults (Some stops.SwapWriteFault) old new = Rose old new
+CountsWriteFaults _ old new = new ≡ old
+
+-- pages were read from files, none of them a file's first
+pub record ReadsFilePages {F : Type 0} (f : FilesGhosts F) (stop : Option Stop) (old new : F) : Type 0 where
+  pub leads : f.leads old new
+  pub holds : f.holds new ≡ f.holds old
+  pub open_faults : f.open_faults new ≡ f.open_faults old
+  pub page_faults : CountsFileFaults stop (f.page_faults old) (f.page_faults new)
+
+-- pages were read from the swap device and written to it
+pub record MovesSwapPages {D : Type 0} (d : SwapGhosts D) (stop : Option Stop) (old new : D) : Type 0 where
+  pub leads : d.leads old new
+  pub blocks : d.blocks new ≡ d.blocks old
+  pub read_faults : CountsReadFaults stop (d.read_faults old) (d.read_faults new)
+  pub write_faults : CountsWriteFaults stop (d.write_faults old) (d.write_faults new)
+
+-- both
+pub record TransfersPages {F D : Type 0} (f : FilesGhosts F) (d : SwapGhosts D) (stop : Option Stop) (before after : F) (old new : D) : Type 0 where
+  pub files : ReadsFilePages f stop before after
+  pub swap : MovesSwapPages d stop old new
