@@ -1,0 +1,59 @@
+-- The lines of a load that is finished.
+use Rattle.std.proofs.Common.{◌≡◌, ℕ, List, Option, Some, Ok, Err, refl, sym, ap, ◌∙◌, subst}
+use Rattle.vm_facts.specs.declared.entry.Entry.{Entry}
+use Rattle.flat_state.specs.Flat.{Inputs}
+use Rattle.command_ending.specs.declared.fault.Fault.{Fault}
+use Rattle.command_ending.specs.declared.fault.Fault.TheVariants as faults
+use Rattle.command_ending.specs.Ending.{fault_status}
+use Rattle.io_edge.specs.Written.{Appends}
+use Rattle.command_ending.specs.Command.{Writes, All, Prefix}
+use Rattle.vm_core.specs.Lawful.{IsJournalOf, RunFinished}
+use Rattle.load_maker.specs.Load.{load_images, load_pages}
+use Rattle.load_maker.specs.Counts.{counts_of, load_text}
+use Rattle.load_maker.specs.declared.counts.Counts.{Counts}
+use Rattle.load_laws.specs.Left.{IsLoad, load_counts}
+use Rattle.load_laws.proofs.Ending.{finished_counts}
+use Rattle.run_command.specs.Seen.{Seen}
+use Rattle.run_command.specs.Ends.{Ending, status_of}
+use Rattle.run_command.specs.Loads.{load_inputs, load_written, LoadEnded, Loads}
+use Rattle.load_answers.specs.Written.{LoadsWriteTheirCounts}
+
+is_load : (number : ℕ) → IsLoad number (load_inputs number)
+unfolding load_images
+is_load number = record { images = refl; first = refl; swap = refl; limit = refl }
+
+never_fault : (fault : Fault) → 0 ≡ fault_status fault → ⊥
+never_fault faults.BadWords e = absurd cc
+never_fault (faults.Absent name) e = absurd cc
+never_fault (faults.NotImage name reason) e = absurd cc
+never_fault (faults.BadSchedule line) e = absurd cc
+never_fault faults.FileFault e = absurd cc
+never_fault (faults.SwapReadFault device) e = absurd cc
+never_fault (faults.SwapWriteFault device) e = absurd cc
+never_fault faults.NoMemory e = absurd cc
+never_fault faults.JournalFull e = absurd cc
+never_fault (faults.NoSpace pid) e = absurd cc
+never_fault (faults.ShortDevice device blocks needed) e = absurd cc
+never_fault (faults.NotFlatRun line) e = absurd cc
+never_fault (faults.BadTranscript line) e = absurd cc
+never_fault faults.TooLong e = absurd cc
+never_fault (faults.BadSource line) e = absurd cc
+
+finished : (number : ℕ) (journal : List Entry) (image : List ℕ) (after : Option (List ℕ)) → RunFinished (load_inputs number) journal image after → counts_of 4 journal ≡ load_counts number
+finished number journal image after f =
+    let m : IsJournalOf (load_inputs number) journal f.state = f.made in
+    finished_counts number (load_inputs number) m.holdings journal f.state (is_load number) m.can
+    (record { holdings = m.holdings; found = (let can = m.can in can.pieces); units = m.units; follows = m.follows; joined = m.joined }) f.none
+
+ended : (number : ℕ) (seen : Seen) (image : List ℕ) (journal : List Entry) (ending : Ending) → 0 ≡ status_of ending → LoadEnded number seen journal image ending
+    → Appends seen.written_before (load_written number journal ending) seen.written_after → Appends seen.written_before (load_text number (load_counts number)) seen.written_after
+ended number seen image journal (Ok done) e f w = subst (λ (c : Counts). Appends seen.written_before (load_text number c) seen.written_after) (finished number journal image seen.swap_after f) w
+ended number seen image journal (Err fault) e f w = absurd (never_fault fault e)
+
+pub writes_its_counts : LoadsWriteTheirCounts
+writes_its_counts number seen image loads told = go loads.writes
+  where
+    go : Writes seen.written_before seen.written_after seen.sink_faults_before seen.sink_faults_after (load_written number loads.journal loads.ending) (status_of loads.ending) 0
+        → Appends seen.written_before (load_text number (load_counts number)) seen.written_after
+    go (All e w same) = ended number seen image loads.journal loads.ending e (loads.told image told) w
+    go (Prefix e w rose) = absurd cc
