@@ -6,5 +6,6 @@ pub mod Endings
 pub mod Pairs
 pub mod Runs
 pub mod LoadSpace
+pub mod Counted
 pub mod Loadings
 pub mod Workloads

@@ -27,6 +27,7 @@ use Rattle.run_command.specs.Machines.{journal_entries, machine_of}
 use Rattle.run_command.specs.Ends.{Ending, NothingDone, Unbegun, NoneFaulted, RunCaused, DevicesSuffice, RunEnded}
 use Rattle.run_command.specs.Loads.{load_inputs, load_numbers, load_written, CountsBeLost, WritesCounts, IsLoadCaused, LoadEnded, IsRunEnding, Loads, LoadRuns}
 use Rattle.run_command.proofs.LoadSpace.{all_start}
+use Rattle.run_command.proofs.Counted.{counted_by}
 use Rattle.run_command.proofs.Endings.{StopCaused, caused_as, lost_caused, run_ended, lost_ended}
 
 -- The core of a run, with no process yet.
@@ -171,20 +172,34 @@ load_ended number seen journal image (Err _) began e = absurd began
 
 pub loads_run : (IsOf : Inputs → List ℕ → Type 0) (Starts : Inputs → Type 0) (number : ℕ) (seen : Seen) (status : ℕ) → DevicesSuffice load_numbers.swap seen → NoFaults seen.faults
     → Starts (load_inputs number) → ((image : List ℕ) → seen.swap_before ≡ Some image → IsOf (load_inputs number) image) → LoadRuns IsOf Starts number seen status → Loads number seen status
-loads_run IsOf Starts number seen status long files starts is_of x = record {
-  ending = x.ending;
-  journal = x.journal;
-  writes = x.writes;
-  caused = load_caused seen x.journal x.ending x.began (λ pid e. all_start number pid (x.space (load_inputs number) starts pid e)) x.caused long;
-  files = files;
-  told = λ image told. load_ended number seen x.journal image x.ending x.began (x.ended (load_inputs number) image (is_of image told) told);
-}
+loads_run IsOf Starts number seen status long files starts is_of x =
+    let ends : (image : List ℕ) → seen.swap_before ≡ Some image → LoadEnded number seen x.journal image x.ending
+    = λ image told. load_ended number seen x.journal image x.ending x.began (x.ended (load_inputs number) image (is_of image told) told) in
+    record {
+      ending = x.ending;
+      journal = x.journal;
+      writes = x.writes;
+      caused = load_caused seen x.journal x.ending x.began (λ pid e. all_start number pid (x.space (load_inputs number) starts pid e)) x.caused long;
+      files = files;
+      told = ends;
+      counted = counted_by number seen status x.journal x.ending x.writes ends;
+    }
 
 -- no memory before the run
 pub loads_unmade : (number : ℕ) (seen : Seen) (status : ℕ) → seen.swap_after ≡ seen.swap_before → NoneFaulted seen
     → WritesCounts number [] (Err faults.NoMemory) seen.written_before seen.written_after seen.sink_faults_before seen.sink_faults_after status → Loads number seen status
 loads_unmade number seen status same none (inl w) =
-    record { ending = Err faults.NoMemory; journal = []; writes = w; caused = inl none; files = none.files; told = λ image told. inl (none, inl (refl, same ∙ told)) }
+    let ends : (image : List ℕ) → seen.swap_before ≡ Some image → LoadEnded number seen [] image (Err faults.NoMemory)
+    = λ image told. inl (none, inl (refl, same ∙ told)) in
+    record {
+      ending = Err faults.NoMemory;
+      journal = [];
+      writes = w;
+      caused = inl none;
+      files = none.files;
+      told = ends;
+      counted = counted_by number seen status [] (Err faults.NoMemory) w ends;
+    }
 loads_unmade number seen status same none (inr never) = absurd never.0
 
 -- a device that is too short
@@ -203,14 +218,18 @@ as_faulted seen journal u = let n : NothingDone seen journal = u.nothing in reco
 
 loads_short : (number : ℕ) (seen : Seen) (status : ℕ) (fault : Fault) → IsShort fault → device_fault load_numbers.swap seen.zero_blocks seen.one_blocks ≡ Some fault → Unbegun seen []
     → WritesCounts number [] (Err fault) seen.written_before seen.written_after seen.sink_faults_before seen.sink_faults_after status → Loads number seen status
-loads_short number seen status (faults.ShortDevice device blocks needed) short is done (inl w) = record {
-  ending = Err (faults.ShortDevice device blocks needed);
-  journal = [];
-  writes = w;
-  caused = (done, is);
-  files = done.files;
-  told = λ image told. (refl, (let n : NothingDone seen [] = done.nothing in n.swap) ∙ told);
-}
+loads_short number seen status (faults.ShortDevice device blocks needed) short is done (inl w) =
+    let ends : (image : List ℕ) → seen.swap_before ≡ Some image → LoadEnded number seen [] image (Err (faults.ShortDevice device blocks needed))
+    = λ image told. (refl, (let n : NothingDone seen [] = done.nothing in n.swap) ∙ told) in
+    record {
+      ending = Err (faults.ShortDevice device blocks needed);
+      journal = [];
+      writes = w;
+      caused = (done, is);
+      files = done.files;
+      told = ends;
+      counted = counted_by number seen status [] (Err (faults.ShortDevice device blocks needed)) w ends;
+    }
 loads_short number seen status (faults.ShortDevice device blocks needed) short is done (inr (lost, w)) =
     loads_unmade number seen status (let n : NothingDone seen [] = done.nothing in n.swap) (as_faulted seen [] done) (inl w)
 loads_short number seen status _ short is done w = absurd short

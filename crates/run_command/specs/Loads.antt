@@ -1,6 +1,7 @@
 -- What the command `load` is: a run of the workload of a number, which is counted.
 use Rattle.std.specs.Prelude.{◌≡◌, ◌⊎◌, ℕ, List, [], ◌∷◌, codes, IfErr, Option, Some, Ok, Err}
 use Rattle.aout_image.specs.Image.{Loaded}
+use Rattle.io_edge.specs.Written.{Appends}
 use Rattle.vm_facts.specs.declared.entry.Entry.{Entry}
 use Rattle.flat_state.specs.Flat.{NamedImage, Inputs}
 use Rattle.flat_model.specs.Asked.{start_held}
@@ -12,6 +13,7 @@ use Rattle.command_words.specs.declared.command.Numbers.{Numbers}
 use Rattle.run_opening.specs.Devices.{device_fault}
 use Rattle.load_maker.specs.Load.{load_images, load_lines}
 use Rattle.load_maker.specs.Counts.{counts_of, load_text}
+use Rattle.load_laws.specs.Left.{load_counts}
 use Rattle.run_command.specs.Seen.{Seen}
 use Rattle.run_command.specs.Paired.{IsRunFault}
 use Rattle.run_command.specs.Ends.{Ending, status_of, Unbegun, HaltCaused, LineLost, RunCaused, DevicesSuffice, RunEnded}
@@ -85,7 +87,8 @@ LoadEnded number seen journal image ending = RunEnded seen (load_inputs number) 
 
 -- What a load is: it has one ending and one journal. What was written are the lines of that ending, and the status is the ending's;
 -- or the output failed, and a prefix of them was written. The ending has its cause, and no file was touched. Where the devices are told
--- the journal is that of a run of the workload of the number, and the devices are left as it says.
+-- the journal is that of a run of the workload of the number, and the devices are left as it says; and with status 0 the six lines are those
+-- of the counts that the number has.
 pub record Loads (number : ℕ) (seen : Seen) (status : ℕ) : Type 0 where
   pub ending : Ending
   pub journal : List Entry
@@ -93,6 +96,8 @@ pub record Loads (number : ℕ) (seen : Seen) (status : ℕ) : Type 0 where
   pub caused : IsLoadCaused seen journal ending
   pub files : NoFaults seen.faults
   pub told : (image : List ℕ) → seen.swap_before ≡ Some image → LoadEnded number seen journal image ending
+  pub counted : (image : List ℕ) → seen.swap_before ≡ Some image → status ≡ 0
+      → Appends seen.written_before (load_text number (load_counts number)) seen.written_after
 
 -- it ended as a run does that began, whose files never fail
 abbrev pub IsRunEnding : Ending → Type 0

@@ -15,8 +15,7 @@ use Rattle.load_laws.specs.Left.{IsLoad, load_counts}
 use Rattle.load_laws.proofs.Ending.{finished_counts}
 use Rattle.run_command.specs.Seen.{Seen}
 use Rattle.run_command.specs.Ends.{Ending, status_of}
-use Rattle.run_command.specs.Loads.{load_inputs, load_written, LoadEnded, Loads}
-use Rattle.load_answers.specs.Written.{LoadsWriteTheirCounts}
+use Rattle.run_command.specs.Loads.{load_inputs, load_written, LoadEnded}
 
 is_load : (number : ℕ) → IsLoad number (load_inputs number)
 unfolding load_images
@@ -50,10 +49,18 @@ ended : (number : ℕ) (seen : Seen) (image : List ℕ) (journal : List Entry) (
 ended number seen image journal (Ok done) e f w = subst (λ (c : Counts). Appends seen.written_before (load_text number c) seen.written_after) (finished number journal image seen.swap_after f) w
 ended number seen image journal (Err fault) e f w = absurd (never_fault fault e)
 
-pub writes_its_counts : LoadsWriteTheirCounts
-writes_its_counts number seen image loads told = go loads.writes
+-- with status 0 the six lines are those of the number's counts
+pub counted_by : (number : ℕ) (seen : Seen) (status : ℕ) (journal : List Entry) (ending : Ending)
+    → Writes seen.written_before seen.written_after seen.sink_faults_before seen.sink_faults_after (load_written number journal ending) (status_of ending) status
+    → ((image : List ℕ) → seen.swap_before ≡ Some image → LoadEnded number seen journal image ending)
+    → (image : List ℕ) → seen.swap_before ≡ Some image → status ≡ 0
+    → Appends seen.written_before (load_text number (load_counts number)) seen.written_after
+counted_by number seen status journal ending writes told image is zero = go (subst writes_with zero writes)
   where
-    go : Writes seen.written_before seen.written_after seen.sink_faults_before seen.sink_faults_after (load_written number loads.journal loads.ending) (status_of loads.ending) 0
-        → Appends seen.written_before (load_text number (load_counts number)) seen.written_after
-    go (All e w same) = ended number seen image loads.journal loads.ending e (loads.told image told) w
+    writes_with : ℕ → Type 0
+    writes_with s =
+        Writes seen.written_before seen.written_after seen.sink_faults_before seen.sink_faults_after (load_written number journal ending) (status_of ending) s
+
+    go : writes_with 0 → Appends seen.written_before (load_text number (load_counts number)) seen.written_after
+    go (All e w same) = ended number seen image journal ending e (told image is) w
     go (Prefix e w rose) = absurd cc
