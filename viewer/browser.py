@@ -107,16 +107,21 @@ class Browser:
             raise Failed(f"{expression[:80]}: {answer['exceptionDetails'].get('exception', {}).get('description')}")
         return answer["result"].get("value")
 
-    def key(self, key, shift=False):
+    def key(self, key, shift=False, control=False):
         """Presses a key and lets it go."""
-        named = {" ": ("Space", " "), "Tab": ("Tab", "")}
+        named = {" ": ("Space", " "), "Tab": ("Tab", ""), "Enter": ("Enter", "\r")}
         code, text = named.get(key, (key, ""))
         codes = {"ArrowLeft": 37, "ArrowUp": 38, "ArrowRight": 39, "ArrowDown": 40, "PageUp": 33, "PageDown": 34}
-        codes |= {"Home": 36, "End": 35, " ": 32, "Tab": 9}
+        codes |= {"Home": 36, "End": 35, " ": 32, "Tab": 9, "Enter": 13, "Backspace": 8}
         codes |= {key: ord(key.upper())} if len(key) == 1 and key.isalpha() else {}
-        how = {"key": key, "code": code, "windowsVirtualKeyCode": codes.get(key, 0), "modifiers": 8 if shift else 0}
-        self.call("Input.dispatchKeyEvent", type="keyDown", text=text, **how)
+        held = (8 if shift else 0) + (2 if control else 0)
+        how = {"key": key, "code": code, "windowsVirtualKeyCode": codes.get(key, 0), "modifiers": held}
+        self.call("Input.dispatchKeyEvent", type="keyDown", text="" if control else text, **how)
         self.call("Input.dispatchKeyEvent", type="keyUp", **how)
+
+    def type(self, text):
+        """Types a text where the cursor is."""
+        self.call("Input.insertText", text=text)
 
     def choose_file(self, selector, file):
         """Gives a file to the page's field for files."""
