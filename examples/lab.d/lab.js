@@ -50,8 +50,8 @@ function setup() {
 // ---- An editor: its lines have numbers, and one of them may be marked. ----
 
 function editorOf(name) {
-  const whole = at(`lab-${name}-editor`);
-  const editor = { text: at(`lab-${name}`), numbers: whole.querySelector("ol"), said: at(`lab-${name}-said`), go: at(`lab-${name}-go`), lines: 0, bad: 0, now: 0 };
+  const [text, said, go] = [at(`lab-${name}`), at(`lab-${name}-said`), at(`lab-${name}-go`)];
+  const editor = { text, said, go, numbers: at(`lab-${name}-editor`).querySelector("ol"), lines: 0, bad: 0, now: 0 };
   editor.text.addEventListener("scroll", () => scrollEditor(editor));
   editor.go.addEventListener("click", () => goToLine(editor, editor.bad));
   return editor;
@@ -197,30 +197,48 @@ function tellMachine(field, words) {
 
 const CUT = { time: () => `Ended after ${lab.beginning.seconds} seconds.`, output: () => "Ended: it wrote too much.", stopped: () => "Stopped." };
 
-// What the program said of what is bad: its line on standard error tells where, as `vmrun: line 3: ..`.
+// The lines that the program wrote on standard error, without its name.
+function saidOf(answer) {
+  const lines = answer.said.split("\n").filter((line) => line.startsWith("vmrun: "));
+  return lines.map((line) => line.slice("vmrun: ".length));
+}
+
+// What the program said in this form: what it names, and why it is bad. Else it is the line of the status, and its number.
+function reasonOf(answer, form) {
+  const lines = saidOf(answer);
+  const found = lines.map((line) => line.match(form)).find(Boolean);
+  if (found) return [found[1], found[2]];
+  const [, line] = answer.line.match(/^vmrun: bad (?:source|schedule) line (\d+)$/) || [];
+  return [line || "", lines[lines.length - 1] || answer.line.replace(/^vmrun: /, "")];
+}
+
+const atLine = (line, why) => (line === "" ? why : `line ${line}: ${why}`);
+
+// Tells what is bad where it stands, and returns it in words.
 function tellBad(answer) {
-  const said = answer.said.trim().split("\n").filter((line) => line.startsWith("vmrun: "));
-  const reason = (said[said.length - 1] || answer.line || "").replace(/^vmrun: /, "");
-  const [, ofSource, sourceWhy] = said.map((line) => line.match(/^vmrun: line (\d+): (.*)$/)).find(Boolean) || [];
-  const [, ofSchedule, scheduleWhy] = said.map((line) => line.match(/^vmrun: schedule line (\d+): (.*)$/)).find(Boolean) || [];
-  const word = said.map((line) => line.match(/^vmrun: (FRAMES|SWAP|LIMIT) (is .*)$/)).find(Boolean);
   if (answer.cut) return CUT[answer.cut]();
-  if (answer.status === 125) return tellResult(said.map((line) => line.replace(/^vmrun: /, "")).join("; "), true);
-  if (answer.program) return tellSource(answer, Number(ofSource || (answer.line.match(/^vmrun: bad source line (\d+)$/) || [])[1] || 0), sourceWhy || reason);
-  if (answer.status === 4) tellEditor(schedule, Number(ofSchedule || (answer.line.match(/line (\d+)$/) || [])[1] || 0), scheduleWhy ? `line ${ofSchedule}: ${scheduleWhy}` : reason);
-  if (word) tellMachine(word[1].toLowerCase(), `${word[1]} ${word[2]}`);
-  else if (answer.status === 1) tellMachine("images", reason);
-  return `Status ${answer.status}: ${reason}`;
+  if (answer.status === 125) return saidOf(answer).join("; ");
+  if (answer.program) return tellSource(answer.program, ...reasonOf(answer, /^line (\d+): (.*)$/));
+  if (answer.status === 4) {
+    const [line, words] = reasonOf(answer, /^schedule line (\d+): (.*)$/);
+    tellEditor(schedule, Number(line), atLine(line, words));
+  }
+  if (answer.status === 1) {
+    const [word, words] = reasonOf(answer, /^(FRAMES|SWAP|LIMIT) (is .*)$/);
+    if (word) tellMachine(word.toLowerCase(), `${word} ${words}`);
+    else tellMachine("images", words);
+  }
+  return `Status ${answer.status}: ${saidOf(answer).pop() || answer.line.replace(/^vmrun: /, "")}`;
 }
 
 // Shows a program whose source is bad, with its line marked; one that isn't on the page is only told.
-function tellSource(answer, line, why) {
-  const index = lab.programs.findIndex(({ name }) => name === answer.program);
-  const words = line > 0 ? `line ${line}: ${why}` : why;
-  if (index < 0) return `${answer.program}: ${words}`;
-  if (index !== lab.current) chooseProgram(index);
-  tellEditor(source, line, words);
-  return `${answer.program}, ${words}`;
+function tellSource(name, line, why) {
+  const index = lab.programs.findIndex((program) => program.name === name);
+  if (index >= 0) {
+    if (index !== lab.current) chooseProgram(index);
+    tellEditor(source, Number(line), atLine(line, why));
+  }
+  return `${name}, ${atLine(line, why)}`;
 }
 
 function tellResult(words, bad) {
@@ -253,7 +271,8 @@ async function check() {
   if (answer.status === 0 && !answer.cut) {
     tellEditor(source, 0, "");
     at("lab-listing").textContent = answer.listing;
-  } else tellBad(answer);
+  } else if (answer.status === 125) tellResult(tellBad(answer), true);
+  else tellBad(answer);
 }
 
 let pause = 0;
@@ -267,7 +286,12 @@ function changed() {
 
 // ---- A run, its transcript, and its film piece by piece. ----
 
-const stepsOf = (frames) => lab.beginning.steps.find(([most]) => Number(frames) <= most)[1];
+// How many steps are asked for at a time: as many as a film of so many frames may have, and fewer far into a run, since a step is
+// made anew from the start.
+function stepsAt(step, frames) {
+  const [, most] = lab.beginning.steps.find(([size]) => Number(frames) <= size);
+  return Math.max(8, Math.min(most, Math.floor(4000000 / (step + 1))));
+}
 
 async function run() {
   tellMachine("", "");
@@ -298,9 +322,9 @@ async function run() {
 async function piece(step, by) {
   const { run } = lab;
   if (step >= run.from && step <= run.to) return true;
-  const many = stepsOf(run.given.frames);
+  const many = stepsAt(step, run.given.frames);
   const before = by < 0 ? many - 2 : Math.floor(many / 8);
-  const first = Math.max(0, step - before);
+  const first = Math.max(0, Math.min(step - before, run.lines.length - many));
   const last = Math.min(run.lines.length, first + many);
   const pid = at("process").value;
   const answer = await asked("film", { ...run.given, first, last }, `Steps ${number(first)} to ${number(last)} are asked for ..`);
@@ -311,6 +335,7 @@ async function piece(step, by) {
   }
   tellResult(`${number(run.lines.length)} lines.`, false);
   open(answer.film);
+  findTurns(film.read, run.lines.slice(0, Math.max(0, first - 1)).findLast((line) => "et".includes(line[0])));
   if ([...at("process").options].some((option) => option.value === pid)) at("process").value = pid;
   Object.assign(run, { from: first, to: last, read: film.read });
   return true;
