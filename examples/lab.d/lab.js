@@ -310,7 +310,7 @@ async function run() {
   tellResult(answer.short ? `${told} The transcript is long: its beginning is shown.` : told, Boolean(ended));
   if (lines.length === 0) return;
   lab.run = { given, lines, from: 0, to: -1, now: 0, read: null };
-  at("lab-transcript-part").hidden = false;
+  showTranscript(true);
   at("lab-transcript-count").textContent = `${number(lines.length)} lines`;
   await goTo(0);
   drawLines(true);
@@ -369,6 +369,11 @@ async function seekOn(kind, by) {
   at("jumped").textContent = none;
 }
 
+function showTranscript(is) {
+  at("lab-transcript-part").hidden = !is;
+  at("lab-shown").classList.toggle("beside", is);
+}
+
 // The lines of the transcript that are in sight. All others would only cost time.
 function drawLines(center) {
   const { lines, now } = lab.run;
@@ -403,8 +408,7 @@ function drawStep() {
   if (!lab.run || !film.read) return;
   if (film.read !== lab.run.read) {
     lab.run = null;
-    at("lab-transcript-part").hidden = true;
-    return;
+    return showTranscript(false);
   }
   lab.run.now = film.now.step.number;
   const { now, lines, from, to } = lab.run;
@@ -694,6 +698,7 @@ at("lab-lesson").addEventListener("change", () => {
   drawLesson(lesson);
   loadWords(lesson);
 });
+new ResizeObserver(() => lab.run && drawLines(true)).observe(at("lab-transcript"));
 let plotWidth = 0;
 new ResizeObserver(([{ contentRect }]) => {
   if (!faults || contentRect.width === 0 || contentRect.width === plotWidth) return;
