@@ -606,6 +606,10 @@ window.addEventListener(
       take(event);
       return goTo(lab.run.now + (event.key === "ArrowUp" ? -1 : 1), event.key === "ArrowUp" ? -1 : 1);
     }
+    if (event.key.toLowerCase() === "e") {
+      take(event);
+      return source.text.focus();
+    }
     const scrolls = event.target.closest(".scroll") && event.key in MOVES && !event.key.startsWith("Arrow");
     const step = event.key in MOVES && !scrolls ? beyond(MOVES[event.key]) : null;
     if (step !== null) {
@@ -721,6 +725,7 @@ function drawLessons() {
 async function begin() {
   lab.beginning = await (await fetch("beginning")).json();
   at("lab-stats").hidden = !lab.beginning.stats;
+  at("lab-bounds").textContent = `A run is ended after ${lab.beginning.seconds} seconds.`;
   drawLessons();
   load({ frames: "64", swap: "256", limit: "100", images: "mine", schedule: "", programs: [{ name: "mine", source: FIRST }] });
   document.body.dataset.ready = "yes";
