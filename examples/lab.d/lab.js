@@ -490,13 +490,14 @@ function drawAxes(svg, x, y, wide, high) {
   svg.append(shape("text", { x: (left + width - right) / 2, y: height - 6, "text-anchor": "middle" }, "page frames"));
 }
 
-// The faults at each size of memory, as wide as there is room. The smallest sizes are left out: there nearly every reference is
-// a fault.
+// The faults at each size of memory, as wide as there is room. The smallest sizes stand in the table alone: there nearly every
+// reference is a fault.
 function drawPlot(answer) {
   PLOT.width = Math.max(280, Math.min(860, at("lab-plot").clientWidth));
   const { width, height, left, right, top, bottom } = PLOT;
   const least = answer.best[0][0];
-  const lines = LINES.map(([kind, words, points]) => [kind, words, points(answer).filter(([frames]) => frames >= least)]);
+  const all = LINES.map(([kind, words, points]) => [kind, words, points(answer)]);
+  const lines = all.map(([kind, words, points]) => [kind, words, points.filter(([frames]) => frames >= least)]);
   const points = lines.flatMap(([, , points]) => points);
   const wide = Math.max(...points.map(([frames]) => frames), 1);
   const high = Math.max(...points.map(([, faults]) => faults), 1);
@@ -513,7 +514,7 @@ function drawPlot(answer) {
   }
   at("lab-plot").replaceChildren(svg);
   at("lab-plot-legend").replaceChildren(...lines.map(([kind, words]) => element("li", `lab-${kind}`, words)));
-  drawPlotTable(lines);
+  drawPlotTable(all);
 }
 
 function drawPlotTable(lines) {
