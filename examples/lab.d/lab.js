@@ -175,9 +175,10 @@ function drawLesson(lesson) {
   at("lab-lesson-text").hidden = !lesson;
   if (!lesson) return;
   at("lab-lesson-title").textContent = `Lesson: ${lesson.section}`;
-  const parts = lesson.text.map(([kind, text]) => {
+  const parts = lesson.text.map(([kind, text, name]) => {
     const part = element(kind);
-    if (kind === "pre") part.textContent = text;
+    if (kind === "img") Object.assign(part, { alt: text, src: name });
+    else if (kind === "pre") part.textContent = text;
     else part.append(...text.split("`").map((piece, index) => (index % 2 === 1 ? element("code", "", piece) : piece)));
     return part;
   });

@@ -9,10 +9,12 @@ TOUR = f"{EXAMPLES}/../docs/TOUR.md"
 TABLE = f"{EXAMPLES}/README.md"
 # programs that are images in the folder, with no source
 IMAGES = ("hi7", "hi8", "self7")
+PICTURES = f"{EXAMPLES}/../docs/pictures"
 # the names that a program of one's own may have
 OWN = ("mine", "mine2", "mine3", "mine4")
 ROW = re.compile(r"^\| `(\w+)` \| (.*) \| `(\d+) (\d+) (\d+) s ([=\w ]+)` \| `.*` \|$", re.M)
 RUN = re.compile(r"vmrun run (?:--trace )?(\d+) (\d+) (\d+) (\w+) ([=\w]+(?: [=\w]+)*)")
+PICTURE = re.compile(r"!\[([^\]]*)\]\(pictures/([\w-]+)\.svg\)")
 SCHEDULE = re.compile(r"printf '([^']*)' >(\w+)")
 
 
@@ -26,6 +28,11 @@ def sources():
     """The source of each example, by its name."""
     files = sorted(glob.glob(f"{EXAMPLES}/*.s"))
     return {os.path.basename(it)[:-2]: text_of(it) for it in files if os.path.basename(it)[:-2] not in OWN}
+
+
+def pictures():
+    """The tour's pictures, by the name that a page fetches."""
+    return {f"{os.path.basename(it)[:-4]}.picture": text_of(it) for it in glob.glob(f"{PICTURES}/*.svg")}
 
 
 def plain(text):
@@ -45,16 +52,19 @@ def examples():
 
 
 def blocks(text):
-    """A section's paragraphs, lists and examples, as pairs of a kind and a text."""
+    """A section's paragraphs, lists, examples and pictures, as lists of a kind and a text; of a picture its name comes after."""
     found = []
     for part in re.split(r"\n\n+", text.strip("\n")):
-        if part.startswith("    "):
+        picture = PICTURE.fullmatch(part)
+        if picture:
+            found.append(["img", " ".join(picture[1].split()), f"{picture[2]}.picture"])
+        elif part.startswith("    "):
             found.append(["pre", re.sub(r"(?m)^    ", "", part)])
         elif part.startswith("- "):
             found += [["li", plain(" ".join(it.split()))] for it in re.split(r"(?m)^- ", part) if it]
         elif part.startswith("|"):
             found.append(["pre", plain(part)])
-        elif part.strip() and not part.startswith(("![", "*")):
+        elif part.strip() and not part.startswith("!["):
             found.append(["p", plain(" ".join(part.split()))])
     return found
 
