@@ -22,12 +22,24 @@ use Rattle.table_steps.proofs.Stills.{Grown, Still, images_heads, sourced_still,
 pub running : (m : Inside) (s : Standing) → RunsInside m → standing_of m ≡ s → s.kernel.stopped ≡ false → s.before ≡ s.kernel.holdings
     → Runs (kernel_by m.tables m.journal.items m.stopped) (lists_of m.tables) m.tables.book.size
 running m s h e r w =
-    let n : RunsNow m = h (ap (λ (x : Standing). x.kernel.stopped) e ∙ r) in
+    let n : RunsNow m = h.running (ap (λ (x : Standing). x.kernel.stopped) e ∙ r) in
     let same : before_of m.tables ≡ m.tables.book.holdings = ap (λ (x : Standing). x.before) e ∙ w ∙ sym (ap (λ (x : Standing). x.kernel.holdings) e) in
     subst (λ (hs : Holdings). Runs (record (kernel_by m.tables m.journal.items m.stopped) { holdings = hs }) (lists_of m.tables) m.tables.book.size) same n.stands.runs
 
 pub stands_now : (m : Inside) (s : Standing) → RunsInside m → standing_of m ≡ s → s.kernel.stopped ≡ false → RunsNow m
-stands_now m s h e r = h (ap (λ (x : Standing). x.kernel.stopped) e ∙ r)
+stands_now m s h e r = h.running (ap (λ (x : Standing). x.kernel.stopped) e ∙ r)
+
+-- the machine runs by its fields
+pub runs_by : (m : Inside) (s : Standing) → standing_of m ≡ s → s.kernel.stopped ≡ false → m.stopped ≡ false
+runs_by m s e r = ap (λ (x : Standing). x.kernel.stopped) e ∙ r
+
+-- a machine that runs has its journal within its bound
+pub runs_within : (m : Inside) → m.stopped ≡ false → (m.stopped ≡ false → RunsNow m) → RunsInside m
+runs_within m e now = record { within = (now e).stands.within; running = now }
+
+-- the same journal is within the same bound
+pub still_within : (m n : Inside) → RunsInside m → n.journal.items ≡ m.journal.items → n.tables.params ≡ m.tables.params → length n.journal.items ≤ n.tables.params.journal
+still_within m n h j p = subst (λ (k : List Entry). length k ≤ n.tables.params.journal) (sym j) (subst (λ (x : Params). length m.journal.items ≤ x.journal) (sym p) h.within)
 
 pub whole_now : (m : Inside) (s : Standing) → standing_of m ≡ s → s.before ≡ s.kernel.holdings → before_of m.tables ≡ m.tables.book.holdings
 whole_now m s e w = ap (λ (x : Standing). x.before) e ∙ w ∙ sym (ap (λ (x : Standing). x.kernel.holdings) e)

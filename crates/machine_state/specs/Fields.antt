@@ -1,5 +1,5 @@
 -- A machine by its fields.
-use Rattle.std.specs.Prelude.{◌≡◌, ℕ, ◌<◌, false, length, Option, Some, None, Vec}
+use Rattle.std.specs.Prelude.{◌≡◌, ℕ, ◌<◌, ◌≤◌, false, length, Option, Some, None, Vec}
 use Rattle.std.specs.Vec.{vec_capacity, vec_len}
 use Rattle.vm_facts.specs.declared.entry.Entry.{Entry}
 use Rattle.table_steps.specs.Joined.{instructions_in, last_says}
@@ -29,5 +29,7 @@ pub record RunsNow (m : Inside) : Type 0 where
   pub none_lost : m.lost ≡ None
   pub room : HasRoom m.room m.journal m.tables.params.journal
 
-abbrev pub RunsInside : Inside → Type 0
-RunsInside m = m.stopped ≡ false → RunsNow m
+-- what holds of each machine, also of one that has stopped
+pub record RunsInside (m : Inside) : Type 0 where
+  pub within : length m.journal.items ≤ m.tables.params.journal
+  pub running : m.stopped ≡ false → RunsNow m

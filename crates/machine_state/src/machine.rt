@@ -117,6 +117,13 @@ impl Machine {
         let _ = &self.stopped;
     }
 
+    /// What is so of each machine, also of one that has stopped: its journal is within its bound.
+    pub fn always(&self)
+        ensures { length self.now.kernel.journal ≤ self.now.params.journal }
+    {
+        let _ = &self.stopped;
+    }
+
     /// The entries so far.
     pub fn journal(&self) -> &[Entry]
         ensures { result.now ≡ self.now.kernel.journal }

@@ -1,6 +1,6 @@
 -- A copy of a page as a whole, and copies one after another.
 use Rattle.std.proofs.Common.{◌≡◌, inl, inr, ℕ, suc, ◌<◌, ◌≤◌, false, List, [], ◌∷◌, length, Option, Some, None, refl, sym, ap, ◌∙◌, subst, arith}
-use Rattle.std.specs.Prelude.{Result, Ok, Err, OnOk, IfErr, MatchResult}
+use Rattle.std.specs.Prelude.{Result, Ok, Err, OnOk, OnErr, IfErr, MatchResult}
 use Rattle.std.proofs.lemmas.Option.{same_Some}
 use Rattle.vm_facts.specs.declared.page.Page.{Page}
 use Rattle.vm_facts.specs.declared.entry.Entry.TheVariants as entries
@@ -16,7 +16,7 @@ use Rattle.machine_state.specs.Machine.{Standing}
 use Rattle.machine_state.specs.Sourced.{ImageNamed}
 use Rattle.machine_state.specs.Files.{AreFiles}
 use Rattle.machine_state.specs.Calls.{first_due}
-use Rattle.machine_state.specs.Conditions.{KeepsFlat}
+use Rattle.machine_state.specs.Conditions.{HasStopped, KeepsFlat}
 use Rattle.machine_state.specs.Done.{KeepsThrough}
 use Rattle.fault_fill.specs.LastMoves.{last_moves}
 use Rattle.fault_fill.specs.Made.{ground, SameBeside}
@@ -82,8 +82,9 @@ pub copied_by : {A : Type 0} (r : Result A Stop) (child parent : Page) (old serv
     (i h j : Option (List ℕ)) → later ≡ holds → ServesNow (parent ∷ []) parent old served holds i h → Forced (parent ∷ []) served roomy later h j
     → KeepsThrough served roomy later h j → OnOk r (new.kernel ≡ copy_step roomy.kernel child) → OnOk r (new ≡ record roomy { kernel = new.kernel; room = None })
     → OnOk r (KeepsFlat roomy.kernel new.kernel) → IfErr r (λ stop. StopsAt (entries.Copy child) roomy.kernel j stop new j)
+    → OnErr r (HasStopped roomy new)
     → MatchResult r (λ x. CopiesPage child parent old new holds i j) (StopsPage child parent old new holds i j)
-copied_by (Ok x) child parent old served roomy new holds later i h j e s f keeps step rest flat stops = record {
+copied_by (Ok x) child parent old served roomy new holds later i h j e s f keeps step rest flat stops stopped = record {
   served = served;
   behind = h;
   serves = s;
@@ -94,8 +95,8 @@ copied_by (Ok x) child parent old served roomy new holds later i h j e s f keeps
       (keeps_both served roomy new later later h j j f.makes.beside.images (made_shaped (ground served later (parent ∷ [])) f.units served.kernel roomy.kernel h j f.makes.made) refl keeps
       (keeps_flat roomy new later j flat));
 }
-copied_by (Err stop) child parent old served roomy new holds later i h j e s f keeps step rest flat stops =
-    inr (record { served = served; behind = h; serves = s; stops = inr (roomy, same_files parent served roomy holds later h j e f, stops) })
+copied_by (Err stop) child parent old served roomy new holds later i h j e s f keeps step rest flat stops stopped =
+    inr (record { served = served; behind = h; serves = s; stops = inr (roomy, same_files parent served roomy holds later h j e f, stops, stopped.params, stopped.images) })
 
 pub goes_on : {A : Type 0} (r : Result A Stop) (child parent : Page) (old served roomy new : Standing) (holds later : Option (List NamedFile)) (i h j : Option (List ℕ))
     → IsOn roomy → Stay old.kernel.place roomy.kernel.place → ServesNow (parent ∷ []) parent old served holds i h → Forced (parent ∷ []) served roomy later h j

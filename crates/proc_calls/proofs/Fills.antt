@@ -1,6 +1,6 @@
 -- A new stack page is filled: what the fill asks, and what is so after it.
 use Rattle.std.proofs.Common.{◌≡◌, ℕ, inr, Bool, false, cond, List, [], ◌∷◌, Option, Some, refl, sym, ap, ◌∙◌, subst}
-use Rattle.std.specs.Prelude.{Result, Ok, Err, OnOk, IfErr, MatchResult, None}
+use Rattle.std.specs.Prelude.{Result, Ok, Err, OnOk, OnErr, IfErr, MatchResult, None}
 use Rattle.vm_facts.specs.declared.page.Page.{Page}
 use Rattle.vm_facts.specs.declared.entry.Entry.{Entry}
 use Rattle.vm_facts.specs.declared.entry.Entry.TheVariants as entries
@@ -16,7 +16,7 @@ use Rattle.page_laws.proofs.Ownership.Serve.{force_owner}
 use Rattle.kernel_model.specs.Kernel.{Kernel, zero_step}
 use Rattle.machine_state.specs.Machine.{Standing}
 use Rattle.machine_state.specs.Due.{IsFirstStart}
-use Rattle.machine_state.specs.Conditions.{CanZero, KeepsFlat}
+use Rattle.machine_state.specs.Conditions.{CanZero, HasStopped, KeepsFlat}
 use Rattle.machine_state.specs.Done.{KeepsThrough}
 use Rattle.fault_fill.specs.Made.{SameBeside, ground}
 use Rattle.fault_fill.specs.Stops.{StopsAt}
@@ -60,13 +60,13 @@ can_fill page old roomy holds i j o d s f =
 pub filled_by : {A : Type 0} (r : Result A Stop) (page : Page) (old roomy new : Standing) (holds later : Option (List NamedFile)) (i j : Option (List ℕ)) → later ≡ holds
     → Forced [] old roomy holds i j → KeepsThrough old roomy holds i j → OnOk r (new.kernel ≡ zero_step roomy.kernel page)
     → OnOk r (new ≡ record roomy { kernel = new.kernel; room = None }) → OnOk r (KeepsFlat roomy.kernel new.kernel)
-    → IfErr r (λ stop. StopsAt (entries.Zero page) roomy.kernel j stop new j)
+    → IfErr r (λ stop. StopsAt (entries.Zero page) roomy.kernel j stop new j) → OnErr r (HasStopped roomy new)
     → MatchResult r (λ x. FillsStart page old new holds i j) (StopsStart page old new holds i j)
-filled_by (Ok x) page old roomy new holds later i j e f keeps step rest flat stops = record {
+filled_by (Ok x) page old roomy new holds later i j e f keeps step rest flat stops stopped = record {
   roomy = roomy;
   forces = f;
   fills = rest ∙ ap (λ (k : Kernel). let s : Standing = record roomy { kernel = k; room = None } in s) step;
   keeps = keeps_both old roomy new holds later i j j f.makes.beside.images (made_shaped (ground old holds []) f.units old.kernel roomy.kernel i j f.makes.made) e keeps
       (keeps_flat roomy new later j flat);
 }
-filled_by (Err stop) page old roomy new holds later i j e f keeps step rest flat stops = inr (roomy, f, stops)
+filled_by (Err stop) page old roomy new holds later i j e f keeps step rest flat stops stopped = inr (roomy, f, stops, stopped.params, stopped.images)

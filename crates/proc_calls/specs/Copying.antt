@@ -50,7 +50,8 @@ pub record StopsBehind (child parent : Page) (old new : Standing) (holds : Optio
   pub behind : Option (List ℕ)
   pub serves : ServesNow (parent ∷ []) parent old served holds before behind
   pub stops : StopsForcing (parent ∷ []) served stop new holds behind after
-      ⊎ ((roomy : Standing) × Forced (parent ∷ []) served roomy holds behind after × StopsAt (Copy child) roomy.kernel after stop new after)
+      ⊎ ((roomy : Standing) × Forced (parent ∷ []) served roomy holds behind after × StopsAt (Copy child) roomy.kernel after stop new after
+      × (new.params ≡ roomy.params) × (new.images ≡ roomy.images))
 
 -- or before
 abbrev pub StopsPage : Page → Page → Standing → Standing → Option (List NamedFile) → Option (List ℕ) → Option (List ℕ) → Stop → Type 0

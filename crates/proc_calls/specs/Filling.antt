@@ -24,8 +24,9 @@ pub record FillsStart (page : Page) (old new : Standing) (holds : Option (List N
   pub fills : new ≡ record roomy { kernel = zero_step roomy.kernel page; room = None }
   pub keeps : KeepsThrough old new holds before after
 
--- the run stops as a frame is forced, or at the fill
+-- the run stops as a frame is forced, or at the fill, with the sizes and images of before
 abbrev pub StopsStart : Page → Standing → Standing → Option (List NamedFile) → Option (List ℕ) → Option (List ℕ) → Stop → Type 0
 StopsStart page old new holds before after stop =
     StopsForcing [] old stop new holds before after
-    ⊎ ((roomy : Standing) × Forced [] old roomy holds before after × StopsAt (Zero page) roomy.kernel after stop new after)
+    ⊎ ((roomy : Standing) × Forced [] old roomy holds before after × StopsAt (Zero page) roomy.kernel after stop new after
+    × (new.params ≡ roomy.params) × (new.images ≡ roomy.images))

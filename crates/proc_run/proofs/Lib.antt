@@ -13,3 +13,4 @@ pub mod Made
 pub mod Served
 pub mod Marks
 pub mod SoFar
+mod StopsSame

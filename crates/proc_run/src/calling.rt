@@ -9,6 +9,7 @@ ghost use Rattle.machine_state.specs.Outside.{stop_of, TransfersPages};
 ghost use Rattle.steady_laws.specs.Callers.{regs_of};
 ghost use Rattle.steady_laws.specs.Holders.{HoldersStand};
 ghost use Rattle.steady_laws.specs.Ready.{Continues};
+ghost use Rattle.steady_laws.specs.Sizes.{KeptAtStop};
 ghost use Rattle.proc_run.specs.Calls.{own_answers, CallComes, CallStops, MadeCall};
 ghost use Rattle.proc_run.specs.Runs.{IsSteady, is_now, Advances, StopsAdvancing, counts};
 
@@ -77,6 +78,7 @@ pub fn call<F: Files, D: SwapDev>(
     ensures stops { IfErr result (StopsAdvancing m.old m.new pid (is_now patience) (F.holds files.old) (D.image swap.old) (D.image swap.new)) }
     ensures continues { IfOk result (λ advance. Continues m.old m.new (counts advance)) }
     ensures holders { OnOk result (HoldersStand m.new.kernel) }
+    ensures kept { IfErr result (KeptAtStop m.old m.new) }
     ensures outside { TransfersPages F.Files D.SwapDev (stop_of result) files.old files.new swap.old swap.new }
 {
     m.sound();

@@ -7,6 +7,7 @@ ghost use Rattle.steady_laws.specs.Callers.{regs_of};
 ghost use Rattle.touched_pages.specs.Missed.{WritesNothing};
 ghost use Rattle.steady_laws.specs.Holders.{HoldersStand};
 ghost use Rattle.steady_laws.specs.Ready.{Continues};
+ghost use Rattle.steady_laws.specs.Sizes.{KeptAtStop};
 ghost use Rattle.proc_run.specs.Serving.{ServedBy, StopsServed};
 ghost use Rattle.proc_run.specs.Runs.{IsSteady, is_now, AdvancesWaiting, StopsWaiting, counts};
 
@@ -97,6 +98,7 @@ pub fn serve_access<F: Files, D: SwapDev>(
     ensures stops { IfErr result (StopsWaiting m.old m.new pid (is_now patience) address write (F.holds files.old) (D.image swap.old) (D.image swap.new)) }
     ensures continues { IfOk result (λ advance. Continues m.old m.new (counts advance)) }
     ensures holders { OnOk result (HoldersStand m.new.kernel) }
+    ensures kept { IfErr result (KeptAtStop m.old m.new) }
     ensures outside { TransfersPages F.Files D.SwapDev (stop_of result) files.old files.new swap.old swap.new }
 {
     m.sound();

@@ -45,8 +45,8 @@ owned_full A entries m text bound size within full told = record {
 }
 
 -- where a run ended that is over or has a full journal, the machine runs on
-pub runs_on : (A : Inputs) (m : Standing) (ran : Result (Unit {0}) Unfinished) → HasRun A m ran → RunsOn m ran
-runs_on A m (Ok done) run = run.over.stands.running
-runs_on A m (Err (Stopped stops.JournalFull)) run = (run.full refl).stands.running
-runs_on A m (Err (Stopped _)) run = tt
-runs_on A m (Err (NoSpace pid)) run = tt
+pub runs_on : (A : Inputs) (entries : ℕ) (m : Standing) (ran : Result (Unit {0}) Unfinished) → HasRun A entries m ran → RunsOn m ran
+runs_on A entries m (Ok done) run = run.over.stands.running
+runs_on A entries m (Err (Stopped stops.JournalFull)) run = (run.full refl).stands.running
+runs_on A entries m (Err (Stopped _)) run = tt
+runs_on A entries m (Err (NoSpace pid)) run = tt

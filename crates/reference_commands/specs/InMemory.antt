@@ -63,8 +63,11 @@ pub record IsRunnable (numbers : Numbers) (images : ℕ) (first : List ℕ) (lin
   pub ranges : All IsInRanges lines
   pub few_lines : length lines ≤ 65536
 
--- The run ended so, with a machine; where it is over, or halted since its journal is full, that stands where the journal leads to.
-pub record HasRun (A : Inputs) (m : Standing) (ran : Result (Unit {0}) Unfinished) : Type 0 where
+-- The run ended so, with a machine whose journal has at most so many entries, and whose swap area is that of the inputs; where the run is
+-- over, or halted since its journal is full, the machine stands where the journal leads to.
+pub record HasRun (A : Inputs) (entries : ℕ) (m : Standing) (ran : Result (Unit {0}) Unfinished) : Type 0 where
+  pub journal : m.params.journal ≡ entries
+  pub blocks : m.params.swap_blocks ≡ A.swap_blocks
   pub left : Option (List ℕ)
   pub ends : RunEnds A m.kernel.journal (blank_swap A.swap_blocks) ran left
   pub full : ran ≡ Err (Stopped stops.JournalFull) → RunFull A m

@@ -1,5 +1,5 @@
 // A run in memory, its references, and who owns what where it ends.
-ghost use Rattle.std.specs.Prelude.{◌≡◌, ◌≤◌, ℕ, false, List, Option, Some, map, length, All, IsTrue, IfOk};
+ghost use Rattle.std.specs.Prelude.{◌≡◌, ◌≤◌, ℕ, false, List, Option, Some, Err, map, length, All, IfOk};
 ghost use Rattle.flat_state.specs.Flat.{Inputs};
 ghost use Rattle.run_files.specs.ImageWords.{IsShortName};
 ghost use Rattle.replay_check.specs.Images.{AreImageFiles, AreNumbers, images_of};
@@ -9,6 +9,7 @@ ghost use Rattle.replay_command.specs.Reading.{items_of};
 ghost use Rattle.command_ending.specs.Ending.{ending_of};
 ghost use Rattle.io_edge.specs.Octets.{AreOctetFiles};
 ghost use Rattle.owner_lines.specs.Owners.{owners_of};
+ghost use Rattle.run_command.specs.Machines.{journal_entries};
 ghost use Rattle.reference_commands.specs.Answering.{blank_swap};
 ghost use Rattle.reference_commands.specs.InMemory.{file_of, inputs_with, AreOpened, IsRunnable, HasRun, RunsOn, EndsRun, EndsAnswer, AllDiffer};
 ghost use Rattle.reference_commands.specs.declared.question.Question.TheVariants as questions;
@@ -38,7 +39,8 @@ fn references_at_end<'a>(
     requires images { AreImageFiles images.now }
     requires first { AreNumbers (length images.now) first.now }
     ensures ends { (A : Inputs) (after : Option (List ℕ)) → A.images ≡ images_of images.now → A.first ≡ first.now → A.limit ≤ 100000
-        → RunEnds A journal.now (blank_swap A.swap_blocks) ran after → EndsRun A (items_of result) }
+        → RunEnds A journal.now (blank_swap A.swap_blocks) ran after → (ran ≡ Err (Unfinished.Stopped Stop.JournalFull) → journal_entries ≤ length journal.now)
+        → EndsRun A (items_of result) }
 {
     match ran {
         Ok(()) => match references(alloc, images, first, journal) {
@@ -46,8 +48,7 @@ fn references_at_end<'a>(
             Err(_) => Err(Fault::NoMemory),
         },
         Err(Unfinished::NoSpace(pid)) => Err(Fault::NoSpace(pid)),
-        Err(Unfinished::Stopped(Stop::JournalFull)) if journal.len() >= JOURNAL_ENTRIES as usize =>
-            { Err(Fault::JournalFull) }
+        Err(Unfinished::Stopped(Stop::JournalFull)) => Err(Fault::JournalFull),
         Err(Unfinished::Stopped(_)) => Err(Fault::NoMemory),
     }
 }
@@ -62,16 +63,6 @@ fn lines_of(alloc: Global, machine: &Machine, over: bool) -> Result<Vec<u8>, NoM
         Moved::Done => Ok(text.into_bytes()),
         Moved::Failed => Err(NoMemory),
     }
-}
-
-// Whether a machine has a journal of up to so many entries, and a swap area of so many blocks. It has those with which it was made, but
-// no clause of its run says so.
-fn has_sizes(machine: &Machine, entries: u32, blocks: u32) -> bool
-    ensures journal { IsTrue result → machine.now.params.journal ≡ entries }
-    ensures blocks { IsTrue result → machine.now.params.swap_blocks ≡ blocks }
-{
-    let params = machine.params();
-    params.journal == entries && params.swap_blocks == blocks
 }
 
 // The lines of a machine with these sizes, whose run is over.
@@ -104,16 +95,11 @@ fn lines_full<'a>(alloc: Global, machine: &Machine) -> Result<Vec<u8>, Fault<'a>
 fn owners_at_end<'a>(
     alloc: Global,
     machine: &Machine,
-    entries: u32,
-    blocks: u32,
     ran: Result<(), Unfinished>,
 ) -> Result<Vec<u8>, Fault<'a>>
     requires running { RunsOn machine.now ran }
-    ensures ends { (A : Inputs) → A.swap_blocks ≡ blocks → HasRun A machine.now ran → EndsAnswer (questions.Owners entries) A (ending_of result) }
+    ensures ends { (A : Inputs) (entries : ℕ) → HasRun A entries machine.now ran → EndsAnswer (questions.Owners entries) A (ending_of result) }
 {
-    if !has_sizes(machine, entries, blocks) {
-        return Err(Fault::NoMemory);
-    }
     match ran {
         Ok(()) => lines_over(alloc, machine),
         Err(Unfinished::NoSpace(pid)) => Err(Fault::NoSpace(pid)),
@@ -144,7 +130,7 @@ fn run_opened(
     requires images { AreImageFiles images.now }
     requires opened { AreOpened images.now opened.now }
     requires runnable { IsRunnable numbers (length images.now) first.now lines.now }
-    ensures { IfOk result (λ ran. HasRun (inputs_with numbers images.now first.now lines.now) ran.core.machine ran.end) }
+    ensures { IfOk result (λ ran. HasRun (inputs_with numbers images.now first.now lines.now) entries ran.core.machine ran.end) }
 {
     let mut swap = SureSwap::new(alloc, numbers.swap)?;
     let mut core = core_up_to(alloc, numbers, entries, opened)?;
@@ -169,7 +155,7 @@ fn run_images(
     requires short { All (λ name. IsShortName name.now) names.now }
     requires differ { AllDiffer (map (λ name. name.now) names.now) }
     requires runnable { IsRunnable numbers (length images.now) first.now lines.now }
-    ensures { IfOk result (λ ran. HasRun (inputs_with numbers images.now first.now lines.now) ran.core.machine ran.end) }
+    ensures { IfOk result (λ ran. HasRun (inputs_with numbers images.now first.now lines.now) entries ran.core.machine ran.end) }
 {
     let Ok(held) = files_of(alloc, images) else {
         return Err(NoMemory);
@@ -240,7 +226,7 @@ pub fn run_owners<'a>(
         return Err(Fault::NoMemory);
     };
     let Ran { core, end } = ran;
-    let text = owners_at_end(alloc, core.machine(), entries, numbers.swap, end);
+    let text = owners_at_end(alloc, core.machine(), end);
     core.end();
     text
 }

@@ -1,29 +1,23 @@
 -- How a run over two devices ends, as the command's ending.
-use Rattle.std.proofs.Common.{◌≡◌, inl, inr, ℕ, ◌≤◌, Bool, List, [], length, Option, Some, Ok, Err, sym, ap, ◌∙◌, subst}
+use Rattle.std.proofs.Common.{◌≡◌, inl, inr, ℕ, ◌≤◌, Bool, List, [], Option, Ok, Err, sym, subst}
 use Rattle.std.specs.Prelude.{IfErr}
 use Rattle.vm_facts.specs.declared.entry.Entry.{Entry}
-use Rattle.vm_facts.specs.declared.stop.Stop.TheVariants as stops
 use Rattle.flat_state.specs.Flat.{Inputs}
 use Rattle.run_model.specs.State.{State}
-use Rattle.vm_core.specs.Lawful.{IsJournalOf, RunHalted, RunStarved}
+use Rattle.vm_core.specs.Lawful.{IsJournalOf}
 use Rattle.vm_core.specs.RunEnds.{RunEnds}
 use Rattle.run_text.specs.Transcript.{HaveNumbers}
 use Rattle.transcript_laws.specs.Replayed.{IsFlatText}
 use Rattle.transcript_laws.proofs.Texts.{text_flat, empty_flat}
 use Rattle.command_ending.specs.declared.fault.Fault.{Fault}
 use Rattle.command_ending.specs.declared.fault.Fault.TheVariants.{FileFault, SwapReadFault, SwapWriteFault, NoMemory, JournalFull, NoSpace}
-use Rattle.run_command.specs.Machines.{journal_entries}
 use Rattle.run_command.specs.Seen.{Seen}
 use Rattle.run_command.specs.Ends.{Ending, NoneFaulted, HaltCaused, RunCaused, FaultEnded, RunEnded, CanBeLost}
 use Rattle.run_command.specs.Paired.{unfinished_of, IsRunFault}
 
--- A machine that stops at its journal's bound leaves what one leaves that finds no memory.
-pub full_starves : (A : Inputs) (es : List Entry) (image : List ℕ) (j : Option (List ℕ)) → RunHalted A es stops.JournalFull image j → RunStarved A es image j
-full_starves A es image j h = record { state = h.state; made = h.made; left = h.told ∙ ap (λ (bytes : List ℕ). Some bytes) h.image_left }
-
 -- the cause of an ending, before its line is written
 abbrev pub StopCaused : Seen → List Entry → Ending → Type 0
-StopCaused seen es (Ok done) = NoneFaulted seen × (length es ≤ journal_entries)
+StopCaused seen es (Ok done) = NoneFaulted seen
 StopCaused seen es (Err fault) = HaltCaused seen es fault
 
 module _ (seen : Seen) (es : List Entry) where

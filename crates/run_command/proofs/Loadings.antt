@@ -85,42 +85,43 @@ as_run (Err faults.NoMemory) began = tt
 as_run (Err _) began = absurd began
 
 load_stops : (seen : Seen) (journal : List Entry) (r : Ending) → IsRunEnding r → NoFaults seen.faults → ReadsFail r seen.reads → WritesFail r seen.writes → ((pid : ℕ) → r ≡ Err (faults.NoSpace pid) → journal ≡ [])
-    → ((pid : ℕ) → r ≡ Err (faults.NoSpace pid) → seen.swap_after ≡ seen.swap_before) → (r ≡ Err faults.JournalFull → length journal ≡ journal_entries) → OnOk r (length journal ≤ journal_entries) → StopCaused seen journal r
-load_stops seen journal (Ok done) began files reads writes none same full within = (record { files = files; reads = reads; writes = writes }, within)
-load_stops seen journal (Err faults.FileFault) began files reads writes none same full within = absurd began
-load_stops seen journal (Err (faults.SwapReadFault device)) began files reads writes none same full within = record { files = files; read = reads; writes = writes }
-load_stops seen journal (Err (faults.SwapWriteFault device)) began files reads writes none same full within = record { files = files; reads = reads; write = writes }
-load_stops seen journal (Err faults.JournalFull) began files reads writes none same full within = (record { files = files; reads = reads; writes = writes }, full refl)
-load_stops seen journal (Err (faults.NoSpace pid)) began files reads writes none same full within =
+    → ((pid : ℕ) → r ≡ Err (faults.NoSpace pid) → seen.swap_after ≡ seen.swap_before) → (r ≡ Err faults.JournalFull → length journal ≡ journal_entries) → StopCaused seen journal r
+load_stops seen journal (Ok done) began files reads writes none same full = record { files = files; reads = reads; writes = writes }
+load_stops seen journal (Err faults.FileFault) began files reads writes none same full = absurd began
+load_stops seen journal (Err (faults.SwapReadFault device)) began files reads writes none same full = record { files = files; read = reads; writes = writes }
+load_stops seen journal (Err (faults.SwapWriteFault device)) began files reads writes none same full = record { files = files; reads = reads; write = writes }
+load_stops seen journal (Err faults.JournalFull) began files reads writes none same full = (record { files = files; reads = reads; writes = writes }, full refl)
+load_stops seen journal (Err (faults.NoSpace pid)) began files reads writes none same full =
     record { nothing = record { journal_is = none pid refl; swap = same pid refl; reads = reads; writes = writes }; files = files }
-load_stops seen journal (Err faults.NoMemory) began files reads writes none same full within = record { files = files; reads = reads; writes = writes }
-load_stops seen journal (Err _) began files reads writes none same full within = absurd began
+load_stops seen journal (Err faults.NoMemory) began files reads writes none same full = record { files = files; reads = reads; writes = writes }
+load_stops seen journal (Err _) began files reads writes none same full = absurd began
 
 -- The lines of an ending found no memory: that is want of memory, also of a run that is finished.
 
 counts_lost_caused : (seen : Seen) (journal : List Entry) (r : Ending) → IsRunEnding r → CountsBeLost r → StopCaused seen journal r → RunCaused seen journal (Err faults.NoMemory)
-counts_lost_caused seen journal (Ok done) began lost c = inl c.0
+counts_lost_caused seen journal (Ok done) began lost c = inl c
 counts_lost_caused seen journal (Err fault) began lost c = lost_caused seen journal (Err fault) (as_run (Err fault) began) lost c
 
 counts_starve : (seen : Seen) (A : Inputs) (journal : List Entry) (image : List ℕ) (r : Ending) → IsRunEnding r → CountsBeLost r → StopCaused seen journal r
     → RunEnded seen A journal image r → RunEnded seen A journal image (Err faults.NoMemory)
-counts_starve seen A journal image (Ok done) began lost c e = inl (c.0, inr (record { state = e.state; made = e.made; left = e.left }))
+counts_starve seen A journal image (Ok done) began lost c e = inl (c, inr (record { state = e.state; made = e.made; left = e.left }))
 counts_starve seen A journal image (Err fault) began lost c e = lost_ended seen A journal image (Err fault) (as_run (Err fault) began) lost c e
 
 other_fault : (pid : ℕ) → (let r : Ending = Err faults.NoMemory in r) ≡ Err (faults.NoSpace pid) → ⊥
 other_fault pid e = cc
 
 -- the run of a machine, as it was written
-load_runs : (IsOf : Inputs → List ℕ → Type 0) (Starts : Inputs → Type 0) (number : ℕ) (seen : Seen) (status : ℕ) (journal : List Entry) (r : Ending) → IsRunEnding r → StopCaused seen journal r
+load_runs : (IsOf : Inputs → List ℕ → Type 0) (Starts : Inputs → Type 0) (number : ℕ) (seen : Seen) (status : ℕ) (journal : List Entry) (r : Ending) → IsRunEnding r → length journal ≤ journal_entries → StopCaused seen journal r
     → ((A : Inputs) → Starts A → (pid : ℕ) → r ≡ Err (faults.NoSpace pid) → start_held A ≡ Err pid)
     → ((A : Inputs) (image : List ℕ) → IsOf A image → seen.swap_before ≡ Some image → RunEnded seen A journal image r)
     → WritesCounts number journal r seen.written_before seen.written_after seen.sink_faults_before seen.sink_faults_after status → LoadRuns IsOf Starts number seen status
-load_runs IsOf Starts number seen status journal r began caused space ended (inl w) =
-    record { ending = r; journal = journal; writes = w; caused = caused_as seen journal r (as_run r began) caused; began = began; space = space; ended = ended }
-load_runs IsOf Starts number seen status journal r began caused space ended (inr (lost, w)) = record {
+load_runs IsOf Starts number seen status journal r began within caused space ended (inl w) =
+    record { ending = r; journal = journal; writes = w; within = within; caused = caused_as seen journal r (as_run r began) caused; began = began; space = space; ended = ended }
+load_runs IsOf Starts number seen status journal r began within caused space ended (inr (lost, w)) = record {
   ending = Err faults.NoMemory;
   journal = journal;
   writes = w;
+  within = within;
   caused = counts_lost_caused seen journal r began lost caused;
   began = tt;
   space = λ A starts pid e. absurd (other_fault pid e);
@@ -130,20 +131,20 @@ load_runs IsOf Starts number seen status journal r began caused space ended (inr
 pub load_ran : (IsOf : Inputs → List ℕ → Type 0) (Starts : Inputs → Type 0) (number : ℕ) (seen : Seen) (status : ℕ) (journal : List Entry) (r : Ending) → IfErr r IsRunFault → CountsFileFaults (stop_of (stopped_as (unfinished_of r))) 0 0
     → NoFaults seen.faults
     → ReadsFail r seen.reads → WritesFail r seen.writes → ((pid : ℕ) → r ≡ Err (faults.NoSpace pid) → journal ≡ []) → ((pid : ℕ) → r ≡ Err (faults.NoSpace pid) → seen.swap_after ≡ seen.swap_before)
-    → (r ≡ Err faults.JournalFull → length journal ≡ journal_entries) → OnOk r (length journal ≤ journal_entries)
+    → (r ≡ Err faults.JournalFull → length journal ≡ journal_entries) → length journal ≤ journal_entries
     → ((A : Inputs) → Starts A → (pid : ℕ) → r ≡ Err (faults.NoSpace pid) → start_held A ≡ Err pid)
     → ((A : Inputs) (image : List ℕ) → IsOf A image → seen.swap_before ≡ Some image → RunEnds A journal image (unfinished_of r) seen.swap_after)
     → WritesCounts number journal r seen.written_before seen.written_after seen.sink_faults_before seen.sink_faults_after status → LoadRuns IsOf Starts number seen status
 load_ran IsOf Starts number seen status journal r kind pages files reads writes none same full within space ends w =
     let began = files_hold r kind pages in
-    let caused = load_stops seen journal r began files reads writes none same full within in
-    load_runs IsOf Starts number seen status journal r began caused space (λ A image is told. run_ended seen A journal image r kind caused (ends A image is told)) w
+    let caused = load_stops seen journal r began files reads writes none same full in
+    load_runs IsOf Starts number seen status journal r began within caused space (λ A image is told. run_ended seen A journal image r kind caused (ends A image is told)) w
 
 -- a machine that wasn't made
 pub load_unmade : (IsOf : Inputs → List ℕ → Type 0) (Starts : Inputs → Type 0) (number : ℕ) (seen : Seen) (status : ℕ) → seen.swap_after ≡ seen.swap_before → NoneFaulted seen
     → WritesCounts number [] (Err faults.NoMemory) seen.written_before seen.written_after seen.sink_faults_before seen.sink_faults_after status → LoadRuns IsOf Starts number seen status
 load_unmade IsOf Starts number seen status same none w =
-    load_runs IsOf Starts number seen status [] (Err faults.NoMemory) tt none (λ A starts pid e. absurd (other_fault pid e)) (λ A image is told. inl (none, inl (refl, same ∙ told))) w
+    load_runs IsOf Starts number seen status [] (Err faults.NoMemory) tt (omega arith) none (λ A starts pid e. absurd (other_fault pid e)) (λ A image is told. inl (none, inl (refl, same ∙ told))) w
 
 -- Loads.
 
@@ -179,6 +180,7 @@ loads_run IsOf Starts number seen status long files starts is_of x =
       ending = x.ending;
       journal = x.journal;
       writes = x.writes;
+      within = x.within;
       caused = load_caused seen x.journal x.ending x.began (λ pid e. all_start number pid (x.space (load_inputs number) starts pid e)) x.caused long;
       files = files;
       told = ends;
@@ -195,6 +197,7 @@ loads_unmade number seen status same none (inl w) =
       ending = Err faults.NoMemory;
       journal = [];
       writes = w;
+      within = omega arith;
       caused = inl none;
       files = none.files;
       told = ends;
@@ -225,6 +228,7 @@ loads_short number seen status (faults.ShortDevice device blocks needed) short i
       ending = Err (faults.ShortDevice device blocks needed);
       journal = [];
       writes = w;
+      within = omega arith;
       caused = (done, is);
       files = done.files;
       told = ends;

@@ -1,5 +1,5 @@
 -- What a stop of a run over two devices is said as, and which device failed.
-use Rattle.std.proofs.Common.{◌≡◌, inl, inr, ℕ, ◌<◌, List, Option, Some, None, Err, refl, sym, ap, ◌∙◌, subst, arith}
+use Rattle.std.proofs.Common.{◌≡◌, inl, inr, ℕ, ◌<◌, ◌≤◌, List, Option, Some, None, Err, refl, sym, ap, ◌∙◌, subst, arith}
 use Rattle.std.specs.Option.{ForSome}
 use Rattle.vm_facts.specs.declared.entry.Entry.{Entry}
 use Rattle.vm_facts.specs.declared.stop.Stop.{Stop}
@@ -14,14 +14,10 @@ use Rattle.command_ending.specs.declared.fault.Fault.{Fault}
 use Rattle.command_ending.specs.declared.fault.Fault.TheVariants.{FileFault, SwapReadFault, SwapWriteFault, NoMemory, JournalFull, NoSpace}
 use Rattle.run_command.specs.Seen.{DeviceFaults, NoneFailed, DeviceFailed}
 use Rattle.run_command.specs.Paired.{unfinished_by, IsFaultOf, IsRunFault, ReadsFail, WritesFail}
-use Rattle.run_command.proofs.Endings.{full_starves}
 
 pub stopped_ends : (A : Inputs) (es : List Entry) (image : List ℕ) (j : Option (List ℕ)) (stop : Stop) (fault : Fault) → IsFaultOf stop fault → RunEnds A es image (Err (ends.Stopped stop)) j
     → RunEnds A es image (Err (unfinished_by fault)) j
-stopped_ends A es image j stop fault (inl e) x = subst (λ (u : Unfinished). RunEnds A es image (Err u) j) (sym e) x
-stopped_ends A es image j stop fault (inr (full, lacks)) x =
-    subst (λ (f : Fault). RunEnds A es image (Err (unfinished_by f)) j) (sym lacks)
-    (inr (full_starves A es image j (subst (λ (s : Stop). RunEnds A es image (Err (ends.Stopped s)) j) full x)))
+stopped_ends A es image j stop fault e x = subst (λ (u : Unfinished). RunEnds A es image (Err u) j) (sym e) x
 
 -- while a pair that counted no failed call counts none, no device does
 pub none_failed : (f : DeviceFaults) (old new : ℕ) (before after : Option ℕ) → AddsFailures old new before after f.zero_before f.zero_after f.one_before f.one_after → old ≡ 0 → new ≡ old → NoneFailed f
@@ -34,9 +30,15 @@ device_failed f old new before after device a none low named =
     (low device named, elim (a.named device named) [ inl e ↦ absurd cc | inr rose ↦ rose ])
 
 -- a stop that isn't of a read from swap, or of a write
-stop_of : (stop : Stop) (fault : Fault) (other : Stop) → IsFaultOf stop fault → (stops.JournalFull ≡ other → ⊥) → (unfinished_by fault ≡ ends.Stopped other → ⊥) → stop ≡ other → ⊥
-stop_of stop fault other (inl e) full never same = never (e ∙ ap (λ (s : Stop). ends.Stopped s) same)
-stop_of stop fault other (inr (is, lacks)) full never same = full (sym is ∙ same)
+stop_of : (stop : Stop) (fault : Fault) (other : Stop) → IsFaultOf stop fault → (unfinished_by fault ≡ ends.Stopped other → ⊥) → stop ≡ other → ⊥
+stop_of stop fault other e never same = never (e ∙ ap (λ (s : Stop). ends.Stopped s) same)
+
+-- what a run whose journal is full has of the bound
+pub full_at : (stop : Stop) (fault : Fault) (few many : ℕ) → IsFaultOf stop fault → many ≤ few → (stop ≡ stops.JournalFull → few ≤ many) → fault ≡ JournalFull → many ≡ few
+full_at stop fault few many e within full is =
+    let same : ends.Stopped stops.JournalFull ≡ ends.Stopped stop = ap unfinished_by (sym is) ∙ e in
+    let bound : few ≤ many = full (let s : stop ≡ stops.JournalFull = cc in s) in
+    omega (arith, within, bound)
 
 reads_stay : (stop : Stop) (old new : ℕ) → (stop ≡ stops.SwapReadFault → ⊥) → CountsReadFaults (Some stop) old new → new ≡ old
 reads_stay stops.SwapReadFault old new other c = absurd (other refl)
@@ -54,10 +56,10 @@ writes_stay stops.SwapReadFault old new other c = c
 
 module _ (f : DeviceFaults) (old new : ℕ) (before after : Option ℕ) (a : AddsFailures old new before after f.zero_before f.zero_after f.one_before f.one_after) (zero : old ≡ 0) (none : before ≡ None) (low : ForSome after (λ (d : ℕ). d < 2)) (stop : Stop) where
   reads_none : (fault : Fault) → CountsReadFaults (Some stop) old new → IsFaultOf stop fault → (unfinished_by fault ≡ ends.Stopped stops.SwapReadFault → ⊥) → NoneFailed f
-  reads_none fault c is never = none_failed f old new before after a zero (reads_stay stop old new (stop_of stop fault stops.SwapReadFault is (λ e. cc) never) c)
+  reads_none fault c is never = none_failed f old new before after a zero (reads_stay stop old new (stop_of stop fault stops.SwapReadFault is never) c)
 
   writes_none : (fault : Fault) → CountsWriteFaults (Some stop) old new → IsFaultOf stop fault → (unfinished_by fault ≡ ends.Stopped stops.SwapWriteFault → ⊥) → NoneFailed f
-  writes_none fault c is never = none_failed f old new before after a zero (writes_stay stop old new (stop_of stop fault stops.SwapWriteFault is (λ e. cc) never) c)
+  writes_none fault c is never = none_failed f old new before after a zero (writes_stay stop old new (stop_of stop fault stops.SwapWriteFault is never) c)
 
   pub reads_fail : (fault : Fault) → CountsReadFaults (Some stop) old new → IsFaultOf stop fault → IsRunFault fault → ((device : ℕ) → fault ≡ SwapReadFault device → after ≡ Some device) → ReadsFail (Err fault) f
   reads_fail (SwapReadFault device) c is kind named = device_failed f old new before after device a none low (named device refl)

@@ -71,33 +71,34 @@ room_told zero_size one_size swap zero one image zero_whole one_whole meets most
 pub run_caused : (seen : Seen) (es : List Entry) (r : Ending) → IfErr r IsRunFault → seen.faults.open_after ≡ seen.faults.open_before
     → CountsFileFaults (stop_of (stopped_as (unfinished_of r))) seen.faults.page_before seen.faults.page_after
     → ReadsFail r seen.reads → WritesFail r seen.writes → ((pid : ℕ) → r ≡ Err (NoSpace pid) → es ≡ []) → ((pid : ℕ) → r ≡ Err (NoSpace pid) → seen.swap_after ≡ seen.swap_before)
-    → (r ≡ Err JournalFull → length es ≡ journal_entries) → OnOk r (length es ≤ journal_entries) → StopCaused seen es r
-run_caused seen es (Ok done) kind opens pages reads writes none same full within =
-    (record { files = record { open_same = opens; page_same = pages }; reads = reads; writes = writes }, within)
-run_caused seen es (Err FileFault) kind opens pages reads writes none same full within = record { page = (opens, pages); reads = reads; writes = writes }
-run_caused seen es (Err (SwapReadFault device)) kind opens pages reads writes none same full within =
+    → (r ≡ Err JournalFull → length es ≡ journal_entries) → StopCaused seen es r
+run_caused seen es (Ok done) kind opens pages reads writes none same full =
+    record { files = record { open_same = opens; page_same = pages }; reads = reads; writes = writes }
+run_caused seen es (Err FileFault) kind opens pages reads writes none same full = record { page = (opens, pages); reads = reads; writes = writes }
+run_caused seen es (Err (SwapReadFault device)) kind opens pages reads writes none same full =
     record { files = record { open_same = opens; page_same = pages }; read = reads; writes = writes }
-run_caused seen es (Err (SwapWriteFault device)) kind opens pages reads writes none same full within =
+run_caused seen es (Err (SwapWriteFault device)) kind opens pages reads writes none same full =
     record { files = record { open_same = opens; page_same = pages }; reads = reads; write = writes }
-run_caused seen es (Err JournalFull) kind opens pages reads writes none same full within =
+run_caused seen es (Err JournalFull) kind opens pages reads writes none same full =
     (record { files = record { open_same = opens; page_same = pages }; reads = reads; writes = writes }, full refl)
-run_caused seen es (Err NoMemory) kind opens pages reads writes none same full within = record { files = record { open_same = opens; page_same = pages }; reads = reads; writes = writes }
-run_caused seen es (Err (NoSpace pid)) kind opens pages reads writes none same full within = record {
+run_caused seen es (Err NoMemory) kind opens pages reads writes none same full = record { files = record { open_same = opens; page_same = pages }; reads = reads; writes = writes }
+run_caused seen es (Err (NoSpace pid)) kind opens pages reads writes none same full = record {
   nothing = record { journal_is = none pid refl; swap = same pid refl; reads = reads; writes = writes };
   files = record { open_same = opens; page_same = pages };
 }
-run_caused seen es (Err _) kind opens pages reads writes none same full within = absurd kind
+run_caused seen es (Err _) kind opens pages reads writes none same full = absurd kind
 
 -- A run over a machine, as it was written.
 
 pub opened_runs : (IsOf : Inputs → List ℕ → Type 0) (traced : Bool) (seen : Seen) (es : List Entry) (r : Ending) (status : ℕ)
-    → WritesSome traced es r seen.written_before seen.written_after seen.sink_faults_before seen.sink_faults_after status → HaveNumbers es → StopCaused seen es r → IfErr r IsRunFault
+    → WritesSome traced es r seen.written_before seen.written_after seen.sink_faults_before seen.sink_faults_after status → HaveNumbers es → length es ≤ journal_entries → StopCaused seen es r → IfErr r IsRunFault
     → ((A : Inputs) (image : List ℕ) → IsOf A image → seen.swap_before ≡ Some image → RunEnded seen A es image r) → RunsOpened IsOf traced seen status
-opened_runs IsOf traced seen es r status (inl writes) numbers caused kind ended = record { ending = r; journal = es; writes = writes; caused = caused_as seen es r kind caused; numbers = numbers; ended = ended }
-opened_runs IsOf traced seen es r status (inr (lost, writes)) numbers caused kind ended = record {
+opened_runs IsOf traced seen es r status (inl writes) numbers within caused kind ended = record { ending = r; journal = es; writes = writes; within = within; caused = caused_as seen es r kind caused; numbers = numbers; ended = ended }
+opened_runs IsOf traced seen es r status (inr (lost, writes)) numbers within caused kind ended = record {
   ending = Err NoMemory;
   journal = es;
   writes = writes;
+  within = within;
   caused = lost_caused seen es r kind lost caused;
   numbers = numbers;
   ended = λ A image is told. lost_ended seen A es image r kind lost caused (ended A image is told);
@@ -106,7 +107,7 @@ opened_runs IsOf traced seen es r status (inr (lost, writes)) numbers caused kin
 pub opened_lacking : (IsOf : Inputs → List ℕ → Type 0) (traced : Bool) (seen : Seen) (status : ℕ) → WritesSome traced [] (Err NoMemory) seen.written_before seen.written_after seen.sink_faults_before seen.sink_faults_after status
     → seen.swap_after ≡ seen.swap_before → NoneFaulted seen → RunsOpened IsOf traced seen status
 opened_lacking IsOf traced seen status (inl writes) same none =
-    record { ending = Err NoMemory; journal = []; writes = writes; caused = inl none; numbers = tt; ended = λ A image is told. inl (none, inl (refl, same ∙ told)) }
+    record { ending = Err NoMemory; journal = []; writes = writes; within = omega arith; caused = inl none; numbers = tt; ended = λ A image is told. inl (none, inl (refl, same ∙ told)) }
 opened_lacking IsOf traced seen status (inr (lost, writes)) same none = absurd lost
 
 -- The same for the words.
@@ -159,6 +160,7 @@ opened_words request seen opening status x allowed devices good known room = rec
   ending = x.ending;
   journal = x.journal;
   writes = x.writes;
+  within = x.within;
   caused = caused_so request seen x.journal x.ending x.caused devices;
   judged = λ files told. judged_good request seen files x.journal x.ending x.caused (good files told);
   told = λ files image told octets swap.
@@ -195,6 +197,7 @@ module _ (request : Request) (seen : Seen) (same : seen.swap_after ≡ seen.swap
     ending = Err NoMemory;
     journal = [];
     writes = w;
+    within = omega arith;
     caused = inl (none_faulted opens);
     judged = λ files told. inl (none_faulted opens);
     told = λ files image told octets swap. inl (unbegun opens, (refl, same ∙ swap));
@@ -241,6 +244,7 @@ module _ (request : Request) (seen : Seen) (same : seen.swap_after ≡ seen.swap
     ending = Err fault;
     journal = [];
     writes = w;
+    within = omega arith;
     caused = unopened_caused fault made.read made.ends opens;
     judged = λ files told. unopened_judged fault made.read files made.ends opens (made.is_told files told);
     told = λ files image told octets swap. unopened_told fault made.read files image made.ends opens swap;

@@ -90,7 +90,7 @@ LineLost IsSo = (fault : Fault) × NeedsMemory fault × IsSo fault
 
 -- Of a run that may have begun. Where memory is wanted, that may be for the line of another fault, which has its own cause.
 abbrev pub RunCaused : Seen → List Entry → Ending → Type 0
-RunCaused seen journal (Ok done) = NoneFaulted seen × (length journal ≤ journal_entries)
+RunCaused seen journal (Ok done) = NoneFaulted seen
 RunCaused seen journal (Err NoMemory) = HaltCaused seen journal NoMemory ⊎ LineLost (HaltCaused seen journal)
 RunCaused seen journal (Err fault) = HaltCaused seen journal fault
 
@@ -202,13 +202,15 @@ Writing traced seen journal ending status =
     Writes seen.written_before seen.written_after seen.sink_faults_before seen.sink_faults_after (text_of traced journal ++ line_of ending) (status_of ending) status
 
 -- What a run is: it has one ending and one journal. What was written is the text of the journal and the line of the ending, and the
--- status is the ending's; or the output failed, and a prefix of that was written. The ending has its cause. Where the files are told,
+-- status is the ending's; or the output failed, and a prefix of that was written. However it ended, the journal has no more entries than
+-- it may have. The ending has its cause. Where the files are told,
 -- the first thing met decides before the run; and where the devices are told too, the journal is that of a run of the inputs that the
 -- words ask for, and the swap devices are left as it says.
 pub record Runs (request : Request) (seen : Seen) (status : ℕ) : Type 0 where
   pub ending : Ending
   pub journal : List Entry
   pub writes : Writing request.traced seen journal ending status
+  pub within : length journal ≤ journal_entries
   pub caused : IsCaused request seen journal ending
   pub judged : (files : List NamedFile) → seen.files ≡ Some files → IsJudged request seen files ending
   pub told : (files : List NamedFile) (image : List ℕ) → seen.files ≡ Some files → AreOctetFiles files → seen.swap_before ≡ Some image → EndsTold request seen files journal image ending
@@ -218,6 +220,7 @@ pub record RunsOpened (IsOf : Inputs → List ℕ → Type 0) (traced : Bool) (s
   pub ending : Ending
   pub journal : List Entry
   pub writes : Writing traced seen journal ending status
+  pub within : length journal ≤ journal_entries
   pub caused : RunCaused seen journal ending
   pub numbers : HaveNumbers journal
   pub ended : (A : Inputs) (image : List ℕ) → IsOf A image → seen.swap_before ≡ Some image → RunEnded seen A journal image ending

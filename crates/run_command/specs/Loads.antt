@@ -1,5 +1,5 @@
 -- What the command `load` is: a run of the workload of a number, which is counted.
-use Rattle.std.specs.Prelude.{◌≡◌, ◌⊎◌, ℕ, List, [], ◌∷◌, codes, IfErr, Option, Some, Ok, Err}
+use Rattle.std.specs.Prelude.{◌≡◌, ◌⊎◌, ◌≤◌, ℕ, List, [], ◌∷◌, length, codes, IfErr, Option, Some, Ok, Err}
 use Rattle.aout_image.specs.Image.{Loaded}
 use Rattle.io_edge.specs.Written.{Appends}
 use Rattle.vm_facts.specs.declared.entry.Entry.{Entry}
@@ -15,6 +15,7 @@ use Rattle.load_maker.specs.Load.{load_images, load_lines}
 use Rattle.load_maker.specs.Counts.{counts_of, load_text}
 use Rattle.load_laws.specs.Left.{load_counts}
 use Rattle.run_command.specs.Seen.{Seen}
+use Rattle.run_command.specs.Machines.{journal_entries}
 use Rattle.run_command.specs.Paired.{IsRunFault}
 use Rattle.run_command.specs.Ends.{Ending, status_of, Unbegun, HaltCaused, LineLost, RunCaused, DevicesSuffice, RunEnded}
 
@@ -86,13 +87,14 @@ LoadEnded number seen journal image (Err (ShortDevice device blocks needed)) = N
 LoadEnded number seen journal image ending = RunEnded seen (load_inputs number) journal image ending
 
 -- What a load is: it has one ending and one journal. What was written are the lines of that ending, and the status is the ending's;
--- or the output failed, and a prefix of them was written. The ending has its cause, and no file was touched. Where the devices are told
--- the journal is that of a run of the workload of the number, and the devices are left as it says; and with status 0 the six lines are those
--- of the counts that the number has.
+-- or the output failed, and a prefix of them was written. However it ended, the journal has no more entries than it may have. The ending
+-- has its cause, and no file was touched. Where the devices are told the journal is that of a run of the workload of the number, and
+-- the devices are left as it says; and with status 0 the six lines are those of the counts that the number has.
 pub record Loads (number : ℕ) (seen : Seen) (status : ℕ) : Type 0 where
   pub ending : Ending
   pub journal : List Entry
   pub writes : Writes seen.written_before seen.written_after seen.sink_faults_before seen.sink_faults_after (load_written number journal ending) (status_of ending) status
+  pub within : length journal ≤ journal_entries
   pub caused : IsLoadCaused seen journal ending
   pub files : NoFaults seen.faults
   pub told : (image : List ℕ) → seen.swap_before ≡ Some image → LoadEnded number seen journal image ending
@@ -109,6 +111,7 @@ pub record LoadRuns (IsOf : Inputs → List ℕ → Type 0) (Starts : Inputs →
   pub ending : Ending
   pub journal : List Entry
   pub writes : Writes seen.written_before seen.written_after seen.sink_faults_before seen.sink_faults_after (load_written number journal ending) (status_of ending) status
+  pub within : length journal ≤ journal_entries
   pub caused : RunCaused seen journal ending
   pub began : IsRunEnding ending
   pub space : (A : Inputs) → Starts A → (pid : ℕ) → ending ≡ Err (NoSpace pid) → start_held A ≡ Err pid

@@ -1,5 +1,5 @@
 -- A run over two swap devices.
-use Rattle.std.specs.Prelude.{◌≡◌, ◌⊎◌, ℕ, List, Option, Result, Ok, Err}
+use Rattle.std.specs.Prelude.{◌≡◌, ℕ, List, Option, Result, Ok, Err}
 use Rattle.vm_facts.specs.declared.stop.Stop.{Stop}
 use Rattle.vm_facts.specs.declared.stop.Stop.TheVariants as stops
 use Rattle.io_edge.specs.Striping.{pair_blocks, pair_image}
@@ -36,9 +36,9 @@ IsRunFault JournalFull = Unit {0}
 IsRunFault (NoSpace pid) = Unit {0}
 IsRunFault _ = ⊥
 
--- the fault of a stop; a machine that stops at its journal's bound may be said to lack memory
+-- the fault of a stop, but for the device that failed
 abbrev pub IsFaultOf : Stop → Fault → Type 0
-IsFaultOf stop fault = (unfinished_by fault ≡ ends.Stopped stop) ⊎ ((stop ≡ stops.JournalFull) × (fault ≡ NoMemory))
+IsFaultOf stop fault = unfinished_by fault ≡ ends.Stopped stop
 
 -- a device failed to read, or to write, exactly where that is the fault
 abbrev pub ReadsFail : Result (Unit {0}) Fault → DeviceFaults → Type 0

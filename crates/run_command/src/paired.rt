@@ -1,5 +1,5 @@
 // A run over two swap devices.
-ghost use Rattle.std.specs.Prelude.{◌≡◌, ◌<◌, ◌≤◌, ◌^◌, ◌↔◌, ℕ, true, List, [], length, Some, None, Err, All, IfErr, IsSome, OnOk};
+ghost use Rattle.std.specs.Prelude.{◌≡◌, ◌<◌, ◌≤◌, ◌^◌, ℕ, List, [], length, Some, None, Err, All, IfErr, IsSome};
 ghost use Rattle.io_edge.specs.FailedDevice.{failed_read_of, failed_write_of};
 ghost use Rattle.io_edge.specs.Striping.{most_blocks, pair_blocks, MeetsNeeds};
 ghost use Rattle.flat_state.specs.Flat.{Inputs};
@@ -10,39 +10,28 @@ ghost use Rattle.vm_core.specs.RunStartStarting.{StartsFrom};
 ghost use Rattle.vm_core.specs.Starting.{IsFresh};
 ghost use Rattle.vm_core.specs.Schedules.{HaveFewMoves};
 ghost use Rattle.vm_core.specs.RunEnds.{stopped_as, IsAskedOf, RunEnds};
-ghost use Rattle.run_command.specs.Machines.{journal_entries};
 ghost use Rattle.run_command.specs.Paired.{image_together, unfinished_of, IsFaultOf, IsRunFault, ReadsFail, WritesFail};
 
 use command_ending::Fault;
 use io_edge::{Files, SwapDev, SwapPair};
 use vm_core::{Core, Unfinished, run_schedule};
-use vm_facts::{Entry, Event, Stop};
+use vm_facts::{Event, Stop};
 
 /// The most entries of a journal.
 pub const JOURNAL_ENTRIES: u32 = 16_777_216;
 
-// Whether a journal has just as many entries as it may have.
-fn is_full(journal: &[Entry]) -> bool
-    ensures { (result ≡ true) ↔ (length journal.now ≡ journal_entries) }
-{
-    journal.len() == JOURNAL_ENTRIES as usize
-}
-
-// The fault of a stop, with the device of the last failed read and of the last failed write. A journal is full that has all its
-// entries.
-fn fault_of<'a>(stop: Stop, full: bool, read: Option<u32>, write: Option<u32>) -> Fault<'a>
+// The fault of a stop, with the device of the last failed read and of the last failed write.
+fn fault_of<'a>(stop: Stop, read: Option<u32>, write: Option<u32>) -> Fault<'a>
     requires read { stop ≡ Stop.SwapReadFault → IsSome read }
     requires write { stop ≡ Stop.SwapWriteFault → IsSome write }
     ensures unfinished { IsFaultOf stop result }
-    ensures full { result ≡ Fault.JournalFull → full ≡ true }
-    ensures said { stop ≡ Stop.JournalFull → full ≡ true → result ≡ Fault.JournalFull }
     ensures kind { IsRunFault result }
     ensures read_device { (device : ℕ) → result ≡ Fault.SwapReadFault device → read ≡ Some device }
     ensures write_device { (device : ℕ) → result ≡ Fault.SwapWriteFault device → write ≡ Some device }
 {
     match stop {
-        Stop::JournalFull if full => Fault::JournalFull,
-        Stop::JournalFull | Stop::NoMemory => Fault::NoMemory,
+        Stop::JournalFull => Fault::JournalFull,
+        Stop::NoMemory => Fault::NoMemory,
         Stop::FileFault => Fault::FileFault,
         Stop::SwapReadFault => match read {
             Some(device) => Fault::SwapReadFault(device),
@@ -83,8 +72,8 @@ fn run_over<'a, 'd, F: Files, D: SwapDev, E: SwapDev>(
     ensures no_space { (A : Inputs) → StartsFrom A core.old.machine first.now → (pid : ℕ) → result ≡ Err (Fault.NoSpace pid) → start_held A ≡ Err pid }
     ensures none_made { (pid : ℕ) → result ≡ Err (Fault.NoSpace pid) → core.new.machine.kernel.journal ≡ [] }
     ensures untouched { (pid : ℕ) → result ≡ Err (Fault.NoSpace pid) → pair.new ≡ pair.old }
-    ensures within { OnOk result (length core.new.machine.kernel.journal ≤ core.old.machine.params.journal) }
-    ensures full { result ≡ Err Fault.JournalFull → length core.new.machine.kernel.journal ≡ journal_entries }
+    ensures within { length core.new.machine.kernel.journal ≤ core.old.machine.params.journal }
+    ensures full { result ≡ Err Fault.JournalFull → length core.new.machine.kernel.journal ≡ core.old.machine.params.journal }
     ensures kind { IfErr result IsRunFault }
     ensures zero_leads { D.leads pair.old.zero.now pair.new.zero.now }
     ensures one_leads { E.leads pair.old.one.now pair.new.one.now }
@@ -98,8 +87,7 @@ fn run_over<'a, 'd, F: Files, D: SwapDev, E: SwapDev>(
         Ok(()) => Ok(()),
         Err(Unfinished::NoSpace(pid)) => Err(Fault::NoSpace(pid)),
         Err(Unfinished::Stopped(stop)) => {
-            let full = is_full(core.journal());
-            Err(fault_of(stop, full, pair.failed_read(), pair.failed_write()))
+            Err(fault_of(stop, pair.failed_read(), pair.failed_write()))
         }
     }
 }
@@ -131,8 +119,8 @@ pub fn run_paired<'a, F: Files, D: SwapDev, E: SwapDev>(
     ensures none_made { (pid : ℕ) → result ≡ Err (Fault.NoSpace pid) → core.new.machine.kernel.journal ≡ [] }
     ensures untouched { (pid : ℕ) → result ≡ Err (Fault.NoSpace pid)
         → image_together (D.blocks zero.new) (E.blocks one.new) (D.image zero.new) (E.image one.new) ≡ image_together (D.blocks zero.old) (E.blocks one.old) (D.image zero.old) (E.image one.old) }
-    ensures within { OnOk result (length core.new.machine.kernel.journal ≤ core.old.machine.params.journal) }
-    ensures full { result ≡ Err Fault.JournalFull → length core.new.machine.kernel.journal ≡ journal_entries }
+    ensures within { length core.new.machine.kernel.journal ≤ core.old.machine.params.journal }
+    ensures full { result ≡ Err Fault.JournalFull → length core.new.machine.kernel.journal ≡ core.old.machine.params.journal }
     ensures kind { IfErr result IsRunFault }
     ensures zero_leads { D.leads zero.old zero.new }
     ensures one_leads { E.leads one.old one.new }

@@ -1,5 +1,5 @@
 -- New stack pages that are due are filled one after another.
-use Rattle.std.proofs.Common.{◌≡◌, inr, ℕ, suc, ◌<◌, List, [], ◌∷◌, length, Option, Some, sym, ap, subst, arith}
+use Rattle.std.proofs.Common.{◌≡◌, inl, inr, ℕ, suc, ◌<◌, List, [], ◌∷◌, length, Option, Some, sym, ap, subst, arith}
 use Rattle.std.specs.Prelude.{Result, Ok, Err, MatchResult}
 use Rattle.std.proofs.lemmas.Option.{same_Some}
 use Rattle.vm_facts.specs.declared.page.Page.{Page}
@@ -14,6 +14,8 @@ use Rattle.steady_laws.proofs.Making.{filled_keeps}
 use Rattle.steady_laws.specs.Ready.{IsRunning, RunsDue}
 use Rattle.steady_laws.proofs.Running.{runs_self, runs_both}
 use Rattle.steady_laws.proofs.Lines.{fill_continues}
+use Rattle.steady_laws.specs.Sizes.{KeptAtStop}
+use Rattle.steady_laws.proofs.StopsKeep.{kept_through, start_same, filled_same}
 use Rattle.run_start.specs.Filling.{AreStarts, FillsAll, StopsFilling}
 
 -- What is due first is a new stack page.
@@ -73,3 +75,12 @@ all_filled (Start q ∷ ds) old new holds i j r d h f =
       holders = more.holders;
     }
 all_filled (CopyOf q parent ∷ ds) old new holds i j r d h f = absurd f
+
+-- Where one isn't filled the machine has its sizes and its images still, and a journal is full only at its bound.
+pub filling_same : (ds : List Due) (old new : Standing) (holds : Option (List NamedFile)) (i j : Option (List ℕ)) (stop : Stop) → StopsFilling ds old new holds i j stop → KeptAtStop old new stop
+filling_same [] old new holds i j stop f = absurd f
+filling_same (Start q ∷ ds) old new holds i j stop f = elim f [
+  | inl x ↦ start_same q old new holds i j stop x
+  | inr x ↦ kept_through old x.0 new stop (filled_same q old x.0 holds i x.1 x.2) (filling_same ds x.0 new holds x.1 j stop x.3)
+]
+filling_same (CopyOf q parent ∷ ds) old new holds i j stop f = absurd f

@@ -3,6 +3,7 @@ pub use Rattle.steady_laws.proofs.Journals
 pub use Rattle.steady_laws.proofs.Kernels as SteadyLawsKernels
 pub use Rattle.steady_laws.proofs.Lines
 pub use Rattle.steady_laws.proofs.Pages
+pub use Rattle.steady_laws.proofs.StopsKeep
 pub use Rattle.steady_laws.proofs.Transfers
 pub use Rattle.step_units.proofs.Asking
 pub use Rattle.step_units.proofs.Beginning as StepUnitsBeginning

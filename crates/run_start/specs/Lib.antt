@@ -1,6 +1,7 @@
 pub use Rattle.steady_laws.specs.Reading
 pub use Rattle.steady_laws.specs.Holders
 pub use Rattle.steady_laws.specs.Ready
+pub use Rattle.steady_laws.specs.Sizes
 pub use Rattle.step_units.specs.Lines
 pub use Rattle.step_units.specs.Machines
 pub use Rattle.step_units.specs.Registers

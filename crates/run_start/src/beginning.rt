@@ -1,5 +1,6 @@
 //! The first processes begin one by one.
 ghost use Rattle.std.specs.Prelude.{◌≡◌, ◌≤◌, ◌+◌, true, false, [], length, IfOk, IfErr, OnOk, OnErr};
+ghost use Rattle.steady_laws.specs.Sizes.{SameSizes};
 ghost use Rattle.run_start.specs.Starting.{AreAmong};
 ghost use Rattle.run_start.specs.Beginning.{Begins};
 
@@ -17,6 +18,7 @@ pub(crate) fn begin_all(m: &mut Machine, first: &[u32]) -> Result<Started, Stop>
     ensures began { IfOk result (λ started. Begins started first.now m.old m.new) }
     ensures running { OnOk result (m.new.kernel.stopped ≡ false) }
     ensures stopped { OnErr result (m.new.kernel.stopped ≡ true) }
+    ensures sizes { OnErr result (SameSizes m.old m.new) }
     ensures cause { IfErr result (λ stop. stop ≡ Stop.NoMemory) }
     ensures journal { m.new.kernel.journal ≡ [] }
 {

@@ -4,6 +4,7 @@ ghost use Rattle.flat_state.specs.Flat.{Inputs};
 ghost use Rattle.flat_model.specs.Asked.{start_held};
 ghost use Rattle.machine_state.specs.Files.{AreFiles};
 ghost use Rattle.machine_state.specs.Outside.{stop_of, TransfersPages};
+ghost use Rattle.steady_laws.specs.Sizes.{KeptAtStop};
 ghost use Rattle.run_start.specs.Starting.{IsNew, AreAmong, StartsFrom, started_by, HasStarted};
 ghost use Rattle.run_start.specs.Leading.{IsTold, StartLeads, StartStops};
 
@@ -41,6 +42,7 @@ pub fn start<F: Files, D: SwapDev>(
     ensures kept_running { (pid : ℕ) → result ≡ Ok (Started.NoSpace pid) → m.new.kernel.stopped ≡ false }
     ensures kept_params { (pid : ℕ) → result ≡ Ok (Started.NoSpace pid) → m.new.params ≡ m.old.params }
     ensures kept_images { (pid : ℕ) → result ≡ Ok (Started.NoSpace pid) → m.new.images ≡ m.old.images }
+    ensures kept { IfErr result (KeptAtStop m.old m.new) }
     ensures goes_on { result ≡ Ok Started.Ok → HasStarted m.old m.new }
     ensures leads { (A : Inputs) (image : List ℕ) → IsTold A m.old first.now (F.holds files.old) image → D.image swap.old ≡ Some image
         → result ≡ Ok Started.Ok → StartLeads A m.new (F.holds files.old) image (D.image swap.new) }

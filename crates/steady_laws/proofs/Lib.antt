@@ -27,3 +27,4 @@ pub mod Executing
 pub mod SpacesContinue
 pub mod PagesContinue
 pub mod Lines
+pub mod StopsKeep

@@ -24,6 +24,7 @@ pub mod Holders
 pub mod Coming
 pub mod Keeping
 pub mod Ready
+pub mod Sizes
 pub mod Entries
 pub mod Units
 pub mod Calls

@@ -1,5 +1,5 @@
 //! One turn of the swapper.
-ghost use Rattle.std.specs.Prelude.{◌≡◌, ◌≤◌, false, [], OnOk, IfOk, IfErr};
+ghost use Rattle.std.specs.Prelude.{◌≡◌, ◌≤◌, false, [], OnOk, OnErr, IfOk, IfErr};
 ghost use Rattle.std.specs.List.{filter};
 ghost use Rattle.page_model.specs.Placement.{Placement};
 ghost use Rattle.page_model.specs.Swapper.{swap_choice, choice_of_out, brings, longest, may_come_in, may_go_out};
@@ -85,6 +85,8 @@ fn carry_out<F: Files, D: SwapDev>(
     ensures did { OnOk result (Turns chosen m.old m.new (F.holds files.old) (D.image swap.old) (D.image swap.new)) }
     ensures keeps { OnOk result (KeepsTurn chosen m.old m.new (F.holds files.old) (D.image swap.old) (D.image swap.new)) }
     ensures stopped { IfErr result (λ stop. StopsTurning chosen m.old stop m.new (F.holds files.old) (D.image swap.old) (D.image swap.new)) }
+    ensures params_at_stop { OnErr result (m.new.params ≡ m.old.params) }
+    ensures images_at_stop { OnErr result (m.new.images ≡ m.old.images) }
     ensures outside { TransfersPages F.Files D.SwapDev (stop_of result) files.old files.new swap.old swap.new }
 {
     match chosen {
@@ -113,6 +115,8 @@ pub fn turn<F: Files, D: SwapDev>(
     ensures keeps { IfOk result (λ t. KeepsTurn t m.old m.new (F.holds files.old) (D.image swap.old) (D.image swap.new)) }
     ensures stopped { IfErr result (λ stop. (t : Chosen) × (choice_of t ≡ swap_choice m.old.kernel.place (runners_of m.old.kernel))
         × StopsTurning t m.old stop m.new (F.holds files.old) (D.image swap.old) (D.image swap.new)) }
+    ensures params_at_stop { OnErr result (m.new.params ≡ m.old.params) }
+    ensures images_at_stop { OnErr result (m.new.images ≡ m.old.images) }
     ensures outside { TransfersPages F.Files D.SwapDev (stop_of result) files.old files.new swap.old swap.new }
 {
     m.sound();

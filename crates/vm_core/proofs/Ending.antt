@@ -6,6 +6,7 @@ use Rattle.std.proofs.lemmas.List.Elements.{All-head, All-tail}
 use Rattle.std.proofs.lemmas.Option.{same_Some}
 use Rattle.std.proofs.lemmas.Result.{err_from_is_err_and}
 use Rattle.vm_facts.specs.declared.event.Event.{Event}
+use Rattle.vm_facts.specs.declared.params.Params.{Params}
 use Rattle.vm_facts.specs.declared.stop.Stop.{Stop}
 use Rattle.vm_facts.specs.declared.stop.Stop.TheVariants as stops
 use Rattle.io_edge.specs.FileHolding.{NamedFile}
@@ -20,6 +21,7 @@ use Rattle.journal_laws.specs.Leads.{Leads}
 use Rattle.journal_laws.proofs.Units.{both_lead}
 use Rattle.run_start.specs.Stepped.{StopLeads}
 use Rattle.run_start.specs.declared.starting.Started.TheVariants as starteds
+use Rattle.run_start.specs.Sizes.{KeptAtStop}
 use Rattle.run_start.specs.Starting.{AreAmong, StartsFrom, started_by}
 use Rattle.run_start.specs.Leading.{IsTold, machine_at_start}
 use Rattle.vm_core.specs.Cores.{Underway, GoesOn, InputsOf}
@@ -40,6 +42,14 @@ stopped_so r stop Q h q =
 
 pub same_stop : (a b : Stop) → (let r : Result (Unit {0}) Unfinished = Err (Stopped a) in r) ≡ Err (Stopped b) → a ≡ b
 same_stop a b e = cc
+
+-- where the journal is full it is at its bound
+pub kept_bound : (r : Result (Unit {0}) Unfinished) (stop : Stop) (old new : Standing) → IsErrAnd r (λ (e : Unfinished). e ≡ Stopped stop) → KeptAtStop old new stop
+    → (let s : Result (Unit {0}) Unfinished = Err (Stopped stops.JournalFull) in r ≡ s) → old.params.journal ≤ length new.kernel.journal
+kept_bound r stop old new h kept e =
+    let p = err_from_is_err_and r h in
+    let full : stop ≡ stops.JournalFull = same_stop stop stops.JournalFull (ap (λ (u : Unfinished). let s : Result (Unit {0}) Unfinished = Err u in s) (sym p.2) ∙ sym p.1 ∙ e) in
+    subst (λ (x : Params). x.journal ≤ length new.kernel.journal) kept.sizes.params (kept.full full)
 
 pub are_among : (images : List ImageNamed) (ns : List ℕ) → All (λ (n : ℕ). (1 ≤ n) × (n ≤ length images)) ns → AreAmong images ns
 are_among images [] all = tt

@@ -6,6 +6,7 @@ pub mod Pieces
 pub mod Accounts
 pub mod Steadying
 pub mod Noting
+pub mod Kept
 pub mod Asked
 pub mod Standing
 pub mod Taking

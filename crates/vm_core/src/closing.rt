@@ -6,6 +6,7 @@ ghost use Rattle.kernel_model.specs.Kernel.{HoldsSpace};
 ghost use Rattle.machine_state.specs.Calls.{life_in};
 ghost use Rattle.machine_state.specs.Files.{AreFiles};
 ghost use Rattle.machine_state.specs.Outside.{stop_of, TransfersPages};
+ghost use Rattle.run_start.specs.Sizes.{KeptAtStop};
 ghost use Rattle.proc_run.specs.Choosing.{next_turned};
 ghost use Rattle.proc_run.specs.Runs.{IsSteady};
 ghost use Rattle.proc_run.specs.Running.{CountsTo};
@@ -54,6 +55,7 @@ fn come_in<F: Files, D: SwapDev>(
     ensures comes { OnOk result ((counted : ℕ) → ComesIn m.old m.new pid counted (F.holds files.old) (D.image swap.old) (D.image swap.new)) }
     ensures stops { IfErr result (λ stop. (counted : ℕ) → StopsComingIn m.old m.new pid counted (F.holds files.old) (D.image swap.old) (D.image swap.new) stop) }
     ensures steady { OnOk result (StaysSteady m.old m.new 0) }
+    ensures kept { IfErr result (KeptAtStop m.old m.new) }
     ensures outside { TransfersPages F.Files D.SwapDev (stop_of result) files.old files.new swap.old swap.new }
 {
     if !is_out(m, pid) {
@@ -78,6 +80,7 @@ fn turn<F: Files, D: SwapDev>(
     ensures had { IfOk result (λ count. HasTurn m.old m.new pid counted count (F.holds files.old) (D.image swap.old) (D.image swap.new)) }
     ensures stops { IfErr result (StopsTurn m.old m.new pid counted (F.holds files.old) (D.image swap.old) (D.image swap.new)) }
     ensures counts { IfOk result (λ count. CountsTo m.old m.new counted count) }
+    ensures kept { IfErr result (KeptAtStop m.old m.new) }
     ensures outside { TransfersPages F.Files D.SwapDev (stop_of result) files.old files.new swap.old swap.new }
 {
     m.note(Entry::Turn { pid })?;
@@ -127,6 +130,7 @@ fn close<F: Files, D: SwapDev>(
     ensures closes { IfOk result (λ count. Closes m.old m.new counted count (F.holds files.old) (D.image swap.old) (D.image swap.new)) }
     ensures stops { IfErr result (StopsClosing m.old m.new counted (F.holds files.old) (D.image swap.old) (D.image swap.new)) }
     ensures counts { IfOk result (λ count. CountsTo m.old m.new counted count) }
+    ensures kept { IfErr result (KeptAtStop m.old m.new) }
     ensures outside { TransfersPages F.Files D.SwapDev (stop_of result) files.old files.new swap.old swap.new }
 {
     let mut count = counted;
@@ -156,6 +160,7 @@ impl Core {
         ensures goes_on { OnOk result (GoesOn self.new) }
         ensures params { OnOk result (self.new.machine.params ≡ self.old.machine.params) }
         ensures images { OnOk result (self.new.machine.images ≡ self.old.machine.images) }
+        ensures kept { IfErr result (KeptAtStop self.old.machine self.new.machine) }
         ensures outside { TransfersPages F.Files D.SwapDev (stop_of result) files.old files.new swap.old swap.new }
     {
         self.counted = close(self.alloc, &mut self.machine, files, swap, self.counted)?;

@@ -5,6 +5,7 @@ ghost use Rattle.vm_facts.specs.declared.event.Event.{Event as AnyEvent};
 ghost use Rattle.machine_state.specs.Files.{AreFiles};
 ghost use Rattle.machine_state.specs.Outside.{stop_of, TransfersPages};
 ghost use Rattle.journal_laws.specs.LastMoves.{last_moves};
+ghost use Rattle.run_start.specs.Sizes.{KeptAtStop};
 ghost use Rattle.proc_run.specs.Runs.{IsSteady};
 ghost use Rattle.vm_core.specs.Steady.{StaysSteady};
 ghost use Rattle.vm_core.specs.Lines.{MakesLine, StopsLine};
@@ -28,6 +29,7 @@ pub(crate) fn interrupt<F: Files, D: SwapDev>(
     ensures made { OnOk result (MakesLine Event.Interrupt m.old m.new (F.holds files.old) (D.image swap.old) (D.image swap.new)) }
     ensures stops { IfErr result (StopsLine Event.Interrupt m.old m.new (F.holds files.old) (D.image swap.old) (D.image swap.new)) }
     ensures steady { OnOk result (StaysSteady m.old m.new 0) }
+    ensures kept { IfErr result (KeptAtStop m.old m.new) }
     ensures outside { TransfersPages F.Files D.SwapDev (stop_of result) files.old files.new swap.old swap.new }
 {
     m.done(files, swap)?;
@@ -49,6 +51,7 @@ pub(crate) fn hands<F: Files, D: SwapDev>(
     ensures made { OnOk result (MakesLine (Event.Hands count) m.old m.new (F.holds files.old) (D.image swap.old) (D.image swap.new)) }
     ensures stops { IfErr result (StopsLine (Event.Hands count) m.old m.new (F.holds files.old) (D.image swap.old) (D.image swap.new)) }
     ensures steady { OnOk result (StaysSteady m.old m.new 0) }
+    ensures kept { IfErr result (KeptAtStop m.old m.new) }
     ensures outside { TransfersPages F.Files D.SwapDev (stop_of result) files.old files.new swap.old swap.new }
 {
     move_hands(m, files, swap, count)?;
@@ -67,6 +70,7 @@ pub(crate) fn swapper<F: Files, D: SwapDev>(
     ensures made { OnOk result (MakesLine Event.Swapper m.old m.new (F.holds files.old) (D.image swap.old) (D.image swap.new)) }
     ensures stops { IfErr result (StopsLine Event.Swapper m.old m.new (F.holds files.old) (D.image swap.old) (D.image swap.new)) }
     ensures steady { OnOk result (StaysSteady m.old m.new 0) }
+    ensures kept { IfErr result (KeptAtStop m.old m.new) }
     ensures outside { TransfersPages F.Files D.SwapDev (stop_of result) files.old files.new swap.old swap.new }
 {
     turn(m, files, swap)?;
@@ -80,6 +84,7 @@ pub(crate) fn audit(m: &mut Machine) -> Result<(), Stop>
     ensures stops { (holds : Option (List NamedFile)) (i : Option (List ℕ)) → IfErr result (StopsLine Event.Audit m.old m.new holds i i) }
     ensures steady { OnOk result (StaysSteady m.old m.new 0) }
     ensures cause { OnErr result ((result ≡ Err Stop.JournalFull) ⊎ (result ≡ Err Stop.NoMemory)) }
+    ensures kept { IfErr result (KeptAtStop m.old m.new) }
 {
     let entry = owners(m);
     m.note(entry)

@@ -3,6 +3,7 @@ ghost use Rattle.std.specs.Prelude.{◌≡◌, ◌+◌, ◌≤◌, min, IfOk, If
 ghost use Rattle.machine_state.specs.Files.{AreFiles};
 ghost use Rattle.machine_state.specs.Outside.{stop_of, TransfersPages};
 ghost use Rattle.flat_state.specs.Journal.{instructions_of};
+ghost use Rattle.run_start.specs.Sizes.{KeptAtStop};
 ghost use Rattle.proc_run.specs.Runs.{IsSteady};
 ghost use Rattle.proc_run.specs.Running.{CountsTo};
 ghost use Rattle.vm_core.specs.Cores.{CarriesOut, StopsCarrying};
@@ -41,6 +42,7 @@ pub(crate) fn dispatch<F: Files, D: SwapDev>(
     ensures done { IfOk result (λ more. CarriesOut m.old m.new counted more (Event.Dispatch pid count) (F.holds files.old) (D.image swap.old) (D.image swap.new)) }
     ensures stops { IfErr result (StopsCarrying m.old m.new counted (Event.Dispatch pid count) (F.holds files.old) (D.image swap.old) (D.image swap.new)) }
     ensures counts { IfOk result (λ more. CountsTo m.old m.new counted more) }
+    ensures kept { IfErr result (KeptAtStop m.old m.new) }
     ensures outside { TransfersPages F.Files D.SwapDev (stop_of result) files.old files.new swap.old swap.new }
 {
     let until = count_behind(m, counted, count);
@@ -63,6 +65,7 @@ pub(crate) fn finish<F: Files, D: SwapDev>(
     ensures done { IfOk result (λ more. FinishesTurn m.old m.new pid counted more (F.holds files.old) (D.image swap.old) (D.image swap.new)) }
     ensures stops { IfErr result (StopsFinishing m.old m.new pid counted (F.holds files.old) (D.image swap.old) (D.image swap.new)) }
     ensures counts { IfOk result (λ more. CountsTo m.old m.new counted more) }
+    ensures kept { IfErr result (KeptAtStop m.old m.new) }
     ensures outside { TransfersPages F.Files D.SwapDev (stop_of result) files.old files.new swap.old swap.new }
 {
     let until = count_behind(m, counted, TURN);

@@ -4,6 +4,7 @@ ghost use Rattle.flat_state.specs.Flat.{Inputs};
 ghost use Rattle.flat_model.specs.Asked.{start_held};
 ghost use Rattle.machine_state.specs.Files.{AreFiles};
 ghost use Rattle.machine_state.specs.Outside.{stop_of, TransfersPages};
+ghost use Rattle.run_start.specs.Sizes.{KeptAtStop};
 ghost use Rattle.run_start.specs.Starting.{StartsFrom};
 ghost use Rattle.vm_core.specs.Cores.{GoesOn};
 ghost use Rattle.vm_core.specs.Starting.{IsFresh};
@@ -54,6 +55,7 @@ fn take_lines<F: Files, D: SwapDev>(
     ensures goes_on { OnOk result (GoesOn core.new) }
     ensures params { OnOk result (core.new.machine.params ≡ core.old.machine.params) }
     ensures images { OnOk result (core.new.machine.images ≡ core.old.machine.images) }
+    ensures kept { IfErr result (KeptAtStop core.old.machine core.new.machine) }
     ensures outside { TransfersPages F.Files D.SwapDev (stop_of result) files.old files.new swap.old swap.new }
 {
     let mut line = 0;
@@ -83,6 +85,7 @@ fn finish<F: Files, D: SwapDev>(
     ensures goes_on { OnOk result (GoesOn core.new) }
     ensures params { OnOk result (core.new.machine.params ≡ core.old.machine.params) }
     ensures images { OnOk result (core.new.machine.images ≡ core.old.machine.images) }
+    ensures kept { IfErr result (KeptAtStop core.old.machine core.new.machine) }
     ensures finishes { OnOk result (FinishesLines core.old core.new lines.now (F.holds files.old) (D.image swap.old) (D.image swap.new)) }
     ensures stops { IfErr result (StopsLines core.old core.new lines.now (F.holds files.old) (D.image swap.old) (D.image swap.new)) }
     ensures outside { TransfersPages F.Files D.SwapDev (stop_of result) files.old files.new swap.old swap.new }
@@ -90,6 +93,55 @@ fn finish<F: Files, D: SwapDev>(
     match take_lines(core, files, swap, lines)? {
         Went::LimitReached => Ok(()),
         Went::Next => core.close_run(files, swap),
+    }
+}
+
+// Runs a schedule from the start of its first processes to its end.
+fn run_through<F: Files, D: SwapDev>(
+    core: &mut Core,
+    files: &mut F,
+    swap: &mut D,
+    first: &[u32],
+    lines: &[Event],
+) -> Result<(), Unfinished>
+    requires fresh { IsFresh core.old }
+    requires some { 0 < core.old.machine.params.limit }
+    requires frames { 64 ≤ core.old.machine.params.frames }
+    requires few { length first.now ≤ 16 }
+    requires numbers { All (λ n. (1 ≤ n) × (n ≤ length core.old.machine.images)) first.now }
+    requires moves { HaveFewMoves lines.now }
+    requires count { length lines.now < 2 ^ 32 }
+    requires area { core.old.machine.params.swap_blocks ≤ D.blocks swap.old }
+    requires files { AreFiles core.old.machine.images (F.holds files.old) }
+    ensures ends { (A : Inputs) (image : List ℕ) → IsAskedOf A core.old.machine first.now lines.now (F.holds files.old) image → D.image swap.old ≡ Some image
+        → RunEnds A core.new.machine.kernel.journal image result (D.image swap.new) }
+    ensures full { (A : Inputs) (image : List ℕ) → IsAskedOf A core.old.machine first.now lines.now (F.holds files.old) image → D.image swap.old ≡ Some image
+        → result ≡ Err (Unfinished.Stopped Stop.JournalFull) → RunFull A core.new.machine }
+    ensures over { OnOk result ((A : Inputs) (image : List ℕ) → IsAskedOf A core.old.machine first.now lines.now (F.holds files.old) image → D.image swap.old ≡ Some image
+        → RunOver A core.new.machine) }
+    ensures whole { OnOk result ((A : Inputs) (image : List ℕ) → IsAskedOf A core.old.machine first.now lines.now (F.holds files.old) image → D.image swap.old ≡ Some image
+        → RunWhole A core.new.machine image) }
+    ensures goes_on { OnOk result (GoesOn core.new) }
+    ensures sound { OnOk result (RunsSound core.new.machine) }
+    ensures unmade_sound { (pid : ℕ) → result ≡ Err (Unfinished.NoSpace pid) → RunsSound core.new.machine }
+    ensures params { core.new.machine.params ≡ core.old.machine.params }
+    ensures images { core.new.machine.images ≡ core.old.machine.images }
+    ensures no_space { (A : Inputs) → StartsFrom A core.old.machine first.now → (pid : ℕ) → result ≡ Err (Unfinished.NoSpace pid) → start_held A ≡ Err pid }
+    ensures bound { result ≡ Err (Unfinished.Stopped Stop.JournalFull) → core.old.machine.params.journal ≤ length core.new.machine.kernel.journal }
+    ensures none_made { (pid : ℕ) → result ≡ Err (Unfinished.NoSpace pid) → core.new.machine.kernel.journal ≡ [] }
+    ensures untouched { (pid : ℕ) → result ≡ Err (Unfinished.NoSpace pid) → swap.new ≡ swap.old }
+    ensures outside { TransfersPages F.Files D.SwapDev (stop_of (stopped_as result)) files.old files.new swap.old swap.new }
+{
+    match core.start(files, swap, first)? {
+        Started::NoSpace(pid) => {
+            core.machine().sound();
+            Err(Unfinished::NoSpace(pid))
+        }
+        Started::Ok => {
+            finish(core, files, swap, lines)?;
+            core.machine().sound();
+            Ok(())
+        }
     }
 }
 
@@ -123,25 +175,16 @@ pub fn run_schedule<F: Files, D: SwapDev>(
     ensures goes_on { OnOk result (GoesOn core.new) }
     ensures sound { OnOk result (RunsSound core.new.machine) }
     ensures unmade_sound { (pid : ℕ) → result ≡ Err (Unfinished.NoSpace pid) → RunsSound core.new.machine }
-    ensures params { OnOk result (core.new.machine.params ≡ core.old.machine.params) }
-    ensures unmade_params { (pid : ℕ) → result ≡ Err (Unfinished.NoSpace pid) → core.new.machine.params ≡ core.old.machine.params }
-    ensures images { OnOk result (core.new.machine.images ≡ core.old.machine.images) }
-    ensures unmade_images { (pid : ℕ) → result ≡ Err (Unfinished.NoSpace pid) → core.new.machine.images ≡ core.old.machine.images }
+    ensures params { core.new.machine.params ≡ core.old.machine.params }
+    ensures images { core.new.machine.images ≡ core.old.machine.images }
     ensures no_space { (A : Inputs) → StartsFrom A core.old.machine first.now → (pid : ℕ) → result ≡ Err (Unfinished.NoSpace pid) → start_held A ≡ Err pid }
-    ensures within { OnOk result (length core.new.machine.kernel.journal ≤ core.old.machine.params.journal) }
+    ensures within { length core.new.machine.kernel.journal ≤ core.old.machine.params.journal }
+    ensures bound { result ≡ Err (Unfinished.Stopped Stop.JournalFull) → core.old.machine.params.journal ≤ length core.new.machine.kernel.journal }
     ensures none_made { (pid : ℕ) → result ≡ Err (Unfinished.NoSpace pid) → core.new.machine.kernel.journal ≡ [] }
     ensures untouched { (pid : ℕ) → result ≡ Err (Unfinished.NoSpace pid) → swap.new ≡ swap.old }
     ensures outside { TransfersPages F.Files D.SwapDev (stop_of (stopped_as result)) files.old files.new swap.old swap.new }
 {
-    match core.start(files, swap, first)? {
-        Started::NoSpace(pid) => {
-            core.machine().sound();
-            Err(Unfinished::NoSpace(pid))
-        }
-        Started::Ok => {
-            finish(core, files, swap, lines)?;
-            core.machine().sound();
-            Ok(())
-        }
-    }
+    let ended = run_through(core, files, swap, first, lines);
+    core.machine().always();
+    ended
 }

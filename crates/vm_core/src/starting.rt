@@ -4,6 +4,7 @@ ghost use Rattle.flat_state.specs.Flat.{Inputs};
 ghost use Rattle.flat_model.specs.Asked.{start_held};
 ghost use Rattle.machine_state.specs.Files.{AreFiles};
 ghost use Rattle.machine_state.specs.Outside.{stop_of, TransfersPages};
+ghost use Rattle.run_start.specs.Sizes.{KeptAtStop};
 ghost use Rattle.run_start.specs.Starting.{AreAmong, StartsFrom, started_by};
 ghost use Rattle.run_start.specs.Leading.{IsTold};
 ghost use Rattle.vm_core.specs.Cores.{GoesOn};
@@ -40,6 +41,7 @@ impl Core {
         ensures goes_on { result ≡ Ok Started.Ok → GoesOn self.new }
         ensures params { result ≡ Ok Started.Ok → self.new.machine.params ≡ self.old.machine.params }
         ensures images { result ≡ Ok Started.Ok → self.new.machine.images ≡ self.old.machine.images }
+        ensures kept { IfErr result (KeptAtStop self.old.machine self.new.machine) }
         ensures counted { self.new.counted ≡ self.old.counted }
         ensures outside { TransfersPages F.Files D.SwapDev (stop_of result) files.old files.new swap.old swap.new }
     {

@@ -1,5 +1,5 @@
 -- What words do where files, swap devices and output are in memory, and tell what they hold: what is told, without a premise.
-use Rattle.std.specs.Prelude.{◌≡◌, ◌*◌, ℕ, List, [], replicate, Option, Some, None}
+use Rattle.std.specs.Prelude.{◌≡◌, ◌*◌, ◌≤◌, ℕ, List, [], length, replicate, Option, Some, None}
 use Rattle.io_edge.specs.FileHolding.{NamedFile}
 use Rattle.io_edge.specs.Striping.{pair_blocks, first_blocks}
 use Rattle.vm_facts.specs.declared.entry.Entry.{Entry}
@@ -12,6 +12,7 @@ use Rattle.replay_command.specs.Reading.{read_told as replay_told}
 use Rattle.replay_command.specs.Command.{EndsReplay}
 use Rattle.reference_commands.specs.RunCommandAsking.{Request}
 use Rattle.reference_commands.specs.Seen.{Seen}
+use Rattle.reference_commands.specs.Machines.{journal_entries}
 use Rattle.reference_commands.specs.Paired.{image_together}
 use Rattle.reference_commands.specs.RunCommandEnds.{Ending, status_of, Writing, IsCaused, IsJudged, EndsTold}
 use Rattle.reference_commands.specs.Loads.{load_written, IsLoadCaused, LoadEnded}
@@ -52,6 +53,7 @@ pub record RunsTold (request : Request) (seen : Seen) (files : List NamedFile) (
   pub ending : Ending
   pub journal : List Entry
   pub writes : Writing request.traced seen journal ending status
+  pub within : length journal ≤ journal_entries
   pub caused : IsCaused request seen journal ending
   pub judged : IsJudged request seen files ending
   pub told : EndsTold request seen files journal image ending
@@ -61,6 +63,7 @@ pub record LoadsTold (number : ℕ) (seen : Seen) (image : List ℕ) (status : �
   pub ending : Ending
   pub journal : List Entry
   pub writes : Writes seen.written_before seen.written_after seen.sink_faults_before seen.sink_faults_after (load_written number journal ending) (status_of ending) status
+  pub within : length journal ≤ journal_entries
   pub caused : IsLoadCaused seen journal ending
   pub told : LoadEnded number seen journal image ending
 

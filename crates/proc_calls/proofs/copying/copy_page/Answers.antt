@@ -104,6 +104,7 @@ returns-clause-copied g c =
     (served_on c.args.parent c.args.m.now c.serve_page_now.new.m (g.F.Files.holds c.args.files.now) (g.D.SwapDev.image c.args.swap.now) (g.D.SwapDev.image c.serve_page_now.new.swap)
     (record { running = c.requires.running; whole = c.requires.whole }) (c.in_ok-serve_page_now.ensures.served.0.serves, c.in_ok-serve_page_now.ensures.served.1))
     c.in_ok-make_room.ensures.forced).whole)
+    c.copy.ensures.stop
 
 pub returns-clause-on : goal.returns-clause-on
 returns-clause-on g c =

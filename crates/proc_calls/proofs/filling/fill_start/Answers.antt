@@ -39,4 +39,4 @@ returns-clause-filled g c =
     c.in_ok-make_room.ensures.forced c.in_ok-make_room.ensures.keeps c.fill_zero.ensures.step c.fill_zero.ensures.rest c.fill_zero.ensures.keeps
     (call_stops c.fill_zero.result (entries.Zero c.args.page) roomy c.fill_zero.new.self j (λ s h. h) (λ s. refl)
     (plain_full (entries.Zero c.args.page) roomy.kernel.journal roomy.params.journal _ tt c.fill_zero.ensures.full) c.fill_zero.ensures.stop c.fill_zero.ensures.cause
-    (forced_whole [] c.args.m.now roomy (g.F.Files.holds c.args.files.now) (g.D.SwapDev.image c.args.swap.now) j c.in_ok-make_room.ensures.forced c.requires.whole))
+    (forced_whole [] c.args.m.now roomy (g.F.Files.holds c.args.files.now) (g.D.SwapDev.image c.args.swap.now) j c.in_ok-make_room.ensures.forced c.requires.whole)) c.fill_zero.ensures.stop

@@ -19,6 +19,8 @@ use Rattle.proc_run.proofs.Attempts.{RoomOnly, missed, fell, signalled, room_ste
 use Rattle.proc_run.proofs.Made.{caller_of}
 use Rattle.proc_run.proofs.Steps.{waits_missed, waits_below}
 use Rattle.proc_run.proofs.Tried.{refused_room, refused_again, called_room, call_is_made, journal_same, running_still, lends_still, later_advances, later_stops, later_goes_on, ran_advances, ran_goes_on, ran_holders, asked_stops, served_advances, served_stops, signal_advances, signal_halts}
+use Rattle.steady_laws.proofs.StopsKeep.{kept_here, alive_same}
+use Rattle.proc_run.proofs.StopsSame.{later_same, later_kept}
 use Rattle.proc_run.proofs.advancing.next_step.Goals as goal
 
 -- Where room was asked for, the machine is as it was but for that.
@@ -214,3 +216,40 @@ returns-in_ok-kill-in-Signal-clause-holders g c =
     ended_keeps c.attempt.new.m c.kill.new.m c.args.pid c.in-Signal.signal (g.F.Files.holds c.args.files.now) (g.D.SwapDev.image c.args.swap.now) (g.D.SwapDev.image c.kill.new.swap)
     (caller_holds c.attempt.new.m c.args.pid (caller_of c.attempt.new.m c.args.pid steady (room_lends c.args.m.now c.attempt.new.m c.args.pid at c.requires.lends)))
     c.in_ok-kill-in-Signal.ensures.ended c.sound.ensures.numbered steady.holders
+
+-- Where the run stops, the sizes and images stay, and a journal is full only at its bound.
+
+pub returns-in_err-make_room-clause-kept : goal.returns-in_err-make_room-clause-kept
+returns-in_err-make_room-clause-kept g c =
+    let e = err_from_is_err_and c.from_residual.result c.from_residual.ensures.1 in
+    let stop = c.in_err-make_room.field-0.0 in
+    rw (e.1, e.2) (kept_here c.args.m.now c.make_room.new.m stop c.in_err-make_room.ensures.stop (λ z. (c.in_err-make_room.ensures.full (ap (λ (t : Stop). let r : Result (Unit {0}) Stop = Err t in r) z)).0))
+
+pub returns-in-Call-clause-kept : goal.returns-in-Call-clause-kept
+returns-in-Call-clause-kept g c =
+    let o = asked c.args.m.now c.make_room.new.m c.in_ok-make_room.ensures.only in
+    let at = called_room c.args.m.now c.make_room.new.m c.attempt.new.m c.args.pid c.args.before.now o c.in-Call.ensures.wrote c.in-Call.number (sym c.in-Call.ensures.answer) in
+    later_kept c.call.result c.args.m.now c.attempt.new.m c.call.new.m at c.call.ensures.kept
+
+pub returns-in-Miss-clause-kept : goal.returns-in-Miss-clause-kept
+returns-in-Miss-clause-kept g c =
+    let o = asked c.args.m.now c.make_room.new.m c.in_ok-make_room.ensures.only in
+    let e = missed (run (own_answers c.make_room.new.m c.args.pid) (instruction c.args.before.now)) c.in-Miss.address c.in-Miss.write (sym c.in-Miss.ensures.answer) in
+    let at = refused_room c.args.m.now c.make_room.new.m c.attempt.new.m c.args.pid c.args.before.now o c.attempt.ensures.wrote (Miss c.in-Miss.address c.in-Miss.write) e in
+    later_kept c.serve_access.result c.args.m.now c.attempt.new.m c.serve_access.new.m at c.serve_access.ensures.kept
+
+pub returns-in-Below-clause-kept : goal.returns-in-Below-clause-kept
+returns-in-Below-clause-kept g c =
+    let o = asked c.args.m.now c.make_room.new.m c.in_ok-make_room.ensures.only in
+    let e = fell (run (own_answers c.make_room.new.m c.args.pid) (instruction c.args.before.now)) c.in-Below.address (sym c.in-Below.ensures.answer) in
+    let at = refused_room c.args.m.now c.make_room.new.m c.attempt.new.m c.args.pid c.args.before.now o c.attempt.ensures.wrote (Below c.in-Below.address) e in
+    later_kept c.serve_access-in-Below.result c.args.m.now c.attempt.new.m c.serve_access-in-Below.new.m at c.serve_access-in-Below.ensures.kept
+
+pub returns-in_err-kill-in-Signal-clause-kept : goal.returns-in_err-kill-in-Signal-clause-kept
+returns-in_err-kill-in-Signal-clause-kept g c =
+    let o = asked c.args.m.now c.make_room.new.m c.in_ok-make_room.ensures.only in
+    let e = signalled (run (own_answers c.make_room.new.m c.args.pid) (instruction c.args.before.now)) c.in-Signal.signal (sym c.in-Signal.ensures.answer) in
+    let at = refused_room c.args.m.now c.make_room.new.m c.attempt.new.m c.args.pid c.args.before.now o c.attempt.ensures.wrote (Signal c.in-Signal.signal) e in
+    let r = err_from_is_err_and c.from_residual-in_err-kill-in-Signal.result c.from_residual-in_err-kill-in-Signal.ensures.1 in
+    rw (r.1, r.2) (later_same c.args.m.now c.attempt.new.m c.kill.new.m c.in_err-kill-in-Signal.field-0.0 at
+    (alive_same c.attempt.new.m c.kill.new.m c.args.pid (g.F.Files.holds c.args.files.now) (g.D.SwapDev.image c.args.swap.now) (g.D.SwapDev.image c.kill.new.swap) c.in_err-kill-in-Signal.field-0.0 c.in_err-kill-in-Signal.ensures.stops))

@@ -1,4 +1,5 @@
-use Rattle.std.proofs.Common.{w32, sym, ap, ◌∙◌}
+use Rattle.std.proofs.Common.{w32, sym, ap, ◌∙◌, subst}
+use Rattle.std.specs.Prelude.{IfErr}
 use Rattle.std.proofs.lemmas.Int.{to_z-of_z}
 use Rattle.std.proofs.lemmas.Result.{err_from_is_err_and}
 use Rattle.flat_model.specs.Calls.{call_of}
@@ -8,6 +9,10 @@ use Rattle.steady_laws.proofs.CallsContinue.{end_continues}
 use Rattle.proc_run.specs.Runs.{is_now}
 use Rattle.proc_run.proofs.Made.{caller_of, ready_advances, ready_goes_on, asleep_advances, asleep_goes_on, keeps, stopped, unchanged, steady_again, lends_again, regs_again, quiet, missed_advances, missed_stops, missed_goes_on}
 use Rattle.proc_run.proofs.Steps.{no_call_led, no_call_stops}
+use Rattle.machine_state.specs.Machine.{Standing}
+use Rattle.steady_laws.specs.Sizes.{KeptAtStop}
+use Rattle.steady_laws.proofs.StopsKeep.{alive_same}
+use Rattle.proc_run.proofs.StopsSame.{call_same}
 use Rattle.proc_run.proofs.calling.call.Goals as goal
 
 -- A number that is no call's.
@@ -139,3 +144,23 @@ returns-in-Miss-clause-continues g c =
     missed_goes_on c.args.m.now c.make.new.m c.args.pid c.args.before.now c.args.number c.args.regs.now c.in-Some.call (g.F.Files.holds c.args.files.now) (g.D.SwapDev.image c.args.swap.now)
     (g.D.SwapDev.image c.make.new.swap) (is_now c.args.patience) c.requires.steady c.requires.lends c.requires.registers c.requires.made (ap call_of (sym (to_z-of_z w32 c.args.number c.ranges.number)) ∙ sym c.numbered.ensures ∙ c.in-Some.is)
     c.in-Miss.address c.in_ok-make.field-0 c.in-Miss.is c.in_ok-make.ensures.comes c.serve_access.new.m c.serve_access.result c.serve_access.ensures.continues
+
+-- Where the run stops, the sizes and images stay, and a journal is full only at its bound.
+
+pub returns-in_err-kill-clause-kept : goal.returns-in_err-kill-clause-kept
+returns-in_err-kill-clause-kept g c =
+    let e = err_from_is_err_and c.from_residual.result c.from_residual.ensures.1 in
+    rw (e.1, e.2) (alive_same c.args.m.now c.kill.new.m c.args.pid (g.F.Files.holds c.args.files.now) (g.D.SwapDev.image c.args.swap.now) (g.D.SwapDev.image c.kill.new.swap) c.in_err-kill.field-0.0 c.in_err-kill.ensures.stops)
+
+pub returns-in_err-make-clause-kept : goal.returns-in_err-make-clause-kept
+returns-in_err-make-clause-kept g c =
+    let e = err_from_is_err_and c.from_residual-in_err-make.result c.from_residual-in_err-make.ensures.1 in
+    rw (e.1, e.2) (call_same c.in-Some.call c.args.m.now c.make.new.m c.args.pid c.args.regs.now (g.F.Files.holds c.args.files.now) (g.D.SwapDev.image c.args.swap.now) (g.D.SwapDev.image c.make.new.swap) c.in_err-make.field-0.0 c.in_err-make.ensures.stops)
+
+pub returns-in-Miss-clause-kept : goal.returns-in-Miss-clause-kept
+returns-in-Miss-clause-kept g c =
+    let same =
+    unchanged c.args.m.now c.make.new.m c.args.pid c.args.before.now c.args.number c.args.regs.now c.in-Some.call (g.F.Files.holds c.args.files.now) (g.D.SwapDev.image c.args.swap.now)
+    (g.D.SwapDev.image c.make.new.swap) (is_now c.args.patience) c.requires.steady c.requires.lends c.requires.registers c.requires.made (ap call_of (sym (to_z-of_z w32 c.args.number c.ranges.number)) ∙ sym c.numbered.ensures ∙ c.in-Some.is)
+    c.in-Miss.address c.in_ok-make.field-0 c.in-Miss.is c.in_ok-make.ensures.comes in
+    subst (λ (m : Standing). IfErr c.serve_access.result (KeptAtStop m c.serve_access.new.m)) same c.serve_access.ensures.kept

@@ -5,6 +5,7 @@ use Rattle.proc_run.specs.declared.advancing.Advance.TheVariants as advances
 use Rattle.proc_run.specs.Runs.{is_now, Advances, StopsAdvancing, counts}
 use Rattle.proc_run.proofs.SoFar.{none_so_far, counted_far, served_far, stuck_runs, stops_far, idle_runs, done_runs, waited_runs, steady_on, lends_there}
 use Rattle.machine_state.proofs.Transfers.{transfers_none, transfers_then}
+use Rattle.steady_laws.proofs.StopsKeep.{kept_through}
 use Rattle.proc_run.proofs.running.run.Goals as goal
 
 pub loop-count-init : goal.loop-count-init
@@ -89,3 +90,9 @@ pub returns-after-loop-count-clause-runs : goal.returns-after-loop-count-clause-
 returns-after-loop-count-clause-runs g c =
     let so = c.loop-count.invariant in
     done_runs c.args.m.now c.loop-count.m c.args.pid (is_now c.args.patience) c.args.counted c.args.until (g.F.Files.holds c.args.files.now) (g.D.SwapDev.image c.args.swap.now) (g.D.SwapDev.image c.loop-count.swap) c.loop-count.count c.loop-count.waits so.so_far c.loop-count-test.false
+
+pub returns-in_err-next_step-clause-kept : goal.returns-in_err-next_step-clause-kept
+returns-in_err-next_step-clause-kept g c =
+    let so = c.loop-count.invariant in
+    let e = err_from_is_err_and c.from_residual.result c.from_residual.ensures.1 in
+    rw (e.1, e.2) (kept_through c.args.m.now c.loop-count.m c.next_step.new.m c.in_err-next_step.field-0.0 (record { params = so.params; images = so.images }) c.in_err-next_step.ensures.kept)

@@ -10,6 +10,8 @@ use Rattle.steady_laws.proofs.Running.{continues_both}
 use Rattle.steady_laws.proofs.CallsContinue.{end_continues}
 use Rattle.proc_run.specs.Runs.{is_now}
 use Rattle.proc_run.proofs.Served.{IsStuck, EndsBy, is_end, ends_there, served_on, served_holders, served_stops, advances_valid, advances_stuck, advances_ended, stops_ended}
+use Rattle.steady_laws.proofs.StopsKeep.{alive_same}
+use Rattle.proc_run.proofs.StopsSame.{served_same, continued_same}
 use Rattle.proc_run.proofs.serving.serve_access.Goals as goal
 use Rattle.proc_run.proofs.serving.serve_access.Goals.{in-NoSpace, in-Signal}
 
@@ -154,3 +156,19 @@ returns-clause-holders g c =
     (caller_holds c.serve_by.new.m c.args.pid after) c.in_ok-kill.ensures.ended c.sound-2.ensures.numbered
     (served_holders (is_now c.args.patience) c.args.m.now c.serve_by.new.m c.args.pid c.args.address c.args.write (g.F.Files.holds c.args.files.now) (g.D.SwapDev.image c.args.swap.now)
     (g.D.SwapDev.image c.serve_by.new.swap) c.in_ok-served.served c.in_ok-served.ensures.served c.sound.ensures.numbered c.requires.steady.holders)
+
+pub returns-in_err-served-clause-kept : goal.returns-in_err-served-clause-kept
+returns-in_err-served-clause-kept g c =
+    let e = err_from_is_err_and c.from_residual.result c.from_residual.ensures.1 in
+    rw (e.1, e.2) (served_same (is_now c.args.patience) c.args.m.now c.serve_by.new.m c.args.pid c.args.address c.args.write (g.F.Files.holds c.args.files.now) (g.D.SwapDev.image c.args.swap.now) (g.D.SwapDev.image c.serve_by.new.swap)
+    c.in_err-served.field-0.0 c.in_err-served.ensures.stops)
+
+pub returns-in_err-kill-clause-kept : goal.returns-in_err-kill-clause-kept
+returns-in_err-kill-clause-kept g c =
+    let caller : IsCaller c.args.m.now c.args.pid = record { running = c.requires.steady.running; whole = c.requires.steady.whole; clear = c.requires.steady.clear; lends = c.requires.lends } in
+    let on : Continues c.args.m.now c.serve_by.new.m 0 =
+    served_on (is_now c.args.patience) c.args.m.now c.serve_by.new.m c.args.pid c.args.address c.args.write (g.F.Files.holds c.args.files.now) (g.D.SwapDev.image c.args.swap.now)
+    (g.D.SwapDev.image c.serve_by.new.swap) c.in_ok-served.served caller c.in_ok-served.ensures.served in
+    let e = err_from_is_err_and c.from_residual-in_err-kill.result c.from_residual-in_err-kill.ensures.1 in
+    rw (e.1, e.2) (continued_same c.args.m.now c.serve_by.new.m c.kill.new.m 0 c.in_err-kill.field-0.0 on
+    (alive_same c.serve_by.new.m c.kill.new.m c.args.pid (g.F.Files.holds c.serve_by.new.files) (g.D.SwapDev.image c.serve_by.new.swap) (g.D.SwapDev.image c.kill.new.swap) c.in_err-kill.field-0.0 c.in_err-kill.ensures.stops))

@@ -1,4 +1,5 @@
-use Rattle.std.proofs.Common.{◌≡◌, ℕ, List, Some, map, sym, subst}
+use Rattle.std.proofs.Common.{◌≡◌, ℕ, List, Some, map, sym, ap, ◌∙◌, subst}
+use Rattle.vm_facts.specs.declared.params.Params.{Params}
 use Rattle.flat_state.specs.Flat.{Inputs}
 use Rattle.std.specs.Prelude.{◌*◌}
 use Rattle.io_edge.specs.FileHolding.{named_file}
@@ -35,6 +36,8 @@ returns c =
     = subst (λ (m : Standing). IsAskedOf A m c.args.first.now c.args.lines.now (Some (map named_file c.args.files.now.files.items)) (blank_swap c.args.numbers.swap)) (sym c.in_ok-core.ensures.machine)
     (asked c.args.entries c.args.numbers c.args.images.now c.args.opened.now c.args.first.now c.args.lines.now c.requires.opened c.requires.runnable c.requires.octets (Some (map named_file c.args.files.now.files.items)) c.requires.held) in
     record {
+      journal = ap (λ (p : Params). p.journal) c.run_schedule-end.ensures.params ∙ ap (λ (m : Standing). m.params.journal) c.in_ok-core.ensures.machine;
+      blocks = ap (λ (p : Params). p.swap_blocks) c.run_schedule-end.ensures.params ∙ ap (λ (m : Standing). m.params.swap_blocks) c.in_ok-core.ensures.machine;
       left = Some (with_zeros (512 * c.run_schedule-end.new.swap.blocks) c.run_schedule-end.new.swap.written.items);
       ends = c.run_schedule-end.ensures.ends A (blank_swap c.args.numbers.swap) is_asked c.in_ok-swap.ensures.zeros;
       full = c.run_schedule-end.ensures.full A (blank_swap c.args.numbers.swap) is_asked c.in_ok-swap.ensures.zeros;

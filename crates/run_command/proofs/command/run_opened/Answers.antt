@@ -1,13 +1,14 @@
-use Rattle.std.proofs.Common.{List, ℕ, ◌≤◌, length, OnOk, map, refl, sym, ap, ◌∙◌, subst}
+use Rattle.std.proofs.Common.{◌≡◌, List, ℕ, ◌≤◌, length, Err, map, refl, sym, ap, ◌∙◌, subst}
 use Rattle.vm_facts.specs.declared.entry.Entry.{Entry}
 use Rattle.vm_facts.specs.declared.event.Event.{Event}
 use Rattle.machine_state.specs.Machine.{Standing}
 use Rattle.vm_core.specs.RunEnds.{IsAskedOf}
 use Rattle.run_opening.specs.declared.images.OpenedImage.{OpenedImage}
 use Rattle.run_text.specs.Transcript.{HaveNumbers}
+use Rattle.command_ending.specs.declared.fault.Fault.TheVariants.{JournalFull}
 use Rattle.run_command.specs.Seen.{Seen}
 use Rattle.run_command.specs.Naming.{shown_as}
-use Rattle.run_command.specs.Machines.{machine_of, IsOfOpening}
+use Rattle.run_command.specs.Machines.{journal_entries, machine_of, IsOfOpening}
 use Rattle.run_command.specs.Paired.{image_together}
 use Rattle.run_command.specs.Ends.{NoneFaulted, WritesSome}
 use Rattle.run_command.proofs.Endings.{StopCaused, run_ended}
@@ -66,9 +67,10 @@ returns-clause-runs g c =
     let written : WritesSome c.args.traced es r seen.written_before seen.written_after seen.sink_faults_before seen.sink_faults_after c.write_run-status.result
     = subst (λ (entries : List Entry). WritesSome c.args.traced entries r seen.written_before seen.written_after seen.sink_faults_before seen.sink_faults_after c.write_run-status.result) c.journal.ensures c.write_run-status.ensures.writes in
     let machine = c.in-Ok.ensures.machine ∙ ap (λ (images : List OpenedImage). machine_of c.args.numbers (map shown_as images)) c.as_slice.ensures.value in
-    let caused : StopCaused seen es r = run_caused seen es r ran.kind ran.files_read.open_faults ran.files_read.page_faults ran.reads ran.writes ran.none_made ran.untouched ran.full
-    (subst (λ (m : Standing). OnOk r (length es ≤ m.params.journal)) machine ran.within) in
-    opened_runs (IsOfOpening c.args.numbers c.args.opening.now (g.F.Files.holds files)) c.args.traced seen es r c.write_run-status.result written (subst HaveNumbers c.journal.ensures c.write_run-status.ensures.numbers) caused ran.kind
+    let caused : StopCaused seen es r = run_caused seen es r ran.kind ran.files_read.open_faults ran.files_read.page_faults ran.reads ran.writes ran.none_made ran.untouched
+    (subst (λ (m : Standing). r ≡ Err JournalFull → length es ≡ m.params.journal) machine ran.full) in
+    let within : length es ≤ journal_entries = subst (λ (m : Standing). length es ≤ m.params.journal) machine ran.within in
+    opened_runs (IsOfOpening c.args.numbers c.args.opening.now (g.F.Files.holds files)) c.args.traced seen es r c.write_run-status.result written (subst HaveNumbers c.journal.ensures c.write_run-status.ensures.numbers) within caused ran.kind
     (λ A image is told.
     run_ended seen A es image r ran.kind caused
     (ran.ends A image

@@ -1,9 +1,10 @@
-use Rattle.std.proofs.Common.{List, ◌≤◌, length, OnOk, map, Some, Global, refl, sym, subst}
+use Rattle.std.proofs.Common.{◌≡◌, List, ◌≤◌, length, Err, map, Some, Global, refl, sym, subst}
 use Rattle.vm_facts.specs.declared.entry.Entry.{Entry}
 use Rattle.io_edge.specs.FileHolding.{named_file}
 use Rattle.machine_state.specs.Machine.{Standing}
 use Rattle.vm_core.specs.RunStartStarting.{StartsFrom}
 use Rattle.vm_core.specs.RunEnds.{IsAskedOf}
+use Rattle.command_ending.specs.declared.fault.Fault.TheVariants.{JournalFull}
 use Rattle.run_command.specs.Loads.{load_first, WritesCounts}
 use Rattle.run_command.proofs.Loadings.{load_ran, load_unmade}
 use Rattle.run_command.proofs.loading.run_load.Goals as goal
@@ -18,8 +19,9 @@ returns-clause-runs g c = λ told opens pages.
     let ran = c.run_paired-ending in
     let journal = ran.new.core.machine.kernel.journal in
     load_ran _ _ c.args.number _ c.write_counts-status.result journal ran.result ran.ensures.kind ran.ensures.files_read.page_faults (record { open_same = refl; page_same = refl }) ran.ensures.reads ran.ensures.writes
-    ran.ensures.none_made ran.ensures.untouched ran.ensures.full
-    (subst (λ (m : Standing). OnOk ran.result (length journal ≤ m.params.journal)) c.in-Ok.ensures.machine ran.ensures.within)
+    ran.ensures.none_made ran.ensures.untouched
+    (subst (λ (m : Standing). ran.result ≡ Err JournalFull → length journal ≡ m.params.journal) c.in-Ok.ensures.machine ran.ensures.full)
+    (subst (λ (m : Standing). length journal ≤ m.params.journal) c.in-Ok.ensures.machine ran.ensures.within)
     (λ A starts. ran.ensures.no_space A (subst (λ (m : Standing). StartsFrom A m load_first) (sym c.in-Ok.ensures.machine) starts))
     (λ A image is before.
     ran.ensures.ends A image (subst (λ (m : Standing). IsAskedOf A m load_first c.args.lines.now (Some (map (named_file {A = Global} {B = Global}) c.args.files.now.files.items)) image) (sym c.in-Ok.ensures.machine) is) before)

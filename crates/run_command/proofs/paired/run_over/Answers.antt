@@ -1,10 +1,12 @@
-use Rattle.std.proofs.Common.{Err, sym, ◌∙◌, subst}
+use Rattle.std.proofs.Common.{Result, Err, length, sym, ap, ◌∙◌, subst}
+use Rattle.vm_facts.specs.declared.stop.Stop.{Stop}
 use Rattle.machine_state.specs.Outside.{stop_of, CountsReadFaults, CountsWriteFaults}
 use Rattle.vm_core.specs.declared.schedule.Unfinished.{Unfinished}
+use Rattle.vm_core.specs.declared.schedule.Unfinished.TheVariants as ends
 use Rattle.vm_core.specs.RunEnds.{stopped_as, RunEnds}
 use Rattle.run_command.specs.Seen.{DeviceFaults}
 use Rattle.run_command.specs.Paired.{image_together}
-use Rattle.run_command.proofs.Pairs.{stopped_ends, none_failed, reads_fail, writes_fail}
+use Rattle.run_command.proofs.Pairs.{stopped_ends, full_at, none_failed, reads_fail, writes_fail}
 use Rattle.run_command.proofs.paired.run_over.Goals as goal
 
 pub returns-in-Ok-clause-reads : goal.returns-in-Ok-clause-reads
@@ -75,3 +77,9 @@ returns-in-Err-Stopped-clause-writes g c =
     (subst (λ (u : Unfinished). CountsWriteFaults (stop_of (stopped_as (Err u))) old.writes.count new.writes.count) c.in-Err-Stopped.field-0-is c.in-Err-Stopped.ensures.outside.swap.write_faults)
     c.fault_of.ensures.unfinished c.fault_of.ensures.kind
     (λ device e. sym c.failed_write.ensures.device ∙ c.fault_of.ensures.write_device device e)
+
+pub returns-in-Err-Stopped-clause-full : goal.returns-in-Err-Stopped-clause-full
+returns-in-Err-Stopped-clause-full g c is =
+    let within = c.run_schedule.ensures.within in
+    full_at c.in-Err-Stopped.stop c.fault_of.result c.args.core.now.machine.params.journal (length c.run_schedule.new.core.machine.kernel.journal) c.fault_of.ensures.unfinished within
+    (λ e. c.in-Err-Stopped.ensures.bound (ap (λ (u : Unfinished). let r : Result (Unit {0}) Unfinished = Err u in r) (c.in-Err-Stopped.field-0-is ∙ ap (λ (stop : Stop). ends.Stopped stop) e))) cc

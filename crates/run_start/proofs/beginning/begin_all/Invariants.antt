@@ -8,6 +8,8 @@ use Rattle.run_start.proofs.beginning.begin_all.Given as goal
 -- what begins in the other images, from here, begins in all
 abbrev pub invariant-loop-image : goal.invariant-loop-image
 invariant-loop-image l = record {
+  params : l.m.params ≡ l.fn.m.params;
+  images : l.m.images ≡ l.fn.m.images;
   running : l.m.kernel.stopped ≡ false;
   whole : l.m.before ≡ l.m.kernel.holdings;
   empty : l.m.kernel.journal ≡ [];

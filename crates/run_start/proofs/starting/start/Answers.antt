@@ -1,10 +1,12 @@
-use Rattle.std.proofs.Common.{refl}
+use Rattle.std.proofs.Common.{◌≤◌, length, refl}
 use Rattle.std.proofs.lemmas.Result.{err_from_is_err_and}
 use Rattle.steady_laws.proofs.CopiedPages.{area_next, files_next}
 use Rattle.run_start.proofs.Begun.{AllBegan, all_began, room_in, never_both, space_kept}
 use Rattle.run_start.proofs.Going.{goes_on}
 use Rattle.run_start.proofs.Led.{start_leads, start_stops, begin_stops}
 use Rattle.run_start.proofs.Placing.{answers_as}
+use Rattle.steady_laws.proofs.StopsKeep.{kept_through, never_full}
+use Rattle.run_start.proofs.Filled.{filling_same}
 use Rattle.run_start.proofs.starting.start.Goals as goal
 
 pub fill_due-requires-clause-running : goal.fill_due-requires-clause-running
@@ -99,3 +101,16 @@ returns-in-NoSpace-clause-kept_running g c pid e = c.in_ok-started.ensures.runni
 
 pub returns-in_ok-fill_due-in-Ok-clause-kept_running : goal.returns-in_ok-fill_due-in-Ok-clause-kept_running
 returns-in_ok-fill_due-in-Ok-clause-kept_running g c pid e = never_both c.in_ok-started.started pid c.in-Ok.is (cc)
+
+pub returns-in_err-started-clause-kept : goal.returns-in_err-started-clause-kept
+returns-in_err-started-clause-kept g c =
+    let p = err_from_is_err_and c.from_residual.result c.from_residual.ensures.1 in
+    rw (p.1, p.2) (record { sizes = c.in_err-started.ensures.sizes; full = λ e. never_full c.in_err-started.field-0.0 (c.begin_all.new.m.params.journal ≤ length c.begin_all.new.m.kernel.journal) c.in_err-started.ensures.cause e })
+
+pub returns-in_err-fill_due-in-Ok-clause-kept : goal.returns-in_err-fill_due-in-Ok-clause-kept
+returns-in_err-fill_due-in-Ok-clause-kept g c =
+    let b : AllBegan c.args.first.now c.args.m.now c.begin_all.new.m =
+    all_began c.in_ok-started.started c.args.first.now c.args.m.now c.begin_all.new.m c.requires.new c.sound.ensures.numbered c.in-Ok.is c.in_ok-started.ensures.began in
+    let p = err_from_is_err_and c.from_residual-in_err-fill_due-in-Ok.result c.from_residual-in_err-fill_due-in-Ok.ensures.1 in
+    rw (p.1, p.2) (kept_through c.args.m.now c.begin_all.new.m c.fill_due.new.m c.in_err-fill_due-in-Ok.field-0.0 (record { params = b.on.params; images = b.on.images })
+    (filling_same c.begin_all.new.m.kernel.place.due c.begin_all.new.m c.fill_due.new.m (g.F.Files.holds c.args.files.now) (g.D.SwapDev.image c.args.swap.now) (g.D.SwapDev.image c.fill_due.new.swap) c.in_err-fill_due-in-Ok.field-0.0 c.in_err-fill_due-in-Ok.ensures.filled))

@@ -3,6 +3,8 @@ use Rattle.vm_core.specs.Closing.{StopsClosing, HasTurn, StopsTurn}
 use Rattle.vm_core.proofs.Noting.{stops_on}
 use Rattle.vm_core.proofs.Closings.{closing_starts, closing_on, closing_stops, closing_ends}
 use Rattle.machine_state.proofs.Transfers.{transfers_none, transfers_then}
+use Rattle.run_start.specs.Sizes.{KeptAtStop}
+use Rattle.run_start.proofs.StopsKeep.{kept_through}
 use Rattle.vm_core.proofs.closing.close.Goals as goal
 
 pub loop-pid-init : goal.loop-pid-init
@@ -54,3 +56,9 @@ pub returns-clause-closes : goal.returns-clause-closes
 returns-clause-closes g c =
     closing_ends c.args.m.now c.loop-pid.m (g.F.Files.holds c.args.files.now) (g.D.SwapDev.image c.args.swap.now) (g.D.SwapDev.image c.loop-pid.swap) c.args.counted c.loop-pid.count c.loop-pid.last
     c.loop-pid.idle c.loop-pid.invariant.closes (c.next_turn.ensures.none c.in_default.is)
+
+pub returns-in_err-more-clause-kept : goal.returns-in_err-more-clause-kept
+returns-in_err-more-clause-kept g c =
+    let so = c.loop-pid.invariant in
+    stops_on c.from_residual.result c.in_err-more.field-0.0 (KeptAtStop c.args.m.now c.turn.new.m) c.from_residual.ensures.1
+    (kept_through c.args.m.now c.loop-pid.m c.turn.new.m c.in_err-more.field-0.0 (record { params = so.params; images = so.images }) c.in_err-more.ensures.kept)

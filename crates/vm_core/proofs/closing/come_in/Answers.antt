@@ -10,6 +10,8 @@ use Rattle.vm_core.proofs.Noting.{ok_both, stops_weaker}
 use Rattle.vm_core.proofs.Steadying.{in_steady}
 use Rattle.vm_core.proofs.Outs.{held_in}
 use Rattle.vm_core.proofs.Turns.{in_already, in_comes, in_stops}
+use Rattle.run_start.specs.Sizes.{KeptAtStop}
+use Rattle.run_start.proofs.StopsKeep.{kept_at}
 use Rattle.vm_core.proofs.closing.come_in.Goals as goal
 
 pub returns-then-not-is_out-clause-comes : goal.returns-then-not-is_out-clause-comes
@@ -47,3 +49,12 @@ returns-clause-steady g c =
     let new : Standing = c.swap_in.new.m in
     ok_both c.swap_in.result (IsIn old.kernel new.kernel c.args.pid i) (IsSameBeside old new) (StaysSteady old new 0)
     (λ h b. in_steady old new c.args.pid i c.requires.steady h b) c.swap_in.ensures.step c.swap_in.ensures.beside
+
+pub returns-clause-kept : goal.returns-clause-kept
+returns-clause-kept g c =
+    let old = c.args.m.now in
+    let i = g.D.SwapDev.image c.args.swap.now in
+    let new : Standing = c.swap_in.new.m in
+    let j = g.D.SwapDev.image c.swap_in.new.swap in
+    stops_weaker c.swap_in.result (λ stop. StopsAt (entries.SwapIn c.args.pid) old.kernel i stop new j) (KeptAtStop old new)
+    (λ stop h. kept_at (entries.SwapIn c.args.pid) old.kernel i j old new stop c.swap_in.ensures.params c.swap_in.ensures.images h) c.swap_in.ensures.stopped

@@ -1,10 +1,14 @@
-use Rattle.std.proofs.Common.{IfOk, IfErr, subst, arith}
+use Rattle.std.proofs.Common.{IfOk, IfErr, ◌∙◌, subst, arith}
 use Rattle.vm_facts.specs.declared.entry.Entry.TheVariants as entries
 use Rattle.proc_run.specs.Running.{CountsTo}
 use Rattle.vm_core.specs.Closing.{HasTurn, StopsTurn, FinishesTurn, StopsFinishing}
 use Rattle.vm_core.proofs.Noting.{stops_on, stops_weaker, noted_stop, ok_two}
 use Rattle.vm_core.proofs.Steadying.{noted_steady}
 use Rattle.vm_core.proofs.Turns.{has_turn, turn_noting_stops, turn_coming_stops, turn_finish_stops}
+use Rattle.run_start.specs.Sizes.{KeptAtStop}
+use Rattle.run_start.proofs.StopsKeep.{kept_through}
+use Rattle.vm_core.proofs.Kept.{kept_noting}
+use Rattle.vm_core.specs.Steady.{StaysSteady}
 use Rattle.vm_core.proofs.closing.turn.Goals as goal
 
 pub returns-in_err-note-clause-stops : goal.returns-in_err-note-clause-stops
@@ -67,3 +71,24 @@ returns-clause-stops g c =
     (λ stop f. turn_finish_stops old c.note.new.self in_ new c.args.pid c.args.counted holds i h j stop (noted_steady old c.note.new.self (entries.Turn c.args.pid) c.requires.steady tt c.in_ok-note.ensures.step c.in_ok-note.ensures.rest) c.in_ok-note.ensures.step (c.in_ok-come_in.ensures.comes c.args.counted) f)
     (subst (λ hs. IfErr c.finish.result (λ stop. StopsFinishing in_ new c.args.pid c.args.counted hs h j stop))
     c.in_ok-come_in.ensures.outside.files.holds c.finish.ensures.stops)
+
+pub returns-in_err-note-clause-kept : goal.returns-in_err-note-clause-kept
+returns-in_err-note-clause-kept g c =
+    let stop = c.in_err-note.field-0.0 in
+    stops_on c.from_residual.result stop (KeptAtStop c.args.m.now c.note.new.self) c.from_residual.ensures.1
+    (kept_noting c.args.m.now c.note.new.self stop (noted_stop stop c.args.m.now c.note.new.self c.requires.steady.whole c.in_err-note.ensures.stop c.in_err-note.ensures.cause c.in_err-note.ensures.full))
+
+pub returns-in_err-come_in-clause-kept : goal.returns-in_err-come_in-clause-kept
+returns-in_err-come_in-clause-kept g c =
+    let old = c.args.m.now in
+    let noted : StaysSteady old c.note.new.self 0 = noted_steady old c.note.new.self (entries.Turn c.args.pid) c.requires.steady tt c.in_ok-note.ensures.step c.in_ok-note.ensures.rest in
+    stops_on c.from_residual-in_err-come_in.result c.in_err-come_in.field-0.0 (KeptAtStop old c.come_in.new.m) c.from_residual-in_err-come_in.ensures.1
+    (kept_through old c.note.new.self c.come_in.new.m c.in_err-come_in.field-0.0 (record { params = noted.params; images = noted.images }) c.in_err-come_in.ensures.kept)
+
+pub returns-clause-kept : goal.returns-clause-kept
+returns-clause-kept g c =
+    let old = c.args.m.now in
+    let noted : StaysSteady old c.note.new.self 0 = noted_steady old c.note.new.self (entries.Turn c.args.pid) c.requires.steady tt c.in_ok-note.ensures.step c.in_ok-note.ensures.rest in
+    let come = c.in_ok-come_in.ensures.steady in
+    stops_weaker c.finish.result (KeptAtStop c.come_in.new.m c.finish.new.m) (KeptAtStop old c.finish.new.m)
+    (λ stop k. kept_through old c.come_in.new.m c.finish.new.m stop (record { params = come.params ∙ noted.params; images = come.images ∙ noted.images }) k) c.finish.ensures.kept

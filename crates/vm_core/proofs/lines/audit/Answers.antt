@@ -11,6 +11,8 @@ use Rattle.vm_core.specs.Lines.{StopsLine}
 use Rattle.vm_core.proofs.Noting.{stops_noting, stops_weaker, ok_both}
 use Rattle.vm_core.proofs.Steadying.{noted_steady}
 use Rattle.vm_core.proofs.Asked.{audit_makes, audit_halts}
+use Rattle.run_start.specs.Sizes.{KeptAtStop}
+use Rattle.vm_core.proofs.Kept.{kept_noting}
 use Rattle.vm_core.proofs.lines.audit.Goals as goal
 
 pub returns-clause-made : goal.returns-clause-made
@@ -33,3 +35,8 @@ returns-clause-steady c =
     let e : Entry = owners_of old.kernel.place old.kernel.holdings in
     ok_both c.note.result (new.kernel ≡ note_step old.kernel c.owners-entry.result) (new ≡ record old { kernel = new.kernel; room = None }) (StaysSteady old new 0)
     (λ k r. noted_steady old new e c.requires.steady tt (k ∙ ap (λ (x : Entry). note_step old.kernel x) c.owners-entry.ensures) r) c.note.ensures.step c.note.ensures.rest
+
+pub returns-clause-kept : goal.returns-clause-kept
+returns-clause-kept g c =
+    stops_weaker c.note.result (λ stop. StopsNoting c.args.m.now c.note.new.self stop) (KeptAtStop c.args.m.now c.note.new.self) (λ stop h. kept_noting c.args.m.now c.note.new.self stop h)
+    (stops_noting c.note.result c.args.m.now c.note.new.self c.requires.steady.whole c.note.ensures.stop c.note.ensures.cause c.note.ensures.full)

@@ -2,6 +2,8 @@ use Rattle.vm_facts.specs.declared.event.Event.TheVariants as events
 use Rattle.vm_core.specs.Lines.{StopsLine}
 use Rattle.vm_core.proofs.Noting.{stops_on}
 use Rattle.vm_core.proofs.Asked.{interrupt_makes, interrupt_steady, interrupt_halts}
+use Rattle.run_start.specs.Sizes.{KeptAtStop}
+use Rattle.vm_core.proofs.Kept.{kept_ending}
 use Rattle.vm_core.proofs.lines.interrupt.Goals as goal
 
 pub returns-clause-made : goal.returns-clause-made
@@ -21,3 +23,8 @@ returns-in_err-done-clause-stops g c =
     let j = g.D.SwapDev.image c.done.new.swap in
     stops_on c.from_residual.result c.in_err-done.field-0.0 (StopsLine events.Interrupt c.args.m.now c.done.new.self holds i j) c.from_residual.ensures.1
     (interrupt_halts c.args.m.now c.done.new.self holds i j c.in_err-done.field-0.0 c.requires.steady.whole c.in_err-done.ensures.stop c.in_err-done.ensures.cause c.in_err-done.ensures.full c.in_err-done.ensures.spoiled)
+
+pub returns-in_err-done-clause-kept : goal.returns-in_err-done-clause-kept
+returns-in_err-done-clause-kept g c =
+    stops_on c.from_residual.result c.in_err-done.field-0.0 (KeptAtStop c.args.m.now c.done.new.self) c.from_residual.ensures.1
+    (kept_ending c.args.m.now c.done.new.self c.in_err-done.field-0.0 c.in_err-done.ensures.stop c.in_err-done.ensures.full)

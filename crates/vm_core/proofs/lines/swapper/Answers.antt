@@ -2,6 +2,8 @@ use Rattle.vm_facts.specs.declared.event.Event.TheVariants as events
 use Rattle.vm_core.specs.Lines.{StopsLine}
 use Rattle.vm_core.proofs.Noting.{stops_on}
 use Rattle.vm_core.proofs.Asked.{swapper_makes, swapper_steady, swapper_halts}
+use Rattle.run_start.specs.Sizes.{KeptAtStop}
+use Rattle.vm_core.proofs.Kept.{kept_turning}
 use Rattle.vm_core.proofs.lines.swapper.Goals as goal
 
 pub returns-clause-made : goal.returns-clause-made
@@ -21,3 +23,9 @@ returns-in_err-turn-clause-stops g c =
     let j = g.D.SwapDev.image c.turn.new.swap in
     stops_on c.from_residual.result c.in_err-turn.field-0.0 (StopsLine events.Swapper c.args.m.now c.turn.new.m holds i j) c.from_residual.ensures.1
     (swapper_halts c.args.m.now c.turn.new.m holds i j c.in_err-turn.field-0.0 c.in_err-turn.ensures.stopped)
+
+pub returns-in_err-turn-clause-kept : goal.returns-in_err-turn-clause-kept
+returns-in_err-turn-clause-kept g c =
+    stops_on c.from_residual.result c.in_err-turn.field-0.0 (KeptAtStop c.args.m.now c.turn.new.m) c.from_residual.ensures.1
+    (kept_turning c.args.m.now c.turn.new.m (g.F.Files.holds c.args.files.now) (g.D.SwapDev.image c.args.swap.now) (g.D.SwapDev.image c.turn.new.swap) c.in_err-turn.ensures.stopped.0 c.in_err-turn.field-0.0
+    c.in_err-turn.ensures.params_at_stop c.in_err-turn.ensures.images_at_stop c.in_err-turn.ensures.stopped.2)

@@ -2,7 +2,9 @@ use Rattle.std.proofs.Common.{subst}
 use Rattle.vm_core.specs.Closing.{ClosesRun, StopsClosingRun}
 use Rattle.vm_core.specs.Schedules.{TakesLines, StopsLines, FinishesLines}
 use Rattle.vm_core.proofs.Going.{limit_finishes, closing_finishes, closing_stops}
-use Rattle.vm_core.proofs.Noting.{stops_weaker, ok_so}
+use Rattle.vm_core.proofs.Noting.{stops_on, stops_weaker, ok_so}
+use Rattle.run_start.specs.Sizes.{KeptAtStop}
+use Rattle.run_start.proofs.StopsKeep.{kept_through}
 use Rattle.vm_core.proofs.schedule.finish.Goals as goal
 
 pub returns-in-LimitReached-clause-finishes : goal.returns-in-LimitReached-clause-finishes
@@ -36,3 +38,12 @@ returns-in-Next-clause-stops g c =
     (subst (λ went. TakesLines c.args.core.now c.take_lines.new.core went c.args.lines.now holds i h) c.in-Next.is c.in_ok-take_lines.ensures.takes)
     (subst (λ hs. StopsClosingRun c.take_lines.new.core c.close_run.new.self hs h j stop) c.take_lines.ensures.outside.files.holds x))
     c.close_run.ensures.stops
+
+pub returns-in_err-take_lines-clause-kept : goal.returns-in_err-take_lines-clause-kept
+returns-in_err-take_lines-clause-kept g c =
+    stops_on c.from_residual.result c.in_err-take_lines.field-0.0 (KeptAtStop c.args.core.now.machine c.take_lines.new.core.machine) c.from_residual.ensures.1 c.in_err-take_lines.ensures.kept
+
+pub returns-in-Next-clause-kept : goal.returns-in-Next-clause-kept
+returns-in-Next-clause-kept g c =
+    stops_weaker c.close_run.result (KeptAtStop c.take_lines.new.core.machine c.close_run.new.self.machine) (KeptAtStop c.args.core.now.machine c.close_run.new.self.machine)
+    (λ stop k. kept_through c.args.core.now.machine c.take_lines.new.core.machine c.close_run.new.self.machine stop (record { params = c.in_ok-take_lines.ensures.params; images = c.in_ok-take_lines.ensures.images }) k) c.close_run.ensures.kept

@@ -6,6 +6,8 @@ use Rattle.vm_core.specs.Schedules.{StopsLines}
 use Rattle.vm_core.proofs.Noting.{stops_on}
 use Rattle.vm_core.proofs.Going.{HasTaken, few_at, none_taken, line_taken, line_stops, limit_taken, goes_below}
 use Rattle.machine_state.proofs.Transfers.{transfers_none, transfers_then}
+use Rattle.run_start.specs.Sizes.{KeptAtStop}
+use Rattle.run_start.proofs.StopsKeep.{kept_through}
 use Rattle.vm_core.proofs.schedule.take_lines.Goals as goal
 
 pub loop-e-init : goal.loop-e-init
@@ -79,3 +81,9 @@ returns-clause-takes g c =
     let so = c.loop-e.invariant in
     subst (λ (n : ℕ). HasTaken c.args.core.now c.loop-e.core n c.args.lines.now (g.F.Files.holds c.args.files.now) (g.D.SwapDev.image c.args.swap.now) (g.D.SwapDev.image c.loop-e.swap))
     (let number = so.number in let low = c.loop-e-test.false in let high = c.loop-e.auto.e-index-end in omega arith) so.takes
+
+pub returns-in_err-event-clause-kept : goal.returns-in_err-event-clause-kept
+returns-in_err-event-clause-kept g c =
+    let so = c.loop-e.invariant in
+    stops_on c.from_residual.result c.in_err-event.field-0.0 (KeptAtStop c.args.core.now.machine c.event.new.self.machine) c.from_residual.ensures.1
+    (kept_through c.args.core.now.machine c.loop-e.core.machine c.event.new.self.machine c.in_err-event.field-0.0 (record { params = so.params; images = so.images }) c.in_err-event.ensures.kept)

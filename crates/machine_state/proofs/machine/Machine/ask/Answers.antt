@@ -6,14 +6,15 @@ use Rattle.table_steps.specs.Conditions.{KeepsFlat}
 use Rattle.table_steps.specs.Machine.{Standing}
 use Rattle.machine_state.specs.Wants.{found_for, wanted_of}
 use Rattle.machine_state.specs.Fields.{standing_of, RunsNow}
-use Rattle.machine_state.proofs.Standings.{stands_now}
+use Rattle.machine_state.proofs.Standings.{stands_now, runs_by, runs_within}
 use Rattle.machine_state.proofs.Asked.{found_ok, found_none, unlooked, asked_more, asked_none, standing_none, booked, Asked, asked_stands, asked_standing}
 use Rattle.machine_state.proofs.machine.Machine.ask.Goals as goal
 
 pub invariant_of-self : goal.invariant_of-self
-invariant_of-self c _ =
+invariant_of-self c =
+    runs_within _ (runs_by c.self.inside c.args.self.now c.self.view_is c.requires.running) (λ _.
     asked_none c.self.inside c.args.self.now c.find_all-found.new.book c.self.invariant c.self.view_is c.requires.running
-    (unlooked c.find_all-found.result c.self.inside.tables.book c.find_all-found.new.book c.in_err-or_stop.ensures.unmade c.find_all-found.ensures.err)
+    (unlooked c.find_all-found.result c.self.inside.tables.book c.find_all-found.new.book c.in_err-or_stop.ensures.unmade c.find_all-found.ensures.err))
 
 pub overflow_sub-self : goal.overflow_sub-self
 overflow_sub-self c =
@@ -26,7 +27,8 @@ overflow_sub-self c =
     omega (arith, more, now, was)
 
 pub invariant_of-self-then-branch : goal.invariant_of-self-then-branch
-invariant_of-self-then-branch c _ =
+invariant_of-self-then-branch c =
+    runs_within _ (runs_by c.self.inside c.args.self.now c.self.view_is c.requires.running) (λ _.
     let b : Book = c.self.inside.tables.book in
     let yes : c.find_all-found.result ≡ Ok true = c.in_ok-or_stop.ensures.made ∙ ap (λ (x : Bool). let r : Result Bool NoMemory = Ok x in r) c.if-branch.true in
     let f = found_ok c.find_all-found.result b c.find_all-found.new.book c.args.wants.now yes c.find_all-found.ensures.answer c.find_all-found.ensures.book in
@@ -38,7 +40,7 @@ invariant_of-self-then-branch c _ =
       book = f.2;
       count = ap (λ (hs : Holdings). length hs - length c.holdings-before.result.now) c.holdings.ensures ∙ ap (λ (hs : Holdings). length c.find_all-found.new.book.holdings - length hs) c.holdings-before.ensures;
     } in
-    asked_stands c.self.inside c.args.self.now c.find_all-found.new.book found (wanted_of b.holdings c.args.wants.now) f.0 a c.self.invariant c.requires.running
+    asked_stands c.self.inside c.args.self.now c.find_all-found.new.book found (wanted_of b.holdings c.args.wants.now) f.0 a c.self.invariant c.requires.running)
 
 pub returns-then-branch-clause-found : goal.returns-then-branch-clause-found
 returns-then-branch-clause-found c _ =
@@ -60,10 +62,11 @@ returns-then-branch-clause-found c _ =
     (f.0, is, z)
 
 pub invariant_of-self-else-branch : goal.invariant_of-self-else-branch
-invariant_of-self-else-branch c _ =
+invariant_of-self-else-branch c =
+    runs_within _ (runs_by c.self.inside c.args.self.now c.self.view_is c.requires.running) (λ _.
     let no : c.find_all-found.result ≡ Ok false = c.in_ok-or_stop.ensures.made ∙ ap (λ (x : Bool). let r : Result Bool NoMemory = Ok x in r) c.if-branch.false in
     asked_none c.self.inside c.args.self.now c.find_all-found.new.book c.self.invariant c.self.view_is c.requires.running
-    (found_none c.find_all-found.result c.self.inside.tables.book c.find_all-found.new.book c.args.wants.now no c.find_all-found.ensures.answer c.find_all-found.ensures.book)
+    (found_none c.find_all-found.result c.self.inside.tables.book c.find_all-found.new.book c.args.wants.now no c.find_all-found.ensures.answer c.find_all-found.ensures.book))
 
 pub returns-clause-keeps : goal.returns-clause-keeps
 returns-clause-keeps c _ images image flat coupled =

@@ -5,6 +5,7 @@ use Rattle.table_steps.specs.Tables.{Tables}
 use Rattle.machine_state.specs.Beginning.{LookedFirst, BeganFirst}
 use Rattle.machine_state.proofs.FirstBegins.{Before, before_first, may_look, runs_none, no_place, FoundFirst, looked_found, may_enter}
 use Rattle.machine_state.proofs.FirstBegun.{Began, began_stands, began_first}
+use Rattle.machine_state.proofs.Standings.{runs_by, runs_within}
 use Rattle.machine_state.proofs.machine.Machine.begin.Goals as goal
 
 pub find_first-found-requires : goal.find_first-found-requires
@@ -12,12 +13,13 @@ find_first-found-requires c =
     may_look c.self.inside c.args.pid c.args.image (before_first c.self.inside c.args.self.now c.args.pid c.args.image c.self.invariant c.self.view_is c.requires.running c.requires.whole c.requires.may)
 
 pub invariant_of-self-then-not-branch : goal.invariant_of-self-then-not-branch
-invariant_of-self-then-not-branch c _ =
+invariant_of-self-then-not-branch c =
+    runs_within _ (c.in_ok-or_break_off.ensures.same ∙ runs_by c.self.inside c.args.self.now c.self.view_is c.requires.running) (λ _.
     let no : c.find_first-found.result ≡ Ok false = c.in_ok-or_break_off.ensures.made ∙ ap (λ (x : Bool). let r : Result Bool NoMemory = Ok x in r) c.if-not-branch.true in
     let b : Before c.self.inside c.args.pid c.args.image = before_first c.self.inside c.args.self.now c.args.pid c.args.image c.self.invariant c.self.view_is c.requires.running c.requires.whole c.requires.may in
     let l : LookedFirst c.self.inside.tables c.find_first-found.new.tables c.args.pid c.args.image false =
     subst (λ (x : Result Bool NoMemory). IfOk x (λ fits. LookedFirst c.self.inside.tables c.find_first-found.new.tables c.args.pid c.args.image fits)) no c.find_first-found.ensures.looked in
-    runs_none c.self.inside c.find_first-found.new.tables c.args.pid c.args.image c.or_break_off.new.stopped b l c.in_ok-or_break_off.ensures.same
+    runs_none c.self.inside c.find_first-found.new.tables c.args.pid c.args.image c.or_break_off.new.stopped b l c.in_ok-or_break_off.ensures.same)
 
 pub returns-then-not-branch-clause-no_place : goal.returns-then-not-branch-clause-no_place
 returns-then-not-branch-clause-no_place c _ =
@@ -36,7 +38,8 @@ start_first-started-requires c =
     may_enter c.self.inside c.find_first-found.new.tables c.args.pid c.args.image b c.frames-frames.ensures.sound (looked_found c.self.inside.tables c.find_first-found.new.tables c.args.pid c.args.image l)
 
 pub invariant_of-self-2 : goal.invariant_of-self-2
-invariant_of-self-2 c _ =
+invariant_of-self-2 c =
+    runs_within _ (c.in_ok-or_break_off-2.ensures.same ∙ c.in_ok-or_break_off.ensures.same ∙ runs_by c.self.inside c.args.self.now c.self.view_is c.requires.running) (λ _.
     let yes : c.find_first-found.result ≡ Ok true = c.in_ok-or_break_off.ensures.made ∙ ap (λ (x : Bool). let r : Result Bool NoMemory = Ok x in r) c.if-not-branch.false in
     let b : Before c.self.inside c.args.pid c.args.image = before_first c.self.inside c.args.self.now c.args.pid c.args.image c.self.invariant c.self.view_is c.requires.running c.requires.whole c.requires.may in
     let l : LookedFirst c.self.inside.tables c.find_first-found.new.tables c.args.pid c.args.image true =
@@ -50,7 +53,7 @@ invariant_of-self-2 c _ =
       placed = f.placed;
       began = subst (λ (x : Tables). BeganFirst x c.start_first-started.new.tables c.args.image) f.book first;
     } in
-    began_stands c.self.inside c.args.pid c.args.image f.facts f.holdings c.start_first-started.new.tables n c.or_break_off-2.new.stopped (c.in_ok-or_break_off-2.ensures.same ∙ c.in_ok-or_break_off.ensures.same)
+    began_stands c.self.inside c.args.pid c.args.image f.facts f.holdings c.start_first-started.new.tables n c.or_break_off-2.new.stopped (c.in_ok-or_break_off-2.ensures.same ∙ c.in_ok-or_break_off.ensures.same))
 
 pub returns-clause-began : goal.returns-clause-began
 returns-clause-began c _ =

@@ -12,7 +12,7 @@ use Rattle.table_steps.specs.Machine.{Standing, Runs, lists_of, kernel_by, image
 use Rattle.table_steps.specs.Sourced.{IsFlightSourced, AreSourced}
 use Rattle.table_steps.specs.Conditions.{CanBringIn, KeepsFlat, SameOutside}
 use Rattle.machine_state.proofs.Knowing.{known_of}
-use Rattle.machine_state.proofs.Standings.{no_room, running, stands_now, whole_now, stands_on, rest_of}
+use Rattle.machine_state.proofs.Standings.{no_room, running, stands_now, whole_now, stands_on, rest_of, runs_by, runs_within}
 use Rattle.table_steps.proofs.Stills.{Still, still_along, pushed, sourced_more}
 use Rattle.table_steps.proofs.Sources.{run_sources}
 use Rattle.table_steps.proofs.Gets.{get_kernel, get_keeps, get_same}
@@ -35,7 +35,8 @@ read_run-requires-clause-has c b e =
     (subst (λ (s : Source). EachPage (ReadsFrom (placement_of (lists_of t)) s c.args.page) (pages_from c.args.page c.args.lo c.args.n)) (sym e) can.reads)
 
 pub invariant_of-self-2 : goal.invariant_of-self-2
-invariant_of-self-2 c _ =
+invariant_of-self-2 c =
+    runs_within _ (runs_by c.self.inside c.args.self.now c.self.view_is c.requires.running) (λ _.
     let t : Tables = c.self.inside.tables in
     let r = running c.self.inside c.args.self.now c.self.invariant c.self.view_is c.requires.running c.requires.whole in
     let can : CanBringIn (placement_of (lists_of t)) c.args.page c.args.lo c.args.n = subst (λ (s : Standing). CanBringIn s.kernel.place c.args.page c.args.lo c.args.n) (sym c.self.view_is) c.requires.can in
@@ -54,7 +55,7 @@ invariant_of-self-2 c _ =
           c.read_run.ensures.images (pushed c.self.inside.journal.items c.make_room.new.journal.items c.push_reserved.new.self.items _ t.params.journal c.make_room.ensures.same c.push_reserved.ensures.items c.in_ok-make_room.ensures.ok.0);
       none_lost = now.none_lost;
       room = no_room _ _ _ c.make_room.ensures.room;
-    }
+    })
 
 pub returns : goal.returns
 returns c =

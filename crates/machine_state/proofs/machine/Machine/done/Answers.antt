@@ -15,7 +15,7 @@ use Rattle.table_steps.specs.Sourced.{AreSourced}
 use Rattle.table_steps.specs.Files.{AreFiles, AreImages}
 use Rattle.table_steps.specs.Machine.{Standing, lists_of, kernel_by, image_at, images_of, before_of}
 use Rattle.machine_state.proofs.Knowing.{known_of}
-use Rattle.machine_state.proofs.Standings.{no_room, running, stands_now, whole_now, stands_on}
+use Rattle.machine_state.proofs.Standings.{no_room, running, stands_now, whole_now, stands_on, runs_by, runs_within}
 use Rattle.table_steps.proofs.Stills.{Still, still_along, pushed}
 use Rattle.machine_state.proofs.Reaches.{reachable}
 use Rattle.machine_state.proofs.Dones.{Came, came, done_back, was_lists, back_known, Doing, done_kernel, done_runs, Before, head_sourced, rest_sourced, done_image, done_told, spoiled_image, done_keeps}
@@ -41,7 +41,8 @@ land-requires g c =
     back_known t c.complete_oldest.new.self e.oldest c.in-Done.transfer (was_lists t c.complete_oldest.new.self e.rest e.oldest e.ring_is c.in-Done.ensures.rest) (done_back e.oldest c.in-Done.transfer _ _ _ e.ends) k
 
 pub invariant_of-self-in-Done : goal.invariant_of-self-in-Done
-invariant_of-self-in-Done g c _ =
+invariant_of-self-in-Done g c =
+    runs_within _ (runs_by c.self.inside c.args.self.now c.self.view_is c.requires.running) (λ _.
     let t : Tables = c.self.inside.tables in
     let r = running c.self.inside c.args.self.now c.self.invariant c.self.view_is c.requires.running c.requires.whole in
     let k : Known (lists_of t) = known_of c.self.inside c.frames-frames.ensures.sound r in
@@ -74,7 +75,7 @@ invariant_of-self-in-Done g c _ =
           (pushed c.self.inside.journal.items c.make_room.new.journal.items c.push_reserved.new.self.items _ t.params.journal c.make_room.ensures.same c.push_reserved.ensures.items c.in_ok-make_room.ensures.ok.0);
       none_lost = now.none_lost;
       room = no_room _ _ _ c.make_room.ensures.room;
-    }
+    })
 
 pub returns-in-Done : goal.returns-in-Done
 returns-in-Done g c =

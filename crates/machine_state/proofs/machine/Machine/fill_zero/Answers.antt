@@ -14,7 +14,7 @@ use Rattle.table_steps.proofs.Zeros.{Zeroing}
 use Rattle.machine_state.proofs.ZeroKeeps.{zero_keeps, zero_same}
 use Rattle.table_steps.proofs.Kernels.{zeroing_rest, zero_ties, zero_kernel}
 use Rattle.machine_state.proofs.ZeroRuns.{zero_runs}
-use Rattle.machine_state.proofs.Standings.{no_room, running, stands_now, whole_now, stands_same, rest_of}
+use Rattle.machine_state.proofs.Standings.{no_room, running, stands_now, whole_now, stands_same, rest_of, runs_by, runs_within}
 use Rattle.table_steps.proofs.Stills.{Still, still_along, pushed}
 use Rattle.machine_state.proofs.machine.Machine.fill_zero.Goals as goal
 
@@ -31,7 +31,8 @@ seat-requires-clause-not_held c =
     c.take_frame-token.ensures.slots (head_below (lists_of c.self.inside.tables) c.take_frame-token.result.number c.take_frame-token.result _ c.take_frame-token.ensures.was)
 
 pub invariant_of-self-2 : goal.invariant_of-self-2
-invariant_of-self-2 c _ =
+invariant_of-self-2 c =
+    runs_within _ (runs_by c.self.inside c.args.self.now c.self.view_is c.requires.running) (λ _.
     let r = running c.self.inside c.args.self.now c.self.invariant c.self.view_is c.requires.running c.requires.whole in
     let can : CanZero (placement_of (lists_of c.self.inside.tables)) c.args.page = subst (λ (s : Standing). CanZero s.kernel.place c.args.page) (sym c.self.view_is) c.requires.can in
     let z : Zeroing c.self.inside.tables c.take_frame-token.new.self c.seat.new.self c.finish_fill.new.self c.take_frame-token.result c.fill_frame-filled.result c.args.page = record {
@@ -58,7 +59,7 @@ invariant_of-self-2 c _ =
           (ap (λ (x : Tables). x.ring) e) ties.heads (pushed c.self.inside.journal.items c.make_room.new.journal.items c.push_reserved.new.self.items _ c.self.inside.tables.params.journal c.make_room.ensures.same c.push_reserved.ensures.items c.in_ok-make_room.ensures.ok.0);
       none_lost = now.none_lost;
       room = no_room _ _ _ c.make_room.ensures.room;
-    }
+    })
 
 pub returns : goal.returns
 returns c =

@@ -4,7 +4,7 @@ use Rattle.kernel_model.specs.ChangeStep.{change_step}
 use Rattle.table_steps.specs.Tables.{Tables}
 use Rattle.table_steps.specs.Applying.{facts_named}
 use Rattle.table_steps.specs.Machine.{Standing, kernel_by}
-use Rattle.machine_state.proofs.Standings.{no_room, stands_now}
+use Rattle.machine_state.proofs.Standings.{no_room, stands_now, runs_by, runs_within}
 use Rattle.table_steps.proofs.Stills.{pushed}
 use Rattle.machine_state.proofs.FlatSteps.{ready_of, made_of, flat_record, flat_may, flat_kernel, flat_stands}
 use Rattle.machine_state.proofs.Wholes.{changes_whole}
@@ -21,7 +21,8 @@ apply-applied-requires c =
     flat_may c.self.inside.tables c.set_regs.new.self c.self.inside.journal.items c.self.inside.stopped c.args.pid c.args.regs.now c.args.e c.args.change r c.set_regs.ensures
 
 pub invariant_of-self-2 : goal.invariant_of-self-2
-invariant_of-self-2 c _ =
+invariant_of-self-2 c =
+    runs_within _ (c.in_ok-or_break_off.ensures.same ∙ runs_by c.self.inside c.args.self.now c.self.view_is c.requires.running) (λ _.
     let r = ready_of c.self.inside c.args.self.now c.args.pid c.args.e c.args.change c.self.invariant c.self.view_is c.requires.running c.requires.can c.frames-frames.ensures.sound in
     let now = stands_now c.self.inside c.args.self.now c.self.invariant c.self.view_is c.requires.running in
     let applies = made_of c.apply-applied.result _ c.in_ok-or_break_off.ensures.made c.apply-applied.ensures.applied in
@@ -35,7 +36,7 @@ invariant_of-self-2 c _ =
           c.make_room.ensures.same c.push_reserved.ensures.items c.in_ok-make_room.ensures.ok.0).within;
       none_lost = now.none_lost;
       room = no_room _ _ _ c.make_room.ensures.room;
-    }
+    })
 
 pub returns-clause-step : goal.returns-clause-step
 returns-clause-step c =

@@ -18,7 +18,7 @@ use Rattle.table_steps.proofs.Puttings.{all_blocks}
 use Rattle.table_steps.proofs.Hands.{hands_low, hand_few, hand_keeps, hand_alike}
 use Rattle.table_steps.proofs.Joins.{moves_kind, last_is, joined_within}
 use Rattle.machine_state.proofs.MovesOn.{Moving, moved_still, moving_kernel, moving_stands}
-use Rattle.machine_state.proofs.Standings.{no_room, running, stands_now, whole_now, rest_of}
+use Rattle.machine_state.proofs.Standings.{no_room, running, stands_now, whole_now, rest_of, runs_by, runs_within}
 use Rattle.machine_state.proofs.machine.Machine.hand.Goals as goal
 
 pub move_hands-requires : goal.move_hands-requires
@@ -44,7 +44,8 @@ add_move-requires-clause-fits c count h =
     c.requires.fits count l.0 (sym (ap (λ (s : Standing). s.kernel.journal) c.self.view_is) ∙ l.1)
 
 pub invariant_of-self-2 : goal.invariant_of-self-2
-invariant_of-self-2 c _ =
+invariant_of-self-2 c =
+    runs_within _ (runs_by c.self.inside c.args.self.now c.self.view_is c.requires.running) (λ _.
     let t : Tables = c.self.inside.tables in
     let r = running c.self.inside c.args.self.now c.self.invariant c.self.view_is c.requires.running c.requires.whole in
     let k : Known (lists_of t) = known_of c.self.inside c.frames-frames.ensures.sound r in
@@ -69,7 +70,7 @@ invariant_of-self-2 c _ =
           (joined_within moves_in (λ (count : ℕ). entries.Hands count) moves_kind c.self.inside.journal.items c.add_move.new.journal.items t.params.journal ej now.stands.within (λ h. (c.in_ok-make_room_to_move.ensures.has_room h).0));
       none_lost = now.none_lost;
       room = no_room _ _ _ c.make_room_to_move.ensures.room;
-    }
+    })
 
 pub returns : goal.returns
 returns c =

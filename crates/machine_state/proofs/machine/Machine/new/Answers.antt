@@ -9,10 +9,12 @@ use Rattle.table_steps.specs.New.{fresh_kernel}
 use Rattle.table_steps.specs.Machine.{Runs, lists_of, kernel_by}
 use Rattle.table_steps.proofs.Shows.{length_map}
 use Rattle.machine_state.proofs.News.{NewTables, new_lists_are, new_kernel_is, new_runs, new_stands, new_standing}
+use Rattle.machine_state.proofs.Standings.{runs_within}
 use Rattle.machine_state.proofs.machine.Machine.new.Goals as goal
 
 pub invariant_of-result : goal.invariant_of-result
-invariant_of-result c _ =
+invariant_of-result c =
+    runs_within _ refl (λ _.
     let facts : List Image = map (λ (x : Named). x.facts) c.args.images.items in
     let t : Tables = record { params = c.args.params; images = c.args.images; core = c.in-Ok.core; ring = c.in_ok-ring.ring; spaces = c.new-5.result; texts = c.new-6.result; processes = c.in_ok-processes.processes; book = c.in_ok-book.book; fills = c.new-7.result; front = 1 + c.args.params.frames / 4; back = 1; next_pid = 1; next_sid = 1; found = 0 } in
     let n : NewTables t facts c.args.params.frames = record {
@@ -37,7 +39,7 @@ invariant_of-result c _ =
       stands = new_stands t c.new-8.result.items n.holdings n.ring c.new-8.ensures.items (ap (λ (b : Book). b.size) c.in_ok-book.ensures) c.in_ok-processes.ensures c.requires.names refl refl runs;
       none_lost = refl;
       room = tt;
-    }
+    })
 
 pub returns : goal.returns
 returns c =

@@ -17,7 +17,7 @@ use Rattle.machine_state.proofs.Knowing.{known_of}
 use Rattle.machine_state.proofs.Dirty.{dirty_is}
 use Rattle.table_steps.proofs.Puttings.{push_is, push_seat, push_there, push_may, push_few, push_keeps, push_alike, all_blocks}
 use Rattle.machine_state.proofs.MovesOn.{Moving, moved_still, moving_kernel, moving_stands}
-use Rattle.machine_state.proofs.Standings.{no_room, running, stands_now, whole_now, rest_of}
+use Rattle.machine_state.proofs.Standings.{no_room, running, stands_now, whole_now, rest_of, runs_by, runs_within}
 use Rattle.table_steps.proofs.Stills.{pushed}
 use Rattle.machine_state.proofs.machine.Machine.push.Goals as goal
 
@@ -42,7 +42,8 @@ put_out-requires-clause-blocks c =
     all_blocks c.self.inside.tables.book.size (kernel_by c.self.inside.tables c.self.inside.journal.items c.self.inside.stopped) r.sound
 
 pub invariant_of-self-2 : goal.invariant_of-self-2
-invariant_of-self-2 c _ =
+invariant_of-self-2 c =
+    runs_within _ (runs_by c.self.inside c.args.self.now c.self.view_is c.requires.running) (λ _.
     let t : Tables = c.self.inside.tables in
     let r = running c.self.inside c.args.self.now c.self.invariant c.self.view_is c.requires.running c.requires.whole in
     let k : Known (lists_of t) = known_of c.self.inside c.frames-frames.ensures.sound r in
@@ -70,7 +71,7 @@ invariant_of-self-2 c _ =
           (pushed c.self.inside.journal.items c.make_room.new.journal.items c.push_reserved.new.self.items _ t.params.journal c.make_room.ensures.same c.push_reserved.ensures.items c.in_ok-make_room.ensures.ok.0).within;
       none_lost = now.none_lost;
       room = no_room _ _ _ c.make_room.ensures.room;
-    }
+    })
 
 pub returns : goal.returns
 returns c =

@@ -8,7 +8,7 @@ use Rattle.table_steps.specs.Joined.{instructions_in}
 use Rattle.table_steps.specs.UserMemory.{CanLend}
 use Rattle.table_steps.specs.Machine.{Standing, kernel_by}
 use Rattle.table_steps.proofs.Joins.{runs_kind, last_is, joined_within}
-use Rattle.machine_state.proofs.Standings.{stands_now, room_of}
+use Rattle.machine_state.proofs.Standings.{stands_now, room_of, runs_by, runs_within}
 use Rattle.machine_state.proofs.Instructions.{has_record, ran_changes, regs_kernel, regs_stand, regs_rest}
 use Rattle.machine_state.proofs.machine.Machine.ran.Goals as goal
 
@@ -29,7 +29,8 @@ add_instruction-requires-clause-room c h =
     (room_of c.self.inside c.args.pid now (ap (λ (s : Standing). s.room) c.self.view_is ∙ c.requires.room) h).1
 
 pub invariant_of-self : goal.invariant_of-self
-invariant_of-self c _ =
+invariant_of-self c =
+    runs_within _ (runs_by c.self.inside c.args.self.now c.self.view_is c.requires.running) (λ _.
     let t : Tables = c.self.inside.tables in
     let now = stands_now c.self.inside c.args.self.now c.self.invariant c.self.view_is c.requires.running in
     record {
@@ -38,7 +39,7 @@ invariant_of-self c _ =
           (λ h. (room_of c.self.inside c.args.pid now (ap (λ (s : Standing). s.room) c.self.view_is ∙ c.requires.room) h).0));
       none_lost = now.none_lost;
       room = tt;
-    }
+    })
 
 pub returns-clause-step : goal.returns-clause-step
 returns-clause-step c =

@@ -18,7 +18,7 @@ use Rattle.table_steps.specs.Conditions.{CanReclaim, KeepsFlat, SameEverywhere}
 use Rattle.table_steps.proofs.Knows.{text_low}
 use Rattle.machine_state.proofs.Knowing.{known_of}
 use Rattle.table_steps.proofs.KernelTablesEntries.{head_of, placed_heads}
-use Rattle.machine_state.proofs.Standings.{no_room, running, stands_now, whole_now, stands_same, rest_of}
+use Rattle.machine_state.proofs.Standings.{no_room, running, stands_now, whole_now, stands_same, rest_of, runs_by, runs_within}
 use Rattle.table_steps.proofs.Stills.{Still, still_along, pushed}
 use Rattle.table_steps.proofs.Revives.{below_held}
 use Rattle.table_steps.proofs.Evicts.{held_above}
@@ -63,7 +63,8 @@ revive-requires c =
     }
 
 pub invariant_of-self-2 : goal.invariant_of-self-2
-invariant_of-self-2 c _ =
+invariant_of-self-2 c =
+    runs_within _ (runs_by c.self.inside c.args.self.now c.self.view_is c.requires.running) (λ _.
     let t : Tables = c.self.inside.tables in
     let r = running c.self.inside c.args.self.now c.self.invariant c.self.view_is c.requires.running c.requires.whole in
     let k : Known (lists_of t) = known_of c.self.inside c.frames-frames.ensures.sound r in
@@ -84,7 +85,7 @@ invariant_of-self-2 c _ =
           (ap (λ (x : Tables). x.ring) e) (ap (map head_of) v.spaces ∙ placed_heads t.spaces c.args.page (Frame can.frame true (dirty_shown t.spaces t.texts c.args.page))) (pushed c.self.inside.journal.items c.make_room.new.journal.items c.push_reserved.new.self.items _ c.self.inside.tables.params.journal c.make_room.ensures.same c.push_reserved.ensures.items c.in_ok-make_room.ensures.ok.0);
       none_lost = now.none_lost;
       room = no_room _ _ _ c.make_room.ensures.room;
-    }
+    })
 
 pub returns : goal.returns
 returns c =

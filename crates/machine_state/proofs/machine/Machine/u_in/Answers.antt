@@ -6,7 +6,7 @@ use Rattle.table_steps.specs.Tables.{Tables}
 use Rattle.table_steps.specs.Machine.{Standing, kernel_by}
 use Rattle.table_steps.specs.Calls.{CanComeIn}
 use Rattle.table_steps.specs.Swapping.{AreStored, KeepsIn, IsIn}
-use Rattle.machine_state.proofs.Standings.{running, stands_now, whole_now, no_room}
+use Rattle.machine_state.proofs.Standings.{running, stands_now, whole_now, no_room, runs_by, runs_within}
 use Rattle.table_steps.proofs.MovedRecords.{IsOutThere}
 use Rattle.machine_state.proofs.Goings.{Gone, with_records, in_is, in_stands, block_there, block_place, read_regs, in_keeps, entering, entering_alive, entering_lasts}
 use Rattle.machine_state.proofs.machine.Machine.u_in.Goals as goal
@@ -51,7 +51,8 @@ move_record-requires u c =
     subst IsSome (sym o.found) refl
 
 pub invariant_of-self-in-Done : goal.invariant_of-self-in-Done
-invariant_of-self-in-Done u c _ =
+invariant_of-self-in-Done u c =
+    runs_within _ (runs_by c.self.inside c.args.self.now c.self.view_is c.requires.running) (λ _.
     let m = c.self.inside in
     let t : Tables = m.tables in
     let k : Kernel = kernel_by t m.journal.items m.stopped in
@@ -73,7 +74,7 @@ invariant_of-self-in-Done u c _ =
       stands = in_stands m c.move_record.new.processes c.push_reserved.new.self.items c.self.inside.stopped c.args.pid c.regs_in-regs.result c.next_place-since.result g now.stands whole r (omega (arith, c.in_ok-make_room.ensures.ok.0));
       none_lost = now.none_lost;
       room = no_room _ _ _ c.make_room.ensures.room;
-    }
+    })
 
 pub returns-in-Done : goal.returns-in-Done
 returns-in-Done u c =

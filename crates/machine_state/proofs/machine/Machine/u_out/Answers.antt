@@ -6,7 +6,7 @@ use Rattle.table_steps.specs.Tables.{Tables}
 use Rattle.table_steps.specs.Machine.{Standing, kernel_by}
 use Rattle.table_steps.specs.Calls.{CanGoOut}
 use Rattle.table_steps.specs.Swapping.{WritesU, KeepsOut}
-use Rattle.machine_state.proofs.Standings.{running, stands_now, whole_now, no_room}
+use Rattle.machine_state.proofs.Standings.{running, stands_now, whole_now, no_room, runs_by, runs_within}
 use Rattle.machine_state.proofs.Goings.{Gone, with_records, out_is, out_stands, Leaving, leaving, leaving_alive, leaving_held, leaving_lasts, bytes_are, block_there, block_place, written, out_keeps}
 use Rattle.machine_state.proofs.machine.Machine.u_out.Goals as goal
 
@@ -50,7 +50,8 @@ write-requires u c =
     }
 
 pub invariant_of-self-in-Done : goal.invariant_of-self-in-Done
-invariant_of-self-in-Done u c _ =
+invariant_of-self-in-Done u c =
+    runs_within _ (runs_by c.self.inside c.args.self.now c.self.view_is c.requires.running) (λ _.
     let m = c.self.inside in
     let t : Tables = m.tables in
     let k : Kernel = kernel_by t m.journal.items m.stopped in
@@ -72,7 +73,7 @@ invariant_of-self-in-Done u c _ =
       stands = out_stands m c.move_record.new.processes c.push_reserved.new.self.items c.self.inside.stopped c.args.pid c.no_regs.result c.next_place-since.result g c.no_regs.ensures now.stands whole r (omega (arith, c.in_ok-make_room.ensures.ok.0));
       none_lost = now.none_lost;
       room = no_room _ _ _ c.make_room.ensures.room;
-    }
+    })
 
 pub returns-in-Done : goal.returns-in-Done
 returns-in-Done u c =

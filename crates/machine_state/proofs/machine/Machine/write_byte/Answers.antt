@@ -10,7 +10,7 @@ use Rattle.table_steps.specs.Known.{Known}
 use Rattle.machine_state.specs.Fields.{HasRoom}
 use Rattle.table_steps.specs.Machine.{Standing, lists_of}
 use Rattle.table_steps.specs.UserMemory.{IsOwnPage, AreWhole}
-use Rattle.machine_state.proofs.Standings.{stands_now}
+use Rattle.machine_state.proofs.Standings.{stands_now, runs_by, runs_within}
 use Rattle.table_steps.proofs.Touches.{InFrame, in_frame}
 use Rattle.table_steps.proofs.Writes.{Writing, write_stands}
 use Rattle.machine_state.proofs.WriteStanding.{write_standing}
@@ -37,13 +37,14 @@ write_byte-requires c =
     }
 
 pub invariant_of-self : goal.invariant_of-self
-invariant_of-self c _ =
+invariant_of-self c =
+    runs_within _ (runs_by c.self.inside c.args.self.now c.self.view_is c.requires.running) (λ _.
     let t : Tables = c.self.inside.tables in
     let now = stands_now c.self.inside c.args.self.now c.self.invariant c.self.view_is c.requires.running in
     let k : Known (lists_of t) = known_by t c.self.inside.journal.items c.self.inside.stopped c.frames-frames.ensures.sound now.stands in
     let valid : state_of (placement_of (lists_of t)) c.args.page ≡ Valid c.args.frame = subst (λ (s : Standing). state_of s.kernel.place c.args.page ≡ Valid c.args.frame) (sym c.self.view_is) c.requires.valid in
     let w : Writing t c.write_byte.new.self c.args.page c.args.frame c.args.at c.args.byte = record { known = k; valid = valid; writable = c.requires.writable; wrote = c.write_byte.ensures } in
-    record { stands = write_stands t c.write_byte.new.self c.args.page c.args.frame c.args.at c.args.byte c.self.inside.journal.items c.self.inside.stopped now.stands w; none_lost = now.none_lost; room = subst (λ (x : Tables). HasRoom c.self.inside.room c.self.inside.journal x.params.journal) (sym c.write_byte.ensures.rest) now.room }
+    record { stands = write_stands t c.write_byte.new.self c.args.page c.args.frame c.args.at c.args.byte c.self.inside.journal.items c.self.inside.stopped now.stands w; none_lost = now.none_lost; room = subst (λ (x : Tables). HasRoom c.self.inside.room c.self.inside.journal x.params.journal) (sym c.write_byte.ensures.rest) now.room })
 
 pub returns-clause-step : goal.returns-clause-step
 returns-clause-step c =

@@ -3,6 +3,7 @@ use Rattle.vm_core.specs.Cores.{Underway}
 use Rattle.vm_core.specs.Closing.{StopsClosingRun}
 use Rattle.vm_core.proofs.Noting.{stops_on}
 use Rattle.vm_core.proofs.Closings.{run_stops}
+use Rattle.run_start.specs.Sizes.{KeptAtStop}
 use Rattle.vm_core.proofs.run.Core.close_run.Goals as goal
 
 pub returns-in_err-self-inside-clause-stops : goal.returns-in_err-self-inside-clause-stops
@@ -15,3 +16,8 @@ returns-in_err-self-inside-clause-stops g c =
     stops_on c.from_residual.result c.in_err-self-inside.field-0.0 (StopsClosingRun c.args.self.now after holds i j) c.from_residual.ensures.1
     (subst (λ (u : Underway). StopsClosingRun u after holds i j c.in_err-self-inside.field-0.0) c.self.view_is
     (run_stops old after holds i j c.in_err-self-inside.field-0.0 c.in_err-self-inside.ensures.stops))
+
+pub returns-in_err-self-inside-clause-kept : goal.returns-in_err-self-inside-clause-kept
+returns-in_err-self-inside-clause-kept g c =
+    stops_on c.from_residual.result c.in_err-self-inside.field-0.0 (KeptAtStop c.args.self.now.machine c.close.new.m) c.from_residual.ensures.1
+    (subst (λ (u : Underway). KeptAtStop u.machine c.close.new.m c.in_err-self-inside.field-0.0) c.self.view_is c.in_err-self-inside.ensures.kept)

@@ -4,6 +4,9 @@ use Rattle.vm_core.specs.Cores.{Underway, GoesOn, TakesLine, StopsTaking}
 use Rattle.vm_core.proofs.Noting.{stops_on, noted_stop}
 use Rattle.vm_core.proofs.Steadying.{noted_first}
 use Rattle.vm_core.proofs.Taking.{takes_line, stops_carrying, stops_noted, noted_line, noted_counts}
+use Rattle.run_start.specs.Sizes.{KeptAtStop}
+use Rattle.run_start.proofs.StopsKeep.{kept_through}
+use Rattle.vm_core.proofs.Kept.{kept_noting}
 use Rattle.vm_core.proofs.run.Core.event.Goals as goal
 
 pub returns-in_err-note-clause-stops : goal.returns-in_err-note-clause-stops
@@ -67,3 +70,19 @@ returns-else-is_over-clause-takes g c =
     (takes_line old c.note.new.self c.carry_out.new.m holds i j c.args.line c.in_ok-self-inside.field-0 c.args.e
     (noted_line old c.note.new.self c.args.line (subst GoesOn (sym c.self.view_is) c.requires.goes_on) c.in_ok-note.ensures.step c.in_ok-note.ensures.rest) c.in_ok-note.ensures.step
     c.in_ok-self-inside.ensures.done c.in_ok-self-inside.ensures.counts)
+
+pub returns-in_err-note-clause-kept : goal.returns-in_err-note-clause-kept
+returns-in_err-note-clause-kept g c =
+    let stop = c.in_err-note.field-0.0 in
+    let goes : GoesOn (record { machine = c.self.inside.machine; counted = c.self.inside.counted }) = subst GoesOn (sym c.self.view_is) c.requires.goes_on in
+    stops_on c.from_residual.result stop (KeptAtStop c.args.self.now.machine c.note.new.self) c.from_residual.ensures.1
+    (subst (λ (u : Underway). KeptAtStop u.machine c.note.new.self stop) c.self.view_is
+    (kept_noting c.self.inside.machine c.note.new.self stop (noted_stop stop c.self.inside.machine c.note.new.self goes.steady.whole c.in_err-note.ensures.stop c.in_err-note.ensures.cause c.in_err-note.ensures.full)))
+
+pub returns-in_err-self-inside-clause-kept : goal.returns-in_err-self-inside-clause-kept
+returns-in_err-self-inside-clause-kept g c =
+    let old : Underway = record { machine = c.self.inside.machine; counted = c.self.inside.counted } in
+    let noted = noted_line old c.note.new.self c.args.line (subst GoesOn (sym c.self.view_is) c.requires.goes_on) c.in_ok-note.ensures.step c.in_ok-note.ensures.rest in
+    stops_on c.from_residual-in_err-self-inside.result c.in_err-self-inside.field-0.0 (KeptAtStop c.args.self.now.machine c.carry_out.new.m) c.from_residual-in_err-self-inside.ensures.1
+    (subst (λ (u : Underway). KeptAtStop u.machine c.carry_out.new.m c.in_err-self-inside.field-0.0) c.self.view_is
+    (kept_through c.self.inside.machine c.note.new.self c.carry_out.new.m c.in_err-self-inside.field-0.0 (record { params = noted.params; images = noted.images }) c.in_err-self-inside.ensures.kept))

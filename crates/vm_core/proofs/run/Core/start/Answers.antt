@@ -2,6 +2,8 @@ use Rattle.std.proofs.Common.{ap, ◌∙◌, subst}
 use Rattle.vm_core.specs.Cores.{Underway}
 use Rattle.vm_core.specs.Starting.{StartsRun, StopsStartingRun}
 use Rattle.vm_core.proofs.Starts.{starts_run, Stopping, stops_starting}
+use Rattle.std.specs.Prelude.{IfErr}
+use Rattle.run_start.specs.Sizes.{KeptAtStop}
 use Rattle.vm_core.proofs.run.Core.start.Goals as goal
 
 pub returns-clause-starts : goal.returns-clause-starts
@@ -22,3 +24,6 @@ returns-clause-stops g c =
     let j = g.D.SwapDev.image c.start.new.swap in
     subst (λ (u : Underway). Stopping c.start.result u.machine c.args.first.now holds i (λ A image stop. StopsStartingRun A c.start.new.m image stop j)) c.self.view_is
     (stops_starting c.start.result c.self.inside.machine c.start.new.m c.args.first.now holds i j c.requires.few c.start.ensures.stops)
+
+pub returns-clause-kept : goal.returns-clause-kept
+returns-clause-kept g c = subst (λ (u : Underway). IfErr c.start.result (KeptAtStop u.machine c.start.new.m)) c.self.view_is c.start.ensures.kept

@@ -7,7 +7,7 @@ use Rattle.vm_core.specs.Full.{RunFull}
 use Rattle.vm_core.specs.RunEnds.{RunEnds}
 use Rattle.vm_core.specs.declared.schedule.Unfinished.TheVariants.{Stopped}
 use Rattle.vm_core.proofs.Ending.{stopped_so, same_stop, are_among, start_stops, start_full, lines_stop, lines_full, lines_finish, lines_over, lines_whole}
-use Rattle.vm_core.proofs.schedule.run_schedule.Goals as goal
+use Rattle.vm_core.proofs.schedule.run_through.Goals as goal
 
 pub start-requires-clause-numbers : goal.start-requires-clause-numbers
 start-requires-clause-numbers g c = are_among c.args.core.now.machine.images c.args.first.now c.requires.numbers
