@@ -93,7 +93,7 @@ plain_stops {A} q e old new stop next causes spoils plain has whole cause full =
   next = next now;
   at = record {
     journal = has.journal;
-    held = held_here stop old new has whole (λ h. full.0 (ap (λ (t : Stop). let r : Result A Stop = Err t in r) h));
+    held = held_here stop old new has whole (cause_same {A = A} stop cause) (λ h. full.0 (ap (λ (t : Stop). let r : Result A Stop = Err t in r) h));
     full = full_same {A = A} stop new old (length (append old.kernel.journal e)) has.params (plain_longer old.kernel.journal e plain) full;
     cause = causes stop old.kernel.place.transfers (cause_same {A = A} stop cause);
     image = spoils image;

@@ -67,7 +67,7 @@ out_numbers e [] = refl
 out_numbers e (x ∷ xs) = ap (λ (ns : List ℕ). x.token.number ∷ ns) (out_numbers e xs)
 
 -- the numbers of the tokens of one transfer
-one_numbers : (t : Flight) → flying (map (moving (transfer_shown t).errand) (transfer_shown t).parts) ≡ map flown_number (flown_in t)
+pub one_numbers : (t : Flight) → flying (map (moving (transfer_shown t).errand) (transfer_shown t).parts) ≡ map flown_number (flown_in t)
 one_numbers (flights.Read demanded parts) = in_numbers (Reads (source_shown parts.items) demanded) parts.items
 one_numbers (flights.Write parts) = out_numbers Writes parts.items
 

@@ -13,6 +13,7 @@ use Rattle.page_model.specs.Stored.{store_at}
 use Rattle.kernel_tables.specs.Sourced.{ImageNamed}
 use Rattle.kernel_tables.specs.Machine.{Standing}
 use Rattle.kernel_tables.specs.Conditions.{HasStopped}
+use Rattle.kernel_tables.specs.Failing.{LosesFor}
 use Rattle.kernel_tables.specs.Files.{AreImages}
 use Rattle.transfer_ring.specs.declared.transfer.Inbound.{Inbound}
 use Rattle.transfer_ring.specs.declared.transfer.Transfer.{Transfer as Flight}
@@ -109,10 +110,11 @@ SwapAfter (Err stops.SwapWriteFault) k before after = SpoilsAfter k before after
 SwapAfter _ k before after = after ≡ before
 
 -- The end of the oldest transfer stops the machine, in which no pieces wait: the journal was full exactly where it was at its
--- bound, a fault comes of a transfer of its own kind, and only a write that failed changes the swap image.
+-- bound, a fault comes of a transfer of its own kind, which is lost with its frames, and only a write that failed changes the swap image.
 pub record StopsEnding (old new : Standing) (before after : Option (List ℕ)) (stop : Stop) : Type 0 where
   pub stopped : HasStopped old new
   pub whole : old.before ≡ old.kernel.holdings
   pub full : (stop ≡ stops.JournalFull) ↔ ((0 < length old.kernel.place.transfers) × (old.params.journal ≤ length old.kernel.journal))
   pub cause : let r : Result Bool Stop = Err stop in StopsFor r old.kernel.place.transfers
+  pub lost : let r : Result Bool Stop = Err stop in LosesFor r old new
   pub image : let r : Result Bool Stop = Err stop in SwapAfter r old.kernel before after

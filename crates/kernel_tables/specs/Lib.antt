@@ -20,6 +20,7 @@ pub mod Moves
 pub mod Launches
 pub mod New
 pub mod Conditions
+pub mod Failing
 pub mod Files
 pub mod Done
 pub mod Settled

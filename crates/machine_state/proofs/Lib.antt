@@ -39,6 +39,7 @@ pub mod Reaches
 pub mod Ends
 pub mod ReadBytes
 pub mod Dones
+pub mod Losing
 pub mod FailedReads
 pub mod Settling
 pub mod Counts

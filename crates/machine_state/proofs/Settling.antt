@@ -15,6 +15,7 @@ use Rattle.table_steps.proofs.Transfers.{land_all_rest}
 use Rattle.table_steps.specs.Sourced.{ImageNamed}
 use Rattle.table_steps.specs.Machine.{Standing}
 use Rattle.table_steps.specs.Conditions.{HasStopped}
+use Rattle.table_steps.specs.Failing.{LosesFor}
 use Rattle.table_steps.specs.Files.{AreImages}
 use Rattle.table_steps.specs.Done.{Sources, sources, IsDone, ImageAfter, KeepsThrough, StopsFor, SwapAfter}
 use Rattle.table_steps.specs.Settled.{SettledBy, EndsWhile, IsSameBeside, StopsSettling}
@@ -92,8 +93,8 @@ pub stopped_first : (sid : ℕ) (old new : Standing) (holds : Option (List Named
     → is_settled old.kernel.place sid ≡ false
     → HasStopped old new → old.before ≡ old.kernel.holdings → StopsFor (Err stop) old.kernel.place.transfers
     → (((let r : Result Bool Stop = Err stop in r) ≡ Err stops.JournalFull) ↔ ((0 < length old.kernel.place.transfers) × (old.params.journal ≤ length old.kernel.journal)))
-    → SwapAfter (Err stop) old.kernel i j → StopsSettling sid old new holds i j stop
-stopped_first sid old new holds i j stop u s w c full a = record {
+    → LosesFor (Err stop) old new → SwapAfter (Err stop) old.kernel i j → StopsSettling sid old new holds i j stop
+stopped_first sid old new holds i j stop u s w c full lost a = record {
   count = 0;
   between = old;
   image = i;
@@ -108,6 +109,7 @@ stopped_first sid old new holds i j stop u s w c full a = record {
       (λ h. err_same stop stops.JournalFull (full.1 h)),
     );
     cause = c;
+    lost = lost;
     image = a;
   };
 }

@@ -10,6 +10,7 @@ pub use Rattle.table_steps.specs.Lives
 pub use Rattle.table_steps.specs.Machine
 pub use Rattle.table_steps.specs.Calls
 pub use Rattle.table_steps.specs.Conditions
+pub use Rattle.table_steps.specs.Failing
 pub use Rattle.table_steps.specs.Files
 pub use Rattle.table_steps.specs.Done
 pub use Rattle.table_steps.specs.Settled

@@ -13,6 +13,7 @@ ghost use Rattle.page_model.specs.Swapper.{is_settled};
 ghost use Rattle.table_steps.specs.Settled.{SettledBy, IsSameBeside, StopsSettling};
 ghost use Rattle.table_steps.specs.Files.{AreFiles};
 ghost use Rattle.table_steps.specs.Done.{sources, IsDone, KeepsThrough, ImageAfter, SwapAfter, StopsFor};
+ghost use Rattle.table_steps.specs.Failing.{LosesFor};
 ghost use Rattle.table_steps.specs.Conditions.{CanZero, CanBringIn, CanReclaim, HasStopped, KeepsFlat, SameElsewhere, SameEverywhere, SameOutside};
 ghost use Rattle.machine_state.specs.Outside.{stop_of, TransfersPages};
 
@@ -117,9 +118,13 @@ impl Machine {
         let _ = &self.stopped;
     }
 
-    /// What is so of each machine, also of one that has stopped: its journal is within its bound.
+    /// What is so of each machine, also of one that has stopped: its journal is within its bound. Where it runs, with the holdings before
+    /// the pieces that were found last, its tables are sound.
     pub fn always(&self)
-        ensures { length self.now.kernel.journal ≤ self.now.params.journal }
+        ensures within { length self.now.kernel.journal ≤ self.now.params.journal }
+        ensures sound { self.now.kernel.stopped ≡ false → Sound self.now.params.swap_blocks (record self.now.kernel { holdings = self.now.before }) }
+        ensures numbered { self.now.kernel.stopped ≡ false → Numbered self.now.kernel }
+        ensures due { self.now.kernel.stopped ≡ false → DueStand self.now.kernel.place }
     {
         let _ = &self.stopped;
     }
@@ -234,6 +239,7 @@ impl Machine {
         ensures spoiled { OnErr result (SwapAfter result self.old.kernel (D.image swap.old) (D.image swap.new)) }
         ensures stop { OnErr result (HasStopped self.old self.new) }
         ensures cause { StopsFor result self.old.kernel.place.transfers }
+        ensures lost { LosesFor result self.old self.new }
         ensures full { (result ≡ Err Stop.JournalFull) ↔ ((0 < length self.old.kernel.place.transfers) × (self.old.params.journal ≤ length self.old.kernel.journal)) }
         ensures outside { TransfersPages F.Files D.SwapDev (stop_of result) files.old files.new swap.old swap.new }
     {

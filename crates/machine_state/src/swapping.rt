@@ -9,6 +9,7 @@ ghost use Rattle.kernel_model.specs.Kernel.{out_step};
 ghost use Rattle.table_steps.specs.Lives.{space_held};
 ghost use Rattle.table_steps.specs.Calls.{CanGoOut, CanComeIn};
 ghost use Rattle.table_steps.specs.Conditions.{HasStopped};
+ghost use Rattle.table_steps.specs.Failing.{FailsFor};
 ghost use Rattle.table_steps.specs.Swapping.{IsIn, WritesU, SwapBehind, CallsNone, KeepsOut, KeepsIn, MovedRecord, IsUPage};
 ghost use Rattle.machine_state.specs.Outside.{stop_of, MovesSwapPages};
 
@@ -101,6 +102,7 @@ impl Machine {
         ensures uncalled { CallsNone result swap.old swap.new }
         ensures stop { OnErr result (HasStopped self.old self.new) }
         ensures cause { OnErr result ((result ≡ Err Stop.JournalFull) ⊎ ((result ≡ Err Stop.NoMemory) ⊎ (result ≡ Err Stop.SwapWriteFault))) }
+        ensures failed { FailsFor result self.old self.new }
         ensures full { (result ≡ Err Stop.JournalFull) ↔ (self.old.params.journal ≤ length self.old.kernel.journal) }
         ensures outside { MovesSwapPages D.SwapDev (stop_of result) swap.old swap.new }
     {
@@ -139,6 +141,7 @@ impl Machine {
         ensures uncalled { CallsNone result swap.old swap.new }
         ensures stop { OnErr result (HasStopped self.old self.new) }
         ensures cause { OnErr result ((result ≡ Err Stop.JournalFull) ⊎ ((result ≡ Err Stop.NoMemory) ⊎ (result ≡ Err Stop.SwapReadFault))) }
+        ensures failed { FailsFor result self.old self.new }
         ensures full { (result ≡ Err Stop.JournalFull) ↔ (self.old.params.journal ≤ length self.old.kernel.journal) }
         ensures outside { MovesSwapPages D.SwapDev (stop_of result) swap.old swap.new }
     {

@@ -1,5 +1,5 @@
 -- A call that stops at a unit.
-use Rattle.std.proofs.Common.{◌≡◌, ◌⊎◌, ◌↔◌, inl, inr, ℕ, ◌<◌, ◌≤◌, Bool, List, [], ◌∷◌, length, map, Option, Some, None, Result, Ok, Err, OnErr, IfErr, sym, ap, ◌∙◌, subst, arith}
+use Rattle.std.proofs.Common.{◌≡◌, ◌⊎◌, ◌↔◌, inl, inr, ℕ, ◌<◌, ◌≤◌, Bool, List, [], ◌∷◌, length, map, Option, Some, None, Result, Ok, Err, OnErr, IfErr, refl, sym, ap, ◌∙◌, subst, arith}
 use Rattle.std.proofs.lemmas.List.{length-append}
 use Rattle.vm_facts.specs.declared.entry.Entry.{Entry}
 use Rattle.vm_facts.specs.declared.entry.Entry.TheVariants as entries
@@ -13,8 +13,9 @@ use Rattle.kernel_model.specs.Kernel.{Kernel}
 use Rattle.kernel_model.specs.Coupled.{outline_kept}
 use Rattle.machine_state.specs.Machine.{Standing}
 use Rattle.machine_state.specs.Conditions.{HasStopped}
+use Rattle.machine_state.specs.Failing.{HasLostOldest, LosesFor, HasFailed, FailsFor}
 use Rattle.machine_state.specs.Done.{ImageAfter, StopsFor, SwapAfter, OldestReadsFrom, OldestWrites}
-use Rattle.paging_units.specs.Stops.{CauseBy, SpoilsBy, StopsAt, StaysWhereFull}
+use Rattle.paging_units.specs.Stops.{CauseBy, SpoilsBy, StopsAt, StaysPut, StopsPut, StopsLess, LeftBy}
 
 -- an entry that is never joined makes the journal longer
 pub plain_longer : (journal : List Entry) (e : Entry) → IsPlain e → length journal < length (append journal e)
@@ -26,19 +27,71 @@ plain_longer journal e p =
 err_same : {A : Type 0} (s t : Stop) → (let r : Result A Stop = Err s in r) ≡ Err t → s ≡ t
 err_same s t e = cc
 
--- a call that stops at the journal's bound leaves the machine running, with the placement, the processes and the holdings as they
--- were, where no pieces wait
-pub held_here : (stop : Stop) (old new : Standing) → HasStopped old new → old.before ≡ old.kernel.holdings
-    → (stop ≡ stops.JournalFull → old.params.journal ≤ length old.kernel.journal)
-    → StaysWhereFull old.kernel stop new
-held_here stop old new s w full e =
-    let same = s.held (full e) in
+-- a machine that runs on after a call that stopped has the placement, the processes and the holdings as they were, where no pieces wait
+pub stays_put : (old new : Standing) → HasStopped old new → old.before ≡ old.kernel.holdings → new.kernel.stopped ≡ old.kernel.stopped → StaysPut old.kernel new
+stays_put old new s w running =
+    let same = s.held running in
     record {
-      stopped = ap (λ (k : Kernel). k.stopped) same;
+      stopped = running;
       place = ap (λ (k : Kernel). k.place) same;
       holdings = ap (λ (k : Kernel). k.holdings) same ∙ w;
       processes = ap (λ (k : Kernel). map outline_kept k.processes) same;
     }
+
+-- so it does at the journal's bound
+pub full_here : (old new : Standing) → HasStopped old new → old.before ≡ old.kernel.holdings → old.params.journal ≤ length old.kernel.journal → StaysPut old.kernel new
+full_here old new s w bound = stays_put old new s w (s.full bound)
+
+-- a call that stops for want of memory, or at the journal's bound
+pub held_here : (stop : Stop) (old new : Standing) → HasStopped old new → old.before ≡ old.kernel.holdings → (stop ≡ stops.JournalFull) ⊎ (stop ≡ stops.NoMemory)
+    → (stop ≡ stops.JournalFull → old.params.journal ≤ length old.kernel.journal)
+    → LeftBy stop old.kernel new
+held_here stop old new s w cause full = elim cause [
+  | inl e ↦ subst (λ (x : Stop). LeftBy x old.kernel new) (sym e) (full_here old new s w (full e))
+  | inr e ↦ subst (λ (x : Stop). LeftBy x old.kernel new) (sym e) (λ running. inl (stays_put old new s w running))
+]
+
+-- where the oldest transfer is lost
+pub stops_less : (old new : Standing) → old.before ≡ old.kernel.holdings → HasLostOldest old new → StopsLess old.kernel new
+stops_less old new w l = record {
+  stopped = ap (λ (k : Kernel). k.stopped) l.kernel;
+  place = l.place;
+  holdings = l.before ∙ w;
+  processes = ap (λ (k : Kernel). map outline_kept k.processes) l.kernel;
+}
+
+-- where a u page failed
+pub stops_put : (old new : Standing) → old.before ≡ old.kernel.holdings → HasFailed old new → StopsPut old.kernel new
+stops_put old new w l = record {
+  stopped = ap (λ (k : Kernel). k.stopped) l.kernel;
+  place = ap (λ (k : Kernel). k.place) l.kernel;
+  holdings = l.before ∙ w;
+  processes = ap (λ (k : Kernel). map outline_kept k.processes) l.kernel;
+}
+
+-- at the end of the oldest transfer
+pub ending_left : (stop : Stop) (old new : Standing) → HasStopped old new → old.before ≡ old.kernel.holdings → (stop ≡ stops.JournalFull → old.params.journal ≤ length old.kernel.journal)
+    → LosesFor (Err stop) old new → LeftBy stop old.kernel new
+ending_left stops.JournalFull old new s w full lost = full_here old new s w (full refl)
+ending_left stops.NoMemory old new s w full lost = λ running. inl (stays_put old new s w running)
+ending_left stops.FileFault old new s w full lost = stops_less old new w lost
+ending_left stops.SwapReadFault old new s w full lost = inl (stops_less old new w lost)
+ending_left stops.SwapWriteFault old new s w full lost = inl (stops_less old new w lost)
+
+-- at the writing or the reading of a u page
+pub moved_left : (stop : Stop) (old new : Standing) → HasStopped old new → old.before ≡ old.kernel.holdings → (stop ≡ stops.JournalFull → old.params.journal ≤ length old.kernel.journal)
+    → (stop ≡ stops.FileFault → ⊥) → FailsFor (Err stop) old new → LeftBy stop old.kernel new
+moved_left stops.JournalFull old new s w full never failed = full_here old new s w (full refl)
+moved_left stops.NoMemory old new s w full never failed = λ running. inl (stays_put old new s w running)
+moved_left stops.FileFault old new s w full never failed = absurd (never refl)
+moved_left stops.SwapReadFault old new s w full never failed = inr (stops_put old new w failed)
+moved_left stops.SwapWriteFault old new s w full never failed = inr (stops_put old new w failed)
+
+err_cause : {A : Type 0} (stop : Stop) → (let r : Result A Stop = Err stop in (r ≡ Err stops.JournalFull) ⊎ (r ≡ Err stops.NoMemory)) → (stop ≡ stops.JournalFull) ⊎ (stop ≡ stops.NoMemory)
+err_cause {A} stop c = elim c [
+  | inl h ↦ inl (err_same {A = A} stop stops.JournalFull h)
+  | inr h ↦ inr (err_same {A = A} stop stops.NoMemory h)
+]
 
 -- a call of the machine that makes this unit and calls no device
 pub call_stops : {A : Type 0} (r : Result A Stop) (e : Entry) (old new : Standing) (i : Option (List ℕ))
@@ -50,17 +103,14 @@ pub call_stops : {A : Type 0} (r : Result A Stop) (e : Entry) (old new : Standin
 call_stops (Ok x) e old new i cause image full s c w = tt
 call_stops {A} (Err stop) e old new i cause image full s c w = record {
   journal = s.journal;
-  held = held_here stop old new s w (λ h. (full.0 (ap (λ (t : Stop). let r : Result A Stop = Err t in r) h)).0);
+  held = held_here stop old new s w (err_cause {A = A} stop c) (λ h. (full.0 (ap (λ (t : Stop). let r : Result A Stop = Err t in r) h)).0);
   full = (
     (λ h. subst (λ (p : Params). (p.journal ≤ length old.kernel.journal) × (length old.kernel.journal < length (append old.kernel.journal e))) (sym s.params)
         (full.0 (ap (λ (t : Stop). let r : Result A Stop = Err t in r) h))),
     (λ h. err_same {A = A} stop stops.JournalFull
         (full.1 (subst (λ (p : Params). (p.journal ≤ length old.kernel.journal) × (length old.kernel.journal < length (append old.kernel.journal e))) s.params h))),
   );
-  cause = cause stop (elim c [
-    | inl h ↦ inl (err_same {A = A} stop stops.JournalFull h)
-    | inr h ↦ inr (err_same {A = A} stop stops.NoMemory h)
-  ]);
+  cause = cause stop (err_cause {A = A} stop c);
   image = image stop;
 }
 
@@ -88,11 +138,11 @@ stops_some ts stops.SwapWriteFault h = some_writes ts h
 -- the call that ends the oldest transfer
 pub done_stops : (stop : Stop) (old new : Standing) (i j : Option (List ℕ)) → HasStopped old new → StopsFor (Err stop) old.kernel.place.transfers
     → (((let r : Result Bool Stop = Err stop in r) ≡ Err stops.JournalFull) ↔ ((0 < length old.kernel.place.transfers) × (old.params.journal ≤ length old.kernel.journal)))
-    → SwapAfter (Err stop) old.kernel i j
+    → LosesFor (Err stop) old new → SwapAfter (Err stop) old.kernel i j
     → old.before ≡ old.kernel.holdings → StopsAt entries.Done old.kernel i stop new j
-done_stops stop old new i j s c full image w = record {
+done_stops stop old new i j s c full lost image w = record {
   journal = s.journal;
-  held = held_here stop old new s w (λ h. (full.0 (ap (λ (t : Stop). let r : Result Bool Stop = Err t in r) h)).1);
+  held = ending_left stop old new s w (λ h. (full.0 (ap (λ (t : Stop). let r : Result Bool Stop = Err t in r) h)).1) lost;
   full = (
     (λ h. (subst (λ (p : Params). p.journal ≤ length old.kernel.journal) (sym s.params) (full.0 (ap (λ (t : Stop). let r : Result Bool Stop = Err t in r) h)).1, plain_longer old.kernel.journal entries.Done tt)),
     (λ h. err_same {A = Bool} stop stops.JournalFull (full.1 (stops_some old.kernel.place.transfers stop c, subst (λ (p : Params). p.journal ≤ length old.kernel.journal) s.params h.0))),

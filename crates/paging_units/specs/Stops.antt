@@ -1,5 +1,5 @@
 -- What is known of a call that stops where a unit comes next.
-use Rattle.std.specs.Prelude.{◌≡◌, ◌⊎◌, ◌↔◌, ℕ, ◌<◌, ◌≤◌, List, length, map, Bool, Option, Result, Err}
+use Rattle.std.specs.Prelude.{◌≡◌, ◌⊎◌, ◌↔◌, ℕ, ◌<◌, ◌≤◌, List, length, map, Bool, true, Option, Result, Err}
 use Rattle.vm_facts.specs.declared.entry.Entry.{Entry}
 use Rattle.vm_facts.specs.declared.entry.Entry.TheVariants as entries
 use Rattle.vm_facts.specs.declared.stop.Stop.{Stop}
@@ -8,7 +8,9 @@ use Rattle.flat_state.specs.Journal.{append}
 use Rattle.page_model.specs.Placement.{Transfer}
 use Rattle.kernel_model.specs.Kernel.{Kernel}
 use Rattle.kernel_model.specs.Coupled.{outline_kept}
+use Rattle.kernel_model.specs.ChangeStep.{pass_step}
 use Rattle.machine_state.specs.Machine.{Standing}
+use Rattle.machine_state.specs.Failing.{LosesOldest}
 use Rattle.machine_state.specs.Done.{StopsFor, SwapAfter}
 use Rattle.machine_state.specs.Swapping.{SwapBehind}
 
@@ -34,16 +36,39 @@ pub record StaysPut (k : Kernel) (new : Standing) : Type 0 where
   pub holdings : new.before ≡ k.holdings
   pub processes : map outline_kept new.kernel.processes ≡ map outline_kept k.processes
 
--- so it does where the journal is full
-abbrev pub StaysWhereFull : Kernel → Stop → Standing → Type 0
-StaysWhereFull k stop new = stop ≡ stops.JournalFull → StaysPut k new
+-- The machine has stopped there.
+pub record StopsPut (k : Kernel) (new : Standing) : Type 0 where
+  pub stopped : new.kernel.stopped ≡ true
+  pub place : new.kernel.place ≡ k.place
+  pub holdings : new.before ≡ k.holdings
+  pub processes : map outline_kept new.kernel.processes ≡ map outline_kept k.processes
+
+-- The machine has stopped there, but for its oldest transfer, which is lost with its frames.
+pub record StopsLess (k : Kernel) (new : Standing) : Type 0 where
+  pub stopped : new.kernel.stopped ≡ true
+  pub place : LosesOldest k.place new.kernel.place
+  pub holdings : new.before ≡ k.holdings
+  pub processes : map outline_kept new.kernel.processes ≡ map outline_kept k.processes
+
+-- the space of a process went back to its lender before its entry, for which there was no memory then
+abbrev pub StaysReturned : Kernel → Standing → Type 0
+StaysReturned k new = (pid lender : ℕ) × StaysPut (pass_step k pid lender) new
+
+-- How the machine is left, by the cause. Where the journal is full it runs on and stays there. Where it wants memory and runs on, it
+-- stays there too; it doesn't run on where it broke off within an entry of a process. Where the end of the oldest transfer failed that
+-- is lost, and where a u page failed nothing is.
+abbrev pub LeftBy : Stop → Kernel → Standing → Type 0
+LeftBy stops.JournalFull k new = StaysPut k new
+LeftBy stops.NoMemory k new = new.kernel.stopped ≡ k.stopped → StaysPut k new ⊎ StaysReturned k new
+LeftBy stops.FileFault k new = StopsLess k new
+LeftBy stops.SwapReadFault k new = StopsLess k new ⊎ StopsPut k new
+LeftBy stops.SwapWriteFault k new = StopsLess k new ⊎ StopsPut k new
 
 -- The call stops where this unit comes next, in a kernel with a swap image, with the journal as it was in that kernel. The journal
--- was full exactly where it was at its bound and the unit wouldn't join its last entry; then the machine runs on with the placement,
--- the holdings and the processes of that kernel.
+-- was full exactly where it was at its bound and the unit wouldn't join its last entry. The machine is left there by the cause.
 pub record StopsAt (e : Entry) (k : Kernel) (i : Option (List ℕ)) (stop : Stop) (new : Standing) (j : Option (List ℕ)) : Type 0 where
   pub journal : new.kernel.journal ≡ k.journal
-  pub held : StaysWhereFull k stop new
+  pub held : LeftBy stop k new
   pub full : (stop ≡ stops.JournalFull) ↔ ((new.params.journal ≤ length k.journal) × (length k.journal < length (append k.journal e)))
   pub cause : CauseBy e stop k.place.transfers
   pub image : SpoilsBy e stop k i j

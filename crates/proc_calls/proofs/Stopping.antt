@@ -27,7 +27,7 @@ whole_stops m new stop w s = record { stopped = s.stopped; whole = w; cause = s.
 
 -- pieces that were found change no more than the holdings
 pub before_found : (b new : Standing) (hs : Holdings) → HasStopped (with_pieces b hs) new → HasStopped b new
-before_found b new hs s = record { journal = s.journal; params = s.params; images = s.images; held = s.held }
+before_found b new hs s = record { journal = s.journal; params = s.params; images = s.images; full = s.full; held = s.held }
 
 pub found_stops : (m asked new : Standing) (hs : Holdings) (stop : Stop) → asked ≡ with_pieces m hs → m.before ≡ m.kernel.holdings → StopsEntering asked new stop → StopsBefore m new stop
 found_stops m asked new hs stop e w s =
@@ -124,7 +124,7 @@ lent_stops stop m new pid holds i e w s c f = inr (record {
 -- Where memory is wanted before anything is done.
 
 starved : (m new : Standing) → new ≡ m → HasStopped m new
-starved m new e = subst (HasStopped m) (sym e) (record { journal = refl; params = refl; images = refl; held = λ h. refl })
+starved m new e = subst (HasStopped m) (sym e) (record { journal = refl; params = refl; images = refl; full = λ h. refl; held = λ h. refl })
 
 starved_before : (m new : Standing) (stop : Stop) → new ≡ m → m.before ≡ m.kernel.holdings → stop ≡ stops.NoMemory → StopsBefore m new stop
 starved_before m new stop e w c = record {
@@ -138,7 +138,7 @@ pub out_starved : (m new : Standing) (pid : ℕ) (read : Result Reply Refused) (
 out_starved m new pid (Ok reply) stop e w c =
     let b : StopsBefore m new stop = starved_before m new stop e w c in
     record { between = m; reached = inl refl; stopped = b.stopped; whole = w; cause = b.cause; full = b.full }
-out_starved m new pid (Err (Miss address write)) stop e w c = (starved m new e, c)
+out_starved m new pid (Err (Miss address write)) stop e w c = (starved m new e, c, w)
 out_starved m new pid (Err (Below address)) stop e w c = starved_before m new stop e w c
 out_starved m new pid (Err (Signal number)) stop e w c = starved_before m new stop e w c
 

@@ -81,6 +81,6 @@ pub record StopsBefore (old new : Standing) (stop : Stop) : Type 0 where
 -- It stops where a byte that a call reads is refused: only for want of memory where the byte's page isn't valid, since no entry
 -- comes then, and else before the entry that says that it is a fault.
 abbrev pub StopsReading : Standing → Standing → Refused → Stop → Type 0
-StopsReading old new (Miss address write) stop = HasStopped old new × (stop ≡ stops.NoMemory)
+StopsReading old new (Miss address write) stop = HasStopped old new × (stop ≡ stops.NoMemory) × (old.before ≡ old.kernel.holdings)
 StopsReading old new (Below address) stop = StopsBefore old new stop
 StopsReading old new (Signal number) stop = StopsBefore old new stop

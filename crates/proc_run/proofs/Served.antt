@@ -79,7 +79,7 @@ pub served_stops : (now : Bool) (A : Inputs) (s : State) (old new : Standing) (h
     (address : ℕ) (write : Bool) (before : List Page) (stop : Stop) → RunsAt A s old holds i image pid now p x → Waits A s old p x address write before
     → StopsServed now old new pid address write holds i j stop → StopLeads A s old.kernel image stop new j
 served_stops true A s old new holds i j image pid p x address write before stop r w h = elim h [
-  | inl o ↦ subst (λ (z : Option (List ℕ)). StopLeads A s old.kernel image stop new z) (sym (o.image ∙ r.told)) (stopped_short A s old new image stop o.stopped o.cause)
+  | inl o ↦ subst (λ (z : Option (List ℕ)). StopLeads A s old.kernel image stop new z) (sym (o.image ∙ r.told)) (stopped_short A s old new image stop o.stopped o.cause o.whole)
   | inr n ↦ (
       let same = n.kept A s image p x r ∙ kept A s old new holds i j image pid true p x address write before r w in
       access_stops A s old new holds image j pid true p x address write before before stop (λ e. refl) r.on w

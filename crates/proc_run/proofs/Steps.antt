@@ -27,7 +27,7 @@ use Rattle.kernel_laws.proofs.Machine.Swaps.{found_at}
 use Rattle.machine_state.specs.Machine.{Standing}
 use Rattle.machine_state.specs.Conditions.{HasStopped}
 use Rattle.machine_state.specs.UserMemory.{kernel_answers, writes_in}
-use Rattle.steady_laws.specs.Stops.{StaysWhereFull}
+use Rattle.steady_laws.specs.Stops.{LeftBy}
 use Rattle.steady_laws.specs.Callers.{regs_of, space_held}
 use Rattle.steady_laws.specs.Leaving.{HasEnded, StopsAlive}
 use Rattle.run_model.specs.Act.{act}
@@ -145,7 +145,7 @@ module _ (A : Inputs) (s : State) (m : Standing) (holds : Option (List NamedFile
 
   -- where the journal has no room for it the run stops there
   pub instruction_stops : (mid new : Standing) (stop : Stop) (effect : Effect) → run (own_answers m pid) (instruction before) ≡ Ok effect → effect.call ≡ None
-      → mid.kernel.journal ≡ m.kernel.journal → HasStopped mid new → StaysWhereFull m.kernel stop new → (stop ≡ stops.JournalFull) ⊎ (stop ≡ stops.NoMemory)
+      → mid.kernel.journal ≡ m.kernel.journal → HasStopped mid new → LeftBy stop m.kernel new → (stop ≡ stops.JournalFull) ⊎ (stop ≡ stops.NoMemory)
       → (stop ≡ stops.JournalFull → (mid.params.journal ≤ length mid.kernel.journal) × (length mid.kernel.journal < length (append mid.kernel.journal (entries.Ran pid 1))))
       → StopLeads A s m.kernel image stop new i
   instruction_stops mid new stop effect e none journal h held cause full = record {
@@ -171,5 +171,5 @@ module _ (A : Inputs) (s : State) (m : Standing) (holds : Option (List NamedFile
     ];
   }
 
-  pub room_stops : (new : Standing) (stop : Stop) → HasStopped m new → stop ≡ stops.NoMemory → StopLeads A s m.kernel image stop new i
-  room_stops new stop h c = stop_told stop new (Rattle.step_units.proofs.Entering.stopped_short A s m new image stop h c)
+  pub room_stops : (new : Standing) (stop : Stop) → HasStopped m new → stop ≡ stops.NoMemory → m.before ≡ m.kernel.holdings → StopLeads A s m.kernel image stop new i
+  room_stops new stop h c w = stop_told stop new (Rattle.step_units.proofs.Entering.stopped_short A s m new image stop h c w)

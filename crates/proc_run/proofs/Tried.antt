@@ -187,6 +187,6 @@ pub asked_stops : (old last : Standing) (pid : ℕ) (before : Regs) (stop : Stop
 asked_stops old last pid before stop now holds i same h whole cause full done A s image p x r = elim cause [
   | inl c ↦
       let d = did_all (run (own_answers old pid) (instruction before)) (done c) in
-      instruction_stops A s old holds i image pid now p x before r same old last stop d.0 d.1 d.2 refl h (held_here stop old last h whole (λ e. (full e).0)) (inl c) full
-  | inr c ↦ Rattle.proc_run.proofs.Steps.room_stops A s old holds i image pid now p x before r same last stop h c
+      instruction_stops A s old holds i image pid now p x before r same old last stop d.0 d.1 d.2 refl h (held_here stop old last h whole (inl c) (λ e. (full e).0)) (inl c) full
+  | inr c ↦ Rattle.proc_run.proofs.Steps.room_stops A s old holds i image pid now p x before r same last stop h c whole
 ]

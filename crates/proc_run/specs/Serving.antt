@@ -42,6 +42,7 @@ pub record StopsServedNow (old new : Standing) (pid address : ℕ) (write : Bool
 -- for want of memory before any unit
 pub record StopsAtOnce (old new : Standing) (i j : Option (List ℕ)) (stop : Stop) : Type 0 where
   pub stopped : HasStopped old new
+  pub whole : old.before ≡ old.kernel.holdings
   pub cause : stop ≡ stops.NoMemory
   pub image : j ≡ i
 

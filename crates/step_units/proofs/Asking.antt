@@ -11,7 +11,7 @@ use Rattle.page_laws.proofs.Moves.Stays.{done_steady}
 use Rattle.kernel_model.specs.Kernel.{Kernel, note_step}
 use Rattle.machine_state.specs.Machine.{Standing}
 use Rattle.machine_state.specs.Done.{sources, IsDone, ImageAfter, StopsEnding}
-use Rattle.swapper.proofs.Stopping.{held_here}
+use Rattle.swapper.proofs.Stopping.{ending_left}
 use Rattle.swapper.specs.Made.{ground}
 use Rattle.swapper.specs.Stops.{StopsAt}
 use Rattle.proc_calls.specs.Moved.{Moved, StopsMoving}
@@ -75,7 +75,7 @@ interrupt_stops A s old new holds image j stop at c m n x = record {
   behind = image;
   leads = Rattle.run_units.proofs.Units.none_leads A s old.kernel image;
   journal = x.stopped.journal;
-  held = held_here stop old new x.stopped x.whole (λ e. (x.full.0 e).1);
+  held = ending_left stop old new x.stopped x.whole (λ e. (x.full.0 e).1) x.lost;
   by = stops_by A s old.kernel image stop new j (record {
     entry = entries.Done;
     next = (line_asks A s c.clear).1 (interrupts s m n);

@@ -24,7 +24,7 @@ use Rattle.machine_state.specs.Applying.{facts_named}
 use Rattle.machine_state.specs.Conditions.{HasStopped}
 use Rattle.swapper.proofs.Stopping.{held_here}
 use Rattle.swapper.specs.Made.{ground}
-use Rattle.swapper.specs.Stops.{StaysWhereFull}
+use Rattle.swapper.specs.Stops.{LeftBy}
 use Rattle.proc_calls.specs.Answered.{StopsBefore}
 use Rattle.flat_model.specs.Step.{Step}
 use Rattle.flat_model.specs.Run.{step_at, due_at}
@@ -194,14 +194,14 @@ full_next A s k image _ new n o b = absurd o
 -- a run stops in a kernel, before an entry
 pub record StopsIn (k : Kernel) (new : Standing) (stop : Stop) : Type 0 where
   pub journal : new.kernel.journal ≡ k.journal
-  pub held : StaysWhereFull k stop new
+  pub held : LeftBy stop k new
   pub cause : (stop ≡ stops.JournalFull) ⊎ (stop ≡ stops.NoMemory)
   pub full : stop ≡ stops.JournalFull → new.params.journal ≤ length k.journal
 
 stops_in : (old new : Standing) (stop : Stop) → StopsBefore old new stop → StopsIn old.kernel new stop
 stops_in old new stop h = record {
   journal = h.stopped.journal;
-  held = held_here stop old new h.stopped h.whole h.full;
+  held = held_here stop old new h.stopped h.whole h.cause h.full;
   cause = h.cause;
   full = λ c. subst (λ (y : Params). y.journal ≤ length old.kernel.journal) (sym h.stopped.params) (h.full c);
 }
@@ -236,16 +236,16 @@ pub stopped_before : (A : Inputs) (s : State) (old new : Standing) (image : List
 stopped_before A s old new image pid now e stop r w a o h = stopped_in A s old.kernel new image pid now e stop r w a o (stops_in old new stop h)
 
 -- for want of memory it stops anywhere
-pub stopped_short : (A : Inputs) (s : State) (old new : Standing) (image : List ℕ) (stop : Stop) → HasStopped old new → stop ≡ stops.NoMemory
+pub stopped_short : (A : Inputs) (s : State) (old new : Standing) (image : List ℕ) (stop : Stop) → HasStopped old new → stop ≡ stops.NoMemory → old.before ≡ old.kernel.holdings
     → StopLeads A s old.kernel image stop new (Some image)
-stopped_short A s old new image stop h c = record {
+stopped_short A s old new image stop h c w = record {
   units = [];
   state = s;
   kernel = old.kernel;
   behind = image;
   leads = none_leads A s old.kernel image;
   journal = h.journal;
-  held = λ e. absurd (let z : stops.NoMemory ≡ stops.JournalFull = sym c ∙ e in cc);
+  held = held_here stop old new h w (inr c) (λ e. absurd (let z : stops.NoMemory ≡ stops.JournalFull = sym c ∙ e in cc));
   by = subst (λ (z : Stop). StopsBy A s old.kernel image z new (Some image)) (sym c) refl;
 }
 

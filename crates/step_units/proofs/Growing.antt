@@ -344,7 +344,7 @@ growth_stops A s old new holds image j pid now p x address stop r f g = record {
   behind = image;
   leads = none_leads A s old.kernel image;
   journal = g.stopped.journal;
-  held = held_here stop old new g.stopped g.whole g.full;
+  held = held_here stop old new g.stopped g.whole g.cause g.full;
   by = stopped_by stop g.cause g.full;
 }
   where

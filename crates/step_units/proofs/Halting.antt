@@ -104,7 +104,7 @@ stopped_here A s old new image pid now p x e es stop at r w d own g = go (must_r
       behind = image;
       leads = none_leads A s old.kernel image;
       journal = g.stopped.journal;
-      held = held_here stop old new g.stopped g.whole g.full;
+      held = held_here stop old new g.stopped g.whole g.cause g.full;
       by = stops_done A s old new image stop (runs_next A s pid now entries.Done r.runs w (acts_as A s pid false true can f t))
           (some_transfer old.kernel.place x.sid old.kernel.place.transfers refl (ap (λ (q : Placement). is_settled q x.sid) at.stands.place ∙ waits_for A s pid now p x r t)) g;
     }

@@ -15,12 +15,12 @@ use Rattle.flat_state.specs.declared.change.Change.TheVariants as changes
 use Rattle.flat_model.specs.Run.{step_at, Point, due, due_at, first_if}
 use Rattle.flat_model.specs.Step.{Step}
 use Rattle.kernel_model.specs.Kernel.{Kernel, Proc}
-use Rattle.kernel_model.specs.Unit.{has_lender}
+use Rattle.kernel_model.specs.Unit.{has_lender, lender_among}
 use Rattle.machine_state.specs.Machine.{Standing}
 use Rattle.machine_state.specs.Done.{sources}
 use Rattle.machine_state.specs.Settled.{StopsSettling}
-use Rattle.swapper.proofs.Stopping.{held_here}
-use Rattle.swapper.specs.Stops.{StaysPut}
+use Rattle.swapper.proofs.Stopping.{stays_put, full_here}
+use Rattle.swapper.specs.Stops.{StaysPut, StaysReturned, LeftBy}
 use Rattle.proc_calls.specs.Callers.{space_held}
 use Rattle.proc_calls.specs.Leaving.{HasSettled, HasLeftBy, HasLeft, StopsOwn, StopsLent, StopsLeaving}
 use Rattle.proc_calls.proofs.Leaving.{GoesOn, settled_goes}
@@ -198,6 +198,10 @@ returned_journal : (b : Bool) (k : Kernel) (pid : ℕ) → (returned b k pid).jo
 returned_journal true k pid = refl
 returned_journal false k pid = refl
 
+returned_stopped : (b : Bool) (k : Kernel) (pid : ℕ) → (returned b k pid).stopped ≡ k.stopped
+returned_stopped true k pid = refl
+returned_stopped false k pid = refl
+
 module _ (A : Inputs) (s : State) (old between : Standing) (image : List ℕ) (pid : ℕ) (now : Bool) (p : Process) (x : Space) (j : Option (List ℕ)) (l : Left A s old between image pid now p x j) where
   -- the step is as it was
   pub step_stays : step_at A l.state.point pid ≡ step_at A s.point pid
@@ -226,7 +230,7 @@ module _ (A : Inputs) (s : State) (old between : Standing) (image : List ℕ) (p
       (stops_then A s l.state old.kernel l.kernel image l.behind (Some l.behind) l.units stop new l.leads
       (stopped_in A l.state l.kernel new l.behind pid now u stop l.gives.running.runs l.gives.unwanted (left_acts u b e) own (record {
         journal = h.stopped.journal ∙ journal;
-        held = λ f. stays (has_lender l.kernel.processes pid) refl f;
+        held = left h.cause;
         cause = h.cause;
         full = λ f. subst (λ (js : List Entry). new.params.journal ≤ length js) journal (subst (λ (y : Params). y.journal ≤ length between.kernel.journal) (sym h.stopped.params) (h.full f));
       })))
@@ -235,7 +239,22 @@ module _ (A : Inputs) (s : State) (old between : Standing) (image : List ℕ) (p
       stays : (b : Bool) → has_lender l.kernel.processes pid ≡ b → stop ≡ stops.JournalFull → StaysPut l.kernel new
       stays true e f = let full = h.full f in let room = l.room e in absurd (omega arith)
       stays false e f =
-          subst (λ (k : Kernel). StaysPut k new) (l.back ∙ ap (λ (b : Bool). returned b l.kernel pid) e) (held_here stop between new h.stopped h.whole h.full f)
+          subst (λ (k : Kernel). StaysPut k new) (l.back ∙ ap (λ (b : Bool). returned b l.kernel pid) e) (full_here between new h.stopped h.whole (h.full f))
+
+      -- where it went back it may be that the entry found no memory
+      starves : (b : Bool) → has_lender l.kernel.processes pid ≡ b → new.kernel.stopped ≡ l.kernel.stopped → StaysPut l.kernel new ⊎ StaysReturned l.kernel new
+      starves b e running = gave b (subst (λ (k : Kernel). StaysPut k new) is (stays_put between new h.stopped h.whole (running ∙ sym (returned_stopped b l.kernel pid) ∙ sym (ap (λ (k : Kernel). k.stopped) is))))
+        where
+          is : between.kernel ≡ returned b l.kernel pid
+          is = l.back ∙ ap (λ (c : Bool). returned c l.kernel pid) e
+
+          gave : (c : Bool) → StaysPut (returned c l.kernel pid) new → StaysPut l.kernel new ⊎ StaysReturned l.kernel new
+          gave true put = inr (pid, lender_among l.kernel.processes pid, put)
+          gave false put = inl put
+
+      left : (stop ≡ stops.JournalFull) ⊎ (stop ≡ stops.NoMemory) → LeftBy stop l.kernel new
+      left (inl f) = subst (λ (z : Stop). LeftBy z l.kernel new) (sym f) (stays (has_lender l.kernel.processes pid) refl f)
+      left (inr f) = subst (λ (z : Stop). LeftBy z l.kernel new) (sym f) (starves (has_lender l.kernel.processes pid) refl)
 
   -- The machine made it, with the pieces that were found for its change.
   pub left_made : (new : Kernel) (u : Entry) (step : Step) (found : Holdings) → At A s old.kernel image → Completes pid u

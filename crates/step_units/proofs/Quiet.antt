@@ -152,7 +152,7 @@ pub stops_reading : (A : Inputs) (s : State) (old new : Standing) (holds : Optio
     → RunsOn A s old holds image pid now p x → MakesCall old p x effect call
     → run (kernel_answers old.kernel x.sid) (reply_asked A.images s.point.flat p x call effect) ≡ Err refused
     → StopsReading old new refused stop → StopLeads A s old.kernel image stop new (Some image)
-stops_reading A s old new holds image pid now p x effect call (Miss address write) stop h m e g = stopped_short A s old new image stop g.0 g.1
+stops_reading A s old new holds image pid now p x effect call (Miss address write) stop h m e g = stopped_short A s old new image stop g.0 g.1 g.2
 stops_reading A s old new holds image pid now p x effect call (Below address) stop h m e g =
     stops_quiet A s old new holds image pid now p x effect call (Err (Below address)) stop h m.names (ready A s old holds image pid now p x effect call (Err (Below address)) h m e tt) tt g
 stops_reading A s old new holds image pid now p x effect call (Signal number) stop h m e g =

@@ -22,7 +22,7 @@ use Rattle.machine_state.specs.Files.{AreImages}
 use Rattle.machine_state.specs.Machine.{Standing}
 use Rattle.machine_state.specs.Settled.{StopsSettling}
 use Rattle.machine_state.specs.Sourced.{ImageNamed}
-use Rattle.swapper.proofs.Stopping.{held_here}
+use Rattle.swapper.proofs.Stopping.{ending_left}
 use Rattle.swapper.specs.Made.{ground}
 use Rattle.proc_calls.specs.Leaving.{HasSettled}
 use Rattle.flat_model.specs.Step.{Step}
@@ -131,7 +131,7 @@ module _ (A : Inputs) (s : State) (old : Standing) (holds : Option (List NamedFi
         behind = led.leads.behind;
         leads = leads;
         journal = g.stops.stopped.journal;
-        held = held_here stop g.between new g.stops.stopped g.stops.whole (λ e. (g.stops.full.0 e).1);
+        held = ending_left stop g.between new g.stops.stopped g.stops.whole (λ e. (g.stops.full.0 e).1) g.stops.lost;
         by = ending A t g.between new led.leads.behind g.image j stop led.leads.told next g.stops;
       }
     where

@@ -8,7 +8,7 @@ use Rattle.flat_state.specs.Journal.{append}
 use Rattle.flat_state.specs.Space.{Space}
 use Rattle.kernel_model.specs.Kernel.{Kernel}
 use Rattle.machine_state.specs.Machine.{Standing}
-use Rattle.swapper.specs.Stops.{CauseBy, SpoilsBy, StaysWhereFull}
+use Rattle.swapper.specs.Stops.{CauseBy, SpoilsBy, LeftBy}
 use Rattle.proc_calls.specs.declared.replying.Called.{Called}
 use Rattle.proc_calls.specs.declared.replying.Called.TheVariants as calls
 use Rattle.run_model.specs.State.{State}
@@ -57,7 +57,7 @@ abbrev pub StopsBy : Inputs → State → Kernel → List ℕ → Stop → Stand
 StopsBy A t k image stops.NoMemory new j = j ≡ Some image
 StopsBy A t k image stop new j = StopsNext A t k image stop new j
 
--- Next units lead to a state, and there the run stopped. Where the journal was full the machine runs on and stands there.
+-- Next units lead to a state, and there the run stopped. The machine is left there by the cause.
 pub record StopLeads (A : Inputs) (s : State) (k : Kernel) (image : List ℕ) (stop : Stop) (new : Standing) (j : Option (List ℕ)) : Type 0 where
   pub units : List Entry
   pub state : State
@@ -65,5 +65,5 @@ pub record StopLeads (A : Inputs) (s : State) (k : Kernel) (image : List ℕ) (s
   pub behind : List ℕ
   pub leads : Leads A s k image units state kernel (Some behind)
   pub journal : new.kernel.journal ≡ kernel.journal
-  pub held : StaysWhereFull kernel stop new
+  pub held : LeftBy stop kernel new
   pub by : StopsBy A state kernel behind stop new j

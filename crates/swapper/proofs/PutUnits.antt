@@ -45,12 +45,13 @@ use Rattle.machine_state.specs.Files.{AreFiles}
 use Rattle.machine_state.specs.Settled.{IsSameBeside}
 use Rattle.machine_state.specs.Calls.{life_in, AreAlike, CanPush, CanGoOut}
 use Rattle.machine_state.specs.Conditions.{HasStopped}
+use Rattle.machine_state.specs.Failing.{FailsFor}
 use Rattle.machine_state.specs.Swapping.{WritesU, SwapBehind}
 use Rattle.paging_units.specs.Made.{Made, MakesUnit, Ground, ground}
 use Rattle.paging_units.specs.Stops.{StopsAt, SpoilsBy}
 use Rattle.paging_units.proofs.Units.{unit_place, unit_journal, unit_same, unit_whole, same_ground}
 use Rattle.paging_units.proofs.Keeping.{unit_shaped, keeps_both}
-use Rattle.paging_units.proofs.Stopping.{plain_longer, held_here}
+use Rattle.paging_units.proofs.Stopping.{plain_longer, moved_left}
 use Rattle.swapper.specs.declared.putting_out.Step.{Step}
 use Rattle.swapper.specs.declared.putting_out.Step.TheVariants as steps
 use Rattle.swapper.specs.Putting.{IsOfSegment, IsStep, IsNext, HoldsThere, PutOut, StopsPutting}
@@ -293,24 +294,40 @@ ok_is {A} r limit journal pid s t e f = (
   (λ h. err_same {A = A} s t (sym e ∙ f.1 h.0)),
 )
 
+-- why a u page isn't written, or read
+u_cause : (stop kind : Stop) → (let r : Result (Unit {0}) Stop = Err stop in (r ≡ Err stops.JournalFull) ⊎ ((r ≡ Err stops.NoMemory) ⊎ (r ≡ Err kind)))
+    → (stop ≡ stops.JournalFull) ⊎ ((stop ≡ stops.NoMemory) ⊎ (stop ≡ kind))
+u_cause stop kind c = elim c [
+  | inl h ↦ inl (err_same {A = Unit {0}} stop stops.JournalFull h)
+  | inr h ↦ inr (elim h [
+    | inl h ↦ inl (err_same {A = Unit {0}} stop stops.NoMemory h)
+    | inr h ↦ inr (err_same {A = Unit {0}} stop kind h)
+  ])
+]
+
+-- no file is the cause
+never_file : (stop kind : Stop) → (kind ≡ stops.FileFault → ⊥) → (let r : Result (Unit {0}) Stop = Err stop in (r ≡ Err stops.JournalFull) ⊎ ((r ≡ Err stops.NoMemory) ⊎ (r ≡ Err kind)))
+    → stop ≡ stops.FileFault → ⊥
+never_file stop kind other c e = elim (u_cause stop kind c) [
+  | inl h ↦ (let z : stops.JournalFull ≡ stops.FileFault = sym h ∙ e in cc)
+  | inr h ↦ elim h [
+    | inl h ↦ (let z : stops.NoMemory ≡ stops.FileFault = sym h ∙ e in cc)
+    | inr h ↦ other (sym h ∙ e)
+  ]
+]
+
 pub out_stops : (pid sid : ℕ) (old new : Standing) (holds : Option (List NamedFile)) (i j : Option (List ℕ)) (r : Result (Unit {0}) Stop) → is_out old.kernel.place pid ≡ false → IsNext old.kernel.place sid None
     → OnErr r (HasStopped old new) → OnErr r ((r ≡ Err stops.JournalFull) ⊎ ((r ≡ Err stops.NoMemory) ⊎ (r ≡ Err stops.SwapWriteFault)))
-    → ((r ≡ Err stops.JournalFull) ↔ (old.params.journal ≤ length old.kernel.journal)) → OnErr r (SwapBehind r old.kernel pid i j)
+    → ((r ≡ Err stops.JournalFull) ↔ (old.params.journal ≤ length old.kernel.journal)) → FailsFor r old new → OnErr r (SwapBehind r old.kernel pid i j)
     → old.before ≡ old.kernel.holdings → IfErr r (λ stop. StopsPutting pid sid old stop new holds i j)
-out_stops pid sid old new holds i j (Ok x) n l s c f b w = tt
-out_stops pid sid old new holds i j (Err stop) n l s c f b w =
+out_stops pid sid old new holds i j (Ok x) n l s c f failed b w = tt
+out_stops pid sid old new holds i j (Err stop) n l s c f failed b w =
     stops_here pid sid old stop new holds i j n s.params s.images (subst (λ (e : Entry). StopsAt e old.kernel i stop new j) (sym (last_unit old.kernel.place pid sid l)) (record {
       journal = s.journal;
-      held = held_here stop old new s w (λ h. f.0 (ap (λ (t : Stop). let z : Result (Unit {0}) Stop = Err t in z) h));
+      held = moved_left stop old new s w (λ h. f.0 (ap (λ (t : Stop). let z : Result (Unit {0}) Stop = Err t in z) h)) (never_file stop stops.SwapWriteFault (λ e. cc) c) failed;
       full = subst (λ (p : Params). (stop ≡ stops.JournalFull) ↔ ((p.journal ≤ length old.kernel.journal) × (length old.kernel.journal < length (append old.kernel.journal (entries.SwapOut pid))))) (sym s.params)
           (ok_is {A = Unit {0}} (Err stop) old.params.journal old.kernel.journal pid stop stops.JournalFull refl f);
-      cause = elim c [
-        | inl h ↦ inl (err_same {A = Unit {0}} stop stops.JournalFull h)
-        | inr h ↦ inr (elim h [
-          | inl h ↦ inl (err_same {A = Unit {0}} stop stops.NoMemory h)
-          | inr h ↦ inr (err_same {A = Unit {0}} stop stops.SwapWriteFault h)
-        ])
-      ];
+      cause = u_cause stop stops.SwapWriteFault c;
       image = spoils stop b;
     }))
   where
@@ -320,6 +337,29 @@ out_stops pid sid old new holds i j (Err stop) n l s c f b w =
     spoils stops.FileFault b = b
     spoils stops.SwapReadFault b = b
     spoils stops.SwapWriteFault b = b
+
+-- Where its u page isn't read, a process stops the run as it comes in.
+
+in_is : (limit : ℕ) (journal : List Entry) (pid : ℕ) (s : Stop) → ((let r : Result (Unit {0}) Stop = Err s in r ≡ Err stops.JournalFull) ↔ (limit ≤ length journal))
+    → (s ≡ stops.JournalFull) ↔ ((limit ≤ length journal) × (length journal < length (append journal (entries.SwapIn pid))))
+in_is limit journal pid s f = (
+  (λ h. (f.0 (ap (λ (x : Stop). let z : Result (Unit {0}) Stop = Err x in z) h), plain_longer journal (entries.SwapIn pid) tt)),
+  (λ h. err_same {A = Unit {0}} s stops.JournalFull (f.1 h.0)),
+)
+
+pub in_stops : (pid : ℕ) (old new : Standing) (i j : Option (List ℕ)) (r : Result (Unit {0}) Stop)
+    → OnErr r (HasStopped old new) → OnErr r ((r ≡ Err stops.JournalFull) ⊎ ((r ≡ Err stops.NoMemory) ⊎ (r ≡ Err stops.SwapReadFault)))
+    → ((r ≡ Err stops.JournalFull) ↔ (old.params.journal ≤ length old.kernel.journal)) → FailsFor r old new → j ≡ i
+    → old.before ≡ old.kernel.holdings → IfErr r (λ stop. StopsAt (entries.SwapIn pid) old.kernel i stop new j)
+in_stops pid old new i j (Ok x) s c f failed same w = tt
+in_stops pid old new i j (Err stop) s c f failed same w = record {
+  journal = s.journal;
+  held = moved_left stop old new s w (λ h. f.0 (ap (λ (t : Stop). let z : Result (Unit {0}) Stop = Err t in z) h)) (never_file stop stops.SwapReadFault (λ e. cc) c) failed;
+  full = subst (λ (p : Params). (stop ≡ stops.JournalFull) ↔ ((p.journal ≤ length old.kernel.journal) × (length old.kernel.journal < length (append old.kernel.journal (entries.SwapIn pid))))) (sym s.params)
+      (in_is old.params.journal old.kernel.journal pid stop f);
+  cause = u_cause stop stops.SwapReadFault c;
+  image = same;
+}
 
 -- What is known of an answer, weakened.
 

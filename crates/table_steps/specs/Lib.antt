@@ -3,6 +3,7 @@ pub use Rattle.kernel_tables.specs.Applying
 pub use Rattle.kernel_tables.specs.Calls
 pub use Rattle.kernel_tables.specs.Changing
 pub use Rattle.kernel_tables.specs.Conditions
+pub use Rattle.kernel_tables.specs.Failing
 pub use Rattle.kernel_tables.specs.Done
 pub use Rattle.kernel_tables.specs.Due
 pub use Rattle.kernel_tables.specs.Files

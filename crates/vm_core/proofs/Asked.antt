@@ -11,6 +11,7 @@ use Rattle.page_model.specs.Swapper.{swap_choice}
 use Rattle.kernel_model.specs.Kernel.{note_step, image_after_of}
 use Rattle.machine_state.specs.Machine.{Standing}
 use Rattle.machine_state.specs.Conditions.{HasStopped}
+use Rattle.machine_state.specs.Failing.{LosesFor}
 use Rattle.machine_state.specs.Done.{sources, IsDone, ImageAfter, StopsFor, SwapAfter, StopsEnding}
 use Rattle.journal_laws.specs.Moved.{Moved, StopsMoving}
 use Rattle.run_start.specs.Turned.{Turned}
@@ -91,10 +92,10 @@ interrupt_ends old new holds i j stop some x A s image at =
 
 pub interrupt_halts : (old new : Standing) (holds : Option (List NamedFile)) (i j : Option (List ℕ)) (stop : Stop) → old.before ≡ old.kernel.holdings → HasStopped old new → (let r : Result Bool Stop = Err stop in StopsFor r old.kernel.place.transfers)
     → (let r : Result Bool Stop = Err stop in (r ≡ Err stops.JournalFull) ↔ ((0 < length old.kernel.place.transfers) × (old.params.journal ≤ length old.kernel.journal)))
-    → (let r : Result Bool Stop = Err stop in SwapAfter r old.kernel i j) → StopsLine events.Interrupt old new holds i j stop
-interrupt_halts old new holds i j stop w h c f x =
+    → (let r : Result Bool Stop = Err stop in LosesFor r old new) → (let r : Result Bool Stop = Err stop in SwapAfter r old.kernel i j) → StopsLine events.Interrupt old new holds i j stop
+interrupt_halts old new holds i j stop w h c f lost x =
     interrupt_ends old new holds i j stop (some_flight stop old.kernel.place.transfers c)
-    (record { stopped = h; whole = w; full = (λ e. f.0 (ap (λ (s : Stop). let r : Result Bool Stop = Err s in r) e), λ e. same_error {T = Bool} stop stops.JournalFull (f.1 e)); cause = c; image = x })
+    (record { stopped = h; whole = w; full = (λ e. f.0 (ap (λ (s : Stop). let r : Result Bool Stop = Err s in r) e), λ e. same_error {T = Bool} stop stops.JournalFull (f.1 e)); cause = c; lost = lost; image = x })
 
 -- Moves of the hands.
 

@@ -1,5 +1,5 @@
 -- The journal of a run that a machine made.
-use Rattle.std.proofs.Common.{◌≡◌, inl, inr, ℕ, ◌*◌, ◌<◌, ◌≤◌, List, [], ◌∷◌, length, replicate, Option, Some, None, refl, sym, ap, ◌∙◌, subst}
+use Rattle.std.proofs.Common.{◌≡◌, ◌⊎◌, inl, inr, ℕ, ◌*◌, ◌<◌, ◌≤◌, false, List, [], ◌∷◌, length, replicate, Option, Some, None, refl, sym, ap, ◌∙◌, subst}
 use Rattle.std.proofs.lemmas.List.{length-replicate}
 use Rattle.std.proofs.lemmas.Option.{same_Some}
 use Rattle.vm_facts.specs.declared.entry.Entry.{Entry}
@@ -15,10 +15,12 @@ use Rattle.page_model.specs.Placement.{Placement, Transfer, Part, Errand}
 use Rattle.page_model.specs.Ownership.{block_of}
 use Rattle.page_model.specs.Stored.{store_at}
 use Rattle.kernel_model.specs.Kernel.{Kernel}
+use Rattle.kernel_model.specs.ChangeStep.{pass_step}
 use Rattle.kernel_model.specs.Coupled.{memory_of}
 use Rattle.machine_state.specs.Done.{SpoilsAll, SpoilsBy as SpoilsTransfers}
 use Rattle.machine_state.specs.Machine.{Standing}
-use Rattle.journal_laws.specs.Stops.{CauseBy, SpoilsBy}
+use Rattle.machine_state.specs.Failing.{LosesOldest}
+use Rattle.journal_laws.specs.Stops.{CauseBy, SpoilsBy, StaysPut, StaysReturned, StopsLess, StopsPut, LeftBy}
 use Rattle.run_model.specs.State.{State, start}
 use Rattle.run_model.specs.After.{after}
 use Rattle.run_model.specs.Next.{next_unit}
@@ -39,7 +41,7 @@ use Rattle.journal_laws.proofs.Journals.{leads_follow, journal_lawful, journal_a
 use Rattle.vm_core.specs.Cores.{Underway, GoesOn}
 use Rattle.vm_core.specs.Halting.{HaltsFor, SpoilsParts, SpoilsOldest, LeavesImage}
 use Rattle.vm_core.specs.Lawful.{IsJournalOf, RunFinished, RunHalted, RunStarved}
-use Rattle.vm_core.specs.Full.{RunFull, RunOver, RunWhole}
+use Rattle.vm_core.specs.Full.{StandsThere, StoppedThere, LessThere, ReturnedThere, LeftThere, RunLeft, RunFull, RunOver, RunWhole}
 
 module _ (A : Inputs) (hs : Holdings) (can : CanRun A hs) (few : length A.first ≤ 64) (image : List ℕ) (room : 512 * A.swap_blocks ≤ length image) where
   at_start : StandsAt A (start A hs) (machine_at_start A hs) image
@@ -237,7 +239,7 @@ module _ (A : Inputs) (hs : Holdings) (can : CanRun A hs) (few : length A.first 
   -- where the journal is full the machine stands there
   pub full_run : stop ≡ stops.JournalFull → StopsNext A x.state x.kernel x.behind stop new j → RunFull A new
   full_run e y =
-      let h = x.held e in
+      let h : StaysPut x.kernel new = subst (λ (z : Stop). LeftBy z x.kernel new) e x.held in
       record {
         state = x.state;
         made = made_so;
@@ -252,6 +254,66 @@ module _ (A : Inputs) (hs : Holdings) (can : CanRun A hs) (few : length A.first 
           processes = h.processes ∙ stands_so.keeps.coupled.tables.processes;
         };
       }
+
+  -- where the machine is left
+  pub left_run : LeftBy stop x.kernel new → (stop ≡ stops.NoMemory → new.kernel.stopped ≡ false) → RunLeft A stop new
+  left_run h runs = record { state = x.state; made = made_so; left = by stop h runs }
+    where
+      run : x.kernel.stopped ≡ false
+      run = makes_run A x.units (start A hs) x.state (machine_at_start A hs) x.kernel image x.leads.behind x.leads.makes
+
+      stays : StaysPut x.kernel new → StandsThere x.state new
+      stays h = record {
+        running = h.stopped ∙ run;
+        place = h.place ∙ stands_so.place;
+        holdings = h.holdings ∙ stands_so.holdings;
+        processes = h.processes ∙ stands_so.keeps.coupled.tables.processes;
+      }
+
+      gave : StaysReturned x.kernel new → ReturnedThere x.state new
+      gave g =
+          let h : StaysPut (pass_step x.kernel g.0 g.1) new = g.2 in
+          record {
+            running = h.stopped ∙ run;
+            place = h.place ∙ stands_so.place;
+            holdings = h.holdings ∙ stands_so.holdings;
+            kernel = x.kernel;
+            processes = stands_so.keeps.coupled.tables.processes;
+            borrower = g.0;
+            lender = g.1;
+            returned = h.processes;
+          }
+
+      less : StopsLess x.kernel new → LessThere x.state new
+      less h = record {
+        stopped = h.stopped;
+        place = subst (λ (p : Placement). LosesOldest p new.kernel.place) stands_so.place h.place;
+        holdings = h.holdings ∙ stands_so.holdings;
+        processes = h.processes ∙ stands_so.keeps.coupled.tables.processes;
+      }
+
+      put : StopsPut x.kernel new → StoppedThere x.state new
+      put h = record {
+        stopped = h.stopped;
+        place = h.place ∙ stands_so.place;
+        holdings = h.holdings ∙ stands_so.holdings;
+        processes = h.processes ∙ stands_so.keeps.coupled.tables.processes;
+      }
+
+      failed : StopsLess x.kernel new ⊎ StopsPut x.kernel new → LessThere x.state new ⊎ StoppedThere x.state new
+      failed (inl h) = inl (less h)
+      failed (inr h) = inr (put h)
+
+      starved : StaysPut x.kernel new ⊎ StaysReturned x.kernel new → StandsThere x.state new ⊎ ReturnedThere x.state new
+      starved (inl h) = inl (stays h)
+      starved (inr h) = inr (gave h)
+
+      by : (c : Stop) → LeftBy c x.kernel new → (c ≡ stops.NoMemory → new.kernel.stopped ≡ false) → LeftThere c x.state new
+      by stops.JournalFull h runs = stays h
+      by stops.NoMemory h runs = starved (h (runs refl ∙ sym run))
+      by stops.FileFault h runs = less h
+      by stops.SwapReadFault h runs = failed h
+      by stops.SwapWriteFault h runs = failed h
 
   pub starved_run : j ≡ Some x.behind → RunStarved A new.kernel.journal image j
   starved_run e = record { state = x.state; made = made_so; left = e ∙ ap (λ (b : List ℕ). Some b) behind_is }

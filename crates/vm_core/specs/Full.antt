@@ -1,10 +1,15 @@
 -- Where a machine stands after a run: the run is over, or its journal is full.
-use Rattle.std.specs.Prelude.{◌≡◌, ℕ, ◌<◌, ◌≤◌, false, List, length, map, Some, None}
+use Rattle.std.specs.Prelude.{◌≡◌, ◌⊎◌, ℕ, ◌<◌, ◌≤◌, true, false, List, length, map, Some, None}
 use Rattle.vm_facts.specs.declared.entry.Entry.{Entry}
+use Rattle.vm_facts.specs.declared.stop.Stop.{Stop}
+use Rattle.vm_facts.specs.declared.stop.Stop.TheVariants as stops
 use Rattle.flat_state.specs.Flat.{Inputs}
 use Rattle.flat_state.specs.Journal.{append}
+use Rattle.kernel_model.specs.Kernel.{Kernel}
+use Rattle.kernel_model.specs.ChangeStep.{pass_step}
 use Rattle.kernel_model.specs.Coupled.{outline_of, outline_kept}
 use Rattle.machine_state.specs.Machine.{Standing}
+use Rattle.machine_state.specs.Failing.{LosesOldest}
 use Rattle.run_model.specs.State.{State}
 use Rattle.run_model.specs.Next.{next_unit}
 use Rattle.run_model.specs.Swapped.{swapped}
@@ -18,6 +23,51 @@ pub record StandsThere (s : State) (m : Standing) : Type 0 where
   pub place : m.kernel.place ≡ s.place
   pub holdings : m.before ≡ s.holdings
   pub processes : map outline_kept m.kernel.processes ≡ map outline_of s.point.flat.processes
+
+-- The machine has stopped there, with its pages and processes where the state has them.
+pub record StoppedThere (s : State) (m : Standing) : Type 0 where
+  pub stopped : m.kernel.stopped ≡ true
+  pub place : m.kernel.place ≡ s.place
+  pub holdings : m.before ≡ s.holdings
+  pub processes : map outline_kept m.kernel.processes ≡ map outline_of s.point.flat.processes
+
+-- The machine has stopped, and is as the state, but for the transfer that failed, which is out of the ring with its frames.
+pub record LessThere (s : State) (m : Standing) : Type 0 where
+  pub stopped : m.kernel.stopped ≡ true
+  pub place : LosesOldest s.place m.kernel.place
+  pub holdings : m.before ≡ s.holdings
+  pub processes : map outline_kept m.kernel.processes ≡ map outline_of s.point.flat.processes
+
+-- The machine runs on, and is as the state, but for a space that went back to its lender before an entry for which no memory was found.
+pub record ReturnedThere (s : State) (m : Standing) : Type 0 where
+  pub running : m.kernel.stopped ≡ false
+  pub place : m.kernel.place ≡ s.place
+  pub holdings : m.before ≡ s.holdings
+  pub kernel : Kernel
+  pub processes : map outline_kept kernel.processes ≡ map outline_of s.point.flat.processes
+  pub borrower : ℕ
+  pub lender : ℕ
+  pub returned : map outline_kept m.kernel.processes ≡ map outline_kept (pass_step kernel borrower lender).processes
+
+-- Where the machine is left, by the cause of a stop at a state. For want of memory that is said of a machine that runs on: it doesn't where
+-- it broke off within an entry of a process.
+abbrev pub LeftThere : Stop → State → Standing → Type 0
+LeftThere stops.JournalFull s m = StandsThere s m
+LeftThere stops.NoMemory s m = StandsThere s m ⊎ ReturnedThere s m
+LeftThere stops.FileFault s m = LessThere s m
+LeftThere stops.SwapReadFault s m = LessThere s m ⊎ StoppedThere s m
+LeftThere stops.SwapWriteFault s m = LessThere s m ⊎ StoppedThere s m
+
+-- The run stopped at the state to which its journal leads, and there the machine is left.
+pub record RunLeft (A : Inputs) (stop : Stop) (m : Standing) : Type 0 where
+  pub state : State
+  pub made : IsJournalOf A m.kernel.journal state
+  pub left : LeftThere stop state m
+
+-- by the cause; for want of memory the run may also stop before its first unit, as its first processes begin, and then the machine has stopped
+abbrev pub RunStopsAt : Inputs → Stop → Standing → Type 0
+RunStopsAt A stops.NoMemory m = m.kernel.stopped ≡ false → RunLeft A stops.NoMemory m
+RunStopsAt A stop m = RunLeft A stop m
 
 -- The journal is at its bound, the next unit isn't joined to the last entry, and the machine stands where its journal leads to.
 pub record RunFull (A : Inputs) (m : Standing) : Type 0 where

@@ -1,5 +1,5 @@
 // A run from its start to its end.
-ghost use Rattle.std.specs.Prelude.{◌≡◌, ◌<◌, ◌≤◌, ◌^◌, ℕ, List, [], length, Some, Err, All, IfOk, IfErr, OnOk};
+ghost use Rattle.std.specs.Prelude.{◌≡◌, ◌<◌, ◌≤◌, ◌^◌, ℕ, false, List, [], length, Some, Err, All, IfOk, IfErr, OnOk};
 ghost use Rattle.flat_state.specs.Flat.{Inputs};
 ghost use Rattle.flat_model.specs.Asked.{start_held};
 ghost use Rattle.machine_state.specs.Files.{AreFiles};
@@ -10,7 +10,8 @@ ghost use Rattle.vm_core.specs.Cores.{GoesOn};
 ghost use Rattle.vm_core.specs.Starting.{IsFresh};
 ghost use Rattle.vm_core.specs.Schedules.{HaveFewMoves, TakesLines, StopsLines, FinishesLines};
 ghost use Rattle.vm_core.specs.Sound.{RunsSound};
-ghost use Rattle.vm_core.specs.Full.{RunFull, RunOver, RunWhole};
+ghost use Rattle.vm_facts.specs.declared.stop.Stop.{Stop as Halt};
+ghost use Rattle.vm_core.specs.Full.{RunFull, RunOver, RunWhole, RunStopsAt};
 ghost use Rattle.vm_core.specs.RunEnds.{stopped_as, IsAskedOf, RunEnds};
 ghost use Rattle.vm_core.specs.declared.schedule.Unfinished.TheVariants.{Stopped};
 
@@ -117,6 +118,8 @@ fn run_through<F: Files, D: SwapDev>(
         → RunEnds A core.new.machine.kernel.journal image result (D.image swap.new) }
     ensures full { (A : Inputs) (image : List ℕ) → IsAskedOf A core.old.machine first.now lines.now (F.holds files.old) image → D.image swap.old ≡ Some image
         → result ≡ Err (Unfinished.Stopped Stop.JournalFull) → RunFull A core.new.machine }
+    ensures left { (A : Inputs) (image : List ℕ) → IsAskedOf A core.old.machine first.now lines.now (F.holds files.old) image → D.image swap.old ≡ Some image
+        → (stop : Halt) → result ≡ Err (Unfinished.Stopped stop) → RunStopsAt A stop core.new.machine }
     ensures over { OnOk result ((A : Inputs) (image : List ℕ) → IsAskedOf A core.old.machine first.now lines.now (F.holds files.old) image → D.image swap.old ≡ Some image
         → RunOver A core.new.machine) }
     ensures whole { OnOk result ((A : Inputs) (image : List ℕ) → IsAskedOf A core.old.machine first.now lines.now (F.holds files.old) image → D.image swap.old ≡ Some image
@@ -168,6 +171,8 @@ pub fn run_schedule<F: Files, D: SwapDev>(
         → RunEnds A core.new.machine.kernel.journal image result (D.image swap.new) }
     ensures full { (A : Inputs) (image : List ℕ) → IsAskedOf A core.old.machine first.now lines.now (F.holds files.old) image → D.image swap.old ≡ Some image
         → result ≡ Err (Unfinished.Stopped Stop.JournalFull) → RunFull A core.new.machine }
+    ensures left { (A : Inputs) (image : List ℕ) → IsAskedOf A core.old.machine first.now lines.now (F.holds files.old) image → D.image swap.old ≡ Some image
+        → (stop : Halt) → result ≡ Err (Unfinished.Stopped stop) → RunStopsAt A stop core.new.machine }
     ensures over { OnOk result ((A : Inputs) (image : List ℕ) → IsAskedOf A core.old.machine first.now lines.now (F.holds files.old) image → D.image swap.old ≡ Some image
         → RunOver A core.new.machine) }
     ensures whole { OnOk result ((A : Inputs) (image : List ℕ) → IsAskedOf A core.old.machine first.now lines.now (F.holds files.old) image → D.image swap.old ≡ Some image
@@ -175,6 +180,7 @@ pub fn run_schedule<F: Files, D: SwapDev>(
     ensures goes_on { OnOk result (GoesOn core.new) }
     ensures sound { OnOk result (RunsSound core.new.machine) }
     ensures unmade_sound { (pid : ℕ) → result ≡ Err (Unfinished.NoSpace pid) → RunsSound core.new.machine }
+    ensures left_sound { core.new.machine.kernel.stopped ≡ false → RunsSound core.new.machine }
     ensures params { core.new.machine.params ≡ core.old.machine.params }
     ensures images { core.new.machine.images ≡ core.old.machine.images }
     ensures no_space { (A : Inputs) → StartsFrom A core.old.machine first.now → (pid : ℕ) → result ≡ Err (Unfinished.NoSpace pid) → start_held A ≡ Err pid }

@@ -13,4 +13,4 @@ returns-clause-put g c holds =
 pub returns-clause-stopped : goal.returns-clause-stopped
 returns-clause-stopped g c holds =
     out_stops c.args.pid c.args.sid c.args.m.now c.u_out.new.self holds (g.D.SwapDev.image c.args.swap.now) (g.D.SwapDev.image c.u_out.new.swap) c.u_out.result c.requires.resident c.requires.last
-    c.u_out.ensures.stop c.u_out.ensures.cause c.u_out.ensures.full c.u_out.ensures.spoiled c.requires.whole
+    c.u_out.ensures.stop c.u_out.ensures.cause c.u_out.ensures.full c.u_out.ensures.failed c.u_out.ensures.spoiled c.requires.whole

@@ -15,7 +15,7 @@ returns-in_err-done-clause-stops g t c =
     let p = err_from_is_err_and c.from_residual.result c.from_residual.ensures.1 in
     rw (p.1, p.2)
     (stopped_first c.args.sid c.args.self.now c.done.new.self (g.F.Files.holds c.args.files.now) (g.D.SwapDev.image c.args.swap.now) (g.D.SwapDev.image c.done.new.swap) c.in_err-done.field-0.0
-    (sym c.settled.ensures ∙ c.if-settled.false) c.in_err-done.ensures.stop c.requires.whole c.in_err-done.ensures.cause c.in_err-done.ensures.full c.in_err-done.ensures.spoiled)
+    (sym c.settled.ensures ∙ c.if-settled.false) c.in_err-done.ensures.stop c.requires.whole c.in_err-done.ensures.cause c.in_err-done.ensures.full c.in_err-done.ensures.lost c.in_err-done.ensures.spoiled)
 
 pub settle-requires : goal.settle-requires
 settle-requires g t c κs out =

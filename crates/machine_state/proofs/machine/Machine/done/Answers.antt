@@ -20,6 +20,7 @@ use Rattle.table_steps.proofs.Stills.{Still, still_along, pushed}
 use Rattle.machine_state.proofs.Reaches.{reachable}
 use Rattle.machine_state.proofs.Dones.{Came, came, done_back, was_lists, back_known, Doing, done_kernel, done_runs, Before, head_sourced, rest_sourced, done_image, done_told, spoiled_image, done_keeps}
 use Rattle.machine_state.proofs.FailedReads.{file_failed, swap_read_failed}
+use Rattle.machine_state.proofs.Losing.{lost}
 use Rattle.machine_state.proofs.machine.Machine.done.Goals as goal
 
 pub complete_oldest-requires : goal.complete_oldest-requires
@@ -137,6 +138,7 @@ returns-in-Done g c =
       spoiled = search rules;
       stop = search rules;
       cause = search rules;
+      lost = search rules;
       full = search rules;
       outside = record {
         files = record { leads = search rules; holds = search rules; open_faults = search rules; page_faults = search rules };
@@ -177,3 +179,27 @@ returns-in-SwapReadFault-clause-cause g c =
     subst (λ (s : Standing). OldestReadsFrom FromSwap s.kernel.place.transfers) c.self.view_is
     (swap_read_failed (images_of t) (image_at t) (before_of t) t.book.size t.ring c.in-SwapReadFault.transfer (g.F.Files.holds c.args.files.now) (g.D.SwapDev.image c.args.swap.now)
     (g.D.SwapDev.image c.complete_oldest.new.swap) now.stands.ring c.in-SwapReadFault.ensures.ends)
+
+pub returns-in-FileFault-clause-lost : goal.returns-in-FileFault-clause-lost
+returns-in-FileFault-clause-lost g c =
+    let t : Tables = c.self.inside.tables in
+    let r = running c.self.inside c.args.self.now c.self.invariant c.self.view_is c.requires.running c.requires.whole in
+    let e : Came t.ring (g.F.Files.holds c.args.files.now) (g.D.SwapDev.image c.args.swap.now) (g.D.SwapDev.image c.complete_oldest.new.swap) (answers.FileFault c.in-FileFault.transfer) = came t.ring (g.F.Files.holds c.args.files.now) (g.D.SwapDev.image c.args.swap.now) (g.D.SwapDev.image c.complete_oldest.new.swap) (answers.FileFault c.in-FileFault.transfer) c.in-FileFault.ensures.ends (λ i. let x = i in cc) in
+    lost c.self.inside c.complete_oldest.new.self e.rest e.oldest c.args.self.now c.make_room.new.journal.items c.lose.new.stopped _ e.ring_is c.in-FileFault.ensures.rest (known_of c.self.inside c.frames-frames.ensures.sound r) c.self.view_is
+    c.make_room.ensures.same c.lose.ensures
+
+pub returns-in-SwapReadFault-clause-lost : goal.returns-in-SwapReadFault-clause-lost
+returns-in-SwapReadFault-clause-lost g c =
+    let t : Tables = c.self.inside.tables in
+    let r = running c.self.inside c.args.self.now c.self.invariant c.self.view_is c.requires.running c.requires.whole in
+    let e : Came t.ring (g.F.Files.holds c.args.files.now) (g.D.SwapDev.image c.args.swap.now) (g.D.SwapDev.image c.complete_oldest.new.swap) (answers.SwapReadFault c.in-SwapReadFault.transfer) = came t.ring (g.F.Files.holds c.args.files.now) (g.D.SwapDev.image c.args.swap.now) (g.D.SwapDev.image c.complete_oldest.new.swap) (answers.SwapReadFault c.in-SwapReadFault.transfer) c.in-SwapReadFault.ensures.ends (λ i. let x = i in cc) in
+    lost c.self.inside c.complete_oldest.new.self e.rest e.oldest c.args.self.now c.make_room.new.journal.items c.lose-in-SwapReadFault.new.stopped _ e.ring_is c.in-SwapReadFault.ensures.rest (known_of c.self.inside c.frames-frames.ensures.sound r) c.self.view_is
+    c.make_room.ensures.same c.lose-in-SwapReadFault.ensures
+
+pub returns-in-SwapWriteFault-clause-lost : goal.returns-in-SwapWriteFault-clause-lost
+returns-in-SwapWriteFault-clause-lost g c =
+    let t : Tables = c.self.inside.tables in
+    let r = running c.self.inside c.args.self.now c.self.invariant c.self.view_is c.requires.running c.requires.whole in
+    let e : Came t.ring (g.F.Files.holds c.args.files.now) (g.D.SwapDev.image c.args.swap.now) (g.D.SwapDev.image c.complete_oldest.new.swap) (answers.SwapWriteFault c.in-SwapWriteFault.transfer) = came t.ring (g.F.Files.holds c.args.files.now) (g.D.SwapDev.image c.args.swap.now) (g.D.SwapDev.image c.complete_oldest.new.swap) (answers.SwapWriteFault c.in-SwapWriteFault.transfer) c.in-SwapWriteFault.ensures.ends (λ i. let x = i in cc) in
+    lost c.self.inside c.complete_oldest.new.self e.rest e.oldest c.args.self.now c.make_room.new.journal.items c.lose-in-SwapWriteFault.new.stopped _ e.ring_is c.in-SwapWriteFault.ensures.rest (known_of c.self.inside c.frames-frames.ensures.sound r) c.self.view_is
+    c.make_room.ensures.same c.lose-in-SwapWriteFault.ensures

@@ -107,6 +107,7 @@ returns-in-Done u c =
       uncalled = search rules;
       stop = search rules;
       cause = search rules;
+      failed = search rules;
       full = search rules;
       outside = record { leads = search rules; blocks = search rules; read_faults = search rules; write_faults = search rules };
     }
