@@ -4,5 +4,6 @@ pub mod Pages
 pub mod Stripes
 pub mod StripeWrites
 pub mod PairCalls
+pub mod BeyondPair
 pub mod ZeroEnds
 pub mod OctetFiles

@@ -9,6 +9,7 @@ pub mod Striping
 pub mod PairFailures
 pub mod Told
 pub mod PairLeads
+pub mod Beyond
 pub mod StripeSizes
 pub mod FailedDevice
 pub mod Transfer

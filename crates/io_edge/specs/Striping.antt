@@ -1,5 +1,5 @@
 -- A pair of swap devices, striped by units of 1,024 blocks: even units on device 0, odd ones on device 1.
-use Rattle.std.specs.Prelude.{◌≤◌, ◌<◌, ◌+◌, ◌*◌, ◌/◌, ◌%◌, ◌-◌, min, ℕ, zero, suc, List, [], ◌++◌, take, drop, Option, Some, None}
+use Rattle.std.specs.Prelude.{◌≡◌, ◌≤◌, ◌<◌, ◌+◌, ◌*◌, ◌/◌, ◌%◌, ◌-◌, min, ℕ, zero, suc, List, [], ◌++◌, take, drop, Option, Some, None}
 
 -- the number of a device of a pair
 abbrev pub IsDevice : ℕ → Type 0
@@ -43,6 +43,15 @@ IsLargestSwap even_size odd_size blocks =
 -- how many blocks two devices of these sizes make together
 unfoldable pub pair_blocks : ℕ → ℕ → ℕ
 pair_blocks even_size odd_size = min most_blocks (min (even_size / 1024 * 2048 + even_size % 1024) (1024 + odd_size / 1024 * 2048 + odd_size % 1024))
+
+-- the bytes of a device after so many blocks
+abbrev pub bytes_beyond : ℕ → Option (List ℕ) → Option (List ℕ)
+bytes_beyond blocks None = None
+bytes_beyond blocks (Some image) = Some (drop (512 * blocks) image)
+
+-- a device keeps what it has beyond so many blocks
+abbrev pub KeepsBeyond : ℕ → Option (List ℕ) → Option (List ℕ) → Type 0
+KeepsBeyond blocks old new = bytes_beyond blocks new ≡ bytes_beyond blocks old
 
 -- one block of an image
 unfoldable pub block_at : List ℕ → ℕ → List ℕ

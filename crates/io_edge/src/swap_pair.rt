@@ -3,7 +3,8 @@ ghost use Rattle.std.specs.Prelude.{◌≡◌, ◌+◌, ◌%◌, ◌≤◌, ◌<
 ghost use Rattle.std.proofs.Common.{sym, ◌∙◌, ap};
 ghost use Rattle.io_edge.specs.Count.{Counts, OnDone, OnFailed, next_count};
 ghost use Rattle.io_edge.specs.SwapImage.{HoldsPage, WritesPage, SpoilsPage, LeavesPage};
-ghost use Rattle.io_edge.specs.Striping.{device_of, place_of, pair_blocks, pair_image, IsDevice, IsLargestSwap};
+ghost use Rattle.io_edge.specs.Striping.{device_of, place_of, pair_blocks, pair_image, zero_needs, one_needs, IsDevice, IsLargestSwap, KeepsBeyond};
+ghost use Rattle.io_edge.specs.Beyond.{zero_through, one_through};
 ghost use Rattle.io_edge.specs.PairFailures.{AddsFailures};
 ghost use Rattle.io_edge.specs.PairLeads.{adds_nothing, adds_through};
 ghost use Rattle.io_edge.specs.StripeSizes.{tell_blocks, pair_whole};
@@ -45,7 +46,7 @@ fn striped_blocks(zero: u32, one: u32) -> u32
 /// It counts its own failed calls, in a `u64` that stands still at its last value. Where calls lead from
 /// one state of the pair to a later one, its two references are the same, calls lead from each device's
 /// earlier state to its later one, and a device that is named anew for a failed call has failed: its own
-/// count of that kind rose.
+/// count of that kind rose. What a device has beyond the blocks that the pair needs of it is as it was.
 #[derive(Drop)]
 pub struct SwapPair<'a, D, E> {
     /// Device 0.
@@ -120,7 +121,11 @@ impl<'a, D: SwapDev, E: SwapDev> SwapDev for SwapPair<'a, D, E> {
         (E.read_faults p.one.now) (E.read_faults q.one.now)
         × AddsFailures p.writes.count q.writes.count p.writes.last q.writes.last
         (D.write_faults p.zero.now) (D.write_faults q.zero.now)
-        (E.write_faults p.one.now) (E.write_faults q.one.now) };
+        (E.write_faults p.one.now) (E.write_faults q.one.now)
+        × KeepsBeyond (zero_needs (pair_blocks (D.blocks p.zero.now) (E.blocks p.one.now)))
+        (D.image p.zero.now) (D.image q.zero.now)
+        × KeepsBeyond (one_needs (pair_blocks (D.blocks p.zero.now) (E.blocks p.one.now)))
+        (E.image p.one.now) (E.image q.one.now) };
 
     fn blocks(&self) -> u32 {
         striped_blocks(self.zero.blocks(), self.one.blocks())
@@ -217,6 +222,8 @@ impl<'a, D: SwapDev, E: SwapDev> SwapDev for SwapPair<'a, D, E> {
       E.leads_nowhere p.one.now,
       adds_nothing p.reads.count p.reads.last (D.read_faults p.zero.now) (E.read_faults p.one.now),
       adds_nothing p.writes.count p.writes.last (D.write_faults p.zero.now) (E.write_faults p.one.now),
+      refl,
+      refl,
     ) };
 
     ghost leads_through = { λ p q r first then. (
@@ -234,6 +241,12 @@ impl<'a, D: SwapDev, E: SwapDev> SwapDev for SwapPair<'a, D, E> {
           (E.write_faults p.one.now) (E.write_faults q.one.now) (E.write_faults r.one.now)
           (D.writes_grow p.zero.now q.zero.now first.2) (D.writes_grow q.zero.now r.zero.now then.2)
           (E.writes_grow p.one.now q.one.now first.3) (E.writes_grow q.one.now r.one.now then.3) first.5 then.5,
+      zero_through (D.blocks p.zero.now) (E.blocks p.one.now) (D.blocks q.zero.now) (E.blocks q.one.now)
+          (D.image p.zero.now) (D.image q.zero.now) (D.image r.zero.now)
+          (D.blocks_stay p.zero.now q.zero.now first.2) (E.blocks_stay p.one.now q.one.now first.3) first.6 then.6,
+      one_through (D.blocks p.zero.now) (E.blocks p.one.now) (D.blocks q.zero.now) (E.blocks q.one.now)
+          (E.image p.one.now) (E.image q.one.now) (E.image r.one.now)
+          (D.blocks_stay p.zero.now q.zero.now first.2) (E.blocks_stay p.one.now q.one.now first.3) first.7 then.7,
     ) };
 
     ghost blocks_stay = { λ p q led.

@@ -1,7 +1,8 @@
-use Rattle.std.proofs.Common.{◌≡◌, ◌∙◌, sym, arith}
-use Rattle.io_edge.specs.Striping.{device_of}
+use Rattle.std.proofs.Common.{rules, ◌≡◌, ◌≤◌, ◌+◌, ◌∙◌, ℕ, refl, sym, subst, arith}
+use Rattle.io_edge.specs.Striping.{device_of, zero_needs, one_needs, pair_blocks}
 use Rattle.io_edge.proofs.Stripes.{place_of-even}
 use Rattle.io_edge.proofs.StripeWrites.{not_even, inside_even, inside_odd}
+use Rattle.io_edge.proofs.BeyondPair.{within_zero, within_one, leaves_beyond}
 use Rattle.io_edge.proofs.PairCalls.{on_done, on_failed, pair_writes_even, pair_writes_odd, pair_spoils_even, pair_spoils_odd}
 use Rattle.io_edge.proofs.swap_pair.SwapPairSwapDev.write.Goals as goal
 
@@ -56,3 +57,39 @@ returns-else-device_number-eq0-clause-failed g c =
     (g.met.D.SwapDev.whole c.args.self.now.zero.now) (g.met.E.SwapDev.whole c.args.self.now.one.now)
     c.write-moved-else-device_number-eq0.ensures.blocks c.place_on_device-place.ensures on c.requires.even c.requires.inside)
     c.write-moved-else-device_number-eq0.ensures.failed
+
+pub returns-then-device_number-eq0-clause-leads : goal.returns-then-device_number-eq0-clause-leads
+returns-then-device_number-eq0-clause-leads g c =
+    let on : device_of c.args.block ≡ 0 = sym c.device_number.ensures ∙ c.if-device_number-eq0.true in
+    let wrote = c.write-moved in (
+      search rules,
+      search rules,
+      search rules,
+      search rules,
+      search rules,
+      search rules,
+      leaves_beyond wrote.result c.place_on_device-place.result _ _ _ _ c.args.bytes.now (g.met.D.SwapDev.whole c.args.self.now.zero.now)
+          (subst (λ (p : ℕ). p + 2 ≤ g.D.SwapDev.blocks c.args.self.now.zero.now) (sym c.place_on_device-place.ensures) (inside_even c.args.block _ _ c.requires.even c.requires.inside on))
+          (subst (λ (p : ℕ). p + 2 ≤ zero_needs (pair_blocks (g.D.SwapDev.blocks c.args.self.now.zero.now) (g.E.SwapDev.blocks c.args.self.now.one.now))) (sym c.place_on_device-place.ensures)
+          (within_zero c.args.block _ c.requires.even c.requires.inside on))
+          c.told-bytes (wrote.ensures.done, wrote.ensures.failed),
+      refl,
+    )
+
+pub returns-else-device_number-eq0-clause-leads : goal.returns-else-device_number-eq0-clause-leads
+returns-else-device_number-eq0-clause-leads g c =
+    let on : device_of c.args.block ≡ 1 = not_even c.args.block (λ on. c.if-device_number-eq0.false (c.device_number.ensures ∙ on)) in
+    let wrote = c.write-moved-else-device_number-eq0 in (
+      search rules,
+      search rules,
+      search rules,
+      search rules,
+      search rules,
+      search rules,
+      refl,
+      leaves_beyond wrote.result c.place_on_device-place.result _ _ _ _ c.args.bytes.now (g.met.E.SwapDev.whole c.args.self.now.one.now)
+          (subst (λ (p : ℕ). p + 2 ≤ g.E.SwapDev.blocks c.args.self.now.one.now) (sym c.place_on_device-place.ensures) (inside_odd c.args.block _ _ c.requires.even c.requires.inside on))
+          (subst (λ (p : ℕ). p + 2 ≤ one_needs (pair_blocks (g.D.SwapDev.blocks c.args.self.now.zero.now) (g.E.SwapDev.blocks c.args.self.now.one.now))) (sym c.place_on_device-place.ensures)
+          (within_one c.args.block _ c.requires.even c.requires.inside on))
+          c.told-bytes (wrote.ensures.done, wrote.ensures.failed),
+    )
