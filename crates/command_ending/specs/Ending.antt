@@ -6,7 +6,7 @@ use Rattle.run_files.specs.declared.answers.Unread.TheVariants as unreads
 use Rattle.command_ending.specs.declared.lines.Line.{Line}
 use Rattle.command_ending.specs.declared.lines.Line.TheVariants.{Fixed, Made}
 use Rattle.command_ending.specs.declared.fault.Fault.{Fault}
-use Rattle.command_ending.specs.declared.fault.Fault.TheVariants.{BadWords, Absent, NotImage, BadSchedule, FileFault, SwapReadFault, SwapWriteFault, NoMemory, JournalFull, NoSpace, ShortDevice, NotFlatRun, BadTranscript, TooLong, BadSource}
+use Rattle.command_ending.specs.declared.fault.Fault.TheVariants.{BadWords, Absent, NotImage, BadSchedule, FileFault, SwapReadFault, SwapWriteFault, NoMemory, JournalFull, NoSpace, ShortDevice, NotFlatRun, BadTranscript, TooLong, BadSource, BadReferences, ReferencesTooLong}
 
 -- what a command makes, or why it doesn't
 abbrev pub Ending : Type 0
@@ -40,6 +40,8 @@ fault_status (NotFlatRun line) = 14
 fault_status (BadTranscript line) = 15
 fault_status TooLong = 16
 fault_status (BadSource line) = 17
+fault_status (BadReferences line) = 18
+fault_status ReferencesTooLong = 16
 
 -- the bytes of a line about a fault
 abbrev pub bytes_of : Line → List ℕ
@@ -80,6 +82,8 @@ fault_line (NotFlatRun line) = numbered_line (codes "not a flat run: line ") lin
 fault_line (BadTranscript line) = numbered_line (codes "vmrun: bad transcript line ") line
 fault_line TooLong = codes "vmrun: transcript too long\n"
 fault_line (BadSource line) = numbered_line (codes "vmrun: bad source line ") line
+fault_line (BadReferences line) = numbered_line (codes "vmrun: bad references line ") line
+fault_line ReferencesTooLong = codes "vmrun: references too long\n"
 
 -- a fault whose line has a name or a number in it, so that memory is needed to write it
 abbrev pub NeedsMemory : Fault → Type 0
@@ -98,6 +102,8 @@ NeedsMemory (NotFlatRun line) = Unit {0}
 NeedsMemory (BadTranscript line) = Unit {0}
 NeedsMemory TooLong = ⊥
 NeedsMemory (BadSource line) = Unit {0}
+NeedsMemory (BadReferences line) = Unit {0}
+NeedsMemory ReferencesTooLong = ⊥
 
 -- an ending whose text can be lost for want of memory: what was made is at hand
 abbrev pub CanBeLost : Ending → Type 0

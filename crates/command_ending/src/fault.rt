@@ -45,6 +45,10 @@ pub enum Fault<'a> {
     TooLong,
     /// The source is outside its grammar or a limit, first at this line.
     BadSource(u32),
+    /// A file of references is outside its grammar or a limit, first at this line.
+    BadReferences(u32),
+    /// A file of references has more bytes than it may.
+    ReferencesTooLong,
 }
 
 impl<'a> From<AllocError> for Fault<'a> {
@@ -88,6 +92,8 @@ impl<'a> Fault<'a> {
             Fault::BadTranscript(_) => 15,
             Fault::TooLong => 16,
             Fault::BadSource(_) => 17,
+            Fault::BadReferences(_) => 18,
+            Fault::ReferencesTooLong => 16,
         }
     }
 
@@ -123,6 +129,12 @@ impl<'a> Fault<'a> {
             }
             Fault::TooLong => return Ok(Line::Fixed(b"vmrun: transcript too long\n")),
             Fault::BadSource(line) => numbered_line(alloc, b"vmrun: bad source line ", line),
+            Fault::BadReferences(line) => {
+                numbered_line(alloc, b"vmrun: bad references line ", line)
+            }
+            Fault::ReferencesTooLong => {
+                return Ok(Line::Fixed(b"vmrun: references too long\n"));
+            }
         }?;
         Ok(Line::Made(made))
     }

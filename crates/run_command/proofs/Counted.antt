@@ -2,9 +2,7 @@
 use Rattle.std.proofs.Common.{◌≡◌, ℕ, List, Option, Some, Ok, Err, refl, sym, ap, ◌∙◌, subst}
 use Rattle.vm_facts.specs.declared.entry.Entry.{Entry}
 use Rattle.flat_state.specs.Flat.{Inputs}
-use Rattle.command_ending.specs.declared.fault.Fault.{Fault}
-use Rattle.command_ending.specs.declared.fault.Fault.TheVariants as faults
-use Rattle.command_ending.specs.Ending.{fault_status}
+use Rattle.command_ending.proofs.Statuses.{status_is_not_0}
 use Rattle.io_edge.specs.Written.{Appends}
 use Rattle.command_ending.specs.Command.{Writes, All, Prefix}
 use Rattle.vm_core.specs.Lawful.{IsJournalOf, RunFinished}
@@ -21,23 +19,6 @@ is_load : (number : ℕ) → IsLoad number (load_inputs number)
 unfolding load_images
 is_load number = record { images = refl; first = refl; swap = refl; limit = refl }
 
-never_fault : (fault : Fault) → 0 ≡ fault_status fault → ⊥
-never_fault faults.BadWords e = absurd cc
-never_fault (faults.Absent name) e = absurd cc
-never_fault (faults.NotImage name reason) e = absurd cc
-never_fault (faults.BadSchedule line) e = absurd cc
-never_fault faults.FileFault e = absurd cc
-never_fault (faults.SwapReadFault device) e = absurd cc
-never_fault (faults.SwapWriteFault device) e = absurd cc
-never_fault faults.NoMemory e = absurd cc
-never_fault faults.JournalFull e = absurd cc
-never_fault (faults.NoSpace pid) e = absurd cc
-never_fault (faults.ShortDevice device blocks needed) e = absurd cc
-never_fault (faults.NotFlatRun line) e = absurd cc
-never_fault (faults.BadTranscript line) e = absurd cc
-never_fault faults.TooLong e = absurd cc
-never_fault (faults.BadSource line) e = absurd cc
-
 finished : (number : ℕ) (journal : List Entry) (image : List ℕ) (after : Option (List ℕ)) → RunFinished (load_inputs number) journal image after → counts_of 4 journal ≡ load_counts number
 finished number journal image after f =
     let m : IsJournalOf (load_inputs number) journal f.state = f.made in
@@ -47,7 +28,7 @@ finished number journal image after f =
 ended : (number : ℕ) (seen : Seen) (image : List ℕ) (journal : List Entry) (ending : Ending) → 0 ≡ status_of ending → LoadEnded number seen journal image ending
     → Appends seen.written_before (load_written number journal ending) seen.written_after → Appends seen.written_before (load_text number (load_counts number)) seen.written_after
 ended number seen image journal (Ok done) e f w = subst (λ (c : Counts). Appends seen.written_before (load_text number c) seen.written_after) (finished number journal image seen.swap_after f) w
-ended number seen image journal (Err fault) e f w = absurd (never_fault fault e)
+ended number seen image journal (Err fault) e f w = absurd (status_is_not_0 fault (sym e))
 
 -- with status 0 the six lines are those of the number's counts
 pub counted_by : (number : ℕ) (seen : Seen) (status : ℕ) (journal : List Entry) (ending : Ending)
