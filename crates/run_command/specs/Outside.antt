@@ -1,14 +1,18 @@
 -- What a command leaves outside, whether or not anything is told.
 use Rattle.io_edge.specs.Calls.{KeepsFiles, KeepsSwap}
+use Rattle.io_edge.specs.Striping.{zero_needs, one_needs, pair_blocks, KeepsBeyond}
 use Rattle.io_edge.specs.Written.{Extends}
 use Rattle.io_edge.specs.declared.files.Files.{Ghosts as FilesGhosts}
 use Rattle.io_edge.specs.declared.swap_dev.SwapDev.{Ghosts as SwapGhosts}
 use Rattle.io_edge.specs.declared.sink.Sink.{Ghosts as SinkGhosts}
 
--- each device has as many blocks as before; calls alone lead from its earlier state to the later one
+-- Each device has as many blocks as before, and holds what it held beyond those that the pair of them needs; calls alone lead from its
+-- earlier state to the later one.
 pub record KeepsDevices {D E : Type 0} (d : SwapGhosts D) (e : SwapGhosts E) (zero_old zero_new : D) (one_old one_new : E) : Type 0 where
   pub zero : KeepsSwap d zero_old zero_new
   pub one : KeepsSwap e one_old one_new
+  pub zero_beyond : KeepsBeyond (zero_needs (pair_blocks (d.blocks zero_old) (e.blocks one_old))) (d.image zero_old) (d.image zero_new)
+  pub one_beyond : KeepsBeyond (one_needs (pair_blocks (d.blocks zero_old) (e.blocks one_old))) (e.image one_old) (e.image one_new)
 
 -- what was written stays, and more may follow it; calls alone lead from the output's earlier state to the later one
 pub record KeepsOutput {S : Type 0} (s : SinkGhosts S) (sink_old sink_new : S) : Type 0 where

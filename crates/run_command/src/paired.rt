@@ -10,6 +10,7 @@ ghost use Rattle.vm_core.specs.RunStartStarting.{StartsFrom};
 ghost use Rattle.vm_core.specs.Starting.{IsFresh};
 ghost use Rattle.vm_core.specs.Schedules.{HaveFewMoves};
 ghost use Rattle.vm_core.specs.RunEnds.{stopped_as, IsAskedOf, RunEnds};
+ghost use Rattle.run_command.specs.Outside.{KeepsDevices};
 ghost use Rattle.run_command.specs.Paired.{image_together, unfinished_of, IsFaultOf, IsRunFault, ReadsFail, WritesFail};
 
 use command_ending::Fault;
@@ -75,8 +76,7 @@ fn run_over<'a, 'd, F: Files, D: SwapDev, E: SwapDev>(
     ensures within { length core.new.machine.kernel.journal ≤ core.old.machine.params.journal }
     ensures full { result ≡ Err Fault.JournalFull → length core.new.machine.kernel.journal ≡ core.old.machine.params.journal }
     ensures kind { IfErr result IsRunFault }
-    ensures zero_leads { D.leads pair.old.zero.now pair.new.zero.now }
-    ensures one_leads { E.leads pair.old.one.now pair.new.one.now }
+    ensures devices { KeepsDevices D.SwapDev E.SwapDev pair.old.zero.now pair.new.zero.now pair.old.one.now pair.new.one.now }
     ensures zero_reference { pair.new.zero.ghost_name ≡ pair.old.zero.ghost_name }
     ensures one_reference { pair.new.one.ghost_name ≡ pair.old.one.ghost_name }
     ensures files_read { ReadsFilePages F.Files (stop_of (stopped_as (unfinished_of result))) files.old files.new }
@@ -122,8 +122,7 @@ pub fn run_paired<'a, F: Files, D: SwapDev, E: SwapDev>(
     ensures within { length core.new.machine.kernel.journal ≤ core.old.machine.params.journal }
     ensures full { result ≡ Err Fault.JournalFull → length core.new.machine.kernel.journal ≡ core.old.machine.params.journal }
     ensures kind { IfErr result IsRunFault }
-    ensures zero_leads { D.leads zero.old zero.new }
-    ensures one_leads { E.leads one.old one.new }
+    ensures devices { KeepsDevices D.SwapDev E.SwapDev zero.old zero.new one.old one.new }
     ensures files_read { ReadsFilePages F.Files (stop_of (stopped_as (unfinished_of result))) files.old files.new }
     ensures reads { ReadsFail result (record { zero_before = D.read_faults zero.old; zero_after = D.read_faults zero.new; one_before = E.read_faults one.old; one_after = E.read_faults one.new }) }
     ensures writes { WritesFail result (record { zero_before = D.write_faults zero.old; zero_after = D.write_faults zero.new; one_before = E.write_faults one.old; one_after = E.write_faults one.new }) }

@@ -84,9 +84,6 @@ returns-clause-kept g c =
     let wrote = c.write_run-status in
     record {
       files = record { leads = ran.ensures.files_read.leads; holds = ran.ensures.files_read.holds };
-      devices = record {
-        zero = record { leads = ran.ensures.zero_leads; blocks = g.met.D.SwapDev.blocks_stay c.args.zero.now ran.new.zero ran.ensures.zero_leads };
-        one = record { leads = ran.ensures.one_leads; blocks = g.met.E.SwapDev.blocks_stay c.args.one.now ran.new.one ran.ensures.one_leads };
-      };
+      devices = ran.ensures.devices;
       output = record { leads = wrote.ensures.leads; written = g.met.S.Sink.leads_more c.args.sink.now wrote.new.sink wrote.ensures.leads };
     }

@@ -83,3 +83,41 @@ returns-in-Err-Stopped-clause-full g c is =
     let within = c.run_schedule.ensures.within in
     full_at c.in-Err-Stopped.stop c.fault_of.result c.args.core.now.machine.params.journal (length c.run_schedule.new.core.machine.kernel.journal) c.fault_of.ensures.unfinished within
     (λ e. c.in-Err-Stopped.ensures.bound (ap (λ (u : Unfinished). let r : Result (Unit {0}) Unfinished = Err u in r) (c.in-Err-Stopped.field-0-is ∙ ap (λ (stop : Stop). ends.Stopped stop) e))) cc
+
+-- What each device keeps, in whichever way the run ends.
+
+pub returns-in-Ok-clause-devices : goal.returns-in-Ok-clause-devices
+returns-in-Ok-clause-devices g c =
+    let old = c.args.pair.now in
+    let new = c.run_schedule.new.swap in
+    let leads = c.run_schedule.ensures.outside.swap.leads in
+    record {
+      zero = record { leads = leads.2; blocks = g.met.D.SwapDev.blocks_stay old.zero.now new.zero.now leads.2 };
+      one = record { leads = leads.3; blocks = g.met.E.SwapDev.blocks_stay old.one.now new.one.now leads.3 };
+      zero_beyond = leads.6;
+      one_beyond = leads.7;
+    }
+
+pub returns-in-Err-NoSpace-clause-devices : goal.returns-in-Err-NoSpace-clause-devices
+returns-in-Err-NoSpace-clause-devices g c =
+    let old = c.args.pair.now in
+    let new = c.run_schedule.new.swap in
+    let leads = c.run_schedule.ensures.outside.swap.leads in
+    record {
+      zero = record { leads = leads.2; blocks = g.met.D.SwapDev.blocks_stay old.zero.now new.zero.now leads.2 };
+      one = record { leads = leads.3; blocks = g.met.E.SwapDev.blocks_stay old.one.now new.one.now leads.3 };
+      zero_beyond = leads.6;
+      one_beyond = leads.7;
+    }
+
+pub returns-in-Err-Stopped-clause-devices : goal.returns-in-Err-Stopped-clause-devices
+returns-in-Err-Stopped-clause-devices g c =
+    let old = c.args.pair.now in
+    let new = c.run_schedule.new.swap in
+    let leads = c.run_schedule.ensures.outside.swap.leads in
+    record {
+      zero = record { leads = leads.2; blocks = g.met.D.SwapDev.blocks_stay old.zero.now new.zero.now leads.2 };
+      one = record { leads = leads.3; blocks = g.met.E.SwapDev.blocks_stay old.one.now new.one.now leads.3 };
+      zero_beyond = leads.6;
+      one_beyond = leads.7;
+    }
