@@ -37,6 +37,6 @@ returns-clause-steady c =
     (λ k r. noted_steady old new e c.requires.steady tt (k ∙ ap (λ (x : Entry). note_step old.kernel x) c.owners-entry.ensures) r) c.note.ensures.step c.note.ensures.rest
 
 pub returns-clause-kept : goal.returns-clause-kept
-returns-clause-kept g c =
+returns-clause-kept c =
     stops_weaker c.note.result (λ stop. StopsNoting c.args.m.now c.note.new.self stop) (KeptAtStop c.args.m.now c.note.new.self) (λ stop h. kept_noting c.args.m.now c.note.new.self stop h)
     (stops_noting c.note.result c.args.m.now c.note.new.self c.requires.steady.whole c.note.ensures.stop c.note.ensures.cause c.note.ensures.full)

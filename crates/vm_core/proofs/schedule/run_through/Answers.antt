@@ -3,10 +3,11 @@ use Rattle.run_start.specs.declared.starting.Started.{Started}
 use Rattle.vm_facts.specs.declared.stop.Stop.{Stop}
 use Rattle.vm_facts.specs.declared.stop.Stop.TheVariants as stops
 use Rattle.vm_core.specs.Schedules.{StopsLines, FinishesLines}
+use Rattle.run_start.proofs.StopsKeep.{kept_through}
 use Rattle.vm_core.specs.Full.{RunFull}
 use Rattle.vm_core.specs.RunEnds.{RunEnds}
 use Rattle.vm_core.specs.declared.schedule.Unfinished.TheVariants.{Stopped}
-use Rattle.vm_core.proofs.Ending.{stopped_so, same_stop, are_among, start_stops, start_full, lines_stop, lines_full, lines_finish, lines_over, lines_whole}
+use Rattle.vm_core.proofs.Ending.{stopped_so, same_stop, kept_bound, are_among, start_stops, start_full, lines_stop, lines_full, lines_finish, lines_over, lines_whole}
 use Rattle.vm_core.proofs.schedule.run_through.Goals as goal
 
 pub start-requires-clause-numbers : goal.start-requires-clause-numbers
@@ -99,3 +100,33 @@ returns-in_ok-finish-in-Ok-clause-whole g c A image is told =
     let j = g.D.SwapDev.image c.finish.new.swap in
     lines_whole A c.args.core.now c.args.first.now c.args.lines.now holds image c.requires.few is mid i h told (c.start.ensures.starts ok) new j
     (subst (λ hs. FinishesLines mid new c.args.lines.now hs h j) c.start.ensures.outside.files.holds c.in_ok-finish-in-Ok.ensures.finishes)
+
+-- Sizes, images and the journal's bound.
+
+pub returns-in_err-pid-clause-params : goal.returns-in_err-pid-clause-params
+returns-in_err-pid-clause-params g c = c.in_err-pid.ensures.kept.sizes.params
+
+pub returns-in_err-pid-clause-images : goal.returns-in_err-pid-clause-images
+returns-in_err-pid-clause-images g c = c.in_err-pid.ensures.kept.sizes.images
+
+pub returns-in_err-pid-clause-bound : goal.returns-in_err-pid-clause-bound
+returns-in_err-pid-clause-bound g c =
+    kept_bound c.from_residual.result c.in_err-pid.field-0.0 c.args.core.now.machine c.start.new.self.machine c.from_residual.ensures.1 c.in_err-pid.ensures.kept
+
+pub returns-in_err-finish-in-Ok-clause-params : goal.returns-in_err-finish-in-Ok-clause-params
+returns-in_err-finish-in-Ok-clause-params g c =
+    let ok = c.in_ok-pid.was ∙ ap (λ (s : Started). let r : Result Started Stop = Ok s in r) c.in-Ok.is in
+    c.in_err-finish-in-Ok.ensures.kept.sizes.params ∙ c.start.ensures.params ok
+
+pub returns-in_err-finish-in-Ok-clause-images : goal.returns-in_err-finish-in-Ok-clause-images
+returns-in_err-finish-in-Ok-clause-images g c =
+    let ok = c.in_ok-pid.was ∙ ap (λ (s : Started). let r : Result Started Stop = Ok s in r) c.in-Ok.is in
+    c.in_err-finish-in-Ok.ensures.kept.sizes.images ∙ c.start.ensures.images ok
+
+pub returns-in_err-finish-in-Ok-clause-bound : goal.returns-in_err-finish-in-Ok-clause-bound
+returns-in_err-finish-in-Ok-clause-bound g c =
+    let ok = c.in_ok-pid.was ∙ ap (λ (s : Started). let r : Result Started Stop = Ok s in r) c.in-Ok.is in
+    let stop = c.in_err-finish-in-Ok.field-0.0 in
+    kept_bound c.from_residual-in_err-finish-in-Ok.result stop c.args.core.now.machine c.finish.new.core.machine c.from_residual-in_err-finish-in-Ok.ensures.1
+    (kept_through c.args.core.now.machine c.start.new.self.machine c.finish.new.core.machine stop (record { params = c.start.ensures.params ok; images = c.start.ensures.images ok })
+    c.in_err-finish-in-Ok.ensures.kept)
