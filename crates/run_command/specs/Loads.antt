@@ -57,6 +57,10 @@ abbrev pub load_written : ℕ → List Entry → Ending → List ℕ
 load_written number journal (Ok done) = load_text number (counts_of 4 journal)
 load_written number journal (Err fault) = fault_line fault
 
+-- the six lines of the counts that the number has
+abbrev pub finished_lines : ℕ → List ℕ
+finished_lines number = load_text number (load_counts number)
+
 -- an ending whose lines need memory
 abbrev pub CountsBeLost : Ending → Type 0
 CountsBeLost (Ok done) = Unit {0}
@@ -98,8 +102,7 @@ pub record Loads (number : ℕ) (seen : Seen) (status : ℕ) : Type 0 where
   pub caused : IsLoadCaused seen journal ending
   pub files : NoFaults seen.faults
   pub told : (image : List ℕ) → seen.swap_before ≡ Some image → LoadEnded number seen journal image ending
-  pub counted : (image : List ℕ) → seen.swap_before ≡ Some image → status ≡ 0
-      → Appends seen.written_before (load_text number (load_counts number)) seen.written_after
+  pub counted : (image : List ℕ) → seen.swap_before ≡ Some image → status ≡ 0 → Appends seen.written_before (finished_lines number) seen.written_after
 
 -- it ended as a run does that began, whose files never fail
 abbrev pub IsRunEnding : Ending → Type 0

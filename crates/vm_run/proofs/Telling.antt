@@ -24,7 +24,7 @@ obeys_told None seen files image status is octets swap x = x
 obeys_told (Some (Run traced numbers schedule images)) seen files image status is octets swap x =
     record { ending = x.ending; journal = x.journal; writes = x.writes; within = x.within; caused = x.caused; judged = x.judged files is; told = x.told files image is octets swap }
 obeys_told (Some (Load number)) seen files image status is octets swap x =
-    record { ending = x.ending; journal = x.journal; writes = x.writes; within = x.within; caused = x.caused; told = x.told image swap }
+    record { ending = x.ending; journal = x.journal; writes = x.writes; within = x.within; caused = x.caused; told = x.told image swap; counted = x.counted image swap }
 obeys_told (Some (Replay transcript images)) seen files image status is octets swap x = completes_told _ _ seen files status is x
 obeys_told (Some (Assemble source)) seen files image status is octets swap x = completes_told _ _ seen files status is x
 obeys_told (Some (Show name)) seen files image status is octets swap x = completes_told _ _ seen files status is x

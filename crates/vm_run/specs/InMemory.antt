@@ -2,6 +2,7 @@
 use Rattle.std.specs.Prelude.{◌≡◌, ◌*◌, ◌≤◌, ℕ, List, [], length, replicate, Option, Some, None}
 use Rattle.io_edge.specs.FileHolding.{NamedFile}
 use Rattle.io_edge.specs.Striping.{pair_blocks, first_blocks}
+use Rattle.io_edge.specs.Written.{Appends}
 use Rattle.vm_facts.specs.declared.entry.Entry.{Entry}
 use Rattle.run_files.specs.Told.{bytes_told, image_told}
 use Rattle.command_words.specs.Asked.{Asked, Run, Load, Replay, Assemble, Show, Optimum, Curve, Owners}
@@ -15,7 +16,7 @@ use Rattle.reference_commands.specs.Seen.{Seen}
 use Rattle.reference_commands.specs.Machines.{journal_entries}
 use Rattle.reference_commands.specs.Paired.{image_together}
 use Rattle.reference_commands.specs.RunCommandEnds.{Ending, status_of, Writing, IsCaused, IsJudged, EndsTold}
-use Rattle.reference_commands.specs.Loads.{load_written, IsLoadCaused, LoadEnded}
+use Rattle.reference_commands.specs.Loads.{load_written, finished_lines, IsLoadCaused, LoadEnded}
 use Rattle.reference_commands.specs.declared.question.Question.{Question}
 use Rattle.reference_commands.specs.declared.question.Question.TheVariants as questions
 use Rattle.reference_commands.specs.Reading.{read_told}
@@ -66,6 +67,7 @@ pub record LoadsTold (number : ℕ) (seen : Seen) (image : List ℕ) (status : �
   pub within : length journal ≤ journal_entries
   pub caused : IsLoadCaused seen journal ending
   pub told : LoadEnded number seen journal image ending
+  pub counted : status ≡ 0 → Appends seen.written_before (finished_lines number) seen.written_after
 
 -- another command, by what it reads in the files
 pub record CompletesTold {R : Type 0} (Ends : R → Faults → CommandEnding → Type 0) (read : R) (seen : Seen) (status : ℕ) : Type 0 where
