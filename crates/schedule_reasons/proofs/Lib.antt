@@ -1,6 +1,4 @@
 mod Lacking
 mod Joining
 mod Numerals
-mod LineNumbers
-mod Cuts
 mod Refusals

@@ -6,7 +6,7 @@ use Rattle.std.specs.Result.{result_ok}
 use Rattle.std.specs.Str.Parse.{ParsesUnsigned, digits_value}
 use Rattle.std.proofs.lemmas.Bool.{le-leb}
 use Rattle.std.proofs.lemmas.Str.Parse.{IsNumeralModel, numerals_by_value, parse_digits, digits_value_short}
-use Rattle.schedule_reasons.specs.Lines.{decimal_of}
+use Rattle.schedule_reasons.specs.Digits.{decimal_of}
 
 -- digits alone are a numeral in decimal
 pub digits_alone : IsNumeralModel (λ word. list_all is_ascii_digit word ≡ true) (digits_value 10)

@@ -1,6 +1,5 @@
 -- Why a schedule is bad, as a line of text.
 use Rattle.std.specs.Prelude.{◌≡◌, ℕ, Bool, ◌&&◌, nat_le, List, [], ◌∷◌, ◌++◌, length, codes, decimal, Option, Some, None, Ok, Err, if◌then◌else◌}
-use Rattle.std.specs.List.{list_all}
 use Rattle.std.specs.Option.{option_map}
 use Rattle.io_edge.specs.FileHolding.{NamedFile}
 use Rattle.run_text.specs.Schedule.{IsReadSchedule}
@@ -10,17 +9,10 @@ use Rattle.run_files.specs.declared.answers.Unread.{Unread}
 use Rattle.run_files.specs.declared.answers.Unread.TheVariants.{Absent, NotImage, FileFault, NoMemory}
 use Rattle.run_files.specs.Told.{bytes_told}
 use Rattle.run_opening.specs.Schedules.{schedule_bytes}
+use Rattle.text_lines.specs.Shown.{shown}
 use Rattle.schedule_reasons.specs.declared.reasons.Argument.{Argument}
 use Rattle.schedule_reasons.specs.declared.reasons.Argument.TheVariants.{Process, Turn, Moves}
 use Rattle.schedule_reasons.specs.Reasons.{Why, TooManyLines, NoWord, CarriageReturn, Tab, Blank, Capital, NoEvent, Missing, NotNumber, OutOfRange, TooMany, NoLineFeed, most_of, why_at}
-
--- a printable byte of ASCII
-abbrev pub is_graphic : ℕ → Bool
-is_graphic byte = nat_le 33 byte && nat_le byte 126
-
--- a word as it is told: itself where it is short and printable
-unfoldable pub shown : List ℕ → List ℕ
-shown word = if nat_le (length word) 20 && list_all is_graphic word then word else codes "..."
 
 -- a number of an event, and whose it is
 abbrev pub argument_name : Argument → List ℕ

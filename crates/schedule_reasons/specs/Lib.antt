@@ -1,3 +1,3 @@
-pub mod Lines
+pub mod Digits
 pub mod Reasons
 pub mod Explaining

@@ -7,7 +7,8 @@ use Rattle.schedule_reasons.specs.declared.reasons.Argument.{Argument}
 use Rattle.schedule_reasons.specs.declared.reasons.Argument.TheVariants.{Process, Turn, Moves}
 use Rattle.schedule_reasons.specs.declared.reasons.Reason.{Reason}
 use Rattle.schedule_reasons.specs.declared.reasons.Reason.TheVariants as reasons
-use Rattle.schedule_reasons.specs.Lines.{line_at, ends_in, text_in, word_in, rest_in, decimal_of}
+use Rattle.text_lines.specs.Lines.{line_at, ends_in, text_in, word_in, rest_in}
+use Rattle.schedule_reasons.specs.Digits.{decimal_of}
 
 -- why a line is bad
 pub data Why : Type 0 where

@@ -1,10 +1,9 @@
 // Why a schedule is bad, as a line of text.
 ghost use Rattle.std.specs.Prelude.{◌≡◌, ◌++◌, IfOk, IfErr, OnOk, option_map};
-ghost use Rattle.std.specs.List.{list_all};
 ghost use Rattle.io_edge.specs.Calls.{KeepsFiles};
 ghost use Rattle.run_files.specs.Answering.{CountsFault};
 ghost use Rattle.schedule_reasons.specs.Reasons.{why_of, Missing, Capital, NoLineFeed};
-ghost use Rattle.schedule_reasons.specs.Explaining.{is_graphic, shown, argument_name, range_text, given_text, why_text, why_line, line_explained, ExplainsSchedule, LacksSchedule};
+ghost use Rattle.schedule_reasons.specs.Explaining.{argument_name, range_text, given_text, why_text, why_line, line_explained, ExplainsSchedule, LacksSchedule};
 
 use crate::reasons::{Argument, Reason, bad_line};
 use command_ending::put_number;
@@ -12,27 +11,10 @@ use io_edge::Files;
 use run_files::{Unread, read_file};
 use run_text::{Schedule, read_schedule};
 use std::alloc::{AllocError, Global};
+use text_lines::shown;
 
 /// No more bytes of a schedule are read.
 const SCHEDULE_BYTES: u64 = 1_310_741;
-
-fn are_graphic(word: &[u8]) -> bool
-    ensures { result ≡ list_all is_graphic word.now }
-{
-    word.iter().all(|byte| (33..=126).contains(byte))
-}
-
-// A word as it is told: itself where it is short and printable.
-#[tactic(auto, unfolding(crate::specs::Explaining::shown))]
-fn shown<'a>(word: &'a [u8]) -> &'a [u8]
-    ensures { result.now ≡ shown word.now }
-{
-    if word.len() <= 20 && are_graphic(word) {
-        word
-    } else {
-        b"..."
-    }
-}
 
 fn argument_name(argument: Argument) -> &'static [u8]
     ensures { result.now ≡ argument_name argument }

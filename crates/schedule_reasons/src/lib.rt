@@ -1,8 +1,8 @@
 //! Why the first bad line of a schedule is bad.
 #![tactic(auto)]
 
+mod digits;
 mod explaining;
-mod lines;
 mod reasons;
 
 pub use explaining::explain_schedule;

@@ -3,7 +3,8 @@ ghost use Rattle.std.specs.Prelude.{◌≡◌, ◌==◌, List, [], ◌∷◌, op
 ghost use Rattle.std.specs.List.{list_any};
 ghost use Rattle.schedule_reasons.specs.Reasons.{why_of, most_of, why_value, why_number, why_more, why_numbers, no_event, is_plain, why_event, why_text, why_line, why_at, RefusedHaveReasons};
 
-use crate::lines::{decimal_of, ends_in, line_at, rest_in, text_in, word_in};
+use crate::digits::decimal_of;
+use text_lines::{ends_in, line_at, rest_in, text_in, word_in};
 
 /// A number of an event, which is at least 1.
 #[derive(Clone, Copy, PartialEq, Eq, Debug, Drop)]

@@ -1,9 +1,6 @@
--- A line of a schedule, and the words in it.
+-- A line of a text, and the words in it.
 use Rattle.std.specs.Prelude.{ℕ, Bool, ◌&&◌, ◌-◌, ◌+◌, ◌==◌, nat_le, List, [], length, slice_index, slice_index_or, take, drop, position, Option, Some, None, if◌then◌else◌}
-use Rattle.std.specs.List.{list_all}
 use Rattle.std.specs.Option.{option_map}
-use Rattle.std.specs.Char.{is_ascii_digit}
-use Rattle.std.specs.Str.Parse.{digits_value}
 use Rattle.run_text.specs.Lines.{lines_in}
 
 -- the line of this number, counted from 1; an empty one after the last
@@ -33,7 +30,3 @@ word_in text = word_by (blank_in text) text
 -- what stands after the first blank, where there is one
 unfoldable pub rest_in : List ℕ → Option (List ℕ)
 rest_in text = option_map (λ place. drop (place + 1) text) (blank_in text)
-
--- the number that 1 to 8 digits write in decimal, where zeros may lead
-unfoldable pub decimal_of : List ℕ → Option ℕ
-decimal_of word = if (nat_le 1 (length word) && nat_le (length word) 8) && list_all is_ascii_digit word then Some (digits_value 10 word) else None

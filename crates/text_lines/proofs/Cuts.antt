@@ -8,7 +8,7 @@ use Rattle.std.proofs.lemmas.Bool.Decides.{nat_tests}
 use Rattle.std.proofs.lemmas.List.{take_all, take_more, take-append-le, get_or-append_right}
 use Rattle.std.proofs.lemmas.List.Sums.{prefix_len_stops, split_at_first}
 use Rattle.run_text.specs.Pieces.{HasNo}
-use Rattle.schedule_reasons.specs.Lines.{ends_in, text_in, word_by, word_in, rest_in}
+use Rattle.text_lines.specs.Lines.{ends_in, text_in, word_by, word_in, rest_in}
 
 is_byte : (b c : ℕ) → (b == c) ≡ true → b ≡ c
 is_byte b c e = grind (arith, nat_tests)

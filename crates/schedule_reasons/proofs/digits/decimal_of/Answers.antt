@@ -4,7 +4,7 @@ use Rattle.std.specs.Str.Parse.{ParsesUnsigned}
 use Rattle.std.proofs.lemmas.Str.{IsUtf8-from_ascii}
 use Rattle.std.proofs.lemmas.Fmt.{IsAscii-from_digits}
 use Rattle.schedule_reasons.proofs.Numerals.{parsed, digits_alone}
-use Rattle.schedule_reasons.proofs.lines.decimal_of.Goals as goal
+use Rattle.schedule_reasons.proofs.digits.decimal_of.Goals as goal
 
 pub returns-in-Ok : goal.returns-in-Ok
 returns-in-Ok c =

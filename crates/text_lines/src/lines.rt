@@ -1,11 +1,7 @@
-// A line of a schedule, and the words in it.
+// A line of a text, and the words in it.
 ghost use Rattle.std.specs.Prelude.{◌≡◌, ◌≤◌, ◌==◌, length, take, drop, option_map};
-ghost use Rattle.std.specs.Char.{is_ascii_digit};
-ghost use Rattle.std.specs.List.{list_all};
 ghost use Rattle.run_text.specs.Pieces.{line_len};
-ghost use Rattle.schedule_reasons.specs.Lines.{line_at, ends_in, text_in, blank_in, word_in, rest_in, decimal_of};
-
-use std::str;
+ghost use Rattle.text_lines.specs.Lines.{line_at, ends_in, text_in, blank_in, word_in, rest_in};
 
 // Where the first line ends.
 fn line_end(text: &[u8]) -> usize
@@ -32,8 +28,8 @@ fn first_line(text: &[u8]) -> &[u8]
     &text[..line_end(text)]
 }
 
-// The line of this number, counted from 1; an empty one after the last.
-pub(crate) fn line_at(bytes: &[u8], number: u32) -> &[u8]
+/// The line of this number, counted from 1; an empty one after the last.
+pub fn line_at(bytes: &[u8], number: u32) -> &[u8]
     ensures { result.now ≡ line_at number bytes.now }
 {
     let mut rest = bytes;
@@ -43,17 +39,17 @@ pub(crate) fn line_at(bytes: &[u8], number: u32) -> &[u8]
     first_line(rest)
 }
 
-// Whether this byte is the last.
+/// Whether this byte is the last.
 #[tactic(auto, unfolding(crate::specs::Lines::ends_in))]
-pub(crate) fn ends_in(byte: u8, text: &[u8]) -> bool
+pub fn ends_in(byte: u8, text: &[u8]) -> bool
     ensures { result ≡ ends_in byte text.now }
 {
     !text.is_empty() && text[text.len() - 1] == byte
 }
 
-// A line without its line feed.
+/// A line without its line feed.
 #[tactic(auto, unfolding(crate::specs::Lines::text_in))]
-pub(crate) fn text_in(line: &[u8]) -> &[u8]
+pub fn text_in(line: &[u8]) -> &[u8]
     ensures { result.now ≡ text_in line.now }
 {
     if ends_in(b'\n', line) {
@@ -69,9 +65,9 @@ fn blank_in(text: &[u8]) -> Option<usize>
     text.iter().position(|byte| *byte == b' ')
 }
 
-// The word before the first blank.
+/// The word before the first blank.
 #[tactic(auto, unfolding(crate::specs::Lines::word_in))]
-pub(crate) fn word_in(text: &[u8]) -> &[u8]
+pub fn word_in(text: &[u8]) -> &[u8]
     ensures { result.now ≡ word_in text.now }
 {
     match blank_in(text) {
@@ -80,34 +76,13 @@ pub(crate) fn word_in(text: &[u8]) -> &[u8]
     }
 }
 
-// What stands after the first blank, where there is one.
+/// What stands after the first blank, where there is one.
 #[tactic(auto, unfolding(crate::specs::Lines::rest_in))]
-pub(crate) fn rest_in(text: &[u8]) -> Option<&[u8]>
+pub fn rest_in(text: &[u8]) -> Option<&[u8]>
     ensures { option_map (λ rest. rest.now) result ≡ rest_in text.now }
 {
     match blank_in(text) {
         Some(place) => Some(&text[place + 1..]),
         None => None,
-    }
-}
-
-fn are_digits(word: &[u8]) -> bool
-    ensures { result ≡ list_all is_ascii_digit word.now }
-{
-    word.iter().all(|byte| byte.is_ascii_digit())
-}
-
-// The number that 1 to 8 digits write in decimal.
-#[tactic(auto, unfolding(crate::specs::Lines::decimal_of))]
-pub(crate) fn decimal_of(word: &[u8]) -> Option<u32>
-    ensures { result ≡ decimal_of word.now }
-{
-    if (1..=8).contains(&word.len()) && are_digits(word) {
-        match str::from_utf8(word) {
-            Ok(digits) => digits.parse().ok(),
-            Err(_) => None,
-        }
-    } else {
-        None
     }
 }

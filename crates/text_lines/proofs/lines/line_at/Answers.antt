@@ -1,6 +1,6 @@
 use Rattle.std.proofs.Common.{arith}
-use Rattle.schedule_reasons.proofs.LineNumbers.{line_left, line_found}
-use Rattle.schedule_reasons.proofs.lines.line_at.Goals as goal
+use Rattle.text_lines.proofs.LineNumbers.{line_left, line_found}
+use Rattle.text_lines.proofs.lines.line_at.Goals as goal
 
 pub loop-past-preserved : goal.loop-past-preserved
 loop-past-preserved c = line_left c.args.bytes.now c.loop-past.rest.now c.after_line-rest.result.now c.loop-past._past c.after_line-rest.ensures c.loop-past.invariant
