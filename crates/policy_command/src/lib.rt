@@ -1,0 +1,6 @@
+//! The command `policies`: policies of replacement are compared on the references of a file.
+#![tactic(auto)]
+
+mod command;
+
+pub use command::compare_policies;
