@@ -1,0 +1,4 @@
+mod Explained
+mod Joining
+mod Numerals
+mod Refusals
