@@ -5,9 +5,9 @@ use Rattle.std.specs.Option.{option_map, option_and_then}
 use Rattle.run_files.specs.ImageWords.{starts}
 use Rattle.command_words.specs.declared.command.Numbers.{Numbers}
 use Rattle.command_words.specs.declared.reasons.Argument.{Argument}
-use Rattle.command_words.specs.declared.reasons.Argument.TheVariants.{Frames, Swap, Limit, ShortLimit, Number, Size, Entries, Schedule, Transcript, Source, Listed, Image}
+use Rattle.command_words.specs.declared.reasons.Argument.TheVariants.{Frames, Swap, Limit, ShortLimit, Number, Size, Entries, Schedule, Transcript, Source, ReferenceFile, Listed, Image}
 use Rattle.command_words.specs.Words.{is_plain, number_in, is_name, is_image_word, are_image_words, without_trace}
-use Rattle.command_words.specs.Asked.{Asked, Load, Replay, Assemble, Show, Optimum, Curve, Owners, all_numbers, run_numbers, asked_with_run, asked_load, asked_replay, asked_assemble, asked_show, asked_optimum, asked_owners, asked_run, asked_other, asked_of}
+use Rattle.command_words.specs.Asked.{Asked, Load, Replay, Assemble, Show, Optimum, Curve, Owners, References, Policies, all_numbers, run_numbers, asked_with_run, asked_load, asked_replay, asked_assemble, asked_show, asked_optimum, asked_owners, asked_policies, asked_run, asked_other, asked_of}
 use Rattle.command_words.specs.Reasons.{Why, Refused, NotPlain, takes, bad_image, or_else, why_images, why_rest, why_words, bad_plain, why_form, why_other, why_command, why_bad}
 
 -- Choices.
@@ -214,6 +214,21 @@ owners (n ∷ words) =
     next Entries (Frames ∷ Swap ∷ Limit ∷ Schedule ∷ []) true n words
     ∙ after_number (number_in 0 16777216 n) (λ k. asked_with_run 1000000 (Owners k) words) _ (λ k. run Limit 1000000 (Owners k) words long_limit)
 
+policies : (words : List (List ℕ)) → is_none (why_words (Size ∷ ReferenceFile ∷ []) false words) ≡ is_some (asked_policies words)
+unfolding asked_policies takes
+policies [] = missing Size (ReferenceFile ∷ []) false
+policies (n ∷ []) = lacking Size (ReferenceFile ∷ []) false n [] (missing ReferenceFile [] false)
+policies (n ∷ f ∷ []) =
+    next Size (ReferenceFile ∷ []) false n (f ∷ [])
+    ∙ ap (λ (b : Bool). takes Size n && b) (next ReferenceFile [] false f [] ∙ ap (λ (b : Bool). takes ReferenceFile f && b) rest_none ∙ always _)
+    ∙ either_way (is_some (number_in 1 4096 n)) (is_name f)
+    ∙ sym (where_so (is_name f) _ ∙ ap (λ (b : Bool). is_name f && b) (mapped (λ k. Policies k f) (number_in 1 4096 n)))
+  where
+    either_way : (a b : Bool) → a && b ≡ b && a
+    either_way true b = sym (always b)
+    either_way false b = sym (never b)
+policies (n ∷ f ∷ w ∷ ws) = lacking Size (ReferenceFile ∷ []) false n (f ∷ w ∷ ws) (lacking ReferenceFile [] false f (w ∷ ws) (rest_more w ws))
+
 -- Options.
 
 form : (arguments : List Argument) (more : Bool) (words : List (List ℕ))
@@ -248,7 +263,9 @@ asked_plain name words =
     else (if bytes_eq name (codes "opt") then asked_optimum words
     else (if bytes_eq name (codes "curve") then asked_with_run 100000 Curve words
     else (if bytes_eq name (codes "owners") then asked_owners words
-    else None))))))
+    else (if bytes_eq name (codes "refs") then asked_with_run 100000 References words
+    else (if bytes_eq name (codes "policies") then asked_policies words
+    else None))))))))
 
 other_by : (p : Bool) (name : List ℕ) (words : List (List ℕ)) → list_all is_plain words ≡ p
     → is_none (why_other name words) ≡ p && is_some (asked_plain name words)
@@ -260,7 +277,9 @@ other_by true name words are =
     (chosen (bytes_eq name (codes "dis")) _ _ _ _ (with_plain _ _ words _ are (show words))
     (chosen (bytes_eq name (codes "opt")) _ _ _ _ (with_plain _ _ words _ are (optimum words))
     (chosen (bytes_eq name (codes "curve")) _ _ _ _ (with_plain _ _ words _ are (run ShortLimit 100000 Curve words short_limit))
-    (chosen (bytes_eq name (codes "owners")) _ _ _ _ (with_plain _ _ words _ are (owners words)) refl))))))
+    (chosen (bytes_eq name (codes "owners")) _ _ _ _ (with_plain _ _ words _ are (owners words))
+    (chosen (bytes_eq name (codes "refs")) _ _ _ _ (with_plain _ _ words _ are (run ShortLimit 100000 References words short_limit))
+    (chosen (bytes_eq name (codes "policies")) _ _ _ _ (with_plain _ _ words _ are (policies words)) refl))))))))
 other_by false name words are =
     refused (bytes_eq name (codes "load")) _ _ (with_option _ _ words are)
     (refused (bytes_eq name (codes "replay")) _ _ (with_option _ _ words are)
@@ -268,7 +287,9 @@ other_by false name words are =
     (refused (bytes_eq name (codes "dis")) _ _ (with_option _ _ words are)
     (refused (bytes_eq name (codes "opt")) _ _ (with_option _ _ words are)
     (refused (bytes_eq name (codes "curve")) _ _ (with_option _ _ words are)
-    (refused (bytes_eq name (codes "owners")) _ _ (with_option _ _ words are) refl))))))
+    (refused (bytes_eq name (codes "owners")) _ _ (with_option _ _ words are)
+    (refused (bytes_eq name (codes "refs")) _ _ (with_option _ _ words are)
+    (refused (bytes_eq name (codes "policies")) _ _ (with_option _ _ words are) refl))))))))
 
 unless_plain : (p : Bool) (asked : Option Asked) → is_some (if not p then None else asked) ≡ p && is_some asked
 unless_plain true asked = refl

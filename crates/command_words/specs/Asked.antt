@@ -16,6 +16,8 @@ pub data Asked : Type 0 where
   Optimum : (size : ℕ) → Numbers → (schedule : List ℕ) → (images : List (List ℕ)) → Asked
   Curve : Numbers → (schedule : List ℕ) → (images : List (List ℕ)) → Asked
   Owners : (entries : ℕ) → Numbers → (schedule : List ℕ) → (images : List (List ℕ)) → Asked
+  References : Numbers → (schedule : List ℕ) → (images : List (List ℕ)) → Asked
+  Policies : (size : ℕ) → (references : List ℕ) → Asked
 
 -- the three numbers, where each is one
 unfoldable pub all_numbers : Option ℕ → Option ℕ → Option ℕ → Option Numbers
@@ -63,6 +65,11 @@ unfoldable pub asked_owners : List (List ℕ) → Option Asked
 asked_owners (entries ∷ words) = option_and_then (λ n. asked_with_run 1000000 (Owners n) words) (number_in 0 16777216 entries)
 asked_owners [] = None
 
+-- `N FILE`
+unfoldable pub asked_policies : List (List ℕ) → Option Asked
+asked_policies (size ∷ references ∷ []) = if is_name references then option_map (λ n. Policies n references) (number_in 1 4096 size) else None
+asked_policies _ = None
+
 -- the words after `run`: one of them may be `--trace`; of the others none is empty or begins with a hyphen
 unfoldable pub asked_run : List (List ℕ) → Option Asked
 asked_run words =
@@ -79,7 +86,9 @@ asked_other name words =
     else (if bytes_eq name (codes "opt") then asked_optimum words
     else (if bytes_eq name (codes "curve") then asked_with_run 100000 Curve words
     else (if bytes_eq name (codes "owners") then asked_owners words
-    else None)))))))
+    else (if bytes_eq name (codes "refs") then asked_with_run 100000 References words
+    else (if bytes_eq name (codes "policies") then asked_policies words
+    else None)))))))))
 
 -- what the words after the program's name ask for, and `None` where they are no command's
 unfoldable pub asked_of : List (List ℕ) → Option Asked

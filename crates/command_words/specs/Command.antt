@@ -6,7 +6,7 @@ use Rattle.command_words.specs.declared.command.Numbers.{Numbers}
 use Rattle.command_words.specs.declared.command.Command.{Command}
 use Rattle.command_words.specs.declared.command.Command.TheVariants as commands
 use Rattle.command_words.specs.declared.image_words.ImageWords.{ImageWords}
-use Rattle.command_words.specs.Asked.{Asked, Run, Load, Replay, Assemble, Show, Optimum, Curve, Owners}
+use Rattle.command_words.specs.Asked.{Asked, Run, Load, Replay, Assemble, Show, Optimum, Curve, Owners, References, Policies}
 use denote.Ref.{Bor}
 
 -- the words, as one list
@@ -23,6 +23,8 @@ asked_by (commands.Show image) = Show image.now
 asked_by (commands.Optimum size numbers schedule images) = Optimum size numbers schedule.now (map (λ word. word.now) images.now)
 asked_by (commands.Curve numbers schedule images) = Curve numbers schedule.now (map (λ word. word.now) images.now)
 asked_by (commands.Owners entries numbers schedule images) = Owners entries numbers schedule.now (map (λ word. word.now) images.now)
+asked_by (commands.References numbers schedule images) = References numbers schedule.now (map (λ word. word.now) images.now)
+asked_by (commands.Policies size references) = Policies size references.now
 
 -- each number is in its range
 pub record AreAllowed (numbers : Numbers) : Type 0 where
@@ -58,3 +60,5 @@ IsFitting (commands.Show image) = IsShortName image.now × IsTrue (starts image.
 IsFitting (commands.Optimum size numbers schedule images) = ((1 ≤ size) × (size ≤ 4096)) × IsFittingRun 100000 numbers schedule images.now
 IsFitting (commands.Curve numbers schedule images) = IsFittingRun 100000 numbers schedule images.now
 IsFitting (commands.Owners entries numbers schedule images) = (entries ≤ 16777216) × IsFittingRun 1000000 numbers schedule images.now
+IsFitting (commands.References numbers schedule images) = IsFittingRun 100000 numbers schedule images.now
+IsFitting (commands.Policies size references) = ((1 ≤ size) × (size ≤ 4096)) × IsShortName references.now

@@ -2,7 +2,7 @@
 use Rattle.std.specs.Prelude.{ℕ, List, [], ◌∷◌, ◌++◌, codes, decimal, Option}
 use Rattle.std.specs.Option.{option_map}
 use Rattle.command_words.specs.declared.reasons.Argument.{Argument}
-use Rattle.command_words.specs.declared.reasons.Argument.TheVariants.{Frames, Swap, Limit, ShortLimit, Number, Size, Entries, Schedule, Transcript, Source, Listed, Image}
+use Rattle.command_words.specs.declared.reasons.Argument.TheVariants.{Frames, Swap, Limit, ShortLimit, Number, Size, Entries, Schedule, Transcript, Source, ReferenceFile, Listed, Image}
 use Rattle.command_words.specs.Reasons.{Why, NoCommand, Unknown, NotPlain, Missing, Refused, TooMany, TooManyImages, NoneStarts, least_of, most_of, why_bad}
 
 -- an argument as `--help` calls it
@@ -17,6 +17,7 @@ argument_name Entries = codes "N"
 argument_name Schedule = codes "SCHED"
 argument_name Transcript = codes "TRANSCRIPT"
 argument_name Source = codes "SOURCE"
+argument_name ReferenceFile = codes "FILE"
 argument_name Listed = codes "IMAGE"
 argument_name Image = codes "IMAGE"
 
@@ -29,13 +30,14 @@ abbrev pub kind_text : Argument → List ℕ
 kind_text Schedule = codes "a name of 1 to 63 bytes"
 kind_text Transcript = codes "a name of 1 to 63 bytes"
 kind_text Source = codes "a name of 1 to 63 bytes"
+kind_text ReferenceFile = codes "a name of 1 to 63 bytes"
 kind_text Listed = codes "a name of 1 to 63 bytes, with no = before it"
 kind_text Image = codes "a name of 1 to 63 bytes, or = and such a name"
 kind_text argument = range_text argument
 
 -- the commands that there are
 abbrev pub commands_text : List ℕ
-commands_text = codes "run, load, opt, curve, owners, replay, as or dis"
+commands_text = codes "run, load, opt, curve, owners, refs, policies, replay, as or dis"
 
 -- a reason in words
 abbrev pub why_text : Why → List ℕ

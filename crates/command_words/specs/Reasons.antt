@@ -6,7 +6,7 @@ use Rattle.run_files.specs.ImageWords.{starts}
 use Rattle.command_words.specs.Words.{is_plain, number_in, is_name, is_image_word, without_trace}
 use Rattle.command_words.specs.Asked.{asked_of}
 use Rattle.command_words.specs.declared.reasons.Argument.{Argument}
-use Rattle.command_words.specs.declared.reasons.Argument.TheVariants.{Frames, Swap, Limit, ShortLimit, Number, Size, Entries, Schedule, Transcript, Source, Listed, Image}
+use Rattle.command_words.specs.declared.reasons.Argument.TheVariants.{Frames, Swap, Limit, ShortLimit, Number, Size, Entries, Schedule, Transcript, Source, ReferenceFile, Listed, Image}
 use Rattle.command_words.specs.declared.reasons.BadWord.{BadWord}
 use Rattle.command_words.specs.declared.reasons.BadWord.TheVariants as bad
 
@@ -56,6 +56,7 @@ unfoldable pub takes : Argument → List ℕ → Bool
 takes Schedule word = is_name word
 takes Transcript word = is_name word
 takes Source word = is_name word
+takes ReferenceFile word = is_name word
 takes Listed word = is_name word && starts word
 takes Image word = is_image_word word
 takes argument word = is_some (number_in (least_of argument) (most_of argument) word)
@@ -111,7 +112,9 @@ why_other name words =
     else (if bytes_eq name (codes "opt") then why_form (Size ∷ Frames ∷ Swap ∷ ShortLimit ∷ Schedule ∷ []) true words
     else (if bytes_eq name (codes "curve") then why_form (Frames ∷ Swap ∷ ShortLimit ∷ Schedule ∷ []) true words
     else (if bytes_eq name (codes "owners") then why_form (Entries ∷ Frames ∷ Swap ∷ Limit ∷ Schedule ∷ []) true words
-    else Some (Unknown name)))))))
+    else (if bytes_eq name (codes "refs") then why_form (Frames ∷ Swap ∷ ShortLimit ∷ Schedule ∷ []) true words
+    else (if bytes_eq name (codes "policies") then why_form (Size ∷ ReferenceFile ∷ []) false words
+    else Some (Unknown name)))))))))
 
 -- the words after the name of a command
 unfoldable pub why_command : List ℕ → List (List ℕ) → Option Why

@@ -2,7 +2,7 @@
 ghost use Rattle.std.specs.Prelude.{◌≡◌, ◌≤◌, ℕ, List, drop, map, IsSome, IfSome};
 ghost use Rattle.std.specs.Option.{option_map};
 ghost use Rattle.run_files.specs.ImageWords.{IsShortName};
-ghost use Rattle.command_words.specs.Asked.{Asked, asked_of, asked_run, asked_other, asked_load, asked_replay, asked_assemble, asked_show, asked_optimum, asked_owners, asked_with_run, run_numbers, Curve};
+ghost use Rattle.command_words.specs.Asked.{Asked, asked_of, asked_run, asked_other, asked_load, asked_replay, asked_assemble, asked_show, asked_optimum, asked_owners, asked_policies, asked_with_run, run_numbers, Curve, References};
 ghost use Rattle.command_words.specs.Command.{word_list, asked_by, AreAllowed, AreImageWords, IsFitting};
 
 use crate::image_words::{ImageWords, from_place, has_trace};
@@ -15,7 +15,8 @@ pub struct Numbers {
     pub frames: u32,
     /// The blocks of 512 bytes of the swap device: 256 to 131,072.
     pub swap: u32,
-    /// The most instructions that may run in all: 1 to 1,000,000, but at most 100,000 for `opt` and `curve`.
+    /// The most instructions that may run in all: 1 to 1,000,000, but at most 100,000 for `opt`, `curve` and
+    /// `refs`.
     pub limit: u32,
 }
 
@@ -72,6 +73,18 @@ pub enum Command<'a> {
         schedule: &'a str,
         images: &'a [&'a str],
     },
+    /// `refs FRAMES SWAP LIMIT SCHED IMAGE..`: the references of a run.
+    References {
+        numbers: Numbers,
+        schedule: &'a str,
+        images: &'a [&'a str],
+    },
+    /// `policies N FILE`: the page faults that policies of replacement with 1 to 4,096 frames have on the references of a
+    /// file.
+    Policies {
+        size: u32,
+        references: &'a str,
+    },
 }
 
 /// Reads the words after the program's name. They are one of
@@ -79,12 +92,13 @@ pub enum Command<'a> {
 /// - `run [--trace] FRAMES SWAP LIMIT SCHED IMAGE..`, where `--trace` may stand at any place after `run`
 /// - `load NUMBER`, `replay TRANSCRIPT IMAGE..`, `as SOURCE`, `dis IMAGE`
 /// - `opt N FRAMES SWAP LIMIT SCHED IMAGE..`, `curve FRAMES SWAP LIMIT SCHED IMAGE..`
-/// - `owners N FRAMES SWAP LIMIT SCHED IMAGE..`
+/// - `owners N FRAMES SWAP LIMIT SCHED IMAGE..`, `refs FRAMES SWAP LIMIT SCHED IMAGE..`
+/// - `policies N FILE`
 ///
 /// and it is `None` where they are any others. No other word begins with `-` or is empty. A number has 1 to 8 ASCII
 /// digits, leading zeros among them: FRAMES is 64 to 4,096, SWAP 256 to 131,072, LIMIT 1 to 1,000,000 but at most
-/// 100,000 for `opt` and `curve`, NUMBER 0 to 9,999, and N 1 to 4,096 for `opt` and 0 to 16,777,216 for `owners`. A name
-/// has 1 to 63 bytes. There are 1 to 16 words of images: a name starts a process, and one after a `=` only makes the
+/// 100,000 for `opt`, `curve` and `refs`, NUMBER 0 to 9,999, and N 1 to 4,096 for `opt` and `policies` and 0 to
+/// 16,777,216 for `owners`. A name has 1 to 63 bytes. There are 1 to 16 words of images: a name starts a process, and one after a `=` only makes the
 /// image known; at least one starts. The image of `dis` has no `=`. It takes no memory. Source: this project's profile.
 #[tactic(auto, unfolding(crate::specs::Asked::asked_of))]
 pub fn read_words<'a>(words: &'a [&'a str]) -> Option<Command<'a>>
@@ -137,6 +151,8 @@ fn read_other<'a>(name: &str, words: &'a [&'a str]) -> Option<Command<'a>>
         "opt" => read_optimum(words),
         "curve" => read_curve(words),
         "owners" => read_owners(words),
+        "refs" => read_references(words),
+        "policies" => read_policies(words),
         _ => None,
     }
 }
@@ -245,6 +261,36 @@ fn read_owners<'a>(words: &'a [&'a str]) -> Option<Command<'a>>
         schedule: head.schedule,
         images: from_place(words, 4),
     })
+}
+
+fn read_references<'a>(words: &'a [&'a str]) -> Option<Command<'a>>
+    ensures exact { option_map asked_by result ≡ asked_with_run 100000 References (map (λ word. word.now) words.now) }
+    ensures fits { IfSome result IsFitting }
+{
+    let head = RunHead::of(ImageWords::all(words), 100_000)?;
+    Some(Command::References {
+        numbers: head.numbers,
+        schedule: head.schedule,
+        images: from_place(words, 4),
+    })
+}
+
+#[tactic(auto, unfolding(crate::specs::Asked::asked_policies))]
+fn read_policies<'a>(words: &[&'a str]) -> Option<Command<'a>>
+    ensures exact { option_map asked_by result ≡ asked_policies (map (λ word. word.now) words.now) }
+    ensures fits { IfSome result IsFitting }
+{
+    let [size, references] = words else {
+        return None;
+    };
+    if is_name(references) {
+        Some(Command::Policies {
+            size: read_number(size, 1, 4_096)?,
+            references,
+        })
+    } else {
+        None
+    }
 }
 
 #[tactic(auto, unfolding(crate::specs::Asked::run_numbers, crate::specs::Asked::all_numbers))]

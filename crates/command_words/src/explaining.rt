@@ -8,7 +8,7 @@ use command_ending::put_number;
 use std::alloc::{AllocError, Global};
 
 /// The commands that there are.
-const COMMANDS: &[u8] = b"run, load, opt, curve, owners, replay, as or dis";
+const COMMANDS: &[u8] = b"run, load, opt, curve, owners, refs, policies, replay, as or dis";
 
 fn argument_name(argument: Argument) -> &'static [u8]
     ensures { result.now ≡ argument_name argument }
@@ -22,6 +22,7 @@ fn argument_name(argument: Argument) -> &'static [u8]
         Argument::Schedule => b"SCHED",
         Argument::Transcript => b"TRANSCRIPT",
         Argument::Source => b"SOURCE",
+        Argument::ReferenceFile => b"FILE",
         Argument::Listed | Argument::Image => b"IMAGE",
     }
 }
@@ -38,9 +39,8 @@ fn put_kind(text: &mut Vec<u8>, argument: Argument) -> Result<(), AllocError>
     ensures { OnOk result (text.new.items ≡ text.old.items ++ kind_text argument) }
 {
     match argument {
-        Argument::Schedule | Argument::Transcript | Argument::Source => {
-            text.extend_from_slice(b"a name of 1 to 63 bytes")
-        }
+        Argument::Schedule | Argument::Transcript | Argument::Source | Argument::ReferenceFile =>
+            text.extend_from_slice(b"a name of 1 to 63 bytes"),
         Argument::Listed => {
             text.extend_from_slice(b"a name of 1 to 63 bytes, with no = before it")
         }

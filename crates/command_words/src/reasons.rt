@@ -33,6 +33,8 @@ pub enum Argument {
     Transcript,
     /// The name of a source.
     Source,
+    /// The name of a file of references.
+    ReferenceFile,
     /// The name of an image whose instructions are listed.
     Listed,
     /// The name of an image of a run, or one after a `=`.
@@ -95,7 +97,10 @@ impl Argument {
         ensures { result ≡ takes self word.now }
     {
         match self {
-            Argument::Schedule | Argument::Transcript | Argument::Source => is_name(word),
+            Argument::Schedule
+            | Argument::Transcript
+            | Argument::Source
+            | Argument::ReferenceFile => is_name(word),
             Argument::Listed => is_name(word) && starts(word),
             Argument::Image => is_image_word(word),
             _ => read_number(word, self.least(), self.most()).is_some(),
@@ -239,6 +244,17 @@ fn why_other<'a>(name: &'a str, words: &[&'a str]) -> Option<BadWord<'a>>
             true,
             words,
         ),
+        "refs" => why_form(
+            &[
+                Argument::Frames,
+                Argument::Swap,
+                Argument::ShortLimit,
+                Argument::Schedule,
+            ],
+            true,
+            words,
+        ),
+        "policies" => why_form(&[Argument::Size, Argument::ReferenceFile], false, words),
         _ => Some(BadWord::Unknown(name)),
     }
 }

@@ -9,11 +9,11 @@ use Rattle.run_model.specs.State.{State}
 use Rattle.run_model.specs.Next.{next_unit}
 use Rattle.run_command.specs.Lawful.{IsJournalOf, RunFinished}
 use Rattle.replay_check.specs.Verdicts.{references_of}
-use Rattle.reference_answers.specs.Texts.{curve_text}
+use Rattle.reference_answers.specs.Texts.{curve_text, references_text}
 use Rattle.reference_answers.specs.Answers.{IsOptimumText}
 use Rattle.owner_lines.specs.Owners.{owners_text}
 use Rattle.reference_commands.specs.declared.question.Question.{Question}
-use Rattle.reference_commands.specs.declared.question.Question.TheVariants.{Optimum, Curve, Owners}
+use Rattle.reference_commands.specs.declared.question.Question.TheVariants.{Optimum, Curve, Owners, References}
 
 -- a swap of so many blocks to which nothing was written
 abbrev pub blank_swap : ℕ → List ℕ
@@ -43,8 +43,9 @@ pub record SaysOwners (entries : ℕ) (A : Inputs) (text : List ℕ) : Type 0 wh
   pub told : text ≡ owners_text (length journal) over state.place state.holdings A.swap_blocks (map outline_of state.point.flat.processes)
 
 -- The answer to a question: the fewest faults that any replacement in so many frames has, with the victims by which it has them; the faults
--- of least-recently-used replacement in each number of frames; or who owns what after so many entries.
+-- of least-recently-used replacement in each number of frames; who owns what after so many entries; or the references themselves.
 abbrev pub IsAnswer : Question → Inputs → List ℕ → Type 0
 IsAnswer (Optimum frames) A text = SaysOfReferences (λ refs. IsOptimumText refs frames text) A
 IsAnswer Curve A text = SaysOfReferences (λ refs. text ≡ curve_text refs) A
 IsAnswer (Owners entries) A text = SaysOwners entries A text
+IsAnswer References A text = SaysOfReferences (λ refs. text ≡ references_text refs) A

@@ -6,7 +6,7 @@ use Rattle.replay_check.specs.Images.{FlatFile, images_of}
 use Rattle.command_words.specs.declared.command.Numbers.{Numbers}
 use Rattle.run_opening.specs.Schedules.{HasEvents}
 use Rattle.reference_commands.specs.declared.question.Question.{Question}
-use Rattle.reference_commands.specs.declared.question.Question.TheVariants.{Optimum, Curve, Owners}
+use Rattle.reference_commands.specs.declared.question.Question.TheVariants.{Optimum, Curve, Owners, References}
 use Rattle.reference_commands.specs.Reading.{Read}
 
 -- the run that is asked about: its numbers, the name of its schedule, and the words of its images
@@ -31,9 +31,11 @@ abbrev pub IsQuestion : Question → Type 0
 IsQuestion (Optimum frames) = (1 ≤ frames) × (frames ≤ 4096)
 IsQuestion Curve = Unit {0}
 IsQuestion (Owners entries) = Unit {0}
+IsQuestion References = Unit {0}
 
 -- the most instructions of a run that may be asked about
 abbrev pub limit_of : Question → ℕ
 limit_of (Optimum frames) = 100000
 limit_of Curve = 100000
 limit_of (Owners entries) = 1000000
+limit_of References = 100000

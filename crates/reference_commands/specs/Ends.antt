@@ -13,7 +13,7 @@ use Rattle.command_ending.specs.Command.{Faults, NoFaults, FailedBehind, Complet
 use Rattle.run_opening.specs.Schedules.{HasBadEvent}
 use Rattle.run_command.specs.Machines.{journal_entries}
 use Rattle.reference_commands.specs.declared.question.Question.{Question}
-use Rattle.reference_commands.specs.declared.question.Question.TheVariants.{Optimum, Curve, Owners}
+use Rattle.reference_commands.specs.declared.question.Question.TheVariants.{Optimum, Curve, Owners, References}
 use Rattle.reference_commands.specs.Reading.{Read, read_told, HasSchedule, LacksImage}
 use Rattle.reference_commands.specs.Asking.{Subject, AreInputsOf}
 use Rattle.reference_commands.specs.Answering.{blank_swap, IsAnswer}
@@ -38,6 +38,7 @@ abbrev pub IsFilled : Question → Subject → Read → Type 0
 IsFilled (Optimum frames) subject read = HasFilled subject read
 IsFilled Curve subject read = HasFilled subject read
 IsFilled (Owners entries) subject read = ⊥
+IsFilled References subject read = HasFilled subject read
 
 -- this is the first of the first processes whose pieces of swap find no place
 pub record LacksSpace (subject : Subject) (read : Read) (pid : ℕ) : Type 0 where

@@ -27,7 +27,7 @@ use Rattle.run_opening.specs.Images.{images_in, IsIn}
 use Rattle.run_command.specs.Machines.{journal_entries}
 use Rattle.command_ending.specs.Ending.{Ending}
 use Rattle.reference_commands.specs.declared.question.Question.{Question}
-use Rattle.reference_commands.specs.declared.question.Question.TheVariants.{Optimum, Curve, Owners}
+use Rattle.reference_commands.specs.declared.question.Question.TheVariants.{Optimum, Curve, Owners, References}
 use Rattle.reference_commands.specs.Answering.{blank_swap, IsAnswer}
 
 -- the files of images
@@ -107,6 +107,7 @@ abbrev pub HaltsAnswer : Question → Inputs → Type 0
 HaltsAnswer (Optimum frames) A = HasHalted A
 HaltsAnswer Curve A = HasHalted A
 HaltsAnswer (Owners entries) A = ⊥
+HaltsAnswer References A = HasHalted A
 
 -- how answering the question about it ends
 abbrev pub EndsAnswer : Question → Inputs → Ending → Type 0

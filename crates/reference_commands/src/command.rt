@@ -17,7 +17,7 @@ use crate::running::{run_owners, run_references};
 use command_ending::{Fault, write_ending};
 use command_words::Numbers;
 use io_edge::{Files, Sink};
-use reference_answers::{curve_text, optimum_text};
+use reference_answers::{curve_text, optimum_text, references_text};
 use replay_check::Flat;
 use replay_command::{load_images, name_images};
 use run_opening::open_schedule;
@@ -77,6 +77,31 @@ fn curve_over<'a>(
     }
 }
 
+// The references of the run over these images.
+fn references_over<'a>(
+    alloc: Global,
+    numbers: Numbers,
+    images: &[Flat],
+    names: &[&str],
+    first: &[u32],
+    lines: &[Event],
+) -> Result<Vec<u8>, Fault<'a>>
+    requires images { AreImageFiles images.now }
+    requires few { length names.now ≤ 16 }
+    requires named { map (λ image. image.name) images.now ≡ map (λ name. name.now) names.now }
+    requires short { All (λ name. IsShortName name.now) names.now }
+    requires differ { AllDiffer (map (λ name. name.now) names.now) }
+    requires runnable { IsRunnable numbers (length images.now) first.now lines.now }
+    requires limit { numbers.limit ≤ 100000 }
+    ensures { EndsAnswer questions.References (inputs_with numbers images.now first.now lines.now) (ending_of result) }
+{
+    let pages = run_references(alloc, numbers, images, names, first, lines)?;
+    match references_text(alloc, pages.as_slice()) {
+        Ok(text) => Ok(text),
+        Err(_) => Err(Fault::NoMemory),
+    }
+}
+
 // The answer about the run over these images.
 fn answer_over<'a>(
     alloc: Global,
@@ -105,6 +130,7 @@ fn answer_over<'a>(
         Question::Owners(entries) => {
             run_owners(alloc, entries, numbers, images, names, first, lines)
         }
+        Question::References => references_over(alloc, numbers, images, names, first, lines),
     }
 }
 

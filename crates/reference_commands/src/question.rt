@@ -7,4 +7,6 @@ pub enum Question {
     Curve,
     /// Who owns what after so many entries of the journal, or where the run is over before.
     Owners(u32),
+    /// Its references themselves.
+    References,
 }

@@ -6,7 +6,7 @@ use Rattle.std.proofs.lemmas.Bool.{and_parts}
 use Rattle.run_files.specs.ImageWords.{starts}
 use Rattle.command_words.specs.declared.command.Numbers.{Numbers}
 use Rattle.command_words.specs.Words.{is_plain, number_in, is_name, are_image_words, is_trace, without_trace}
-use Rattle.command_words.specs.Asked.{Asked, Run, Load, Replay, Assemble, Show, Optimum, Curve, Owners, run_numbers, asked_with_run, asked_load, asked_replay, asked_assemble, asked_show, asked_optimum, asked_owners, asked_run, asked_other, asked_of}
+use Rattle.command_words.specs.Asked.{Asked, Run, Load, Replay, Assemble, Show, Optimum, Curve, Owners, References, Policies, run_numbers, asked_with_run, asked_load, asked_replay, asked_assemble, asked_show, asked_optimum, asked_owners, asked_policies, asked_run, asked_other, asked_of}
 
 -- Words that ask for no run.
 
@@ -72,6 +72,14 @@ owners [] = refl
 owners (entries ∷ words) =
     chained (λ (n : ℕ). asked_with_run 1000000 (Owners n) words) (number_in 0 16777216 entries) (λ n. about_run 1000000 (Owners n) words (λ numbers schedule images. refl))
 
+policies : (words : List (List ℕ)) → is_run (asked_policies words) ≡ false
+unfolding asked_policies
+policies [] = refl
+policies (_ ∷ []) = refl
+policies (size ∷ references ∷ []) =
+    either (is_name references) _ None (mapped (λ (n : ℕ). Policies n references) (number_in 1 4096 size) (λ n. refl)) refl
+policies (_ ∷ _ ∷ _ ∷ _) = refl
+
 other : (name : List ℕ) (words : List (List ℕ)) → is_run (asked_other name words) ≡ false
 unfolding asked_other
 other name words =
@@ -82,7 +90,9 @@ other name words =
     (either (bytes_eq name (codes "dis")) _ _ (show words)
     (either (bytes_eq name (codes "opt")) _ _ (optimum words)
     (either (bytes_eq name (codes "curve")) _ _ (about_run 100000 Curve words (λ numbers schedule images. refl))
-    (either (bytes_eq name (codes "owners")) _ _ (owners words) refl)))))))
+    (either (bytes_eq name (codes "owners")) _ _ (owners words)
+    (either (bytes_eq name (codes "refs")) _ _ (about_run 100000 References words (λ numbers schedule images. refl))
+    (either (bytes_eq name (codes "policies")) _ _ (policies words) refl)))))))))
 
 -- The words of images with which a run is asked for.
 

@@ -7,11 +7,12 @@ use Rattle.command_ending.specs.declared.fault.Fault.{Fault}
 use Rattle.command_ending.specs.declared.fault.Fault.TheVariants.{NoMemory}
 use Rattle.command_ending.specs.Ending.{fault_of}
 use Rattle.command_ending.specs.Command.{Faults}
-use Rattle.command_words.specs.Asked.{Asked, Run, Assemble, Replay, Optimum, Curve, Owners, asked_of}
+use Rattle.command_words.specs.Asked.{Asked, Run, Assemble, Replay, Optimum, Curve, Owners, References, Policies, asked_of}
 use Rattle.command_words.specs.Explaining.{words_explained}
 use Rattle.source_commands.specs.Explaining.{ExplainsSource, LacksSource}
 use Rattle.replay_command.specs.Explaining.{ExplainsTranscript, LacksTranscript}
 use Rattle.schedule_reasons.specs.Explaining.{ExplainsSchedule, LacksSchedule}
+use Rattle.reference_reasons.specs.Explaining.{ExplainsReferences, LacksReferences}
 
 -- where the status is the one that goes with a reason, the reason is told, and else nothing
 abbrev pub ToldWhere : Bool → Type 0 → Option (List ℕ) → Type 0
@@ -22,15 +23,17 @@ ToldWhere false told text = text ≡ None
 abbrev pub ExplainsRun : List ℕ → ℕ → Option (List NamedFile) → Option (List ℕ) → Type 0
 ExplainsRun schedule status holds text = ToldWhere (status == 4) (ExplainsSchedule schedule holds text) text
 
--- of words that ask for a command: why a schedule or a source is bad, or what the flat machine gives where a transcript
--- is no run of it
+-- of words that ask for a command: why a schedule, a source or a file of references is bad, or what the flat machine gives
+-- where a transcript is no run of it
 abbrev pub ExplainsAsked : Asked → ℕ → Option (List NamedFile) → Option (List ℕ) → Type 0
 ExplainsAsked (Run traced numbers schedule images) status holds text = ExplainsRun schedule status holds text
 ExplainsAsked (Optimum size numbers schedule images) status holds text = ExplainsRun schedule status holds text
 ExplainsAsked (Curve numbers schedule images) status holds text = ExplainsRun schedule status holds text
 ExplainsAsked (Owners entries numbers schedule images) status holds text = ExplainsRun schedule status holds text
+ExplainsAsked (References numbers schedule images) status holds text = ExplainsRun schedule status holds text
 ExplainsAsked (Assemble source) status holds text = ToldWhere (status == 17) (ExplainsSource source holds text) text
 ExplainsAsked (Replay transcript images) status holds text = ToldWhere (status == 14) (ExplainsTranscript transcript images holds text) text
+ExplainsAsked (Policies size references) status holds text = ToldWhere (status == 18) (ExplainsReferences references holds text) text
 ExplainsAsked asked status holds text = text ≡ None
 
 -- of words that ask for none: the first that isn't what it is for
@@ -61,8 +64,10 @@ LacksAsked (Run traced numbers schedule images) status holds f fault = LacksRun 
 LacksAsked (Optimum size numbers schedule images) status holds f fault = LacksRun schedule status holds fault
 LacksAsked (Curve numbers schedule images) status holds f fault = LacksRun schedule status holds fault
 LacksAsked (Owners entries numbers schedule images) status holds f fault = LacksRun schedule status holds fault
+LacksAsked (References numbers schedule images) status holds f fault = LacksRun schedule status holds fault
 LacksAsked (Assemble source) status holds f fault = LacksWhere (status == 17) (LacksFile (LacksSource source holds) source fault)
 LacksAsked (Replay transcript images) status holds f fault = LacksWhere (status == 14) (LacksTranscript transcript images holds f fault)
+LacksAsked (Policies size references) status holds f fault = LacksWhere (status == 18) (LacksFile (LacksReferences references holds) references fault)
 LacksAsked asked status holds f fault = ⊥
 
 -- of words that ask for none: memory was refused

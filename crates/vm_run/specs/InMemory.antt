@@ -5,7 +5,7 @@ use Rattle.io_edge.specs.Striping.{pair_blocks, first_blocks}
 use Rattle.io_edge.specs.Written.{Appends}
 use Rattle.vm_facts.specs.declared.entry.Entry.{Entry}
 use Rattle.run_files.specs.Told.{bytes_told, image_told}
-use Rattle.command_words.specs.Asked.{Asked, Run, Load, Replay, Assemble, Show, Optimum, Curve, Owners}
+use Rattle.command_words.specs.Asked.{Asked, Run, Load, Replay, Assemble, Show, Optimum, Curve, Owners, References, Policies}
 use Rattle.command_ending.specs.Ending.{Ending as CommandEnding}
 use Rattle.command_ending.specs.Command.{Faults, Writes, WritesEnding}
 use Rattle.source_commands.specs.Command.{source_bytes, EndsAssembly, EndsListing}
@@ -22,6 +22,7 @@ use Rattle.reference_commands.specs.declared.question.Question.TheVariants as qu
 use Rattle.reference_commands.specs.Reading.{read_told}
 use Rattle.reference_commands.specs.Asking.{Subject}
 use Rattle.reference_commands.specs.Ends.{EndsQuestion}
+use Rattle.policy_command.specs.Command.{EndsPolicies, references_told}
 use Rattle.vm_run.specs.Obeying.{Obeys}
 
 -- a device of so many blocks to which nothing was written
@@ -94,6 +95,9 @@ ObeysTold (Some (Curve numbers schedule images)) seen files image status =
     AnswersTold questions.Curve (record { numbers = numbers; schedule = schedule; words = images }) seen files status
 ObeysTold (Some (Owners entries numbers schedule images)) seen files image status =
     AnswersTold (questions.Owners entries) (record { numbers = numbers; schedule = schedule; words = images }) seen files status
+ObeysTold (Some (References numbers schedule images)) seen files image status =
+    AnswersTold questions.References (record { numbers = numbers; schedule = schedule; words = images }) seen files status
+ObeysTold (Some (Policies size references)) seen files image status = CompletesTold (EndsPolicies size references) (references_told references files) seen status
 
 -- words over these files and two blank devices leave this on the devices and the output, with this status
 abbrev pub DoesInMemory : Option Asked → List NamedFile → ℕ → ℕ → Option (List ℕ) → Option (List ℕ) → Option (List ℕ) → ℕ → ℕ → Type 0

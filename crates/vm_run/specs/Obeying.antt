@@ -1,6 +1,6 @@
 -- What the words of a command line ask for is done.
 use Rattle.std.specs.Prelude.{ℕ, Option, Some, None, Err}
-use Rattle.command_words.specs.Asked.{Asked, Run, Load, Replay, Assemble, Show, Optimum, Curve, Owners}
+use Rattle.command_words.specs.Asked.{Asked, Run, Load, Replay, Assemble, Show, Optimum, Curve, Owners, References, Policies}
 use Rattle.command_ending.specs.declared.fault.Fault.TheVariants.{BadWords}
 use Rattle.command_ending.specs.Command.{WritesEnding}
 use Rattle.source_commands.specs.Command.{Assembles, Lists}
@@ -10,6 +10,7 @@ use Rattle.reference_commands.specs.RunCommandEnds.{Runs}
 use Rattle.reference_commands.specs.Loads.{Loads}
 use Rattle.reference_commands.specs.declared.question.Question.TheVariants as questions
 use Rattle.reference_commands.specs.Ends.{Answers}
+use Rattle.policy_command.specs.Command.{Compares}
 
 -- The words are none of a command, and the line that says so was written; or they ask for a command, and it did what it is for.
 abbrev pub Obeys : Option Asked → Seen → ℕ → Type 0
@@ -29,6 +30,11 @@ Obeys (Some (Curve numbers schedule images)) seen status =
 Obeys (Some (Owners entries numbers schedule images)) seen status =
     Answers (questions.Owners entries) (record { numbers = numbers; schedule = schedule; words = images })
     seen.files seen.faults seen.written_before seen.written_after seen.sink_faults_before seen.sink_faults_after status
+Obeys (Some (References numbers schedule images)) seen status =
+    Answers questions.References (record { numbers = numbers; schedule = schedule; words = images })
+    seen.files seen.faults seen.written_before seen.written_after seen.sink_faults_before seen.sink_faults_after status
+Obeys (Some (Policies size references)) seen status =
+    Compares size references seen.files seen.faults seen.written_before seen.written_after seen.sink_faults_before seen.sink_faults_after status
 
 -- words that ask for no command, or for one that reads no file, leave the files
 abbrev pub LeavesFiles : Option Asked → Type 0 → Type 0

@@ -7,6 +7,7 @@ ghost use Rattle.vm_run.specs.Obeying.{Obeys, LeavesFiles, LeavesDevice};
 use command_ending::{Fault, write_ending};
 use command_words::{Command, read_words};
 use io_edge::{Files, Sink, SwapDev};
+use policy_command::compare_policies;
 use reference_commands::run_command::{load_command, run_command};
 use reference_commands::{Question, ask_command};
 use replay_command::replay_file;
@@ -17,11 +18,11 @@ use std::alloc::Global;
 /// output, and answers the exit status: 0 where it was done; 1 bad words; 2 an absent file; 3 no image; 4 a bad schedule;
 /// 5 a file fault; 6 a fault of a swap device that is read, 7 of one that is written; 8 a fault of the output; 9 want of
 /// memory; 10 a full journal; 11 no swap for a first process; 12 a swap device that is too short; 14 a transcript that is no run;
-/// 15 a bad transcript; 16 one that is too long; 17 a bad source. The first thing met decides, but an output that fails gives 8
+/// 15 a bad transcript; 16 one that is too long, or a file of references; 17 a bad source; 18 a bad line of references. The first thing met decides, but an output that fails gives 8
 /// whatever came before (this project's profile).
 ///
 /// A run reads its pages from the files, and a load from files of its own in memory; both write to the swap devices and read from
-/// them. Other commands leave the devices as they are: the runs of `opt`, `curve` and `owners` have a swap of their own in memory.
+/// them. Other commands leave the devices as they are: the runs of `opt`, `curve`, `owners` and `refs` have a swap of their own in memory.
 pub fn vmrun<F: Files, D: SwapDev, E: SwapDev, S: Sink>(
     alloc: Global,
     words: &[&str],
@@ -113,6 +114,24 @@ pub fn vmrun<F: Files, D: SwapDev, E: SwapDev, S: Sink>(
             schedule,
             images,
         ),
+        Some(
+            Command::References {
+                numbers,
+                schedule,
+                images,
+            },
+        ) => ask_command(
+            alloc,
+            files,
+            sink,
+            Question::References,
+            numbers,
+            schedule,
+            images,
+        ),
+        Some(Command::Policies { size, references }) => {
+            compare_policies(alloc, files, sink, size, references)
+        }
         None => write_ending(alloc, sink, Err(Fault::BadWords)),
     }
 }

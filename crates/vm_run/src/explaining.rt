@@ -4,11 +4,13 @@ ghost use Rattle.command_ending.specs.declared.fault.Fault.TheVariants.{NoMemory
 ghost use Rattle.command_words.specs.Explaining.{words_explained};
 ghost use Rattle.source_commands.specs.Explaining.{ExplainsSource, LacksSource};
 ghost use Rattle.schedule_reasons.specs.Explaining.{ExplainsSchedule, LacksSchedule};
+ghost use Rattle.reference_reasons.specs.Explaining.{ExplainsReferences, LacksReferences};
 ghost use Rattle.vm_run.specs.Explaining.{Explains, LacksFile, LacksReason};
 
 use command_ending::Fault;
 use command_words::{Command, explain_words, read_words};
 use io_edge::Files;
+use reference_reasons::explain_references;
 use replay_command::explain_transcript;
 use schedule_reasons::explain_schedule;
 use source_commands::explain_source;
@@ -25,6 +27,9 @@ const NOT_FLAT_RUN: u8 = 14;
 
 /// The status of a bad source.
 const BAD_SOURCE: u8 = 17;
+
+/// The status of a bad line of references.
+const BAD_REFERENCES: u8 = 18;
 
 // Why a source is bad.
 fn explain_bad_source<'a, F: Files>(
@@ -58,6 +63,22 @@ fn explain_bad_schedule<'a, F: Files>(
     }
 }
 
+// Why a file of references is bad.
+fn explain_bad_references<'a, F: Files>(
+    alloc: Global,
+    files: &mut F,
+    references: &'a str,
+) -> Result<Option<Vec<u8>>, Fault<'a>>
+    ensures explains { IfOk result (λ text. ExplainsReferences references.now (F.holds files.old) (option_map (λ line. line.items) text)) }
+    ensures lacks { IfErr result (LacksFile (LacksReferences references.now (F.holds files.old)) references.now) }
+    ensures kept { KeepsFiles F.Files files.old files.new }
+{
+    match explain_references(alloc, files, references) {
+        Ok(text) => Ok(text),
+        Err(unread) => Err(Fault::of_unread(references, unread)),
+    }
+}
+
 // Why words ask for no command.
 fn explain_bad_words<'a>(alloc: Global, words: &'a [&'a str]) -> Result<Option<Vec<u8>>, Fault<'a>>
     ensures explains { IfOk result (λ text. option_map (λ line. line.items) text ≡ words_explained (map (λ word. word.now) words.now)) }
@@ -70,8 +91,8 @@ fn explain_bad_words<'a>(alloc: Global, words: &'a [&'a str]) -> Result<Option<V
 }
 
 /// What else a user should know of words for which `vmrun` answered this status, for standard error: where they are bad,
-/// which of them isn't what it is for; where a schedule or a source is bad, why the line that was named is; where a
-/// transcript is no run of the flat machine, what that gives there. None for every other command and status. The files
+/// which of them isn't what it is for; where a schedule, a source or a file of references is bad, why the line that was named is;
+/// where a transcript is no run of the flat machine, what that gives there. None for every other command and status. The files
 /// are read again, so a reason may be lost where that fails, and is that of the files as they are then (this project's
 /// profile).
 pub fn explain<'a, F: Files>(
@@ -97,11 +118,15 @@ pub fn explain<'a, F: Files>(
         Some(Command::Replay { transcript, images }) if status == NOT_FLAT_RUN => {
             explain_transcript(alloc, files, transcript, images)
         }
+        Some(Command::Policies { references, .. }) if status == BAD_REFERENCES => {
+            explain_bad_references(alloc, files, references)
+        }
         Some(
             Command::Run { schedule, .. }
             | Command::Optimum { schedule, .. }
             | Command::Curve { schedule, .. }
-            | Command::Owners { schedule, .. },
+            | Command::Owners { schedule, .. }
+            | Command::References { schedule, .. },
         ) if status == BAD_SCHEDULE => explain_bad_schedule(alloc, files, schedule),
         None if status == BAD_WORDS => explain_bad_words(alloc, words),
         _ => Ok(None),

@@ -7,7 +7,7 @@ use Rattle.reference_commands.proofs.running.references_at_end.Goals as goal
 
 pub returns-in-Ok-references : goal.returns-in-Ok-references
 returns-in-Ok-references c = record {
-  ends = λ A after images first limit run.
+  ends = λ A after images first limit run bound.
       finished A c.args.journal.now after c.in-Ok-references.pages.items limit
       (subst (λ (r : Result (Unit {0}) Unfinished). RunEnds A c.args.journal.now (blank_swap A.swap_blocks) r after) c.in-Ok.is run)
       (λ good. c.in-Ok-references.ensures A images first good);
