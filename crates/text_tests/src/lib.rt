@@ -1,4 +1,4 @@
-//! Tests of texts and answers: schedules, transcripts, command lines, files, references, bad sources and loads. There is
+//! Tests of texts and answers: schedules, transcripts, command lines, files, references, traces, bad sources and loads. There is
 //! no code here but tests.
 #![tactic(auto)]
 
@@ -18,5 +18,7 @@ mod schedules;
 mod sources;
 #[cfg(test)]
 mod texts;
+#[cfg(test)]
+mod traces;
 #[cfg(test)]
 mod words;
