@@ -56,7 +56,7 @@ use Rattle.page_model.specs.Dues.{IsDue}
 abbrev pub Rest : Inputs → State → Bool → ℕ → Type 0
 Rest A s b n = (us : List Entry) (t : State) → Follows A s us t → Quiet us → added b us ≤ n + 8 * copies_of us
 
-rest_none : (A : Inputs) (s : State) (b : Bool) → ((u : Entry) → next_unit A s ≡ Some u → is_boundary u ≡ false → ⊥) → Rest A s b 0
+pub rest_none : (A : Inputs) (s : State) (b : Bool) → ((u : Entry) → next_unit A s ≡ Some u → is_boundary u ≡ false → ⊥) → Rest A s b 0
 rest_none A s b never [] t f q = omega arith
 rest_none A s b never (u ∷ us) t f q = absurd (never u f.0 q.0)
 
@@ -109,10 +109,10 @@ by_mark A s m d e =
     ap (λ (x : List Due). or_else (due_unit s.place x) (or_else (under A s s.mark) (next_mark A s))) d ∙ ap (λ (x : Mark). or_else (under A s x) (next_mark A s)) e
 
 -- nothing is to come of a mark
-rest_spent : (A : Inputs) (s : State) (b : Bool) (m : Mark) → s.place.due ≡ [] → s.mark ≡ m → under A s m ≡ None → Rest A s b 0
+pub rest_spent : (A : Inputs) (s : State) (b : Bool) (m : Mark) → s.place.due ≡ [] → s.mark ≡ m → under A s m ≡ None → Rest A s b 0
 rest_spent A s b m d e n = rest_none A s b (λ u h q. absurd (let z : true ≡ false = sym (mark_boundary A s u (sym (by_mark A s m d e ∙ ap (λ (o : Option Entry). or_else o (next_mark A s)) n) ∙ h)) ∙ q in cc))
 
-some_same : (a b : Entry) → Some a ≡ Some b → a ≡ b
+pub some_same : (a b : Entry) → Some a ≡ Some b → a ≡ b
 some_same a b e = cc
 
 -- one unit ends it
@@ -320,70 +320,3 @@ rest_clear A s b images r z d = go s.mark refl
     go (marks.PutOut pid) e = few 9233 (omega arith) (marks.PutOut pid) (rest_out A s b pid images r z e)
     go marks.Audit e = few 1 (omega arith) marks.Audit (rest_audit A s b d e)
     go (marks.Turn pid since) e = few 218 (omega arith) (marks.Turn pid since) (rest_running A s pid b images r (ap running e) (Nothing d))
-
--- ---- the start: new stack pages are due, one for each first process
-
-abbrev pub AllStarts : List Due → Type 0
-AllStarts [] = Unit {0}
-AllStarts (Start q ∷ ds) = AllStarts ds
-AllStarts (CopyOf q parent ∷ ds) = ⊥
-
-due_unit_next : (A : Inputs) (s : State) (q : Page) (ds : List Due) → s.place.due ≡ Start q ∷ ds → next_unit A s ≡ Some (fill_unit s.place (entries.Zero q))
-unfolding next_unit
-due_unit_next A s q ds e = ap (λ (x : List Due). or_else (due_unit s.place x) (or_else (under A s s.mark) (next_mark A s))) e
-
-over_lasts : (A : Inputs) (s : State) (u : Entry) → s.mark ≡ marks.Over → is_boundary u ≡ false → (after A s u).mark ≡ marks.Over
-over_lasts A s u e n = Rattle.economy_laws.proofs.Finishing.Stages.mark_lasts A s u (subst Rattle.economy_laws.proofs.Finishing.Stages.IsLasting (sym e) tt) n ∙ e
-
--- a frame is forced for the first of them, with so many entries
-starts_rest : (us : List Entry) (A : Inputs) (s t : State) (b : Bool) (q : Page) (ds : List Due) (x : ℕ) → ImagesFit A.images → IsRun A s → s.mark ≡ marks.Over
-    → s.place.due ≡ Start q ∷ ds → AllStarts ds → ForceLeft b s.place [] x → Follows A s us t → Quiet us → added b us ≤ x + 1 + 3 * length ds + 8 * copies_of us
-starts_rest [] A s t b q ds x images r e d a l f n = omega arith
-starts_rest (u ∷ us) A s t b q ds x images r e d a l f n = go s.place.free refl (sym (some_same (fill_unit s.place (entries.Zero q)) u (sym (due_unit_next A s q ds d) ∙ f.0)))
-    (λ q2 ds2 y d2 a2 l2. starts_rest us A (after A s u) t (is_hands u) q2 ds2 y images r2 over d2 a2 l2 f.1 n.1)
-  where
-    r2 : IsRun A (after A s u)
-    r2 = unit_run A s u images r f.0
-
-    over : (after A s u).mark ≡ marks.Over
-    over = over_lasts A s u e n.0
-
-    go : (fr : List ℕ) → s.place.free ≡ fr → u ≡ fill_by s.place (entries.Zero q) s.place.free
-        → ((q2 : Page) (ds2 : List Due) (y : ℕ) → (after A s u).place.due ≡ Start q2 ∷ ds2 → AllStarts ds2 → ForceLeft (is_hands u) (after A s u).place [] y
-        → added (is_hands u) us ≤ y + 1 + 3 * length ds2 + 8 * copies_of us)
-        → added b (u ∷ us) ≤ x + 1 + 3 * length ds + 8 * copies_of (u ∷ us)
-    go [] w i more =
-        let j : u ≡ Rattle.page_model.specs.Serve.force_entry s.place.transfers = i ∙ ap (fill_by s.place (entries.Zero q)) w in
-        let pl = after_forced A s u [] (ap (locked_by A s) d) j in
-        let st : Stays s.place (force s.place []) = force_stays s.place [] (owns A s r.placed) in
-        let nx : ForceNext b s.place [] u x = force_next b s.place [] u x l w j in
-        let k = more q ds nx.x (ap (λ (p : Placement). p.due) pl ∙ st.due ∙ d) a (subst (λ (p : Placement). ForceLeft (is_hands u) p [] nx.x) (sym pl) nx.left) in
-        let m = nx.entries_left in
-        omega (arith, k, m)
-    go (g ∷ gs) w i more =
-        let j : u ≡ entries.Zero q = i ∙ ap (fill_by s.place (entries.Zero q)) w in
-        let pl : (after A s u).place ≡ filled s.place q = plain_place A s u (ap process_of_entry j) ∙ ap (place_entry (locked A s) (place_at s u) s.place) j in
-        let flights = ap (λ (p : Placement). length p.transfers) pl in
-        let same = fill_count s.place q in
-        let now = force_now b s.place [] x l in
-        let m = adds_most b u in
-        let due : (after A s u).place.due ≡ ds = ap (λ (p : Placement). p.due) pl ∙ ap (λ (y : List Due). due_after y q) d ∙ first_after (Start q) ds in
-        by ds due a (omega (arith, flights, same, now)) m more
-      where
-        by : (es : List Due) → (after A s u).place.due ≡ es → AllStarts es → length (after A s u).place.transfers ≤ x → adds b u ≤ 1
-            → ((q2 : Page) (ds2 : List Due) (y : ℕ) → (after A s u).place.due ≡ Start q2 ∷ ds2 → AllStarts ds2 → ForceLeft (is_hands u) (after A s u).place [] y
-            → added (is_hands u) us ≤ y + 1 + 3 * length ds2 + 8 * copies_of us)
-            → added b (u ∷ us) ≤ x + 1 + 3 * length es + 8 * copies_of (u ∷ us)
-        by [] c v k m on = let z = rest_spent A (after A s u) (is_hands u) marks.Over c over refl us t f.1 n.1 in omega (arith, z, m)
-        by (Start q2 ∷ es) c v k m on =
-            let z = on q2 es (length (after A s u).place.transfers + 2) c v (force_new (is_hands u) (after A s u).place [] (owns A (after A s u) r2.placed)) in omega (arith, z, m, k)
-        by (CopyOf q2 parent ∷ es) c v k m on = absurd v
-
-pub rest_starts : (A : Inputs) (s : State) (b : Bool) (ds : List Due) → ImagesFit A.images → IsRun A s → s.mark ≡ marks.Over → s.place.due ≡ ds → AllStarts ds
-    → s.place.transfers ≡ [] → Rest A s b (3 * length ds)
-rest_starts A s b [] images r e d a w = rest_spent A s b marks.Over d e refl
-rest_starts A s b (Start q ∷ ds) images r e d a w = λ us t f n.
-    let k = starts_rest us A s t b q ds (length s.place.transfers + 2) images r e d a (force_new b s.place [] (owns A s r.placed)) f n in
-    let z = ap length w in
-    omega (arith, k, z)
-rest_starts A s b (CopyOf q parent ∷ ds) images r e d a w = absurd a
