@@ -1,3 +1,5 @@
 pub mod Turned
 pub mod Resting
 pub mod Spending
+pub mod Awake
+pub mod Sleeping
