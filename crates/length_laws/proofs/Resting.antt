@@ -122,11 +122,11 @@ rest_once A s b m x d e n o w = rest_step A s b 0 (λ u h q.
     let is : x ≡ u = some_same x u (sym (by_mark A s m d e ∙ ap (λ (y : Option Entry). or_else y (next_mark A s)) n) ∙ h) in
     subst (λ (y : Entry). Rest A (after A s y) (is_hands y) 0) is (rest_spent A (after A s x) (is_hands x) marks.Over w o refl))
 
-done_mark : (A : Inputs) (s : State) → (after A s entries.Done).mark ≡ completed s.mark
+pub done_mark : (A : Inputs) (s : State) → (after A s entries.Done).mark ≡ completed s.mark
 unfolding after
 done_mark A s = refl
 
-moves_mark : (A : Inputs) (s : State) (n : ℕ) → (after A s (entries.Hands n)).mark ≡ moved_on n s.mark
+pub moves_mark : (A : Inputs) (s : State) (n : ℕ) → (after A s (entries.Hands n)).mark ≡ moved_on n s.mark
 unfolding after
 moves_mark A s n = refl
 
@@ -138,7 +138,7 @@ out_mark : (A : Inputs) (s : State) (pid : ℕ) → (after A s (entries.SwapOut 
 unfolding after
 out_mark A s pid = refl
 
-put_mark : (A : Inputs) (s : State) (q : Page) (n : ℕ) → (after A s (entries.Put q n)).mark ≡ s.mark
+pub put_mark : (A : Inputs) (s : State) (q : Page) (n : ℕ) → (after A s (entries.Put q n)).mark ≡ s.mark
 unfolding after
 put_mark A s q n = refl
 
@@ -153,7 +153,7 @@ notes_place A s = refl
 due_of : Placement → List Due
 due_of p = p.due
 
-done_due : (A : Inputs) (s : State) → IsRun A s → (after A s entries.Done).place.due ≡ s.place.due
+pub done_due : (A : Inputs) (s : State) → IsRun A s → (after A s entries.Done).place.due ≡ s.place.due
 done_due A s r = let st : Steady s.place (done s.place) = done_steady s.place (owns A s r.placed) in ap (λ (p : Placement). p.due) (plain_place A s entries.Done refl) ∙ st.due
 
 rest_interrupt : (A : Inputs) (s : State) (b : Bool) → IsRun A s → s.place.due ≡ [] → s.mark ≡ marks.Interrupt → Rest A s b 1

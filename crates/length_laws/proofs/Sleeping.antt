@@ -121,19 +121,19 @@ born_by A point pid u d = go (is_fork u) refl
 -- ---- writes
 
 -- the process has this space, and is awake
-record Awake (F : FlatState) (pid : ℕ) (s : Space) : Type 0 where
-  process : Process
-  here : process_of F pid ≡ Some process
-  number : process.pid ≡ pid
-  holds : process.holding ≡ Holds s
-  woke : process.asleep ≡ false
+pub record Awake (F : FlatState) (pid : ℕ) (s : Space) : Type 0 where
+  pub process : Process
+  pub here : process_of F pid ≡ Some process
+  pub number : process.pid ≡ pid
+  pub holds : process.holding ≡ Holds s
+  pub woke : process.asleep ≡ false
 
-record Written (F G : FlatState) (pid : ℕ) : Type 0 where
-  space : Space
-  there : Awake G pid space
-  count : awake_count G.processes ≡ awake_count F.processes
+pub record Written (F G : FlatState) (pid : ℕ) : Type 0 where
+  pub space : Space
+  pub there : Awake G pid space
+  pub count : awake_count G.processes ≡ awake_count F.processes
 
-wrote : (F : FlatState) (pid : ℕ) (s : Space) (ws : List ByteWrite) → Awake F pid s → Written F (apply_writes F pid ws) pid
+pub wrote : (F : FlatState) (pid : ℕ) (s : Space) (ws : List ByteWrite) → Awake F pid s → Written F (apply_writes F pid ws) pid
 unfolding apply_writes
 wrote F pid s ws a =
     let q : Process = a.process in
@@ -176,7 +176,7 @@ abbrev pub forks_one : Entry → ℕ
 forks_one u = cond (is_fork u) 1 0
 
 -- who can step is awake
-stepper_awake : (F : FlatState) (pid : ℕ) → can_step F pid ≡ true → (x : Stepper F pid) → Awake F pid x.space
+pub stepper_awake : (F : FlatState) (pid : ℕ) → can_step F pid ≡ true → (x : Stepper F pid) → Awake F pid x.space
 stepper_awake F pid c x = record {
   process = x.process;
   here = x.here;
@@ -244,3 +244,13 @@ unit_count A s u r h = go (process_of_entry u) refl
     go : (o : Option ℕ) → process_of_entry u ≡ o → awake_count (after A s u).point.flat.processes + sleeps_one u ≤ awake_count s.point.flat.processes + forks_one u
     go None e = same u refl (quiet u e) (ap (λ (x : Point). x.flat) (plain_point A s u e))
     go (Some pid) e = let d : Does A s u pid = does A s u pid h e in by pid d.now e d.runs (acted A s pid u d.act)
+
+-- it is so too where its segments change their sizes
+pub resized_steps : (images : List NamedImage) (F : FlatState) (pid : ℕ) (s : Space) (regs : Regs) (d t : ℕ) → Awake F pid s → can_step (apply_change images F pid regs (Resize d t)) pid ≡ true
+unfolding apply_change
+resized_steps images F pid s regs d t a =
+    let q : Process = a.process in
+    let p : Process = record q { regs = regs; holding = Holds (Rattle.flat_state.specs.Change.resized s d t) } in
+    let is = ap (changed_if images F regs (Resize d t)) a.here ∙ ap (changed_by images F (record q { regs = regs }) (Resize d t)) a.holds in
+    ap (λ (G : FlatState). can_step G pid) is ∙ ap ready_if (found_after F pid q (record q { regs = regs; holding = Holds (Rattle.flat_state.specs.Change.resized s d t) }) a.here a.number)
+    ∙ ap (λ (b : Bool). if b then false else true) a.woke

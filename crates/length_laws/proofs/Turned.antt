@@ -112,7 +112,7 @@ works_turn : (A : Inputs) (s : State) (pid : ℕ) (u : Entry) → Runs A s pid t
 works_turn A s pid u r h = under_turn A s u r.clear (runs_work A s pid true r ∙ h)
 
 -- a page that is served without waiting is so served in a turn
-served_now : (p : Placement) (q : Page) (now : Bool) (u : Entry) → serve_unit p q now ≡ Some u → serve_unit p q true ≡ Some u
+pub served_now : (p : Placement) (q : Page) (now : Bool) (u : Entry) → serve_unit p q now ≡ Some u → serve_unit p q true ≡ Some u
 served_now p q true u h = h
 served_now p q false u h = go (state_of p q) h
   where
