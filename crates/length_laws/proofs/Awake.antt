@@ -1,17 +1,14 @@
 -- How many processes are awake: a child is one more, and who falls asleep is one fewer.
-use Rattle.std.proofs.Common.{◌≡◌, ◌≢◌, ◌⊎◌, inl, inr, ℕ, ◌+◌, ◌≤◌, ◌==◌, Bool, true, false, cond, not, if◌then◌else◌, List, [], ◌∷◌, ◌++◌, map, filter, find, Option, Some, None, refl, sym, ap, ◌∙◌, subst, arith}
-use Rattle.std.proofs.lemmas.Bool.Decides.{nat_tests}
+use Rattle.std.proofs.Common.{◌≡◌, ◌≢◌, ℕ, ◌+◌, ◌≤◌, ◌==◌, Bool, true, false, cond, not, if◌then◌else◌, List, [], ◌∷◌, ◌++◌, map, filter, find, Option, Some, None, refl, sym, ap, ◌∙◌, subst, arith}
 use Rattle.std.proofs.lemmas.Bool.{eqb-true}
 use Rattle.std.proofs.lemmas.Option.{same_Some}
-use Rattle.vm_facts.specs.Answers.{ByteWrite}
-use Rattle.vm_facts.specs.declared.regs.Regs.{Regs}
-use Rattle.flat_state.specs.Space.{Space, puts}
+use Rattle.flat_state.specs.Space.{Space}
 use Rattle.flat_state.specs.Flat.{Holding, Holds, Lends, Zombie, Process, FlatState, NamedImage, image_numbered, process_of, space_with}
 use Rattle.flat_state.specs.Numbers.{IsAbsent, AllDistinct, pids_of}
 use Rattle.flat_state.specs.declared.change.Change.{Change}
 use Rattle.flat_state.specs.declared.change.Change.TheVariants.{Keep, Resize, Fork, Lend, Exec, Reap, Sleep, End}
-use Rattle.flat_state.specs.Change.{replaced_by, replaced, with_process, without_process, resized, child_of, lends_to, returned_by, returned, given_back, entered, is_zombie, is_zombie_child, without_parent, orphaned, awake, woken, left, ended, changed, changed_by, changed_if, apply_change, wrote_by, wrote_if, apply_writes, NamesChild}
-use Rattle.run_laws.proofs.Lists.{Parts, parts_at, found_is, replaced_at}
+use Rattle.flat_state.specs.Change.{replaced_by, replaced, with_process, without_process, resized, child_of, lends_to, returned_by, returned, given_back, entered, is_zombie, is_zombie_child, without_parent, orphaned, awake, left, changed, NamesChild}
+use Rattle.run_laws.proofs.Lists.{Parts, parts_at, found_is}
 
 -- it isn't asleep, and has not ended
 abbrev pub is_awake : Process → Bool
@@ -132,7 +129,8 @@ many_most n (q ∷ qs) d = go (q.pid == n) refl (many_most n qs d.1)
     go false e l = omega (arith, l)
 
 -- who is found is found among all but others
-find_kept : (qs : List Process) (of pid : ℕ) (q : Process) → of ≢ pid → find (λ x. x.pid == pid) qs ≡ Some q → find (λ x. x.pid == pid) (filter (λ x. not (x.pid == of)) qs) ≡ Some q
+find_kept : (qs : List Process) (of pid : ℕ) (q : Process) → of ≢ pid → find (λ x. x.pid == pid) qs ≡ Some q → find (λ x. x.pid == pid)
+    (filter (λ x. not (x.pid == of)) qs) ≡ Some q
 find_kept [] of pid q other e = absurd cc
 find_kept (x ∷ xs) of pid q other e = go (x.pid == pid) (x.pid == of) refl refl e (λ k. find_kept xs of pid q other k)
   where
@@ -148,7 +146,8 @@ find_kept (x ∷ xs) of pid q other e = go (x.pid == pid) (x.pid == of) refl ref
     go false false m n k more = ap (λ (c : Bool). cond c (Some x) (find (λ y. y.pid == pid) (filter (λ y. not (y.pid == of)) xs))) m ∙ more k
 
 -- one process gives way to another
-pub count_replaced : (F : FlatState) (q p : Process) → process_of F p.pid ≡ Some q → awake_count (with_process F p).processes + awake_one q ≡ awake_count F.processes + awake_one p
+pub count_replaced : (F : FlatState) (q p : Process) → process_of F p.pid ≡ Some q → awake_count
+    (with_process F p).processes + awake_one q ≡ awake_count F.processes + awake_one p
 count_replaced F q p e =
     let k : Parts F.processes q p = parts_at F.processes q p (sym (found_is F.processes p.pid) ∙ e) in
     let a = ap awake_count k.old in let b = ap awake_count k.new in
@@ -172,7 +171,8 @@ left_count : (b : Bool) (F : FlatState) (pid parent : ℕ) → awake_count (left
 left_count true F pid parent = let k = count_filtered (λ q. not (q.pid == pid)) F.processes in omega (arith, k)
 left_count false F pid parent = count_woken parent F.processes
 
-zombie_apart : (F : FlatState) (child : ℕ) (q : Process) (s : Space) → NamesChild F (Reap child) → process_of F q.pid ≡ Some q → q.holding ≡ Holds s → child ≢ q.pid
+zombie_apart : (F : FlatState) (child : ℕ) (q : Process) (s : Space) → NamesChild F (Reap child) → process_of F q.pid ≡ Some q → q.holding ≡ Holds s
+    → child ≢ q.pid
 zombie_apart F child q s may here holds = λ same.
     let one : Some may.0 ≡ Some q = sym may.2 ∙ ap (process_of F) same ∙ here in
     let it : may.0 ≡ q = same_Some may.0 q one in
@@ -180,7 +180,8 @@ zombie_apart F child q s may here holds = λ same.
     absurd cc
 
 -- the process that makes it is awake, and holds this space
-pub changed_count : (images : List NamedImage) (F : FlatState) (q p : Process) (s : Space) (change : Change) → process_of F p.pid ≡ Some q → p.pid ≡ q.pid → q.holding ≡ Holds s → q.asleep ≡ false
+pub changed_count : (images : List NamedImage) (F : FlatState) (q p : Process) (s : Space) (change : Change) → process_of F p.pid ≡ Some q → p.pid ≡ q.pid
+    → q.holding ≡ Holds s → q.asleep ≡ false
     → p.asleep ≡ false → p.holding ≡ Holds s → AllDistinct (pids_of F) → NamesChild F change
     → awake_count (changed images F p s change).processes + slept change ≤ awake_count F.processes + born change
 changed_count images F q p s change here n holds a b held distinct may = go change may

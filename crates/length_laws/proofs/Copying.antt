@@ -1,5 +1,5 @@
 -- No more pages are copied than were due at forks.
-use Rattle.std.proofs.Common.{◌≡◌, ◌⊎◌, inl, inr, ℕ, ◌+◌, ◌-◌, ◌*◌, ◌<◌, ◌≤◌, ◌&&◌, Bool, true, false, cond, List, [], ◌∷◌, ◌++◌, length, Option, Some, None, refl, sym, ap, ◌∙◌, subst, arith}
+use Rattle.std.proofs.Common.{◌≡◌, inl, inr, ℕ, ◌+◌, ◌*◌, ◌≤◌, ◌&&◌, Bool, true, false, List, [], ◌∷◌, ◌++◌, length, Option, Some, None, refl, sym, ap, ◌∙◌, subst, arith}
 use Rattle.vm_facts.specs.declared.page.Page.{Page}
 use Rattle.vm_facts.specs.declared.page.Page.TheVariants.{Data, Stack}
 use Rattle.vm_facts.specs.declared.page.PageState.{PageState}
@@ -9,12 +9,12 @@ use Rattle.vm_facts.specs.declared.entry.Entry.TheVariants as entries
 use Rattle.aout_image.specs.declared.Image.{Image}
 use Rattle.flat_state.specs.Flat.{Inputs, process_of}
 use Rattle.flat_state.specs.declared.change.Change.{Change}
-use Rattle.flat_state.specs.declared.change.Change.TheVariants.{Keep, Resize, Fork, Lend, Exec, Reap, Sleep, End}
+use Rattle.flat_state.specs.declared.change.Change.TheVariants.{Resize, Fork, Lend, Exec, End}
 use Rattle.flat_state.specs.Change.{is_borrower}
 use Rattle.page_model.specs.Pages.{Filling, Zeros, OfImage, Slot}
 use Rattle.page_model.specs.Placement.{Placement, Transfer, Due, Start, CopyOf, due_at, state_of, filling_of, slots_of}
-use Rattle.page_model.specs.Moves.{touch_all, done}
-use Rattle.page_model.specs.Place.{due_after, filled, place_entry, copy_due, copies_from, enter_image, give_up_unless, place_change, place_step, space_of_process, facts_of, facts_numbered}
+use Rattle.page_model.specs.Moves.{touch_all}
+use Rattle.page_model.specs.Place.{due_after, filled, place_entry, copy_due, copies_from, enter_image, give_up_unless, place_change, space_of_process, facts_of, facts_numbered}
 use Rattle.page_model.specs.Serve.{force, force_entry, is_full, read_entry_if, bring_entry_by, feed_entry_by, serve_entry_by, serve_entry, serve_unit}
 use Rattle.page_model.specs.Swapper.{is_out, put_out_unit}
 use Rattle.page_model.specs.Dues.{IsDue}
@@ -28,13 +28,12 @@ use Rattle.page_laws.proofs.Moves.Units.{unit_is}
 use Rattle.page_laws.proofs.Ownership.Changes.{dropped_pages}
 use Rattle.page_laws.proofs.Swapper.PuttingOut.{unit_case}
 use Rattle.flat_model.specs.Run.{process_of_entry, step_at}
-use Rattle.run_model.specs.declared.mark.Mark.{Mark}
 use Rattle.run_model.specs.declared.mark.Mark.TheVariants as marks
 use Rattle.run_model.specs.State.{State}
 use Rattle.run_model.specs.Wanted.{locked_by, locked}
-use Rattle.run_model.specs.After.{completed, moved_on, place_at, pages_written, after}
-use Rattle.run_model.specs.Next.{fill_by, fill_unit, begins_write, move_by, move_unit, owners_entry, next_unit}
-use Rattle.run_model.specs.Kinds.{Runs, Kind, Fills, Brings, Copies, Serves, Acts, ComesIn, Interrupts, Moves, PutsOut, Notes, Begins}
+use Rattle.run_model.specs.After.{moved_on, place_at, pages_written, after}
+use Rattle.run_model.specs.Next.{fill_by, begins_write, move_by, owners_entry, next_unit}
+use Rattle.run_model.specs.Kinds.{Kind, Fills, Brings, Copies, Serves, Acts, ComesIn, Interrupts, Moves, PutsOut, Notes, Begins}
 use Rattle.run_model.proofs.NextUnits.{kind_of}
 use Rattle.run_laws.specs.Sized.{PlaceSized}
 use Rattle.run_laws.specs.Standing.{MarkStands}
@@ -47,12 +46,12 @@ use Rattle.run_laws.proofs.Stepping.{touched_due}
 use Rattle.run_laws.proofs.Units.{plain_place, owns, not_due}
 use Rattle.run_laws.proofs.Wholes.{unit_run}
 use Rattle.economy_laws.specs.Stretch.{copies}
-use Rattle.economy_laws.proofs.Left.{serve_due_same, after_forced, after_served, split_there}
+use Rattle.economy_laws.proofs.Left.{serve_due_same, after_forced, after_served}
 use Rattle.economy_laws.proofs.Stretching.{source_of}
 use Rattle.economy_laws.proofs.Opening.{Opens, Nothing, NewStack, Children}
 use Rattle.economy_laws.proofs.Left.{AllCopies}
 use Rattle.length_laws.proofs.Turned.{served_now}
-use Rattle.length_laws.proofs.Resting.{some_same, done_due, done_mark, moves_mark, put_mark}
+use Rattle.length_laws.proofs.Resting.{done_due, moves_mark, put_mark}
 use Rattle.length_laws.proofs.Awake.{born}
 use Rattle.length_laws.proofs.Sleeping.{forks_one, born_by}
 
@@ -175,7 +174,8 @@ own_copies (entries.Copy q) pid e = absurd cc
 own_copies _ pid e = refl
 
 -- a unit that completes a step
-stepped_copies : (A : Inputs) (s : State) (u : Entry) (pid : ℕ) → PlaceSized s.place → s.place.due ≡ [] → Rattle.run_laws.proofs.Flows.Ends u → Rattle.flat_model.specs.Run.act A s.point pid ≡ Some u
+stepped_copies : (A : Inputs) (s : State) (u : Entry) (pid : ℕ) → PlaceSized s.place → s.place.due ≡ [] → Rattle.run_laws.proofs.Flows.Ends u
+    → Rattle.flat_model.specs.Run.act A s.point pid ≡ Some u
     → FewCopies A s u
 stepped_copies A s u pid z d e h =
     let own : process_of_entry u ≡ Some pid = steps_own A s.point pid u h in
@@ -235,20 +235,23 @@ unit_copies A s u images r z h = go (kind_of A s u h)
     acts pid d (Refuses i) = kept_as A s u (entries.Refused pid) (sym i) refl (ap (λ (t : State). t.place.due) (refused_after A s pid))
     acts pid d (Steps f g i) = elim (steps_shape A s.point pid u i) [
       | inl ends ↦ stepped_copies A s u pid z d ends i
-      | inr out ↦ kept_as A s u (entries.Out pid out.0) (sym out.1) refl (ap (λ (t : State). t.place.due) (out_after A s pid pid out.0 (out_of A s.point pid pid out.0 (i ∙ ap (λ (y : Entry). Some y) out.1))))
+      | inr out ↦ kept_as A s u (entries.Out pid out.0) (sym out.1) refl
+          (ap (λ (t : State). t.place.due) (out_after A s pid pid out.0 (out_of A s.point pid pid out.0 (i ∙ ap (λ (y : Entry). Some y) out.1))))
     ]
 
     hands : (count : ℕ) (b : Bool) → s.mark ≡ marks.Hands count → move_by b ≡ u → FewCopies A s u
     hands count true m i = kept_as A s u entries.Done i refl (done_due A s r)
     hands count false m i = cleared A s u (entries.Hands 1) i refl
-        (let run : IsRun A (after A s (entries.Hands 1)) = subst (λ (x : Entry). IsRun A (after A s x)) (sym i) r2 in subst (MarkStands (after A s (entries.Hands 1))) (moves_mark A s 1 ∙ ap (moved_on 1) m) run.mark)
+        (let run : IsRun A (after A s (entries.Hands 1)) = subst (λ (x : Entry). IsRun A (after A s x)) (sym i) r2 in subst (MarkStands (after A s (entries.Hands 1)))
+        (moves_mark A s 1 ∙ ap (moved_on 1) m) run.mark)
 
     puts : (pid : ℕ) → s.place.due ≡ [] → s.mark ≡ marks.PutOut pid → (x : Entry) → x ≡ put_out_unit s.place pid (space_of_process (process_of s.point.flat pid)) → x ≡ u → FewCopies A s u
     puts pid d m x i j = unit_case (λ (y : Entry). y ≡ u → FewCopies A s u) s.place pid (space_of_process (process_of s.point.flat pid))
         (λ t ts w k. kept_as A s u entries.Done k refl (done_due A s r))
         (λ v y w q k. cleared A s u (entries.Put v _) k refl
         (let run : IsRun A (after A s (entries.Put v _)) = subst (λ (x : Entry). IsRun A (after A s x)) (sym k) r2 in
-        let st : ((after A s (entries.Put v _)).place.due ≡ []) × (holds_some (process_of (after A s (entries.Put v _)).point.flat pid) ≡ true) × (is_out (after A s (entries.Put v _)).place pid ≡ false)
+        let st : ((after A s (entries.Put v _)).place.due ≡ []) × (holds_some (process_of (after A s (entries.Put v _)).point.flat pid) ≡ true) ×
+        (is_out (after A s (entries.Put v _)).place pid ≡ false)
         = subst (MarkStands (after A s (entries.Put v _))) (put_mark A s v _ ∙ m) run.mark in st.0))
         (λ y w k. kept_as A s u (entries.SwapOut pid) k refl (ap (λ (p : Placement). p.due) (plain_place A s (entries.SwapOut pid) refl)))
         (sym i ∙ j)

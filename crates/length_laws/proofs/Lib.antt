@@ -1,3 +1,4 @@
+pub mod Counting
 pub mod Turned
 pub mod Resting
 pub mod Spending
@@ -5,3 +6,4 @@ pub mod Awake
 pub mod Sleeping
 pub mod Turns
 pub mod Copying
+pub mod Totals

@@ -1,5 +1,5 @@
 -- How few entries come before the next boundary, under each mark.
-use Rattle.std.proofs.Common.{◌≡◌, ◌⊎◌, inl, inr, ℕ, zero, suc, ◌+◌, ◌-◌, ◌*◌, ◌<◌, ◌≤◌, ◌&&◌, nat_lt, Bool, true, false, List, [], ◌∷◌, ◌++◌, length, Option, Some, None, refl, sym, ap, ◌∙◌, subst, arith}
+use Rattle.std.proofs.Common.{◌≡◌, ◌⊎◌, inl, inr, ℕ, zero, suc, ◌+◌, ◌-◌, ◌*◌, ◌<◌, ◌≤◌, ◌&&◌, nat_lt, Bool, true, false, List, [], ◌∷◌, length, Option, Some, None, refl, sym, ap, ◌∙◌, subst, arith}
 use Rattle.std.proofs.lemmas.Bool.{and_parts, ltb-true}
 use Rattle.std.proofs.lemmas.List.{length-append}
 use Rattle.vm_facts.specs.declared.page.Page.{Page}
@@ -7,42 +7,40 @@ use Rattle.vm_facts.specs.declared.page.Page.TheVariants.{Data, Stack}
 use Rattle.vm_facts.specs.declared.entry.Entry.{Entry}
 use Rattle.vm_facts.specs.declared.entry.Entry.TheVariants as entries
 use Rattle.flat_state.specs.Flat.{Inputs, process_of}
-use Rattle.page_model.specs.Placement.{Placement, Due, Start, CopyOf, slots_of}
+use Rattle.page_model.specs.Placement.{Placement, Due, CopyOf, slots_of}
 use Rattle.page_model.specs.Moves.{done}
-use Rattle.page_model.specs.Place.{due_after, filled, pages_of_space, data_from, stack_from, space_of_process, place_entry}
+use Rattle.page_model.specs.Place.{pages_of_space, data_from, stack_from, space_of_process}
 use Rattle.page_model.specs.PuttingOut.{active_count, is_active, put_rank, put_rank_by}
 use Rattle.page_model.specs.Hands.{wants_moves}
-use Rattle.page_model.specs.Serve.{force, is_full}
+use Rattle.page_model.specs.Serve.{is_full}
 use Rattle.page_model.specs.Swapper.{is_out, put_out_unit}
-use Rattle.page_model.specs.Ownership.{OwnsFrames}
 use Rattle.kernel_model.specs.Start.{ImagesFit}
 use Rattle.page_laws.proofs.Ends.Serving.{full_some, pages_length}
-use Rattle.page_laws.proofs.Moves.Stays.{Steady, Stays, done_steady, force_stays}
-use Rattle.page_laws.proofs.Moves.Transfers.{entry_count, fill_count}
+use Rattle.page_laws.proofs.Moves.Stays.{Steady, done_steady}
+use Rattle.page_laws.proofs.Moves.Transfers.{entry_count}
 use Rattle.page_laws.proofs.Ownership.Serve.{state_there}
 use Rattle.page_laws.proofs.Swapper.PuttingOut.{unit_case}
 use Rattle.flat_model.specs.Run.{Point, process_of_entry}
 use Rattle.run_model.specs.declared.mark.Mark.{Mark}
 use Rattle.run_model.specs.declared.mark.Mark.TheVariants as marks
 use Rattle.run_model.specs.State.{State}
-use Rattle.run_model.specs.Wanted.{running, locked_by, locked}
+use Rattle.run_model.specs.Wanted.{running, locked}
 use Rattle.run_model.specs.After.{completed, moved_on, brought_in, put_out, audited, place_at, after}
-use Rattle.run_model.specs.Next.{when, or_else, fill_by, fill_unit, due_unit, begins_write, move_by, move_unit, owners_entry, under, next_mark, next_unit}
+use Rattle.run_model.specs.Next.{when, or_else, due_unit, begins_write, move_by, move_unit, owners_entry, under, next_mark, next_unit}
 use Rattle.run_model.specs.Lawful.{Follows}
 use Rattle.run_laws.specs.Standing.{MarkStands}
 use Rattle.run_laws.specs.Running.{IsRun}
 use Rattle.run_laws.specs.Sized.{PlaceSized}
-use Rattle.run_laws.proofs.Allowed.{first_after}
 use Rattle.run_laws.proofs.Flows.{plain_point}
 use Rattle.run_laws.proofs.Plain.{put_flat}
 use Rattle.run_laws.proofs.Residents.{put_unit, put_falls}
 use Rattle.run_laws.proofs.Units.{plain_place, owns, sixteen}
 use Rattle.run_laws.proofs.Wholes.{unit_run}
-use Rattle.span_laws.specs.Spans.{is_hands, adds, added}
+use Rattle.span_laws.specs.Spans.{is_hands, added}
 use Rattle.span_laws.proofs.Serving.{done_less}
 use Rattle.span_laws.proofs.Spanning.{adds_most}
 use Rattle.economy_laws.specs.Stretch.{NoneBegins, copies_of, IsClosing, FewTouched}
-use Rattle.economy_laws.proofs.Left.{ForceLeft, serve_new, force_new, force_now, ForceNext, force_next, after_forced, AllCopies, Left, ready}
+use Rattle.economy_laws.proofs.Left.{serve_new, force_new, Left, ready}
 use Rattle.economy_laws.proofs.Stretching.{copying_left, starting_left, source_of, stretch}
 use Rattle.economy_laws.proofs.Opening.{Opens, Nothing, NewStack, Children, few_touched}
 use Rattle.economy_laws.proofs.Sleeping.{sleep_stops}
@@ -83,15 +81,24 @@ some_turn _ pid n e = absurd cc
 -- what is left where a stretch begins
 first_left : (A : Inputs) (t : State) (pid : ℕ) (b : Bool) → FewTouched A → IsRun A t → IsClosing A t pid → Opens t.place.due → Left A t pid b 218 33
 first_left A t pid b few r c (Nothing e) = let l = sixteen A t r.placed in ready A t pid b 218 33 few r c e (λ o. (omega arith, omega arith)) (λ o. (omega arith, omega arith))
-first_left A t pid b few r c (NewStack q e) = let l = sixteen A t r.placed in starting_left A t pid b 218 33 q e (record { x = length t.place.transfers + 2; left = force_new b t.place [] (owns A t r.placed); some = omega arith; takers = omega arith })
+first_left A t pid b few r c (NewStack q e) = let l = sixteen A t r.placed in starting_left A t pid b 218 33 q e
+    (record { x = length t.place.transfers + 2; left = force_new b t.place [] (owns A t r.placed); some = omega arith; takers = omega arith })
 first_left A t pid b few r c (Children q parent es e a) =
     let l = sixteen A t r.placed in
     let du : IsDue t.place q (CopyOf q parent) = source_of A t q parent es r e in
     copying_left A t pid b 218 33 q parent es e a
-    (λ z. record { x = length t.place.transfers + 5; y = 1; left = serve_new b t.place (parent ∷ []) parent (owns A t r.placed) (state_there t.place parent (du.source).1); some = omega arith; takers = omega arith })
+    (λ z. record {
+      x = length t.place.transfers + 5;
+      y = 1;
+      left = serve_new b t.place (parent ∷ []) parent (owns A t r.placed)
+          (state_there t.place parent (du.source).1);
+      some = omega arith;
+      takers = omega arith;
+    })
     (λ z. record { x = length t.place.transfers + 2; left = force_new b t.place (parent ∷ []) (owns A t r.placed); some = omega arith; takers = omega arith })
 
-pub rest_running : (A : Inputs) (s : State) (pid : ℕ) (b : Bool) → ImagesFit A.images → IsRun A s → running s.mark ≡ Some pid → Opens s.place.due → Rest A s b 218
+pub rest_running : (A : Inputs) (s : State) (pid : ℕ) (b : Bool) → ImagesFit A.images → IsRun A s → running s.mark ≡ Some pid → Opens s.place.due
+    → Rest A s b 218
 rest_running A s pid b images r m o us t f q =
     let k = some_turn s.mark pid s.count m in
     let i : InTurn A s pid k.0 us = in_turn A us s t pid k.0 k.1 f q in
@@ -110,7 +117,8 @@ by_mark A s m d e =
 
 -- nothing is to come of a mark
 pub rest_spent : (A : Inputs) (s : State) (b : Bool) (m : Mark) → s.place.due ≡ [] → s.mark ≡ m → under A s m ≡ None → Rest A s b 0
-rest_spent A s b m d e n = rest_none A s b (λ u h q. absurd (let z : true ≡ false = sym (mark_boundary A s u (sym (by_mark A s m d e ∙ ap (λ (o : Option Entry). or_else o (next_mark A s)) n) ∙ h)) ∙ q in cc))
+rest_spent A s b m d e n = rest_none A s b (λ u h q. absurd (let z : true ≡ false = sym (mark_boundary A s u (sym (by_mark A s m d e ∙ ap (λ (o : Option Entry). or_else o (next_mark A s)) n) ∙ h))
+    ∙ q in cc))
 
 pub some_same : (a b : Entry) → Some a ≡ Some b → a ≡ b
 some_same a b e = cc
@@ -160,7 +168,8 @@ rest_interrupt : (A : Inputs) (s : State) (b : Bool) → IsRun A s → s.place.d
 rest_interrupt A s b r d e = rest_once A s b marks.Interrupt entries.Done d e refl (done_mark A s ∙ ap completed e) (done_due A s r ∙ d)
 
 rest_in : (A : Inputs) (s : State) (b : Bool) (pid : ℕ) → s.place.due ≡ [] → s.mark ≡ marks.BringIn pid → Rest A s b 1
-rest_in A s b pid d e = rest_once A s b (marks.BringIn pid) (entries.SwapIn pid) d e refl (in_mark A s pid ∙ ap brought_in e) (ap (λ (p : Placement). p.due) (plain_place A s (entries.SwapIn pid) refl) ∙ d)
+rest_in A s b pid d e = rest_once A s b (marks.BringIn pid) (entries.SwapIn pid) d e refl (in_mark A s pid ∙ ap brought_in e)
+    (ap (λ (p : Placement). p.due) (plain_place A s (entries.SwapIn pid) refl) ∙ d)
 
 rest_audit : (A : Inputs) (s : State) (b : Bool) → s.place.due ≡ [] → s.mark ≡ marks.Audit → Rest A s b 1
 rest_audit A s b d e = rest_once A s b marks.Audit (owners_entry s) d e refl (notes_mark A s ∙ ap audited e) (ap (λ (p : Placement). p.due) (notes_place A s) ∙ d)
@@ -232,7 +241,8 @@ abbrev FewerPuts : Inputs → ℕ → Type 0
 FewerPuts A n = (t : State) (b : Bool) (pid sid : ℕ) → ImagesFit A.images → IsRun A t → t.mark ≡ marks.PutOut pid → space_of_process (process_of t.point.flat pid) ≡ sid
     → put_rank t.place pid sid ≤ n → Rest A t b n
 
-puts_rest : (A : Inputs) (s : State) (b : Bool) (pid sid n : ℕ) → ImagesFit A.images → IsRun A s → s.mark ≡ marks.PutOut pid → space_of_process (process_of s.point.flat pid) ≡ sid
+puts_rest : (A : Inputs) (s : State) (b : Bool) (pid sid n : ℕ) → ImagesFit A.images → IsRun A s → s.mark ≡ marks.PutOut pid → space_of_process
+    (process_of s.point.flat pid) ≡ sid
     → put_rank s.place pid sid ≤ n → ((m : ℕ) → n ≡ suc m → FewerPuts A m) → Rest A s b n
 puts_rest A s b pid sid n images r e i l fewer = go n refl
   where
@@ -250,7 +260,8 @@ puts_rest A s b pid sid n images r e i l fewer = go n refl
     after_unit u h =
         subst (λ (x : Entry). ((after A s x).mark ≡ marks.PutOut pid) ⊎ (((after A s x).mark ≡ marks.Over) × ((after A s x).place.due ≡ [])))
         (some_same (put_out_unit s.place pid (space_of_process (process_of s.point.flat pid))) u (sym (put_unit A s pid d e) ∙ h))
-        (unit_case (λ (x : Entry). ((after A s x).mark ≡ marks.PutOut pid) ⊎ (((after A s x).mark ≡ marks.Over) × ((after A s x).place.due ≡ []))) s.place pid (space_of_process (process_of s.point.flat pid))
+        (unit_case (λ (x : Entry). ((after A s x).mark ≡ marks.PutOut pid) ⊎ (((after A s x).mark ≡ marks.Over) × ((after A s x).place.due ≡ []))) s.place pid
+        (space_of_process (process_of s.point.flat pid))
         (λ t ts z. inl (done_mark A s ∙ ap completed e))
         (λ v y z w. inl (put_mark A s v _ ∙ e))
         (λ y z. inr (out_mark A s pid ∙ ap put_out e, ap (λ (p : Placement). p.due) (plain_place A s (entries.SwapOut pid) refl) ∙ d)))
@@ -263,7 +274,8 @@ puts_rest A s b pid sid n images r e i l fewer = go n refl
     go : (m : ℕ) → n ≡ m → Rest A s b m
     go zero w = rest_none A s b (λ u h q. absurd (let k = falls u h in omega (arith, k, l, w)))
     go (suc m) w = rest_step A s b m (λ u h q. elim (after_unit u h) [
-      | inl k ↦ fewer m w (after A s u) (is_hands u) pid sid images (unit_run A s u images r h) k (ap (λ (x : Point). space_of_process (process_of x.flat pid)) (point u h) ∙ i) (let f = falls u h in omega (arith, f, l, w))
+      | inl k ↦ fewer m w (after A s u) (is_hands u) pid sid images (unit_run A s u images r h) k (ap (λ (x : Point). space_of_process (process_of x.flat pid)) (point u h) ∙ i)
+          (let f = falls u h in omega (arith, f, l, w))
       | inr k ↦ rest_more A (after A s u) (is_hands u) 0 m (omega arith) (rest_spent A (after A s u) (is_hands u) marks.Over k.1 k.0 refl)
     ])
 
@@ -305,7 +317,8 @@ abbrev pub hands_of : Mark → ℕ
 hands_of (marks.Hands count) = count
 hands_of _ = 0
 
-pub rest_clear : (A : Inputs) (s : State) (b : Bool) → ImagesFit A.images → IsRun A s → PlaceSized s.place → s.place.due ≡ [] → Rest A s b (9233 + 2 * hands_of s.mark)
+pub rest_clear : (A : Inputs) (s : State) (b : Bool) → ImagesFit A.images → IsRun A s → PlaceSized s.place → s.place.due ≡ [] → Rest A s b
+    (9233 + 2 * hands_of s.mark)
 rest_clear A s b images r z d = go s.mark refl
   where
     few : (n : ℕ) → n ≤ 9233 → (m : Mark) → Rest A s b n → Rest A s b (9233 + 2 * hands_of m)

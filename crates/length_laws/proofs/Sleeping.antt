@@ -1,5 +1,5 @@
 -- With each unit no more processes are awake than children come, and one fewer where one falls asleep.
-use Rattle.std.proofs.Common.{◌≡◌, ◌⊎◌, inl, inr, ℕ, ◌+◌, ◌≤◌, Bool, true, false, cond, not, if◌then◌else◌, ◌==◌, List, [], ◌∷◌, Option, Some, None, Result, Ok, Err, ℤ, refl, sym, ap, ◌∙◌, subst, arith}
+use Rattle.std.proofs.Common.{◌≡◌, inl, inr, ℕ, ◌+◌, ◌≤◌, Bool, true, false, cond, not, if◌then◌else◌, ◌==◌, List, [], ◌∷◌, Option, Some, None, Result, Ok, Err, ℤ, refl, sym, ap, ◌∙◌, subst, arith}
 use Rattle.vm_facts.specs.Answers.{ByteWrite}
 use Rattle.vm_facts.specs.declared.regs.Regs.{Regs}
 use Rattle.vm_facts.specs.declared.entry.Entry.{Entry}
@@ -8,10 +8,10 @@ use Rattle.user_vax.specs.Effects.{Effect}
 use Rattle.user_vax.specs.declared.refused.Refused.{Refused}
 use Rattle.user_vax.specs.declared.refused.Refused.TheVariants.{Miss, Below, Signal}
 use Rattle.flat_state.specs.Space.{Space, answers_of, puts}
-use Rattle.flat_state.specs.Flat.{Holding, Holds, Lends, Zombie, Process, FlatState, NamedImage, Inputs, holds_space, is_ready, ready_if, process_of, can_step}
+use Rattle.flat_state.specs.Flat.{Holding, Holds, Lends, Zombie, Process, FlatState, NamedImage, Inputs, holds_space, ready_if, process_of, can_step}
 use Rattle.flat_state.specs.Numbers.{AllDistinct, IsNumbered, pids_of}
 use Rattle.flat_state.specs.declared.change.Change.{Change}
-use Rattle.flat_state.specs.declared.change.Change.TheVariants.{Keep, Resize, Fork, Lend, Exec, Reap, Sleep, End}
+use Rattle.flat_state.specs.declared.change.Change.TheVariants.{Resize, Fork, Lend}
 use Rattle.flat_state.specs.Change.{with_process, changed_by, changed_if, apply_change, wrote_by, wrote_if, apply_writes, is_zombie, NamesChild}
 use Rattle.flat_model.specs.declared.calls.Reply.{Reply}
 use Rattle.flat_model.specs.declared.calls.Reply.TheVariants as replies
@@ -19,24 +19,22 @@ use Rattle.flat_model.specs.declared.calls.SystemCall.{SystemCall}
 use Rattle.flat_model.specs.Calls.{call_of}
 use Rattle.flat_model.specs.Instruction.{instruction_in}
 use Rattle.flat_model.specs.Step.{Step, written_process, replied_step, reply_behind, called_step, step_behind, step_of, step_holding, step_if, flat_step}
-use Rattle.flat_model.specs.Run.{Point, is_refused, step_at, behind_first, due, act as next_of_step, process_of_entry}
+use Rattle.flat_model.specs.Run.{Point, is_refused, step_at, behind_first, due, process_of_entry}
 use Rattle.run_model.specs.State.{State}
 use Rattle.run_model.specs.After.{after}
-use Rattle.run_model.specs.Act.{act}
 use Rattle.run_model.specs.Next.{next_unit}
 use Rattle.run_model.specs.Kinds.{Runs}
 use Rattle.run_laws.specs.Running.{IsRun}
 use Rattle.run_laws.proofs.Acts.{Stepper, stepper, Stepped, stepped_form, Completes, completes}
-use Rattle.run_laws.proofs.Flows.{Acted, Settles, Refuses, Steps, acted, steps_own, steps_shape, on_steps, Ends, noted, refused_after, out_of, out_after, plain_point}
-use Rattle.run_laws.proofs.Forms.{Formed}
+use Rattle.run_laws.proofs.Flows.{Acted, Settles, Refuses, Steps, acted, steps_shape, on_steps, refused_after, out_of, out_after, plain_point}
 use Rattle.run_laws.proofs.Others.{number_of_found, pids_written}
 use Rattle.economy_laws.proofs.Idle.{found_after, stepped_by}
 use Rattle.economy_laws.proofs.Sleeping.{Does, does}
-use Rattle.outcome_laws.specs.Visible.{is_fork_reply, is_fork}
+use Rattle.outcome_laws.specs.Visible.{is_fork}
 use Rattle.outcome_laws.proofs.Numbers.{BringsNone}
 use Rattle.outcome_laws.proofs.Children.{Spares, reply_spares}
 use Rattle.length_laws.specs.Few.{is_sleep}
-use Rattle.length_laws.proofs.Awake.{is_awake, awake_one, awake_count, count_replaced, born, slept, changed_count}
+use Rattle.length_laws.proofs.Awake.{awake_one, awake_count, count_replaced, born, slept, changed_count}
 
 -- ---- a child comes by the reply of a fork or a vfork
 
@@ -73,7 +71,8 @@ none_of images F p s true (Err (Below a)) none = tt
 none_of images F p s false (Err (Below a)) none = tt
 none_of images F p s refused (Err (Signal number)) none = tt
 
-none_stepped : (A : Inputs) (F : FlatState) (pid : ℕ) (refused : Bool) → ends_in_fork (flat_step A F pid refused).entries ≡ false → BringsNone (flat_step A F pid refused).change
+none_stepped : (A : Inputs) (F : FlatState) (pid : ℕ) (refused : Bool) → ends_in_fork (flat_step A F pid refused).entries ≡ false → BringsNone
+    (flat_step A F pid refused).change
 unfolding flat_step
 none_stepped A F pid refused none = go (process_of F pid) none
   where
@@ -110,7 +109,8 @@ born_most (Lend child) = omega arith
 born_most _ = omega arith
 
 -- a step brings a child only where its last entry is such a reply
-pub born_by : (A : Inputs) (point : Point) (pid : ℕ) (u : Entry) → due point.last pid (step_at A point pid).entries ≡ u ∷ [] → born (step_at A point pid).change ≤ cond (is_fork u) 1 0
+pub born_by : (A : Inputs) (point : Point) (pid : ℕ) (u : Entry) → due point.last pid (step_at A point pid).entries ≡ u ∷ [] → born
+    (step_at A point pid).change ≤ cond (is_fork u) 1 0
 born_by A point pid u d = go (is_fork u) refl
   where
     go : (b : Bool) → is_fork u ≡ b → born (step_at A point pid).change ≤ cond b 1 0
@@ -156,7 +156,8 @@ wrote F pid s ws a =
 
 -- ---- a change
 
-applied_count : (images : List NamedImage) (F : FlatState) (pid : ℕ) (s : Space) (regs : Regs) (change : Change) → Awake F pid s → AllDistinct (pids_of F) → NamesChild F change
+applied_count : (images : List NamedImage) (F : FlatState) (pid : ℕ) (s : Space) (regs : Regs) (change : Change) → Awake F pid s → AllDistinct (pids_of F)
+    → NamesChild F change
     → awake_count (apply_change images F pid regs change).processes + slept change ≤ awake_count F.processes + born change
 unfolding apply_change
 applied_count images F pid s regs change a distinct may =
@@ -225,7 +226,8 @@ unit_count A s u r h = go (process_of_entry u) refl
     quiet (entries.Sleeps p) e = absurd cc
     quiet _ e = refl
 
-    same : (x : Entry) → u ≡ x → sleeps_one x ≡ 0 → (after A s x).point.flat ≡ s.point.flat → awake_count (after A s u).point.flat.processes + sleeps_one u ≤ awake_count s.point.flat.processes + forks_one u
+    same : (x : Entry) → u ≡ x → sleeps_one x ≡ 0 → (after A s x).point.flat ≡ s.point.flat → awake_count
+        (after A s u).point.flat.processes + sleeps_one u ≤ awake_count s.point.flat.processes + forks_one u
     same x i z e =
         let k = ap (λ (y : Entry). awake_count (after A s y).point.flat.processes) i in
         let l = ap (λ (F : FlatState). awake_count F.processes) e in
@@ -246,7 +248,8 @@ unit_count A s u r h = go (process_of_entry u) refl
     go (Some pid) e = let d : Does A s u pid = does A s u pid h e in by pid d.now e d.runs (acted A s pid u d.act)
 
 -- it is so too where its segments change their sizes
-pub resized_steps : (images : List NamedImage) (F : FlatState) (pid : ℕ) (s : Space) (regs : Regs) (d t : ℕ) → Awake F pid s → can_step (apply_change images F pid regs (Resize d t)) pid ≡ true
+pub resized_steps : (images : List NamedImage) (F : FlatState) (pid : ℕ) (s : Space) (regs : Regs) (d t : ℕ) → Awake F pid s → can_step
+    (apply_change images F pid regs (Resize d t)) pid ≡ true
 unfolding apply_change
 resized_steps images F pid s regs d t a =
     let q : Process = a.process in

@@ -1,5 +1,5 @@
 -- Where a mark asks for nothing more, what is due is filled, and no more.
-use Rattle.std.proofs.Common.{◌≡◌, ℕ, zero, suc, ◌+◌, ◌*◌, ◌<◌, ◌≤◌, ◌&&◌, nat_lt, not, Bool, true, false, List, [], ◌∷◌, length, Option, Some, None, refl, sym, ap, ◌∙◌, subst, arith}
+use Rattle.std.proofs.Common.{◌≡◌, ℕ, ◌+◌, ◌*◌, ◌≤◌, ◌&&◌, nat_lt, not, Bool, true, false, List, [], ◌∷◌, length, Option, Some, None, refl, sym, ap, ◌∙◌, subst, arith}
 use Rattle.std.proofs.lemmas.Bool.{not-true}
 use Rattle.vm_facts.specs.declared.page.Page.{Page}
 use Rattle.vm_facts.specs.declared.entry.Entry.{Entry}
@@ -31,7 +31,7 @@ use Rattle.run_laws.proofs.Allowed.{first_after}
 use Rattle.run_laws.proofs.Distinct.{among_first}
 use Rattle.run_laws.proofs.Flows.{plain_point}
 use Rattle.run_laws.proofs.Plain.{serve_flat}
-use Rattle.run_laws.proofs.Units.{plain_place, owns, sixteen, not_due}
+use Rattle.run_laws.proofs.Units.{plain_place, owns, not_due}
 use Rattle.run_laws.proofs.Wholes.{unit_run}
 use Rattle.span_laws.specs.Spans.{is_hands, adds, added}
 use Rattle.span_laws.proofs.Spanning.{adds_most}
@@ -40,7 +40,7 @@ use Rattle.economy_laws.proofs.Left.{ServeLeft, ForceLeft, serve_new, force_new,
 use Rattle.economy_laws.proofs.Stretching.{source_of}
 use Rattle.economy_laws.proofs.Finishing.Stages.{is_boundary, IsLasting, mark_lasts}
 use Rattle.length_laws.proofs.Turned.{Quiet, quiet_counts}
-use Rattle.length_laws.proofs.Resting.{Rest, rest_none, rest_more, rest_spent, some_same}
+use Rattle.length_laws.proofs.Resting.{Rest, rest_more, rest_spent, some_same}
 
 -- ---- marks that ask for nothing more
 
@@ -81,7 +81,8 @@ spent_same A s t m p c = by m
     by (marks.PutOut pid) = refl
     by marks.Audit = refl
 
-spent_on : (A : Inputs) (s : State) (u : Entry) → is_spent A s s.mark ≡ true → process_of_entry u ≡ None → is_boundary u ≡ false → is_spent A (after A s u) (after A s u).mark ≡ true
+spent_on : (A : Inputs) (s : State) (u : Entry) → is_spent A s s.mark ≡ true → process_of_entry u ≡ None → is_boundary u ≡ false → is_spent A (after A s u)
+    (after A s u).mark ≡ true
 spent_on A s u e plain n =
     ap (is_spent A (after A s u)) (mark_lasts A s u (spent_lasts A s s.mark e) n)
     ∙ spent_same A s (after A s u) s.mark (plain_point A s u plain) (omega (arith, after_count A s u, quiet_counts u n)) ∙ e
@@ -95,12 +96,14 @@ FirstLeft b p (CopyOf q parent) n =
     (is_valid (state_of p parent) ≡ false → (x : ℕ) × ((y : ℕ) × (ServeLeft b p (parent ∷ []) parent x y × (x + 3 ≤ n))))
     × (is_valid (state_of p parent) ≡ true → (x : ℕ) × (ForceLeft b p (parent ∷ []) x × (x + 1 ≤ n)))
 
-first_new : (A : Inputs) (s : State) (b : Bool) (d : Due) (ds : List Due) → IsRun A s → s.place.due ≡ d ∷ ds → FirstLeft b s.place d (length s.place.transfers + 8)
+first_new : (A : Inputs) (s : State) (b : Bool) (d : Due) (ds : List Due) → IsRun A s → s.place.due ≡ d ∷ ds → FirstLeft b s.place d
+    (length s.place.transfers + 8)
 first_new A s b (Start q) ds r e = (length s.place.transfers + 2, (force_new b s.place [] (owns A s r.placed), omega arith))
 first_new A s b (CopyOf q parent) ds r e =
-    let du : IsDue s.place q (CopyOf q parent) = source_of A s q parent ds r e in
-    (λ v. (length s.place.transfers + 5, (1, (serve_new b s.place (parent ∷ []) parent (owns A s r.placed) (state_there s.place parent (du.source).1), omega arith))),
-    λ v. (length s.place.transfers + 2, (force_new b s.place (parent ∷ []) (owns A s r.placed), omega arith)))
+    let du : IsDue s.place q (CopyOf q parent) = source_of A s q parent ds r e in (
+      λ v. (length s.place.transfers + 5, (1, (serve_new b s.place (parent ∷ []) parent (owns A s r.placed) (state_there s.place parent (du.source).1), omega arith))),
+      λ v. (length s.place.transfers + 2, (force_new b s.place (parent ∷ []) (owns A s r.placed), omega arith)),
+    )
 
 due_next : (A : Inputs) (s : State) (d : Due) (ds : List Due) → s.place.due ≡ d ∷ ds
     → next_unit A s ≡ or_else (due_unit s.place (d ∷ ds)) (or_else (under A s s.mark) (next_mark A s))
@@ -112,7 +115,8 @@ data Filled (A : Inputs) (s : State) (u : Entry) (b : Bool) (d : Due) (ds : List
   Still : (m : ℕ) → process_of_entry u ≡ None → (after A s u).place.due ≡ d ∷ ds → FirstLeft (is_hands u) (after A s u).place d m → adds b u + m ≤ n → Filled A s u b d ds n
   Gone : process_of_entry u ≡ None → (after A s u).place.due ≡ ds → length (after A s u).place.transfers + 1 ≤ n → Filled A s u b d ds n
 
-started : (A : Inputs) (s : State) (u : Entry) (b : Bool) (q : Page) (ds : List Due) (n : ℕ) → IsRun A s → s.place.due ≡ Start q ∷ ds → FirstLeft b s.place (Start q) n
+started : (A : Inputs) (s : State) (u : Entry) (b : Bool) (q : Page) (ds : List Due) (n : ℕ) → IsRun A s → s.place.due ≡ Start q ∷ ds → FirstLeft b s.place
+    (Start q) n
     → next_unit A s ≡ Some u → Filled A s u b (Start q) ds n
 started A s u b q ds n r d l h = go s.place.free refl (sym (some_same (fill_unit s.place (entries.Zero q)) u (sym (due_next A s (Start q) ds d) ∙ h)))
   where
@@ -146,7 +150,8 @@ started A s u b q ds n r d l h = go s.place.free refl (sym (some_same (fill_unit
         let now = force_now b s.place [] l.0 left in
         Gone (ap process_of_entry j) (ap (λ (p : Placement). p.due) pl ∙ ap (λ (y : List Due). due_after y q) d ∙ first_after (Start q) ds) (omega (arith, flights, same, now, room))
 
-copied : (A : Inputs) (s : State) (u : Entry) (b : Bool) (q parent : Page) (ds : List Due) (n : ℕ) → IsRun A s → IsRun A (after A s u) → s.place.due ≡ CopyOf q parent ∷ ds
+copied : (A : Inputs) (s : State) (u : Entry) (b : Bool) (q parent : Page) (ds : List Due) (n : ℕ) → IsRun A s → IsRun A (after A s u)
+    → s.place.due ≡ CopyOf q parent ∷ ds
     → FirstLeft b s.place (CopyOf q parent) n → next_unit A s ≡ Some u → Filled A s u b (CopyOf q parent) ds n
 copied A s u b q parent ds n r r2 d l h = by (serve_unit s.place parent true) refl (sym (due_next A s (CopyOf q parent) ds d) ∙ h)
   where
@@ -168,9 +173,10 @@ copied A s u b q parent ds n r r2 d l h = by (serve_unit s.place parent true) re
         let now = serve_now (is_hands u) (after A s u).place (parent ∷ []) parent nx.x nx.y on in
         let m = nx.entries_left in
         let room = ((left.1).1).1 in
-        Still (nx.x + 3) plain (ap (λ (p : Placement). p.due) pl ∙ serve_due_same s.place (parent ∷ []) parent (owns A s r.placed) ∙ d)
-        (λ v. (nx.x, (nx.y, (on, omega arith))),
-        λ v. (length (after A s u).place.transfers + 2, (force_new (is_hands u) (after A s u).place (parent ∷ []) (owns A (after A s u) r2.placed), omega (arith, now))))
+        Still (nx.x + 3) plain (ap (λ (p : Placement). p.due) pl ∙ serve_due_same s.place (parent ∷ []) parent (owns A s r.placed) ∙ d) (
+          λ v. (nx.x, (nx.y, (on, omega arith))),
+          λ v. (length (after A s u).place.transfers + 2, (force_new (is_hands u) (after A s u).place (parent ∷ []) (owns A (after A s u) r2.placed), omega (arith, now))),
+        )
         (omega (arith, m, room))
 
     copy : is_valid (state_of s.place parent) ≡ true → (fr : List ℕ) → s.place.free ≡ fr → u ≡ fill_by s.place (entries.Copy q) s.place.free → Filled A s u b (CopyOf q parent) ds n
@@ -180,7 +186,8 @@ copied A s u b q parent ds n r r2 d l h = by (serve_unit s.place parent true) re
         let pl = after_forced A s u (parent ∷ []) (ap (locked_by A s) d) j in
         let st : Stays s.place (force s.place (parent ∷ [])) = force_stays s.place (parent ∷ []) (owns A s r.placed) in
         let nx : ForceNext b s.place (parent ∷ []) u left.0 = force_next b s.place (parent ∷ []) u left.0 (left.1).0 w j in
-        let still : is_valid (state_of (after A s u).place parent) ≡ true = subst (λ (p : Placement). is_valid (state_of p parent) ≡ true) (sym pl) (force_spares s.place (parent ∷ []) (owns A s r.placed) parent (among_first parent []) valid) in
+        let still : is_valid (state_of (after A s u).place parent) ≡ true = subst (λ (p : Placement). is_valid (state_of p parent) ≡ true) (sym pl)
+        (force_spares s.place (parent ∷ []) (owns A s r.placed) parent (among_first parent []) valid) in
         let m = nx.entries_left in
         let room = (left.1).1 in
         Still (nx.x + 1) (ap process_of_entry j ∙ plain s.place.transfers) (ap (λ (p : Placement). p.due) pl ∙ st.due ∙ d)
@@ -206,7 +213,8 @@ copied A s u b q parent ds n r r2 d l h = by (serve_unit s.place parent true) re
         (sym (some_same (fill_unit s.place (entries.Copy q)) u (ap (λ (o : Option Entry). Some (copy_unit_by s.place q o)) (sym i) ∙ k)))
 
 -- all that is due, 8 entries for each page
-dues_rest : (us : List Entry) (A : Inputs) (s t : State) (b : Bool) (d : Due) (ds : List Due) (n : ℕ) → ImagesFit A.images → IsRun A s → is_spent A s s.mark ≡ true
+dues_rest : (us : List Entry) (A : Inputs) (s t : State) (b : Bool) (d : Due) (ds : List Due) (n : ℕ) → ImagesFit A.images → IsRun A s
+    → is_spent A s s.mark ≡ true
     → s.place.due ≡ d ∷ ds → FirstLeft b s.place d n → Follows A s us t → Quiet us → added b us ≤ n + 8 * length ds + 8 * copies_of us
 dues_rest [] A s t b d ds n images r e k l f q = omega arith
 dues_rest (u ∷ us) A s t b d ds n images r e k l f q = go (one d k l)

@@ -1,5 +1,5 @@
 -- Between two boundaries a process that runs does what it does in a turn of the closing phase.
-use Rattle.std.proofs.Common.{◌≡◌, ◌⊎◌, inl, inr, ℕ, ◌+◌, ◌*◌, ◌<◌, ◌≤◌, ◌&&◌, nat_lt, Bool, true, false, List, [], ◌∷◌, length, Option, Some, None, refl, sym, ap, ◌∙◌, subst, arith}
+use Rattle.std.proofs.Common.{◌≡◌, ℕ, ◌+◌, ◌<◌, ◌&&◌, nat_lt, Bool, true, false, List, [], ◌∷◌, length, Option, Some, None, refl, sym, ap, ◌∙◌, subst, arith}
 use Rattle.std.proofs.lemmas.Bool.Decides.{nat_tests}
 use Rattle.std.proofs.lemmas.Bool.{and_parts}
 use Rattle.vm_facts.specs.declared.page.Page.{Page}
@@ -16,19 +16,18 @@ use Rattle.page_model.specs.Serve.{is_full, serve_unit, serve_unit_by, feed_unit
 use Rattle.page_model.specs.Swapper.{is_out}
 use Rattle.run_model.specs.declared.mark.Mark.{Mark}
 use Rattle.run_model.specs.declared.mark.Mark.TheVariants as marks
-use Rattle.flat_model.specs.Run.{due_at}
 use Rattle.run_model.specs.State.{State}
-use Rattle.run_model.specs.Wanted.{running, touched_by, first_absent, before_absent, wanted, locked_by, locked}
+use Rattle.run_model.specs.Wanted.{running, touched_by, before_absent, wanted, locked_by, locked}
 use Rattle.run_model.specs.After.{place_at, after}
 use Rattle.run_model.specs.Act.{must_refuse, must_settle, act_by, act_if, act}
-use Rattle.run_model.specs.Next.{when, or_else, fill_unit, copy_unit_by, due_unit, goes_on, work_by, work, turn_by, turn_unit, turn_instructions, under, next_mark, next_unit}
+use Rattle.run_model.specs.Next.{when, or_else, fill_unit, copy_unit_by, due_unit, goes_on, work_by, work, turn_by, turn_instructions, under, next_mark, next_unit}
 use Rattle.run_model.specs.Kinds.{GoesOn, Runs, Comes, Kind, Fills, Brings, Copies, Serves, Acts, ComesIn, Interrupts, Moves, PutsOut, Notes, Begins}
 use Rattle.run_model.specs.Lawful.{Follows}
 use Rattle.run_model.proofs.NextUnits.{kind_of}
 use Rattle.run_model.proofs.After.{after_count}
 use Rattle.run_laws.specs.Flowing.{Awaits, WaitsBy, Flows}
 use Rattle.run_laws.specs.Running.{IsRun}
-use Rattle.run_laws.proofs.Flows.{runs_work, on_running}
+use Rattle.run_laws.proofs.Flows.{runs_work}
 use Rattle.economy_laws.proofs.Left.{wanted_on}
 use Rattle.economy_laws.proofs.Finishing.Stages.{is_boundary, IsLasting, mark_boundary, mark_lasts}
 
@@ -79,7 +78,8 @@ goes_turn A s (marks.Turn q since) pid k p true f g =
     (same, ap (λ (x : ℕ). goes_on A s x (k + 1000)) (sym same) ∙ ap (λ (x : ℕ). goes_on A s p (x + 1000)) (sym f.1) ∙ g.1)
 goes_turn A s _ pid k p now f g = absurd g
 
-runs_turn : (A : Inputs) (s : State) (pid k p : ℕ) (now : Bool) → TurnsFor s.mark pid k s.count → Runs A s p now → (p ≡ pid) × Runs A (turned A s pid k) pid true
+runs_turn : (A : Inputs) (s : State) (pid k p : ℕ) (now : Bool) → TurnsFor s.mark pid k s.count → Runs A s p now → (p ≡ pid) × Runs A
+    (turned A s pid k) pid true
 runs_turn A s pid k p now f r =
     let g = goes_turn A s s.mark pid k p now f r.on in
     (g.0, record { clear = r.clear; on = (refl, g.1); resident = ap (is_out s.place) (sym g.0) ∙ r.resident })

@@ -1,17 +1,14 @@
 -- A turn begins only where a process stopped: after an instruction behind which nobody goes on, or where one fell asleep.
-use Rattle.std.proofs.Common.{◌≡◌, ◌⊎◌, inl, inr, ℕ, ◌+◌, ◌*◌, ◌<◌, ◌≤◌, ◌&&◌, nat_lt, not, Bool, true, false, cond, List, [], ◌∷◌, length, find, Option, Some, None, refl, sym, ap, ◌∙◌, subst, arith}
+use Rattle.std.proofs.Common.{◌≡◌, ℕ, ◌+◌, ◌<◌, ◌≤◌, ◌&&◌, nat_lt, not, Bool, true, false, cond, List, [], ◌∷◌, length, find, Option, Some, None, refl, sym, ap, ◌∙◌, subst, arith}
 use Rattle.std.proofs.lemmas.Bool.Decides.{nat_tests}
-use Rattle.std.proofs.lemmas.Bool.{and_parts, not-true}
-use Rattle.std.proofs.lemmas.Option.{same_Some}
-use Rattle.vm_facts.specs.declared.regs.Regs.{Regs}
+use Rattle.std.proofs.lemmas.Bool.{and_parts}
 use Rattle.vm_facts.specs.declared.page.Page.{Page}
 use Rattle.vm_facts.specs.declared.entry.Entry.{Entry}
 use Rattle.vm_facts.specs.declared.entry.Entry.TheVariants as entries
-use Rattle.flat_state.specs.Space.{Space}
-use Rattle.flat_state.specs.Flat.{Holding, Holds, Process, FlatState, NamedImage, Inputs, is_ready, ready_if, process_of, can_step}
+use Rattle.flat_state.specs.Flat.{Process, FlatState, Inputs, is_ready, ready_if, process_of, can_step}
 use Rattle.flat_state.specs.Numbers.{AllDistinct, IsNumbered, pids_of}
 use Rattle.flat_state.specs.declared.change.Change.TheVariants.{Resize}
-use Rattle.flat_state.specs.Change.{resized, with_process, changed_by, changed_if, apply_change, apply_writes}
+use Rattle.flat_state.specs.Change.{apply_change, apply_writes}
 use Rattle.page_model.specs.Serve.{serve_entry}
 use Rattle.page_model.specs.Swapper.{is_out}
 use Rattle.kernel_model.specs.Start.{ImagesFit}
@@ -35,20 +32,20 @@ use Rattle.run_laws.specs.Running.{IsRun}
 use Rattle.run_laws.proofs.Acts.{Stepper, stepper, Stepped, Completes, completes}
 use Rattle.run_laws.proofs.Finding.{found_by_number, found_passes}
 use Rattle.run_laws.proofs.Flows.{Acted, Settles, Refuses, Steps, acted, steps_own, on_steps, noted, refused_after, out_of, out_after, plain_point}
-use Rattle.run_laws.proofs.Others.{number_of_found}
 use Rattle.run_laws.proofs.Settling.{IsMark}
-use Rattle.run_laws.proofs.Wholes.{unit_run, unit_ready}
+use Rattle.run_laws.proofs.Wholes.{unit_run}
 use Rattle.economy_laws.specs.Stretch.{begins_stretch, turns, turns_of, counts}
-use Rattle.economy_laws.proofs.Finishing.Stages.{is_boundary, IsLasting, mark_lasts, quiet_stretch}
+use Rattle.economy_laws.proofs.Finishing.Stages.{is_boundary, IsLasting, mark_lasts}
 use Rattle.economy_laws.proofs.Idle.{open_due, stepped_by}
 use Rattle.economy_laws.proofs.Left.{is_closed}
 use Rattle.economy_laws.proofs.Sleeping.{Does, does}
 use Rattle.economy_laws.proofs.Steps.{step_is, act_some, Grows, grows_of}
 use Rattle.economy_laws.proofs.Stretching.{open_last}
 use Rattle.length_laws.specs.Few.{is_sleep}
+use Rattle.length_laws.proofs.Counting.{counted_in}
 use Rattle.length_laws.proofs.Turned.{quiet_counts}
-use Rattle.length_laws.proofs.Spending.{is_spent, spent_same}
-use Rattle.length_laws.proofs.Sleeping.{Awake, Written, wrote, stepper_awake, resized_steps, sleeps_one}
+use Rattle.length_laws.proofs.Spending.{is_spent}
+use Rattle.length_laws.proofs.Sleeping.{Written, wrote, stepper_awake, resized_steps, sleeps_one}
 
 -- ---- what is counted over units
 
@@ -56,11 +53,6 @@ use Rattle.length_laws.proofs.Sleeping.{Awake, Written, wrote, stepper_awake, re
 abbrev pub summed : (Inputs → State → Entry → ℕ) → Inputs → State → List Entry → ℕ
 summed f A s [] = 0
 summed f A s (u ∷ us) = f A s u + summed f A (after A s u) us
-
--- by each unit
-abbrev pub counted_in : (Entry → ℕ) → List Entry → ℕ
-counted_in f [] = 0
-counted_in f (u ∷ us) = f u + counted_in f us
 
 -- nobody goes on after this unit
 abbrev pub stops_after : Inputs → State → Entry → Bool
@@ -115,7 +107,8 @@ begun A s u h m = go (kind_of A s u h)
     go (ComesIn pid e c i) = other (entries.SwapIn pid) i (λ z. z)
     go (Interrupts e k i) = other entries.Done i (λ z. z)
     go (Moves count e k l w i) = paging _ i (Rattle.run_laws.proofs.Plain.move_paging s.place (Rattle.run_model.specs.Wanted.locked A s))
-    go (PutsOut pid e k i) = Rattle.page_laws.proofs.Swapper.PuttingOut.unit_case (λ (x : Entry). u ≡ x → Begun A s u) s.place pid (Rattle.page_model.specs.Place.space_of_process (process_of s.point.flat pid))
+    go (PutsOut pid e k i) = Rattle.page_laws.proofs.Swapper.PuttingOut.unit_case (λ (x : Entry). u ≡ x → Begun A s u) s.place pid
+        (Rattle.page_model.specs.Place.space_of_process (process_of s.point.flat pid))
         (λ t ts z j. other entries.Done j (λ y. y)) (λ v a z y j. other _ j (λ x. x)) (λ a z j. other _ j (λ x. x)) i
     go (Notes e k i) = other _ i (λ z. z)
     go (Begins e k i) = record { clear = e; over = k; next = i }
@@ -136,7 +129,8 @@ ready_found F above p distinct h = go (find (λ (q : Process). is_ready q && nat
     go : (o : Option Process) → find (λ (q : Process). is_ready q && nat_lt above q.pid) F.processes ≡ o → pid_if o ≡ Some p → can_step F p ≡ true
     go None e k = absurd cc
     go (Some z) e k = subst (λ (n : ℕ). can_step F n ≡ true) (number z k)
-        (ap ready_if (found_by_number (λ (q : Process). is_ready q && nat_lt above q.pid) F.processes z distinct e) ∙ (and_parts (is_ready z) (nat_lt above z.pid) (found_passes (λ (q : Process). is_ready q && nat_lt above q.pid) F.processes z e)).0)
+        (ap ready_if (found_by_number (λ (q : Process). is_ready q && nat_lt above q.pid) F.processes z distinct e) ∙
+        (and_parts (is_ready z) (nat_lt above z.pid) (found_passes (λ (q : Process). is_ready q && nat_lt above q.pid) F.processes z e)).0)
 
 turned_ready : (F : FlatState) (last p : ℕ) → AllDistinct (pids_of F) → next_turned F last ≡ Some p → can_step F p ≡ true
 turned_ready F last p distinct h = go (next_ready F last) refl h
@@ -145,7 +139,8 @@ turned_ready F last p distinct h = go (next_ready F last) refl h
     go None e k = ready_found F 0 p distinct k
     go (Some q) e k = ready_found F last p distinct (e ∙ k)
 
-turn_next : (A : Inputs) (s : State) (p : ℕ) → next_mark A s ≡ Some (entries.Turn p) → (s.count < A.limit) × (next_turned s.point.flat (last_turned s.mark) ≡ Some p)
+turn_next : (A : Inputs) (s : State) (p : ℕ) → next_mark A s ≡ Some (entries.Turn p) → (s.count < A.limit) ×
+    (next_turned s.point.flat (last_turned s.mark) ≡ Some p)
 turn_next A s p h = go (nat_lt s.count A.limit) (nat_lt s.lines (length A.lines)) refl h
   where
     turn : (o : Option ℕ) → turn_of o ≡ Some (entries.Turn p) → o ≡ Some p
@@ -163,12 +158,13 @@ all_three false y z a b c = absurd cc
 all_three true false z a b c = absurd cc
 all_three true true false a b c = absurd cc
 
-turn_mark : (A : Inputs) (s : State) (p : ℕ) → (after A s (entries.Turn p)).mark ≡ marks.Turn p s.count
+pub turn_mark : (A : Inputs) (s : State) (p : ℕ) → (after A s (entries.Turn p)).mark ≡ marks.Turn p s.count
 unfolding after
 turn_mark A s p = refl
 
 -- it goes on in its turn
-begins_on : (A : Inputs) (s : State) (p : ℕ) → IsRun A s → next_mark A s ≡ Some (entries.Turn p) → goes_on A (after A s (entries.Turn p)) p (s.count + turn_instructions) ≡ true
+begins_on : (A : Inputs) (s : State) (p : ℕ) → IsRun A s → next_mark A s ≡ Some (entries.Turn p) → goes_on A (after A s (entries.Turn p)) p
+    (s.count + turn_instructions) ≡ true
 begins_on A s p r h =
     let n = turn_next A s p h in
     let nums : IsNumbered s.point.flat = r.numbers in
@@ -180,7 +176,8 @@ begins_on A s p r h =
     (below (after A s (entries.Turn p)).count (s.count + 1000) (omega (arith, same)))
 
 -- while a process goes on in its turn, no mark begins
-on_under : (A : Inputs) (s : State) (pid since : ℕ) → IsRun A s → s.mark ≡ marks.Turn pid since → goes_on A s pid (since + turn_instructions) ≡ true → s.place.due ≡ []
+on_under : (A : Inputs) (s : State) (pid since : ℕ) → IsRun A s → s.mark ≡ marks.Turn pid since → goes_on A s pid (since + turn_instructions) ≡ true
+    → s.place.due ≡ []
     → under A s s.mark ≡ None → ⊥
 on_under A s pid since r m goes d h = by (is_out s.place pid) refl (sym (ap (λ (b : Bool). when b (turn_unit A s pid)) goes) ∙ sym (ap (under A s) m) ∙ h)
   where
@@ -211,12 +208,14 @@ grown_steps A s p n h o r =
     grows_of A.images s.point.flat w.process w.space (is_refused s.point.last h.pid) (instruction_in w.space q.regs) p n (sym (ap (λ (S : Step). S.entries) st) ∙ es) in
     let e : (step_at A s.point h.pid).change ≡ Resize (data_pages_of w.space) (pages_down_to g.address) = ap (λ (S : Step). S.change) (st ∙ g.step) in
     let is = stepped_by A s (entries.Grew p n) h r ∙ ap (apply_change A.images (apply_writes s.point.flat h.pid (step_at A s.point h.pid).writes) h.pid (step_at A s.point h.pid).regs) e in
-    let x : Written s.point.flat (apply_writes s.point.flat h.pid (step_at A s.point h.pid).writes) h.pid = wrote s.point.flat h.pid w.space (step_at A s.point h.pid).writes (stepper_awake s.point.flat h.pid steps w) in
+    let x : Written s.point.flat (apply_writes s.point.flat h.pid (step_at A s.point h.pid).writes) h.pid = wrote s.point.flat h.pid w.space (step_at A s.point h.pid).writes
+    (stepper_awake s.point.flat h.pid steps w) in
     ap (λ (F : FlatState). can_step F h.pid) is
     ∙ resized_steps A.images (apply_writes s.point.flat h.pid (step_at A s.point h.pid).writes) h.pid x.space (step_at A s.point h.pid).regs (data_pages_of w.space) (pages_down_to g.address) x.there
 
 -- a unit of a process, by which no instruction is counted and nobody falls asleep, leaves it such that it can step
-still_steps : (A : Inputs) (s : State) (u : Entry) (pid : ℕ) → IsRun A s → next_unit A s ≡ Some u → process_of_entry u ≡ Some pid → is_boundary u ≡ false → is_sleep u ≡ false
+still_steps : (A : Inputs) (s : State) (u : Entry) (pid : ℕ) → IsRun A s → next_unit A s ≡ Some u → process_of_entry u ≡ Some pid → is_boundary u ≡ false
+    → is_sleep u ≡ false
     → can_step s.point.flat pid ≡ true → can_step (after A s u).point.flat pid ≡ true
 still_steps A s u pid r h e n a steps = by (acted A s pid u d.act)
   where
@@ -229,9 +228,11 @@ still_steps A s u pid r h e n a steps = by (acted A s pid u d.act)
     quiet : after A s u ≡ noted s u → can_step (after A s u).point.flat pid ≡ true
     quiet k = ap (λ (t : State). can_step t.point.flat pid) k ∙ steps
 
-    step : (x : Entry) → u ≡ x → next_of_step A s.point pid ≡ Some u → must_refuse A s pid ≡ false → must_settle A s pid ≡ false → process_of_entry x ≡ Some pid → is_boundary x ≡ false → is_sleep x ≡ false
+    step : (x : Entry) → u ≡ x → next_of_step A s.point pid ≡ Some u → must_refuse A s pid ≡ false → must_settle A s pid ≡ false → process_of_entry x ≡ Some pid → is_boundary x ≡ false
+        → is_sleep x ≡ false
         → can_step (after A s u).point.flat pid ≡ true
-    step (entries.Out p bytes) i k f g px cx sx = quiet (subst (λ (y : Entry). after A s y ≡ noted s y) (sym i) (out_after A s pid p bytes (out_of A s.point pid p bytes (k ∙ ap (λ (y : Entry). Some y) i))))
+    step (entries.Out p bytes) i k f g px cx sx = quiet (subst (λ (y : Entry). after A s y ≡ noted s y) (sym i)
+        (out_after A s pid p bytes (out_of A s.point pid p bytes (k ∙ ap (λ (y : Entry). Some y) i))))
     step (entries.Refused p) i k f g px cx sx = quiet (subst (λ (y : Entry). after A s y ≡ noted s y) (sym i) (refused_after A s p))
     step (entries.Grew p m) i k f g px cx sx = subst (λ (y : Entry). can_step (after A s y).point.flat pid ≡ true) (sym i)
         (grown_steps A s p m (record { pid = pid; now = d.now; runs = d.runs; ends = tt; unrefused = f; unsettling = g; next = k ∙ ap (λ (y : Entry). Some y) i })
@@ -251,24 +252,24 @@ data Turning (A : Inputs) (s : State) (k : ℕ) : Type 0 where
   On : (pid since : ℕ) → k ≡ 1 → s.mark ≡ marks.Turn pid since → goes_on A s pid (since + turn_instructions) ≡ true → Turning A s k
 
 -- units by what they do here
-data Sort (u : Entry) : Type 0 where
+pub data Sort (u : Entry) : Type 0 where
   Turned : (p : ℕ) → u ≡ entries.Turn p → Sort u
-  Lined : IsMark u → turns u ≡ 0 → counts u ≡ false → sleeps_one u ≡ 0 → Sort u
-  Counted : counts u ≡ true → turns u ≡ 0 → Sort u
-  Slept : is_sleep u ≡ true → turns u ≡ 0 → Sort u
-  Other : is_boundary u ≡ false → is_sleep u ≡ false → turns u ≡ 0 → counts u ≡ false → Sort u
+  Lined : (line : ℕ) → u ≡ entries.Event line → Sort u
+  Counted : counts u ≡ true → (pid : ℕ) → process_of_entry u ≡ Some pid → begins_stretch u ≡ true → turns u ≡ 0 → Sort u
+  Slept : is_boundary u ≡ false → is_sleep u ≡ true → counts u ≡ false → turns u ≡ 0 → Sort u
+  Other : is_boundary u ≡ false → is_sleep u ≡ false → counts u ≡ false → turns u ≡ 0 → Sort u
 
-sort_of : (u : Entry) → Sort u
-sort_of (entries.Event line) = Lined tt refl refl refl
+pub sort_of : (u : Entry) → Sort u
+sort_of (entries.Event line) = Lined line refl
 sort_of (entries.Turn p) = Turned p refl
-sort_of (entries.Ran p n) = Counted refl refl
-sort_of (entries.Call p n c r0 r1) = Counted refl refl
-sort_of (entries.Ended p n) = Counted refl refl
-sort_of (entries.Sleeps p) = Slept refl refl
+sort_of (entries.Ran p n) = Counted refl p refl refl refl
+sort_of (entries.Call p n c r0 r1) = Counted refl p refl refl refl
+sort_of (entries.Ended p n) = Counted refl p refl refl refl
+sort_of (entries.Sleeps p) = Slept refl refl refl refl
 sort_of _ = Other refl refl refl refl
 
 -- an instruction leaves the mark
-counted_mark : (A : Inputs) (s : State) (u : Entry) → counts u ≡ true → (after A s u).mark ≡ s.mark
+pub counted_mark : (A : Inputs) (s : State) (u : Entry) → counts u ≡ true → (after A s u).mark ≡ s.mark
 unfolding after
 counted_mark A s (entries.Ran p n) e = refl
 counted_mark A s (entries.Call p n c r0 r1) e = refl
@@ -289,7 +290,8 @@ counted_turning A s u k c n (On pid since e m g) =
     On pid since e mark (not_false (goes_on A (after A s u) pid (since + turn_instructions)) (sym (spent_turn A (after A s u) (after A s u).mark pid since mark) ∙ n))
 
 -- a quiet unit leaves the process such that it goes on
-other_turning : (A : Inputs) (s : State) (u : Entry) (k : ℕ) → IsRun A s → next_unit A s ≡ Some u → is_boundary u ≡ false → is_sleep u ≡ false → Turning A s k → Turning A (after A s u) k
+other_turning : (A : Inputs) (s : State) (u : Entry) (k : ℕ) → IsRun A s → next_unit A s ≡ Some u → is_boundary u ≡ false → is_sleep u ≡ false → Turning A s k
+    → Turning A (after A s u) k
 other_turning A s u k r h n a (Free e) = Free e
 other_turning A s u k r h n a (On pid since e m g) = On pid since e (mark_lasts A s u (subst IsLasting (sym m) tt) n ∙ m) (by (process_of_entry u) refl)
   where
@@ -337,12 +339,13 @@ few_turns A (u ∷ us) s t k images r f x = by (sort_of u) x (λ j y. few_turns 
         let w = marks_free b y in
         let v = ap turns i in
         omega (arith, z, w, v)
-    by (Lined m t0 c0 s0) y more =
-        let b : Begun A s u = begun A s u f.0 m in
+    by (Lined line i) y more =
+        let b : Begun A s u = begun A s u f.0 (subst IsMark (sym i) tt) in
         let z = more 0 (Free refl) in
         let w = marks_free b y in
-        omega (arith, z, w, t0)
-    by (Counted c t0) y more = go (stops_after A s u) refl
+        let v = ap turns i in
+        omega (arith, z, w, v)
+    by (Counted c pid own b t0) y more = go (stops_after A s u) refl
       where
         go : (b : Bool) → stops_after A s u ≡ b → turns_of (u ∷ us) + k ≤ summed stop_one A s (u ∷ us) + counted_in sleeps_one (u ∷ us) + 1
         go true e =
@@ -351,12 +354,12 @@ few_turns A (u ∷ us) s t k images r f x = by (sort_of u) x (λ j y. few_turns 
             let w = free y in
             omega (arith, z, w, t0, one)
         go false e = let z = more k (counted_turning A s u k c e y) in omega (arith, z, t0)
-    by (Slept a t0) y more =
+    by (Slept n a c0 t0) y more =
         let one : sleeps_one u ≡ 1 = ap (λ (b : Bool). cond b 1 0) a in
         let z = more 0 (Free refl) in
         let w = free y in
         omega (arith, z, w, t0, one)
-    by (Other n a t0 c0) y more = let z = more k (other_turning A s u k r f.0 n a y) in omega (arith, z, t0)
+    by (Other n a c0 t0) y more = let z = more k (other_turning A s u k r f.0 n a y) in omega (arith, z, t0)
 
 pub turns_few : (A : Inputs) (us : List Entry) (s t : State) → ImagesFit A.images → IsRun A s → Follows A s us t
     → turns_of us ≤ summed stop_one A s us + counted_in sleeps_one us + 1

@@ -1,10 +1,15 @@
-//! Laws of length: a journal of few instructions, children and ends is short. There is no code here: the laws are the clauses of a
+//! Laws of length: a journal that counts few instructions and children is short. There is no code here: the laws are the clauses of a
 //! function with no body.
 #![tactic(auto)]
 
-ghost use Rattle.length_laws.specs.Few.{SleepsAreFew};
+ghost use Rattle.length_laws.specs.Few.{SleepsAreFew, TurnsAreFew, CopiesAreFew, JournalsAreShort};
 
-/// A journal is short.
+/// A lawful journal has no more entries than some number for each instruction, each child, each first process and each line of the
+/// schedule, whatever is paged. Processes fall asleep no more often than they begin; turns begin no more often than processes stop; and
+/// no more pages are copied than children have.
 pub fn journals_are_short()
     ensures sleeps { SleepsAreFew }
+    ensures turns { TurnsAreFew }
+    ensures copies { CopiesAreFew }
+    ensures entries { JournalsAreShort }
 {}
