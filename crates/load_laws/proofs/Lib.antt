@@ -11,3 +11,4 @@ pub mod Wanting
 pub mod Family
 pub mod Loading
 pub mod Ending
+pub mod Short

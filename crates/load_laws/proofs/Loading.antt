@@ -43,6 +43,7 @@ use Rattle.run_laws.proofs.Wholes.{unit_run}
 use Rattle.run_laws.proofs.Others.{number_of_found}
 use Rattle.economy_laws.proofs.Sleeping.{Does, does}
 use Rattle.economy_laws.proofs.Steps.{step_is}
+use Rattle.length_laws.proofs.Counting.{counted_in}
 use Rattle.load_maker.specs.Counts.{is_refusal, output_length}
 use Rattle.load_laws.specs.Stages.{Stage, is_gone, IsAt, StandsAt, Lives, Ended}
 use Rattle.load_laws.specs.Left.{images_for, instructions_left, forks_left, ends_left, bytes_left, blocks_left, total}
@@ -550,11 +551,6 @@ goes pages stages high A s u load r st h = by (process_of_entry u) refl
     by (Some pid) e = acting pid e (does A s u pid h e)
 
 -- ---- all units
-
--- what units count of each kind
-abbrev pub counted_in : (Entry → ℕ) → List Entry → ℕ
-counted_in f [] = 0
-counted_in f (u ∷ us) = f u + counted_in f us
 
 -- 1 for a refusal
 abbrev pub refusals_of : Entry → ℕ

@@ -1,5 +1,5 @@
 -- What is so of each run of a load, whatever its schedule and its frames are.
-use Rattle.std.specs.Prelude.{◌≡◌, ℕ, ◌+◌, ◌*◌, List, None}
+use Rattle.std.specs.Prelude.{◌≡◌, ℕ, ◌+◌, ◌*◌, ◌≤◌, List, length, None}
 use Rattle.std.specs.List.{count_by}
 use Rattle.vm_facts.specs.declared.entry.Entry.{Entry}
 use Rattle.swap_book.specs.Holdings.{Holdings}
@@ -10,6 +10,7 @@ use Rattle.run_model.specs.State.{State}
 use Rattle.run_model.specs.Next.{next_unit}
 use Rattle.run_model.specs.Lawful.{Reaches}
 use Rattle.run_laws.specs.Running.{CanRun}
+use Rattle.length_laws.specs.Few.{moves_asked}
 use Rattle.load_maker.specs.Load.{load_pages}
 use Rattle.load_maker.specs.Counts.{is_granted_fork, is_end, is_refusal, counts_of}
 use Rattle.load_laws.specs.Stages.{Stage, AllStand}
@@ -34,3 +35,8 @@ LoadsAreUnderWay = (number : ℕ) (A : Inputs) (hs : Holdings) (journal : List E
 abbrev pub FinishedLoadsCount : Type 0
 FinishedLoadsCount = (number : ℕ) (A : Inputs) (hs : Holdings) (journal : List Entry) (s : State) → IsLoad number A → CanRun A hs → Reaches A journal s
     → next_unit A s ≡ None → counts_of 4 journal ≡ load_counts number
+
+-- Its journal has few entries, at each place of its run: few for what it counts, and few for each line of the schedule.
+abbrev pub LoadsAreShort : Type 0
+LoadsAreShort = (number : ℕ) (A : Inputs) (hs : Holdings) (journal : List Entry) (s : State) → IsLoad number A → CanRun A hs → Reaches A journal s
+    → length journal ≤ 12000000 + (9234 * length A.lines + 2 * moves_asked A.lines)
