@@ -1,5 +1,5 @@
 -- Where a process stops the run, the machine has its sizes and its images still, and a journal is full only at its bound.
-use Rattle.std.proofs.Common.{◌≡◌, inl, inr, ℕ, Bool, true, false, [], List, Option, ap}
+use Rattle.std.proofs.Common.{inl, inr, ℕ, Bool, true, false, [], List, Option, ap}
 use Rattle.std.specs.Prelude.{Result, Ok, Err, IfErr}
 use Rattle.io_edge.specs.FileHolding.{NamedFile}
 use Rattle.vm_facts.specs.declared.regs.Regs.{Regs}

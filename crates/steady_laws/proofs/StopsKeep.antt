@@ -1,5 +1,5 @@
 -- Where a call stops, the machine has its sizes and its images still, and a journal is full only at its bound.
-use Rattle.std.proofs.Common.{◌≡◌, ◌⊎◌, inl, inr, ℕ, ◌≤◌, Bool, true, false, List, [], ◌∷◌, length, Option, sym, ap, ◌∙◌, subst, refl}
+use Rattle.std.proofs.Common.{◌≡◌, inl, inr, ℕ, ◌≤◌, Bool, true, false, List, [], ◌∷◌, length, Option, sym, ap, ◌∙◌, subst, refl}
 use Rattle.std.specs.Prelude.{Result, Ok, Err}
 use Rattle.vm_facts.specs.declared.page.Page.{Page}
 use Rattle.vm_facts.specs.declared.regs.Regs.{Regs}
@@ -24,18 +24,16 @@ use Rattle.machine_state.specs.Machine.{Standing}
 use Rattle.machine_state.specs.Settled.{IsSameBeside, StopsSettling}
 use Rattle.swapper.specs.Stops.{StopsAt}
 use Rattle.proc_calls.specs.Forced.{Forced, StopsForcing}
-use Rattle.proc_calls.specs.Growth.{Grown}
 use Rattle.proc_calls.specs.Serving.{StopsServing}
 use Rattle.proc_calls.specs.Touches.{AccessStops}
 use Rattle.proc_calls.specs.FaultFillAccessAccess.{Access}
 use Rattle.proc_calls.specs.FaultFillAccessAccess.TheVariants as accesses
 use Rattle.proc_calls.specs.Answered.{Entered, GoneOut, StopsBefore, StopsReading}
-use Rattle.proc_calls.specs.Callers.{regs_of}
 use Rattle.proc_calls.specs.Copying.{CopiesPage, StopsPage, StopsCopying}
 use Rattle.proc_calls.specs.Filling.{FillsStart, StopsStart}
 use Rattle.proc_calls.specs.Forking.{HasNewSpace, ForkAnswered, StopsForking}
-use Rattle.proc_calls.specs.Leaving.{HasLeftBy, HasLeft, StopsLeaving, StopsAlive, StopsExit}
-use Rattle.proc_calls.specs.Making.{without_pieces, IsRefused, MakesChildBy, StopsMaking}
+use Rattle.proc_calls.specs.Leaving.{HasLeftBy, StopsLeaving, StopsAlive, StopsExit}
+use Rattle.proc_calls.specs.Making.{without_pieces, MakesChildBy, StopsMaking}
 use Rattle.proc_calls.specs.Sizing.{StopsPlain, StopsMoving, StopsBreak}
 use Rattle.proc_calls.specs.Starting.{image_found, HasStarted, LeavesFor, StopsFinding, StopsStarting, StopsImage, StopsExec}
 use Rattle.proc_calls.specs.Writing.{bytes_of, StopsWriting, StopsOut}
