@@ -15,7 +15,7 @@ use Rattle.run_command.specs.Seen.{Seen}
 use Rattle.run_command.specs.Ends.{Ending, status_of}
 use Rattle.run_command.specs.Loads.{load_inputs, load_written, LoadEnded}
 
-is_load : (number : ℕ) → IsLoad number (load_inputs number)
+pub is_load : (number : ℕ) → IsLoad number (load_inputs number)
 unfolding load_images
 is_load number = record { images = refl; first = refl; swap = refl; limit = refl }
 

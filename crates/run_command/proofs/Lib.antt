@@ -7,5 +7,6 @@ pub mod Pairs
 pub mod Runs
 pub mod LoadSpace
 pub mod Counted
+pub mod LoadLength
 pub mod Loadings
 pub mod Workloads

@@ -28,6 +28,7 @@ use Rattle.run_command.specs.Ends.{Ending, NothingDone, Unbegun, NoneFaulted, Ru
 use Rattle.run_command.specs.Loads.{load_inputs, load_numbers, load_written, CountsBeLost, WritesCounts, IsLoadCaused, LoadEnded, IsRunEnding, Loads, LoadRuns}
 use Rattle.run_command.proofs.LoadSpace.{all_start}
 use Rattle.run_command.proofs.Counted.{counted_by}
+use Rattle.run_command.proofs.LoadLength.{load_fits}
 use Rattle.run_command.proofs.Endings.{StopCaused, caused_as, lost_caused, run_ended, lost_ended}
 
 -- The core of a run, with no process yet.
@@ -185,6 +186,7 @@ loads_run IsOf Starts number seen status long files starts is_of x =
       files = files;
       told = ends;
       counted = counted_by number seen status x.journal x.ending x.writes ends;
+      fits = load_fits number seen status x.journal x.ending x.writes (load_caused seen x.journal x.ending x.began (λ pid e. all_start number pid (x.space (load_inputs number) starts pid e)) x.caused long) ends;
     }
 
 -- no memory before the run
@@ -202,6 +204,7 @@ loads_unmade number seen status same none (inl w) =
       files = none.files;
       told = ends;
       counted = counted_by number seen status [] (Err faults.NoMemory) w ends;
+      fits = load_fits number seen status [] (Err faults.NoMemory) w (inl none) ends;
     }
 loads_unmade number seen status same none (inr never) = absurd never.0
 
@@ -233,6 +236,7 @@ loads_short number seen status (faults.ShortDevice device blocks needed) short i
       files = done.files;
       told = ends;
       counted = counted_by number seen status [] (Err (faults.ShortDevice device blocks needed)) w ends;
+      fits = load_fits number seen status [] (Err (faults.ShortDevice device blocks needed)) w (done, is) ends;
     }
 loads_short number seen status (faults.ShortDevice device blocks needed) short is done (inr (lost, w)) =
     loads_unmade number seen status (let n : NothingDone seen [] = done.nothing in n.swap) (as_faulted seen [] done) (inl w)

@@ -31,6 +31,7 @@ use Rattle.run_command.specs.Machines.{machine_of}
 use Rattle.run_command.specs.Paired.{image_together}
 use Rattle.run_command.specs.Loads.{load_names, load_first, load_numbers, load_inputs}
 use Rattle.run_command.proofs.Openings.{named_images, loaded_images, filed_at, are_numbers, images_length, are_files}
+use Rattle.run_command.proofs.LoadLength.{line_count}
 
 -- The bytes of the programs.
 
@@ -140,10 +141,6 @@ two_short w v =
 load_short : (number : ℕ) → All HasShortName (load_inputs number).images
 unfolding load_images
 load_short number = two_short _ _
-
-line_count : (number : ℕ) → length (load_lines number) ≡ 200
-unfolding load_lines
-line_count number = length-map-range_with_len (λ (k : ℕ). line_drawn (drawn number k)) 1 200
 
 pub few_lines : (number : ℕ) (lines more : List Event) → more ≡ lines → lines ≡ load_lines number → length more < 2 ^ 32
 few_lines number lines more same is = let count : length more ≡ 200 = ap length (same ∙ is) ∙ line_count number in omega arith

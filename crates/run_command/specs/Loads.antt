@@ -93,7 +93,7 @@ LoadEnded number seen journal image ending = RunEnded seen (load_inputs number) 
 -- What a load is: it has one ending and one journal. What was written are the lines of that ending, and the status is the ending's;
 -- or the output failed, and a prefix of them was written. However it ended, the journal has no more entries than it may have. The ending
 -- has its cause, and no file was touched. Where the devices are told the journal is that of a run of the workload of the number, and
--- the devices are left as it says; and with status 0 the six lines are those of the counts that the number has.
+-- the devices are left as it says; with status 0 the six lines are those of the counts that the number has; and the status is never 10.
 pub record Loads (number : ℕ) (seen : Seen) (status : ℕ) : Type 0 where
   pub ending : Ending
   pub journal : List Entry
@@ -103,6 +103,7 @@ pub record Loads (number : ℕ) (seen : Seen) (status : ℕ) : Type 0 where
   pub files : NoFaults seen.faults
   pub told : (image : List ℕ) → seen.swap_before ≡ Some image → LoadEnded number seen journal image ending
   pub counted : (image : List ℕ) → seen.swap_before ≡ Some image → status ≡ 0 → Appends seen.written_before (finished_lines number) seen.written_after
+  pub fits : (image : List ℕ) → seen.swap_before ≡ Some image → status ≡ 10 → ⊥
 
 -- it ended as a run does that began, whose files never fail
 abbrev pub IsRunEnding : Ending → Type 0
