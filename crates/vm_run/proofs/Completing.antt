@@ -18,7 +18,7 @@ use Rattle.reference_commands.specs.Seen.{Seen}
 use Rattle.reference_commands.specs.Machines.{journal_entries}
 use Rattle.reference_commands.specs.RunCommandEnds.{Ending, status_of, DevicesSuffice, IsCaused, IsJudged, EndsTold}
 use Rattle.reference_commands.specs.Loads.{load_numbers, IsLoadCaused}
-use Rattle.vm_run.specs.Complete.{IsSound, NoneRose, RunsComplete, LoadsComplete}
+use Rattle.vm_run.specs.Complete.{IsSound, NoneRose, RunsComplete, LoadsComplete, ToldLoadsComplete}
 
 -- what was written whole has the status of its ending
 whole_status : (before after : Option (List ℕ)) (old new : ℕ) (text : List ℕ) (whole status : ℕ) → Writes before after old new text whole status → (Rose old new → ⊥) → status ≡ whole
@@ -99,3 +99,9 @@ loads_complete number seen status loads devices none =
       | inl zero ↦ inl (whole ∙ zero)
       | inr more ↦ elim more [ inl nine ↦ inr (inl (whole ∙ nine)) | inr full ↦ inr (inr (whole ∙ full.0, full.1)) ]
     ]
+
+pub told_loads_complete : ToldLoadsComplete
+told_loads_complete number seen status image loads told devices none = elim (loads_complete number seen status loads devices none) [
+  | inl zero ↦ inl zero
+  | inr more ↦ elim more [ inl nine ↦ inr nine | inr full ↦ absurd (loads.fits image told full.0) ]
+]
