@@ -51,7 +51,8 @@ few_moves number =
     omega (arith, a, b, c)
 
 -- a run of a load never fills its journal
-never_full : (number : ℕ) (seen : Seen) (journal : List Entry) (image : List ℕ) → IsLoadCaused seen journal (Err faults.JournalFull) → LoadEnded number seen journal image (Err faults.JournalFull) → ⊥
+never_full : (number : ℕ) (seen : Seen) (journal : List Entry) (image : List ℕ) → IsLoadCaused seen journal (Err faults.JournalFull)
+    → LoadEnded number seen journal image (Err faults.JournalFull) → ⊥
 never_full number seen journal image caused ended =
     let h : RunHalted (load_inputs number) journal stops.JournalFull image seen.swap_after = ended in
     let m : IsJournalOf (load_inputs number) journal h.state = h.made in
@@ -62,7 +63,8 @@ never_full number seen journal image caused ended =
     let moves = few_moves number in
     absurd (omega (arith, k, full, lines, moves))
 
-ending_fits : (number : ℕ) (seen : Seen) (journal : List Entry) (image : List ℕ) (ending : Ending) → IsLoadCaused seen journal ending → LoadEnded number seen journal image ending → 10 ≡ status_of ending → ⊥
+ending_fits : (number : ℕ) (seen : Seen) (journal : List Entry) (image : List ℕ) (ending : Ending) → IsLoadCaused seen journal ending
+    → LoadEnded number seen journal image ending → 10 ≡ status_of ending → ⊥
 ending_fits number seen journal image (Ok done) caused ended e = absurd cc
 ending_fits number seen journal image (Err faults.JournalFull) caused ended e = never_full number seen journal image caused ended
 ending_fits number seen journal image (Err _) caused ended e = absurd cc

@@ -186,7 +186,8 @@ loads_run IsOf Starts number seen status long files starts is_of x =
       files = files;
       told = ends;
       counted = counted_by number seen status x.journal x.ending x.writes ends;
-      fits = load_fits number seen status x.journal x.ending x.writes (load_caused seen x.journal x.ending x.began (λ pid e. all_start number pid (x.space (load_inputs number) starts pid e)) x.caused long) ends;
+      fits = load_fits number seen status x.journal x.ending x.writes
+          (load_caused seen x.journal x.ending x.began (λ pid e. all_start number pid (x.space (load_inputs number) starts pid e)) x.caused long) ends;
     }
 
 -- no memory before the run
