@@ -18,7 +18,7 @@ pub record LosesOldest (old new : Placement) : Type 0 where
   pub others : (f : ℕ) → IsFrame old f → times f (frames_in transfer) ≡ 0 → page_of new f ≡ page_of old f
   pub rest : new ≡ record old { transfers = new.transfers; holds = new.holds }
 
--- The machine stops, and the transfer that failed is lost with its frames. All else is as it was.
+-- The machine stops, and the transfer that failed is lost with its frames. All else is as it was, but for the bytes of frames.
 pub record HasLostOldest (old new : Standing) : Type 0 where
   pub place : LosesOldest old.kernel.place new.kernel.place
   pub kernel : new.kernel ≡ record old.kernel { place = new.kernel.place; frames = new.kernel.frames; stopped = true }
