@@ -29,6 +29,9 @@ pub enum Added {
 #[derive(Drop)]
 pub struct ProcTable {
     records: Slab<Proc>,
+
+    // The key of the record that was put last, which is looked at before the others.
+    near: usize,
 }
 
 impl Model for ProcTable {
@@ -50,7 +53,7 @@ impl ProcTable {
         ensures { IfOk result (λ t. t ≡ []) }
     {
         let records = Slab::with_capacity(alloc, ROOM)?;
-        Ok(ProcTable { records })
+        Ok(ProcTable { records, near: 0 })
     }
 
     /// How many records there are, at most 64.
@@ -79,7 +82,7 @@ impl ProcTable {
         ensures value { option_copied result ≡ find pid self.now }
         ensures sound { IsTable self.now }
     {
-        let key = key_of(&self.records, pid)?;
+        let key = key_near(&self.records, self.near, pid)?;
         self.records.get(key)
     }
 
@@ -90,7 +93,7 @@ impl ProcTable {
         ensures count { OnSome result (length self.new + 1 ≡ length self.old) }
         ensures none { IfNone result (self.new ≡ self.old) }
     {
-        let key = key_of(&self.records, pid)?;
+        let key = key_near(&self.records, self.near, pid)?;
         Some(self.records.remove(key))
     }
 
@@ -103,9 +106,10 @@ impl ProcTable {
         ensures count { length self.new ≡ length self.old }
         ensures sound { IsTable self.new }
     {
-        let Some(key) = key_of(&self.records, p.pid) else {
+        let Some(key) = key_near(&self.records, self.near, p.pid) else {
             return false;
         };
+        self.near = key;
         self.records[key] = p;
         true
     }
@@ -122,6 +126,27 @@ impl ProcTable {
         }
         lowest
     }
+}
+
+/// Whether the record under a key is there and has this pid.
+fn has_pid(records: &Slab<Proc>, key: usize, pid: u32) -> bool
+    ensures { IsTrue result → HasPid records.now key pid }
+{
+    match records.get(key) {
+        Some(record) => record.pid == pid,
+        None => false,
+    }
+}
+
+/// The key under which the record with this pid stands, which is looked for under one key first.
+fn key_near(records: &Slab<Proc>, near: usize, pid: u32) -> Option<usize>
+    ensures found { IfSome result (λ key. HasPid records.now key pid) }
+    ensures absent { IfNone result ((key : ℕ) (p : Record) → slot_at records.now key ≡ Some p → p.pid ≢ pid) }
+{
+    if has_pid(records, near, pid) {
+        return Some(near);
+    }
+    key_of(records, pid)
 }
 
 /// The key under which the record with this pid stands.
