@@ -83,6 +83,7 @@ pub mod Launchings
 pub mod FewPages
 pub mod Puttings
 pub mod Joins
+pub mod Further
 pub mod LeftFrames
 pub mod LeftPages
 pub mod WholeSpace

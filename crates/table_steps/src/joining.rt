@@ -1,5 +1,5 @@
 //! Units of one kind, one after another, which the journal counts in one entry.
-ghost use Rattle.std.specs.Prelude.{◌≡◌, ◌⊎◌, ℕ, ◌+◌, ◌<◌, ◌≤◌, ◌↔◌, ◌^◌, true, length, Some, None, OnOk, OnErr, Err};
+ghost use Rattle.std.specs.Prelude.{◌≡◌, ◌⊎◌, ℕ, ◌+◌, ◌<◌, ◌≤◌, ◌↔◌, ◌^◌, true, length, Some, None, IsSome, OnOk, OnErr, Err};
 ghost use Rattle.std.specs.Vec.{vec_capacity, vec_len};
 ghost use Rattle.vm_facts.specs.declared.entry.Entry.TheVariants.{Hands, Ran};
 ghost use Rattle.flat_state.specs.Journal.{append};
@@ -111,5 +111,23 @@ pub fn add_instruction(journal: &mut Vec<Entry>, pid: u32)
             };
         }
         None => journal.push_reserved(Entry::Ran { pid, count: 1 }),
+    }
+}
+
+/// Counts so many further instructions of a process, in the last entry, which counts such.
+pub fn add_instructions(journal: &mut Vec<Entry>, pid: u32, more: u32)
+    requires counts { IsSome (last_says (instructions_in pid) journal.old.items) }
+    requires fits { (count : ℕ) → last_says (instructions_in pid) journal.old.items ≡ Some count → count + more < 2 ^ 32 }
+    ensures { journal.new.items ≡ append journal.old.items (Ran pid more) }
+{
+    match last_instructions(journal.as_slice(), pid) {
+        Some(count) => {
+            let last = journal.len() - 1;
+            journal[last] = Entry::Ran {
+                pid,
+                count: count + more,
+            };
+        }
+        None => unreachable!(),
     }
 }
