@@ -83,29 +83,29 @@ module _ (t u : Tables) (pid : ℕ) (regs : Regs) (left : LeftRegs t u pid regs)
   pub lists_are : lists_of u ≡ lists_of t
   lists_are = ap lists_of left.rest ∙ ap (λ (rs : List Residence). let x : Lists = record (lists_of t) { residents = rs } in x) (residents_are t.processes u.processes pid regs left.was t.next_pid left.there left.changes)
 
-  pub regs_kernel : (old journal : List Entry) (a b : Bool) → journal ≡ append old (Ran pid 1) → b ≡ a
-      → kernel_by u journal b ≡ ran_by (kernel_by t old a) pid regs (Ran pid 1)
-  regs_kernel old journal a b j s =
+  pub regs_kernel : (old journal : List Entry) (a b : Bool) (n : ℕ) → journal ≡ append old (Ran pid n) → b ≡ a
+      → kernel_by u journal b ≡ ran_by (kernel_by t old a) pid regs (Ran pid n)
+  regs_kernel old journal a b n j s =
       ap (λ (x : Tables). kernel_by x journal b) left.rest
       ∙ ap (λ (rs : List Residence). let x : Kernel = record (kernel_by t journal b) { place = placement_of (record (lists_of t) { residents = rs }); processes = Rattle.table_steps.specs.Machine.processes_of u.processes t.next_pid } in x)
       (residents_are t.processes u.processes pid regs left.was t.next_pid left.there left.changes)
       ∙ ap (λ (ps : List Proc). let x : Kernel = record (kernel_by t journal b) { processes = ps } in x) (regs_are t.processes u.processes pid regs left.was t.next_pid left.there left.changes)
-      ∙ ap (λ (es : List Entry). ran_regs es b) j ∙ ap (λ (x : Bool). ran_regs (append old (Ran pid 1)) x) s
+      ∙ ap (λ (es : List Entry). ran_regs es b) j ∙ ap (λ (x : Bool). ran_regs (append old (Ran pid n)) x) s
     where
       ran_regs : List Entry → Bool → Kernel
       ran_regs es x = record (kernel_by t es x) { processes = map (λ (p : Proc). cond (p.pid == pid) (record p { regs = regs }) p) (Rattle.table_steps.specs.Machine.processes_of t.processes t.next_pid) }
 
-  pub regs_stand : (old journal : List Entry) (a b : Bool) → Stands t old a → journal ≡ append old (Ran pid 1) → b ≡ a
+  pub regs_stand : (old journal : List Entry) (a b : Bool) (n : ℕ) → Stands t old a → journal ≡ append old (Ran pid n) → b ≡ a
       → length journal ≤ t.params.journal → Stands u journal b
-  regs_stand old journal a b s j e within =
+  regs_stand old journal a b n s j e within =
       let k : Kernel = record (kernel_by t old a) { holdings = before_of t } in
-      let is : (let x : Kernel = record (kernel_by u journal b) { holdings = before_of u } in x) ≡ ran_by k pid regs (Ran pid 1) =
+      let is : (let x : Kernel = record (kernel_by u journal b) { holdings = before_of u } in x) ≡ ran_by k pid regs (Ran pid n) =
       ap (λ (x : Tables). let y : Kernel = record (kernel_by u journal b) { holdings = before_of x } in y) left.rest
-      ∙ ap (λ (x : Kernel). let y : Kernel = record x { holdings = before_of t } in y) (regs_kernel old journal a b j e) in
+      ∙ ap (λ (x : Kernel). let y : Kernel = record x { holdings = before_of t } in y) (regs_kernel old journal a b n j e) in
       record {
         runs = record {
-          sound = subst (Rattle.kernel_model.specs.Sound.Sound u.book.size) (sym is) (subst (λ (x : Tables). Rattle.kernel_model.specs.Sound.Sound x.book.size (ran_by k pid regs (Ran pid 1))) (sym left.rest) (ran_sound t.book.size k pid regs (Ran pid 1) s.runs.sound));
-          numbered = subst Rattle.kernel_model.specs.Numbers.Numbered (sym is) (ran_numbered k pid regs (Ran pid 1) s.runs.numbered);
+          sound = subst (Rattle.kernel_model.specs.Sound.Sound u.book.size) (sym is) (subst (λ (x : Tables). Rattle.kernel_model.specs.Sound.Sound x.book.size (ran_by k pid regs (Ran pid n))) (sym left.rest) (ran_sound t.book.size k pid regs (Ran pid n) s.runs.sound));
+          numbered = subst Rattle.kernel_model.specs.Numbers.Numbered (sym is) (ran_numbered k pid regs (Ran pid n) s.runs.numbered);
           due = subst (λ (x : Lists). Rattle.page_model.specs.Dues.DueStand (placement_of x)) (sym lists_are) s.runs.due;
           tied = subst Tied (sym lists_are) s.runs.tied;
         };
@@ -117,7 +117,7 @@ module _ (t u : Tables) (pid : ℕ) (regs : Regs) (left : LeftRegs t u pid regs)
         records = subst (λ (x : Tables). AreRecords u.processes x.next_pid) (sym left.rest)
             (regs_records t.processes u.processes t.next_pid pid regs left.was left.there left.changes left.still_sound s.records);
         named = subst (λ (x : Tables). AreNames (images_of x)) (sym left.rest) s.named;
-        numbers = λ h. absurd (append_some old (Ran pid 1) (sym j ∙ h));
+        numbers = λ h. absurd (append_some old (Ran pid n) (sym j ∙ h));
       }
 
 pub regs_rest : (m : Inside) (s : Standing) (u : Tables) (pid : ℕ) (regs : Regs) → LeftRegs m.tables u pid regs → standing_of m ≡ s → (k : Kernel)

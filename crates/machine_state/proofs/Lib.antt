@@ -22,6 +22,7 @@ pub use Rattle.table_steps.proofs.KernelTablesEntries as Entries
 pub use Rattle.table_steps.proofs.Shows
 pub use Rattle.table_steps.proofs.AddedImage
 pub use Rattle.table_steps.proofs.ProcessLists
+pub use Rattle.table_steps.proofs.Further
 pub use Rattle.table_steps.proofs.Joins
 pub mod TextLengths
 pub mod Standings

@@ -1,5 +1,5 @@
 //! Entries of processes, and those that change nothing.
-ghost use Rattle.std.specs.Prelude.{◌≡◌, ◌⊎◌, ℕ, ◌+◌, ◌<◌, ◌≤◌, ◌↔◌, ◌^◌, ◌∷◌, ◌++◌, [], List, true, false, length, Some, None, IfOk, OnOk, OnErr, Ok, Err};
+ghost use Rattle.std.specs.Prelude.{◌≡◌, ◌⊎◌, ℕ, ◌+◌, ◌<◌, ◌≤◌, ◌↔◌, ◌^◌, ◌∷◌, ◌++◌, [], List, true, false, length, Some, None, IsSome, IfOk, OnOk, OnErr, Ok, Err};
 ghost use Rattle.vm_facts.specs.declared.entry.Entry.{Entry as Line};
 ghost use Rattle.vm_facts.specs.declared.entry.Entry.TheVariants.{Ran};
 ghost use Rattle.flat_state.specs.Journal.{append};
@@ -10,6 +10,7 @@ ghost use Rattle.kernel_model.specs.Sound.{lives};
 ghost use Rattle.table_steps.specs.Applying.{CanApply, ChangesWhole, MayPass, facts_named};
 ghost use Rattle.table_steps.specs.Calls.{IsNote, life_in};
 ghost use Rattle.table_steps.specs.Conditions.{HasStopped, KeepsFlat, ChangesFlat, SameEverywhere};
+ghost use Rattle.table_steps.specs.Joined.{instructions_in, last_says};
 ghost use Rattle.table_steps.specs.UserMemory.{CanLend};
 
 use crate::machine::Machine;
@@ -90,6 +91,21 @@ impl Machine {
         self.room = None;
         self.tables.set_regs(pid, regs);
         joining::add_instruction(&mut self.journal, pid);
+    }
+
+    /// The steps of `Ran`, one after another: so many further instructions of a process are counted in its last entry, which
+    /// counts such, and the last of them leaves these registers. Their writes were made before.
+    pub fn ran_on(&mut self, pid: u32, regs: &Regs, more: u32)
+        requires running { self.old.kernel.stopped ≡ false }
+        requires can { CanLend self.old.kernel pid }
+        requires counts { IsSome (last_says (instructions_in pid) self.old.kernel.journal) }
+        requires fits { (count : ℕ) (before : List Line) → self.old.kernel.journal ≡ before ++ Ran pid count ∷ [] → count + more < 2 ^ 32 }
+        ensures step { self.new.kernel ≡ ran_by self.old.kernel pid regs.now (Ran pid more) }
+        ensures rest { self.new ≡ record self.old { kernel = self.new.kernel; room = None } }
+    {
+        self.room = None;
+        self.tables.set_regs(pid, regs);
+        joining::add_instructions(&mut self.journal, pid, more);
     }
 
     /// The step of an entry of a process, `Out`, `Grew`, `Call`, `Sleeps` or `Ended`, which leaves these registers and makes a

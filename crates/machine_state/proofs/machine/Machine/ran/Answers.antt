@@ -34,7 +34,7 @@ invariant_of-self c =
     let t : Tables = c.self.inside.tables in
     let now = stands_now c.self.inside c.args.self.now c.self.invariant c.self.view_is c.requires.running in
     record {
-      stands = regs_stand t c.set_regs.new.self c.args.pid c.args.regs.now c.set_regs.ensures c.self.inside.journal.items c.add_instruction.new.journal.items c.self.inside.stopped c.self.inside.stopped now.stands c.add_instruction.ensures refl
+      stands = regs_stand t c.set_regs.new.self c.args.pid c.args.regs.now c.set_regs.ensures c.self.inside.journal.items c.add_instruction.new.journal.items c.self.inside.stopped c.self.inside.stopped 1 now.stands c.add_instruction.ensures refl
           (joined_within (instructions_in c.args.pid) (λ (n : ℕ). entries.Ran c.args.pid n) (runs_kind c.args.pid) c.self.inside.journal.items c.add_instruction.new.journal.items t.params.journal c.add_instruction.ensures now.stands.within
           (λ h. (room_of c.self.inside c.args.pid now (ap (λ (s : Standing). s.room) c.self.view_is ∙ c.requires.room) h).0));
       none_lost = now.none_lost;
@@ -43,7 +43,7 @@ invariant_of-self c =
 
 pub returns-clause-step : goal.returns-clause-step
 returns-clause-step c =
-    regs_kernel c.self.inside.tables c.set_regs.new.self c.args.pid c.args.regs.now c.set_regs.ensures c.self.inside.journal.items c.add_instruction.new.journal.items c.self.inside.stopped c.self.inside.stopped c.add_instruction.ensures refl
+    regs_kernel c.self.inside.tables c.set_regs.new.self c.args.pid c.args.regs.now c.set_regs.ensures c.self.inside.journal.items c.add_instruction.new.journal.items c.self.inside.stopped c.self.inside.stopped 1 c.add_instruction.ensures refl
     ∙ ap (λ (s : Standing). ran_by s.kernel c.args.pid c.args.regs.now (entries.Ran c.args.pid 1)) c.self.view_is
 
 pub returns-clause-rest : goal.returns-clause-rest
@@ -52,7 +52,7 @@ returns-clause-rest c = regs_rest c.self.inside c.args.self.now c.set_regs.new.s
 pub returns-clause-keeps : goal.returns-clause-keeps
 returns-clause-keeps c images image flat coupled =
     let is : kernel_by c.set_regs.new.self c.add_instruction.new.journal.items c.self.inside.stopped ≡ ran_by c.args.self.now.kernel c.args.pid c.args.regs.now (entries.Ran c.args.pid 1) =
-    regs_kernel c.self.inside.tables c.set_regs.new.self c.args.pid c.args.regs.now c.set_regs.ensures c.self.inside.journal.items c.add_instruction.new.journal.items c.self.inside.stopped c.self.inside.stopped c.add_instruction.ensures refl
+    regs_kernel c.self.inside.tables c.set_regs.new.self c.args.pid c.args.regs.now c.set_regs.ensures c.self.inside.journal.items c.add_instruction.new.journal.items c.self.inside.stopped c.self.inside.stopped 1 c.add_instruction.ensures refl
     ∙ ap (λ (s : Standing). ran_by s.kernel c.args.pid c.args.regs.now (entries.Ran c.args.pid 1)) c.self.view_is in
     subst (λ (k : Kernel). Rattle.table_steps.specs.Conditions.ChangesFlat c.args.self.now.kernel k c.args.pid c.args.regs.now Rattle.flat_state.specs.declared.change.Change.TheVariants.Keep) (sym is)
     (ran_changes c.args.self.now.kernel c.args.pid c.args.regs.now c.requires.can) images image flat coupled
