@@ -14,3 +14,4 @@ pub mod Served
 pub mod Marks
 pub mod SoFar
 mod StopsSame
+pub mod Stretched

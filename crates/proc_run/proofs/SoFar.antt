@@ -1,5 +1,5 @@
 -- What a process has led to so far in a run, an attempt after another.
-use Rattle.std.proofs.Common.{◌≡◌, ℕ, ◌+◌, ◌<◌, ◌≤◌, Bool, true, false, not, List, [], ◌++◌, length, Option, Some, None, refl, sym, ap, ◌∙◌, subst, arith}
+use Rattle.std.proofs.Common.{◌≡◌, ℕ, zero, suc, ◌+◌, ◌<◌, ◌≤◌, Bool, true, false, not, List, [], ◌++◌, length, Option, Some, None, refl, sym, ap, ◌∙◌, subst, arith}
 use Rattle.std.proofs.lemmas.Bool.{and_parts}
 use Rattle.io_edge.specs.FileHolding.{NamedFile}
 use Rattle.vm_facts.specs.declared.entry.Entry.{Entry}
@@ -32,6 +32,8 @@ use Rattle.steady_laws.specs.Ready.{Continues}
 use Rattle.proc_run.specs.declared.advancing.Advance.TheVariants as advances
 use Rattle.proc_run.specs.Choosing.{holds_space, steps_by, may_run}
 use Rattle.proc_run.specs.Runs.{IsSteady, RunsAt, Advances, StopsAdvancing}
+use Rattle.flat_state.specs.Journal.{instructions_of}
+use Rattle.proc_run.specs.Stretch.{RanOne, RanOn}
 use Rattle.proc_run.specs.Running.{AsksRun, UnderMark, RunLeads, Runs, StopsRunning}
 use Rattle.proc_run.proofs.Marks.{runs, over_counted, over_idle}
 
@@ -228,3 +230,42 @@ lends_there m pid s r =
     holds_by (Some p) e t =
         let h = life_by p.life (and_parts (holds_space p.life) (not p.asleep) t).0 in
         (h.0, ap life_of_proc e ∙ h.1)
+
+-- Instructions that were counted one after another.
+
+pub ran_far : (n pid : ℕ) (old m new : Standing) (now : Bool) (counted until : ℕ) (holds : Option (List NamedFile)) (i j : Option (List ℕ)) (count : ℕ)
+    → LedSoFar old m pid now counted until holds i j count 0 → RanOn m pid n new → count + n ≤ until → LedSoFar old new pid now counted until holds i j (count + n) 0
+ran_far zero pid old m new now counted until holds i j count so_far h few =
+    let none : count ≡ count + 0 = omega arith in
+    subst (λ (k : ℕ). LedSoFar old new pid now counted until holds i j k 0) none
+    (subst (λ (x : Standing). LedSoFar old x pid now counted until holds i j count 0) (sym h) so_far)
+ran_far (suc n) pid old m new now counted until holds i j count so_far h few =
+    let mid : Standing = h.0 in
+    let one : RanOne mid pid new = h.2 in
+    let before : LedSoFar old mid pid now counted until holds i j (count + n) 0 = ran_far n pid old m mid now counted until holds i j count so_far h.1 (omega (arith, few)) in
+    let more : count + n + 1 ≡ count + suc n = omega arith in
+    subst (λ (k : ℕ). LedSoFar old new pid now counted until holds i j k 0) more
+    (counted_far old mid new pid now counted until holds i j j (count + n) 0 before (omega (arith, few)) one.can one.continues.params one.continues.images (one.advances now holds j))
+
+pub ran_steady : (n pid : ℕ) (old new : Standing) → IsSteady old → RanOn old pid n new → IsSteady new
+ran_steady zero pid old new s h = subst IsSteady (sym h) s
+ran_steady (suc n) pid old new s h = steady_on h.0 new 1 (ran_steady n pid old h.0 s h.1) h.2.continues h.2.holders
+
+-- the sizes and the images are the same, and so many more instructions are counted
+pub record SameBeside (old new : Standing) (n : ℕ) : Type 0 where
+  pub params : new.params ≡ old.params
+  pub images : new.images ≡ old.images
+  pub counted : instructions_of new.kernel.journal ≡ instructions_of old.kernel.journal + n
+
+pub ran_beside : (n pid : ℕ) (old new : Standing) → RanOn old pid n new → SameBeside old new n
+ran_beside zero pid old new h =
+    let none : instructions_of old.kernel.journal ≡ instructions_of old.kernel.journal + 0 = omega arith in
+    subst (λ (x : Standing). SameBeside old x 0) (sym h) (record { params = refl; images = refl; counted = none })
+ran_beside (suc n) pid old new h =
+    let before : SameBeside old h.0 n = ran_beside n pid old h.0 h.1 in
+    let one : RanOne h.0 pid new = h.2 in
+    record {
+      params = one.continues.params ∙ before.params;
+      images = one.continues.images ∙ before.images;
+      counted = omega (arith, one.continues.counted, before.counted);
+    }

@@ -3,3 +3,4 @@ pub mod Runs
 pub mod Calls
 pub mod Serving
 pub mod Running
+pub mod Stretch

@@ -24,8 +24,8 @@ fn counts(e: &Entry, of: u32) -> bool
     }
 }
 
-// Whether the last entry does.
-fn last_counts(journal: &[Entry], of: u32) -> bool
+/// Whether the last entry does.
+pub fn last_counts(journal: &[Entry], of: u32) -> bool
     ensures { result ≡ is_some (last_says (instructions_in of) journal.now) }
 {
     match journal.last() {

@@ -8,6 +8,7 @@ mod calling;
 mod choosing;
 mod running;
 mod serving;
+mod stretch;
 
 pub use advancing::Patience;
 pub use choosing::{can_step, next_turned, ready_regs};

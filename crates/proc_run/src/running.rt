@@ -9,6 +9,7 @@ ghost use Rattle.proc_run.specs.Running.{Runs, StopsRunning, CountsTo};
 
 use crate::advancing::{Advance, Patience, next_step};
 use crate::choosing::ready_regs;
+use crate::stretch::run_on;
 use io_edge::{Files, SwapDev};
 use machine_state::Machine;
 use std::alloc::Global;
@@ -49,6 +50,7 @@ pub fn run<F: Files, D: SwapDev>(
             Advance::Counted => {
                 count += 1;
                 waits = 0;
+                count += run_on(m, pid, until - count);
             }
             Advance::Served => waits += 1,
             Advance::Stuck => return Ok(count),

@@ -1,0 +1,359 @@
+-- Instructions that were carried out one after another within one loan, and counted at once, were counted one after another.
+use Rattle.std.proofs.Common.{◌≡◌, ◌≢◌, ℕ, ℤ, zero, suc, ◌+◌, ◌-◌, ◌/◌, ◌%◌, ◌==◌, Bool, true, false, cond, not, ◌&&◌, List, [], ◌∷◌, ◌++◌, map, Option, Some, None, Result, eq-eqb, refl, sym, ap, ◌∙◌, subst, arith}
+use Rattle.std.proofs.lemmas.Bool.{and_parts}
+use Rattle.vm_facts.specs.Answers.{Answers, ByteWrite, written}
+use Rattle.vm_facts.specs.declared.entry.Entry.{Entry}
+use Rattle.vm_facts.specs.declared.entry.Entry.TheVariants.{Ran}
+use Rattle.vm_facts.specs.declared.page.Page.{Page}
+use Rattle.vm_facts.specs.declared.page.PageState.{PageState}
+use Rattle.vm_facts.specs.declared.page.PageState.TheVariants.{Unfilled, Valid, Invalid, Coming, Going, OnSwap}
+use Rattle.vm_facts.specs.declared.page.Page.TheVariants as pages
+use Rattle.vm_facts.specs.declared.regs.Regs.{Regs}
+use Rattle.user_vax.specs.Program.{run}
+use Rattle.user_vax.specs.Effects.{Effect}
+use Rattle.user_vax.specs.Instruction.{instruction, answer_of, registers_after, writes_of}
+use Rattle.user_vax.specs.declared.refused.Refused.{Refused}
+use Rattle.user_vax.specs.declared.stepping.Stepped.TheVariants as steps
+use Rattle.flat_state.specs.Journal.{append}
+use Rattle.flat_state.specs.declared.spot.Spot.{Spot}
+use Rattle.flat_state.specs.declared.spot.Spot.TheVariants.{Text, Data, Stack, Below, Outside}
+use Rattle.page_model.specs.Pages.{numbered}
+use Rattle.page_model.specs.Placement.{Residence, state_of}
+use Rattle.page_model.specs.Swapper.{residence_of, is_out}
+use Rattle.kernel_model.specs.Kernel.{Kernel, Proc, with_regs}
+use Rattle.kernel_model.specs.ChangeStep.{ran_by, space_of_life}
+use Rattle.kernel_model.specs.Unit.{proc_of}
+use Rattle.kernel_laws.proofs.Flat.Numbered.{numbered_map, has_number}
+use Rattle.kernel_laws.proofs.PageLawsListsPages.{mapped}
+use Rattle.std.specs.Option.{is_some}
+use Rattle.machine_state.specs.Joined.{instructions_in, last_says}
+use Rattle.machine_state.specs.Machine.{Standing}
+use Rattle.machine_state.specs.UserMemory.{CanLend, Wrote, kernel_answers, spot_in, write_by_state, write_spot, write_in, writes_in, AreWritten}
+use Rattle.machine_state.specs.UserMemoryLaws.{writes_answer, writes_append}
+use Rattle.machine_state.proofs.Further.{more_at_last, some_last}
+use Rattle.machine_state.proofs.Joins.{last_is, runs_kind}
+use Rattle.steady_laws.specs.Callers.{space_held, regs_of, regs_by}
+use Rattle.steady_laws.proofs.Entries.{writes_continue}
+use Rattle.steady_laws.proofs.Standing.{life_at}
+use Rattle.steady_laws.proofs.Tables.{regs_lives}
+use Rattle.proc_run.specs.declared.advancing.Advance.TheVariants as advances
+use Rattle.proc_run.specs.Calls.{own_answers}
+use Rattle.proc_run.specs.Choosing.{can_step, steps_by, may_run}
+use Rattle.proc_run.specs.Runs.{IsSteady}
+use Rattle.proc_run.specs.Stretch.{GoesOn, Stretch, StretchOf, RanOne, RanOn}
+use Rattle.touched_pages.proofs.RunUnitsCalling.{calls_write_none}
+use Rattle.proc_run.proofs.Attempts.{no_room, ready_of, called}
+use Rattle.proc_run.proofs.SoFar.{steady_on}
+use Rattle.proc_run.proofs.Tried.{ran_advances, ran_goes_on, ran_holders}
+use Rattle.proc_run.proofs.Written.{writes_same, writes_lend}
+
+-- What an instruction writes may be written before or after it is counted.
+
+byte_apart : (k : Kernel) (pid : ℕ) (regs : Regs) (e : Entry) (q : Page) (s : PageState) (at byte : ℕ)
+    → write_by_state (ran_by k pid regs e) q s at byte ≡ ran_by (write_by_state k q s at byte) pid regs e
+byte_apart k pid regs e q (Valid f) at byte = refl
+byte_apart k pid regs e q Unfilled at byte = refl
+byte_apart k pid regs e q (Invalid f) at byte = refl
+byte_apart k pid regs e q (Coming f) at byte = refl
+byte_apart k pid regs e q (Going f) at byte = refl
+byte_apart k pid regs e q OnSwap at byte = refl
+
+spot_apart : (k : Kernel) (pid : ℕ) (regs : Regs) (e : Entry) (sid : ℕ) (spot : Spot) (byte : ℕ)
+    → write_spot (ran_by k pid regs e) sid spot byte ≡ ran_by (write_spot k sid spot byte) pid regs e
+spot_apart k pid regs e sid (Text i) byte = refl
+spot_apart k pid regs e sid (Data i) byte = byte_apart k pid regs e (pages.Data sid (i / 1024)) (state_of k.place (pages.Data sid (i / 1024))) (i % 1024) byte
+spot_apart k pid regs e sid (Stack i) byte = byte_apart k pid regs e (pages.Stack sid (i / 1024)) (state_of k.place (pages.Stack sid (i / 1024))) (i % 1024) byte
+spot_apart k pid regs e sid Below byte = refl
+spot_apart k pid regs e sid Outside byte = refl
+
+one_apart : (k : Kernel) (pid : ℕ) (regs : Regs) (e : Entry) (sid : ℕ) (w : ByteWrite)
+    → write_in (ran_by k pid regs e) sid w ≡ ran_by (write_in k sid w) pid regs e
+one_apart k pid regs e sid w = spot_apart k pid regs e sid (spot_in k.place sid w.address) w.byte
+
+writes_apart : (k : Kernel) (pid : ℕ) (regs : Regs) (e : Entry) (sid : ℕ) (ws : List ByteWrite)
+    → writes_in (ran_by k pid regs e) sid ws ≡ ran_by (writes_in k sid ws) pid regs e
+writes_apart k pid regs e sid [] = refl
+writes_apart k pid regs e sid (w ∷ ws) = ap (λ (l : Kernel). writes_in l sid ws) (one_apart k pid regs e sid w) ∙ writes_apart (write_in k sid w) pid regs e sid ws
+
+written_apart : (k : Kernel) (pid : ℕ) (regs : Regs) (e : Entry) (sid : ℕ) (ws : List ByteWrite) → AreWritten k sid ws → AreWritten (ran_by k pid regs e) sid ws
+written_apart k pid regs e sid [] h = tt
+written_apart k pid regs e sid (w ∷ ws) h = (
+  record { may = h.0.may; owner = h.0.owner; whole = h.0.whole },
+  subst (λ (l : Kernel). AreWritten l sid ws) (sym (one_apart k pid regs e sid w)) (written_apart (write_in k sid w) pid regs e sid ws h.1),
+)
+
+written_split : (k : Kernel) (sid : ℕ) (xs ys : List ByteWrite) → AreWritten k sid (xs ++ ys) → AreWritten k sid xs × AreWritten (writes_in k sid xs) sid ys
+written_split k sid [] ys h = (tt, h)
+written_split k sid (x ∷ xs) ys h = let r = written_split (write_in k sid x) sid xs ys h.1 in ((h.0, r.0), r.1)
+
+-- Registers that are put twice are those that were put last.
+
+twice_one : (pid : ℕ) (r s : Regs) (p : Proc) (b : Bool) → (p.pid == pid) ≡ b
+    → with_regs pid s (cond b (record p { regs = r }) p) ≡ cond b (record p { regs = s }) p
+twice_one pid r s p true e = ap (λ (t : Bool). cond t (record p { regs = s }) (record p { regs = r })) e
+twice_one pid r s p false e = ap (λ (t : Bool). cond t (record p { regs = s }) p) e
+
+twice : (pid : ℕ) (r s : Regs) (ps : List Proc) → map (with_regs pid s) (map (with_regs pid r) ps) ≡ map (with_regs pid s) ps
+twice pid r s [] = refl
+twice pid r s (p ∷ ps) =
+    ap (λ (q : Proc). q ∷ map (with_regs pid s) (map (with_regs pid r) ps)) (twice_one pid r s p (p.pid == pid) refl)
+    ∙ ap (λ (qs : List Proc). with_regs pid s p ∷ qs) (twice pid r s ps)
+
+-- so are instructions that are counted in the last entry
+counted_twice : (k : Kernel) (pid : ℕ) (r s : Regs) (front : List Entry) (last n : ℕ) → k.journal ≡ front ++ Ran pid last ∷ []
+    → ran_by (ran_by k pid r (Ran pid n)) pid s (Ran pid 1) ≡ ran_by k pid s (Ran pid (suc n))
+counted_twice k pid r s front last n ends =
+    let once : append k.journal (Ran pid n) ≡ front ++ Ran pid (last + n) ∷ [] = ap (λ (es : List Entry). append es (Ran pid n)) ends ∙ more_at_last front pid last n in
+    let more : append k.journal (Ran pid (suc n)) ≡ front ++ Ran pid (last + suc n) ∷ [] = ap (λ (es : List Entry). append es (Ran pid (suc n))) ends ∙ more_at_last front pid last (suc n) in
+    let sum : last + n + 1 ≡ last + suc n = omega arith in
+    let journal : append (append k.journal (Ran pid n)) (Ran pid 1) ≡ append k.journal (Ran pid (suc n)) =
+    ap (λ (es : List Entry). append es (Ran pid 1)) once ∙ more_at_last front pid (last + n) 1 ∙ ap (λ (m : ℕ). front ++ Ran pid m ∷ []) sum ∙ sym more in
+    ap (λ (ps : List Proc). let x : Kernel = record k { processes = ps; journal = append (append k.journal (Ran pid n)) (Ran pid 1) } in x) (twice pid r s k.processes)
+    ∙ ap (λ (es : List Entry). let x : Kernel = record k { processes = map (with_regs pid s) k.processes; journal = es } in x) journal
+
+-- The process runs on.
+
+steps_still : (pid : ℕ) (regs : Regs) (p : Proc) (b : Bool) → can_step (cond b (record p { regs = regs }) p) ≡ can_step p
+steps_still pid regs p true = refl
+steps_still pid regs p false = refl
+
+steps_mapped : (pid : ℕ) (regs : Regs) (o : Option Proc) → steps_by (mapped (with_regs pid regs) o) ≡ steps_by o
+steps_mapped pid regs None = refl
+steps_mapped pid regs (Some p) = steps_still pid regs p (p.pid == pid)
+
+number_still : (pid : ℕ) (regs : Regs) (p : Proc) → (with_regs pid regs p).pid ≡ p.pid
+number_still pid regs p = go (p.pid == pid)
+  where
+    go : (b : Bool) → (cond b (record p { regs = regs }) p).pid ≡ p.pid
+    go true = refl
+    go false = refl
+
+at_pid : List Proc → ℕ → Option Proc
+at_pid ps pid = numbered (λ (p : Proc). p.pid) pid ps
+
+put_at : (pid : ℕ) (regs : Regs) (ps : List Proc) → at_pid (map (with_regs pid regs) ps) pid ≡ mapped (with_regs pid regs) (at_pid ps pid)
+unfolding at_pid
+put_at pid regs ps = numbered_map (λ (p : Proc). p.pid) (with_regs pid regs) (number_still pid regs) pid ps
+
+regs_put : (pid : ℕ) (regs : Regs) (ps : List Proc) → steps_by (at_pid ps pid) ≡ true → regs ≡ regs_by (mapped (with_regs pid regs) (at_pid ps pid))
+unfolding at_pid
+regs_put pid regs ps there = go (at_pid ps pid) refl there
+  where
+    one : (p : Proc) (b : Bool) → b ≡ true → regs ≡ (cond b (record p { regs = regs }) p).regs
+    one p true e = refl
+    one p false e = absurd cc
+
+    go : (o : Option Proc) → at_pid ps pid ≡ o → steps_by o ≡ true → regs ≡ regs_by (mapped (with_regs pid regs) o)
+    go None e t = absurd cc
+    go (Some p) e t = one p (p.pid == pid) (eq-eqb p.pid pid (has_number (λ (q : Proc). q.pid) pid ps p e))
+
+module _ (old : Standing) (pid : ℕ) (regs : Regs) (steady : IsSteady old) (can : may_run old.kernel pid ≡ true) (has : regs ≡ regs_of old.kernel pid)
+    (front : List Entry) (last : ℕ) (ends : old.kernel.journal ≡ front ++ Ran pid last ∷ []) where
+  abbrev sid : ℕ
+  sid = space_held old.kernel pid
+
+  abbrev after_writes : List ByteWrite → Kernel
+  after_writes ws = writes_in old.kernel sid ws
+
+  -- the machine after so many instructions, which wrote these bytes and left these registers
+  abbrev at : ℕ → List ByteWrite → Regs → Standing
+  at zero ws after = record old { kernel = after_writes ws }
+  at (suc n) ws after = record old { kernel = ran_by (after_writes ws) pid after (Ran pid (suc n)); room = None }
+
+  -- the registers are the first ones, where there was no instruction
+  abbrev IsAt : ℕ → Regs → Type 0
+  IsAt zero mid = mid ≡ regs
+  IsAt (suc n) mid = Unit {0}
+
+  same : (ws : List ByteWrite) → Rattle.proc_run.proofs.Written.SameTables old.kernel (after_writes ws)
+  same ws = writes_same ws old.kernel sid
+
+  steps_old : steps_by (proc_of old.kernel pid) ≡ true
+  steps_old = (and_parts (steps_by (proc_of old.kernel pid)) (not (is_out old.kernel.place pid)) can).0
+
+  steps_written : (ws : List ByteWrite) → steps_by (proc_of (after_writes ws) pid) ≡ true
+  steps_written ws = ap (λ (ps : List Proc). steps_by (numbered (λ (p : Proc). p.pid) pid ps)) (same ws).processes ∙ steps_old
+
+  in_still : (ws : List ByteWrite) → not (is_out (after_writes ws).place pid) ≡ true
+  in_still ws =
+      ap (λ (rs : List Residence). not (residence_of rs pid).out) (same ws).residents
+      ∙ (and_parts (steps_by (proc_of old.kernel pid)) (not (is_out old.kernel.place pid)) can).1
+
+  both : (a b : Bool) → a ≡ true → b ≡ true → (a && b) ≡ true
+  both true b e f = f
+  both false b e f = absurd cc
+
+  can_at : (n : ℕ) (ws : List ByteWrite) (mid : Regs) → may_run (at n ws mid).kernel pid ≡ true
+  can_at zero ws mid = both (steps_by (proc_of (after_writes ws) pid)) (not (is_out (after_writes ws).place pid)) (steps_written ws) (in_still ws)
+  can_at (suc n) ws mid =
+      both (steps_by (proc_of (at (suc n) ws mid).kernel pid)) (not (is_out (after_writes ws).place pid))
+      (ap steps_by (numbered_map (λ (p : Proc). p.pid) (with_regs pid mid) (number_still pid mid) pid (after_writes ws).processes)
+      ∙ steps_mapped pid mid (proc_of (after_writes ws) pid) ∙ steps_written ws)
+      (in_still ws)
+
+  has_at : (n : ℕ) (ws : List ByteWrite) (mid : Regs) → IsAt n mid → mid ≡ regs_of (at n ws mid).kernel pid
+  unfolding at_pid
+  has_at zero ws mid e = e ∙ has ∙ sym (ap (λ (ps : List Proc). regs_by (numbered (λ (p : Proc). p.pid) pid ps)) (same ws).processes)
+  has_at (suc n) ws mid e =
+      regs_put pid mid (after_writes ws).processes (steps_written ws)
+      ∙ sym (ap regs_by (numbered_map (λ (p : Proc). p.pid) (with_regs pid mid) (number_still pid mid) pid (after_writes ws).processes))
+
+  space_at : (n : ℕ) (ws : List ByteWrite) (mid : Regs) → space_held (at n ws mid).kernel pid ≡ sid
+  space_at zero ws mid = ap (λ (ps : List Proc). space_of_life (life_at ps pid)) (same ws).processes
+  space_at (suc n) ws mid =
+      ap space_of_life (regs_lives pid mid (after_writes ws).processes pid)
+      ∙ ap (λ (ps : List Proc). space_of_life (life_at ps pid)) (same ws).processes
+
+  answers_at : (n : ℕ) (ws : List ByteWrite) (mid : Regs) → AreWritten old.kernel sid ws
+      → own_answers (at n ws mid) pid ≡ written (kernel_answers old.kernel sid) ws
+  answers_at n ws mid each = ap (kernel_answers (at n ws mid).kernel) (space_at n ws mid) ∙ go n ∙ writes_answer old.kernel sid ws each
+    where
+      go : (n : ℕ) → kernel_answers (at n ws mid).kernel sid ≡ kernel_answers (after_writes ws) sid
+      go zero = refl
+      go (suc n) = refl
+
+  written_at : (n : ℕ) (ws vs : List ByteWrite) (mid : Regs) → AreWritten (after_writes ws) sid vs → AreWritten (at n ws mid).kernel sid vs
+  written_at zero ws vs mid h = h
+  written_at (suc n) ws vs mid h = written_apart (after_writes ws) pid mid (Ran pid (suc n)) sid vs h
+
+  -- one more is counted by its own unit
+  step_at : (n : ℕ) (ws vs : List ByteWrite) (mid after : Regs)
+      → (at (suc n) (ws ++ vs) after).kernel ≡ ran_by (writes_in (at n ws mid).kernel sid vs) pid after (Ran pid 1)
+  step_at zero ws vs mid after = ap (λ (k : Kernel). ran_by k pid after (Ran pid 1)) (writes_append old.kernel sid ws vs)
+  step_at (suc n) ws vs mid after =
+      let k : Kernel = writes_in (after_writes ws) sid vs in
+      let journal : k.journal ≡ front ++ Ran pid last ∷ [] = (writes_same vs (after_writes ws) sid).journal ∙ (same ws).journal ∙ ends in
+      ap (λ (l : Kernel). ran_by l pid after (Ran pid (suc (suc n)))) (writes_append old.kernel sid ws vs)
+      ∙ sym (counted_twice k pid mid after front last (suc n) journal)
+      ∙ sym (ap (λ (l : Kernel). ran_by l pid after (Ran pid 1)) (writes_apart (after_writes ws) pid mid (Ran pid (suc n)) sid vs))
+
+  rest_at : (n : ℕ) (ws vs : List ByteWrite) (mid after : Regs)
+      → at (suc n) (ws ++ vs) after ≡ record (at n ws mid) { kernel = (at (suc n) (ws ++ vs) after).kernel; room = None }
+  rest_at zero ws vs mid after = refl
+  rest_at (suc n) ws vs mid after = refl
+
+  -- the machine after an instruction more
+  module _ (n : ℕ) (ws : List ByteWrite) (mid after : Regs) (is : IsAt n mid) (ready : IsSteady (at n ws mid)) (each : AreWritten old.kernel sid ws)
+      (goes : GoesOn (written (kernel_answers old.kernel sid) ws) mid after)
+      (more : AreWritten (after_writes ws) sid (writes_of (run (written (kernel_answers old.kernel sid) ws) (instruction mid)))) where
+    abbrev outcome : Result Effect Refused
+    outcome = run (written (kernel_answers old.kernel sid) ws) (instruction mid)
+
+    abbrev own : Result Effect Refused
+    own = run (own_answers (at n ws mid) pid) (instruction mid)
+
+    abbrev own_sid : ℕ
+    own_sid = space_held (at n ws mid).kernel pid
+
+    own_is : own ≡ outcome
+    own_is = ap (λ (m : Answers). run m (instruction mid)) (answers_at n ws mid each)
+
+    abbrev wrote_own : Standing
+    wrote_own = record (at n ws mid) { kernel = writes_in (at n ws mid).kernel own_sid (writes_of own) }
+
+    own_written : AreWritten (at n ws mid).kernel own_sid (writes_of own)
+    own_written =
+        subst (λ (x : ℕ). AreWritten (at n ws mid).kernel x (writes_of own)) (sym (space_at n ws mid))
+        (subst (λ (r : Result Effect Refused). AreWritten (at n ws mid).kernel sid (writes_of r)) (sym own_is) (written_at n ws (writes_of outcome) mid more))
+
+    wrote : Wrote (at n ws mid) own_sid (writes_of own) wrote_own
+    wrote = record { machine = refl; each = own_written }
+
+    abbrev next : Standing
+    next = at (suc n) (ws ++ writes_of outcome) after
+
+    step : next.kernel ≡ ran_by wrote_own.kernel pid after (Ran pid 1)
+    step =
+        step_at n ws (writes_of outcome) mid after
+        ∙ ap (λ (r : Result Effect Refused). ran_by (writes_in (at n ws mid).kernel sid (writes_of r)) pid after (Ran pid 1)) (sym own_is)
+        ∙ ap (λ (x : ℕ). ran_by (writes_in (at n ws mid).kernel x (writes_of own)) pid after (Ran pid 1)) (sym (space_at n ws mid))
+
+    done : answer_of own ≡ steps.Done
+    done = ap answer_of own_is ∙ goes.done
+
+    left : after ≡ registers_after mid own
+    left = goes.left ∙ ap (registers_after mid) (sym own_is)
+
+    one_more : RanOne (at n ws mid) pid next
+    one_more = record {
+      can = can_at n ws mid;
+      advances = λ now holds i. ran_advances (at n ws mid) (at n ws mid) wrote_own pid mid (no_room (at n ws mid)) wrote ready done next after left step now holds i (has_at n ws mid is);
+      continues = ran_goes_on (at n ws mid) (at n ws mid) wrote_own pid mid (no_room (at n ws mid)) wrote ready done next after left step (rest_at n ws (writes_of outcome) mid after);
+      holders = ran_holders (at n ws mid) (at n ws mid) wrote_own pid mid (no_room (at n ws mid)) wrote ready done next after left step;
+    }
+
+    steady_next : IsSteady next
+    steady_next = steady_on (at n ws mid) next 1 ready one_more.continues one_more.holders
+
+  -- what holds after so many
+  record Reached (n : ℕ) (ws : List ByteWrite) (after : Regs) : Type 0 where
+    still : IsSteady (at n ws after)
+    ran : RanOn old pid n (at n ws after)
+    is : IsAt n after
+
+  reached : (n : ℕ) (ws : List ByteWrite) (after : Regs) → Stretch (kernel_answers old.kernel sid) regs n ws after → AreWritten old.kernel sid ws → Reached n ws after
+  reached zero ws after h each =
+      let e : ws ≡ [] = h.0 in
+      let back : at zero ws after ≡ old = ap (λ (vs : List ByteWrite). at zero vs after) e in
+      record { still = subst IsSteady (sym back) steady; ran = back; is = h.1 }
+  reached (suc n) ws after h each =
+      let earlier : List ByteWrite = h.0 in
+      let mid : Regs = h.1 in
+      let vs : List ByteWrite = writes_of (run (written (kernel_answers old.kernel sid) earlier) (instruction mid)) in
+      let split = written_split old.kernel sid earlier vs (subst (AreWritten old.kernel sid) h.4 each) in
+      let before : Reached n earlier mid = reached n earlier mid h.2 split.0 in
+      let one : RanOne (at n earlier mid) pid (at (suc n) (earlier ++ vs) after) = one_more n earlier mid after before.is before.still split.0 h.3 split.1 in
+      subst (λ (us : List ByteWrite). Reached (suc n) us after) (sym h.4)
+      (record {
+        still = steady_next n earlier mid after before.is before.still split.0 h.3 split.1;
+        ran = (at n earlier mid, before.ran, one);
+        is = tt;
+      })
+
+  -- so it is with the machine that counted them at once
+  pub ran_all : (n : ℕ) (ws : List ByteWrite) (after : Regs) (new : Standing) → n ≢ 0 → Stretch (kernel_answers old.kernel sid) regs n ws after → AreWritten old.kernel sid ws
+      → new ≡ (let m : Standing = record old { kernel = ran_by (after_writes ws) pid after (Ran pid n); room = None } in m) → RanOn old pid n new
+  ran_all zero ws after new d h each e = absurd (d refl)
+  ran_all (suc n) ws after new d h each e = subst (RanOn old pid (suc n)) (sym e) (reached (suc n) ws after h each).ran
+
+-- What a stretch leaves.
+
+-- none leaves the machine as it was
+pub none_ran : (old new : Standing) (sid : ℕ) (memory : Answers) (regs after : Regs) (n : ℕ) → n ≡ 0
+    → StretchOf memory regs n after (λ (ws : List ByteWrite). Wrote old sid ws new) → new ≡ old
+none_ran old new sid memory regs after zero e h = h.2.machine ∙ ap (λ (ws : List ByteWrite). let m : Standing = record old { kernel = writes_in old.kernel sid ws } in m) h.1.0
+none_ran old new sid memory regs after (suc n) e h = absurd (omega (arith, e))
+
+module _ (old new : Standing) (pid : ℕ) (ws : List ByteWrite) (w : Wrote old (space_held old.kernel pid) ws new) where
+  pub wrote_running : IsSteady old → new.kernel.stopped ≡ false
+  wrote_running s = (writes_continue old new (space_held old.kernel pid) ws (ready_of old s) w.machine).running
+
+  pub wrote_lends : CanLend old.kernel pid → CanLend new.kernel pid
+  wrote_lends c = subst (λ (m : Standing). CanLend m.kernel pid) (sym w.machine) (writes_lend old.kernel (space_held old.kernel pid) pid ws c)
+
+  pub wrote_journal : new.kernel.journal ≡ old.kernel.journal
+  wrote_journal = ap (λ (m : Standing). m.kernel.journal) w.machine ∙ (writes_same ws old.kernel (space_held old.kernel pid)).journal
+
+-- the last entry counts instructions of the process
+pub ends_counted : (journal : List Entry) (pid : ℕ) → is_some (last_says (instructions_in pid) journal) ≡ true
+    → (front : List Entry) × (last : ℕ) × (journal ≡ front ++ Ran pid last ∷ [])
+ends_counted journal pid h =
+    let s = some_last (last_says (instructions_in pid) journal) h in
+    let l = last_is (instructions_in pid) (λ (n : ℕ). Ran pid n) (runs_kind pid) journal s.0 s.1 in
+    (l.0, s.0, l.1)
+
+-- the machine that counted them at once
+pub at_once : (old mid new : Standing) (pid n : ℕ) (ws : List ByteWrite) (after : Regs)
+    → Wrote old (space_held old.kernel pid) ws mid → new.kernel ≡ ran_by mid.kernel pid after (Ran pid n)
+    → new ≡ record mid { kernel = new.kernel; room = None }
+    → new ≡ (let m : Standing = record old { kernel = ran_by (writes_in old.kernel (space_held old.kernel pid) ws) pid after (Ran pid n); room = None } in m)
+at_once old mid new pid n ws after w step rest =
+    rest ∙ ap (λ (k : Kernel). let m : Standing = record mid { kernel = k; room = None } in m) step
+    ∙ ap (λ (x : Standing). let m : Standing = record x { kernel = ran_by x.kernel pid after (Ran pid n); room = None } in m) w.machine
+
+-- an instruction that makes a call writes nothing
+pub call_unwritten : (memory : Answers) (before : Regs) (number : ℤ) → answer_of (run memory (instruction before)) ≡ steps.Call number
+    → writes_of (run memory (instruction before)) ≡ []
+call_unwritten memory before number a =
+    let c = called (run memory (instruction before)) number a in
+    ap writes_of c.1 ∙ calls_write_none memory before c.0 number c.1 c.2

@@ -1,0 +1,48 @@
+use Rattle.std.proofs.Common.{◌≡◌, true, List, sym, ap, ◌∙◌, arith}
+use Rattle.std.specs.Option.{is_some}
+use Rattle.vm_facts.specs.declared.entry.Entry.{Entry}
+use Rattle.machine_state.specs.Joined.{instructions_in, last_says}
+use Rattle.steady_laws.proofs.Journals.{last_counts_few}
+use Rattle.steady_laws.specs.Callers.{space_held}
+use Rattle.proc_run.proofs.SoFar.{lends_there}
+use Rattle.proc_run.proofs.Stretched.{none_ran, wrote_running, wrote_lends, wrote_journal, ends_counted, ran_all, at_once}
+use Rattle.proc_run.proofs.stretch.run_on.Goals as goal
+
+pub carry_on-count-requires-clause-lends : goal.carry_on-count-requires-clause-lends
+carry_on-count-requires-clause-lends c = lends_there c.args.m.now c.args.pid c.requires.steady c.in-Some.ensures.ready
+
+pub ran_on-requires-clause-running : goal.ran_on-requires-clause-running
+ran_on-requires-clause-running c = wrote_running c.args.m.now c.carry_on-count.new.m c.args.pid c.carry_on-count.ensures.carried.0 c.carry_on-count.ensures.carried.2 c.requires.steady
+
+pub ran_on-requires-clause-can : goal.ran_on-requires-clause-can
+ran_on-requires-clause-can c =
+    wrote_lends c.args.m.now c.carry_on-count.new.m c.args.pid c.carry_on-count.ensures.carried.0 c.carry_on-count.ensures.carried.2
+    (lends_there c.args.m.now c.args.pid c.requires.steady c.in-Some.ensures.ready)
+
+pub ran_on-requires-clause-counts : goal.ran_on-requires-clause-counts
+ran_on-requires-clause-counts c =
+    let same = wrote_journal c.args.m.now c.carry_on-count.new.m c.args.pid c.carry_on-count.ensures.carried.0 c.carry_on-count.ensures.carried.2 in
+    ap (λ (es : List Entry). is_some (last_says (instructions_in c.args.pid) es)) (same ∙ sym c.journal.ensures) ∙ sym c.last_counts.ensures ∙ c.if-not-last_counts.false
+
+pub ran_on-requires-clause-fits : goal.ran_on-requires-clause-fits
+ran_on-requires-clause-fits c = λ count before h.
+    let same = wrote_journal c.args.m.now c.carry_on-count.new.m c.args.pid c.carry_on-count.ensures.carried.0 c.carry_on-count.ensures.carried.2 in
+    let last = last_counts_few c.args.m.now.kernel.journal before c.args.pid count (sym same ∙ h) in
+    let room = c.requires.fits in
+    let few = c.carry_on-count.ensures.few in
+    omega (arith, last, room, few)
+
+pub returns-then-count-eq0-clause-ran : goal.returns-then-count-eq0-clause-ran
+returns-then-count-eq0-clause-ran c =
+    none_ran c.args.m.now c.carry_on-count.new.m (space_held c.args.m.now.kernel c.args.pid)
+    _ c.in-Some.regs c.carry_on-count.new.regs c.carry_on-count.result c.if-count-eq0.true c.carry_on-count.ensures.carried
+
+pub returns-clause-ran : goal.returns-clause-ran
+returns-clause-ran c =
+    let counted : is_some (last_says (instructions_in c.args.pid) c.args.m.now.kernel.journal) ≡ true =
+    ap (λ (es : List Entry). is_some (last_says (instructions_in c.args.pid) es)) (sym c.journal.ensures) ∙ sym c.last_counts.ensures ∙ c.if-not-last_counts.false in
+    let ends = ends_counted c.args.m.now.kernel.journal c.args.pid counted in
+    let did = c.carry_on-count.ensures.carried in
+    ran_all c.args.m.now c.args.pid c.in-Some.regs c.requires.steady c.in-Some.ensures.ready c.in-Some.ensures.registers ends.0 ends.1 ends.2
+    c.carry_on-count.result did.0 c.carry_on-count.new.regs c.ran_on.new.self c.if-count-eq0.false did.1 did.2.each
+    (at_once c.args.m.now c.carry_on-count.new.m c.ran_on.new.self c.args.pid c.carry_on-count.result did.0 c.carry_on-count.new.regs did.2 c.ran_on.ensures.step c.ran_on.ensures.rest)
