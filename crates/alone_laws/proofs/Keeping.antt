@@ -13,17 +13,17 @@ use Rattle.flat_state.specs.Change.{replaced_by, replaced, with_process, without
 use Rattle.flat_model.specs.Step.{Step, step_holding, step_if, flat_step}
 use Rattle.run_laws.proofs.Forms.{Form, Missed, Came, step_form}
 use Rattle.run_laws.proofs.Others.{number_of_found}
-use Rattle.alone_laws.specs.Alone.{Own}
+use Rattle.alone_laws.specs.Alone.{Belongings}
 
 -- the process is among these, awake, and has this
-pub record Kept (qs : List Process) (pid : ℕ) (o : Own) : Type 0 where
+pub record Kept (qs : List Process) (pid : ℕ) (o : Belongings) : Type 0 where
   pub process : Process
   pub here : find (λ q. q.pid == pid) qs ≡ Some process
   pub holds : process.holding ≡ Holds o.space
   pub regs : process.regs ≡ o.regs
   pub woke : process.asleep ≡ false
 
-with_found : (qs rs : List Process) (pid : ℕ) (o : Own) (k : Kept qs pid o) → find (λ q. q.pid == pid) rs ≡ Some k.process → Kept rs pid o
+with_found : (qs rs : List Process) (pid : ℕ) (o : Belongings) (k : Kept qs pid o) → find (λ q. q.pid == pid) rs ≡ Some k.process → Kept rs pid o
 with_found qs rs pid o k e = record { process = k.process; here = e; holds = k.holds; regs = k.regs; woke = k.woke }
 
 -- ---- lists
@@ -107,13 +107,13 @@ find_front (x ∷ xs) p q pid e = go (x.pid == pid) e (λ k. find_front xs p q p
     go true k more = k
     go false k more = more k
 
-kept_replaced : (qs : List Process) (p : Process) (pid : ℕ) (o : Own) → p.pid ≢ pid → Kept qs pid o → Kept (replaced qs p) pid o
+kept_replaced : (qs : List Process) (p : Process) (pid : ℕ) (o : Belongings) → p.pid ≢ pid → Kept qs pid o → Kept (replaced qs p) pid o
 kept_replaced qs p pid o other k = with_found qs (replaced qs p) pid o k (find_replaced qs p k.process pid other k.here)
 
-kept_returned : (of : ℕ) (s : Space) (qs : List Process) (pid : ℕ) (o : Own) → Kept qs pid o → Kept (returned of s qs) pid o
+kept_returned : (of : ℕ) (s : Space) (qs : List Process) (pid : ℕ) (o : Belongings) → Kept qs pid o → Kept (returned of s qs) pid o
 kept_returned of s qs pid o k = with_found qs (returned of s qs) pid o k (find_returned of s o.space qs k.process pid k.holds k.here)
 
-kept_without : (of : ℕ) (qs : List Process) (pid : ℕ) (o : Own) → of ≢ pid → Kept qs pid o → Kept (filter (λ q. not (q.pid == of)) qs) pid o
+kept_without : (of : ℕ) (qs : List Process) (pid : ℕ) (o : Belongings) → of ≢ pid → Kept qs pid o → Kept (filter (λ q. not (q.pid == of)) qs) pid o
 kept_without of qs pid o other k =
     let q : Process = k.process in
     with_found qs (filter (λ x. not (x.pid == of)) qs) pid o k (find_filtered (λ x. not (x.pid == of)) qs k.process pid (go (q.pid == of) refl) k.here)
@@ -122,7 +122,7 @@ kept_without of qs pid o other k =
     go true e = absurd (other (sym (eqb-true (let q : Process = k.process in q.pid) of e) ∙ number_of_found qs pid k.process k.here))
     go false e = refl
 
-kept_living : (of : ℕ) (qs : List Process) (pid : ℕ) (o : Own) → Kept qs pid o → Kept (filter (λ q. not (is_zombie_child of q)) qs) pid o
+kept_living : (of : ℕ) (qs : List Process) (pid : ℕ) (o : Belongings) → Kept qs pid o → Kept (filter (λ q. not (is_zombie_child of q)) qs) pid o
 kept_living of qs pid o k =
     with_found qs (filter (λ x. not (is_zombie_child of x)) qs) pid o k
     (find_filtered (λ x. not (is_zombie_child of x)) qs k.process pid
@@ -132,7 +132,7 @@ kept_living of qs pid o k =
     go true = refl
     go false = refl
 
-kept_orphans : (of : ℕ) (qs : List Process) (pid : ℕ) (o : Own) → Kept qs pid o → Kept (map (without_parent of) qs) pid o
+kept_orphans : (of : ℕ) (qs : List Process) (pid : ℕ) (o : Belongings) → Kept qs pid o → Kept (map (without_parent of) qs) pid o
 kept_orphans of qs pid o k = record {
   process = without_parent of k.process;
   here = find_mapped (without_parent of) qs k.process pid (λ x. refl) k.here;
@@ -141,7 +141,7 @@ kept_orphans of qs pid o k = record {
   woke = k.woke;
 }
 
-kept_woken : (of : ℕ) (qs : List Process) (pid : ℕ) (o : Own) → Kept qs pid o → Kept (map (awake of) qs) pid o
+kept_woken : (of : ℕ) (qs : List Process) (pid : ℕ) (o : Belongings) → Kept qs pid o → Kept (map (awake of) qs) pid o
 kept_woken of qs pid o k = record {
   process = awake of k.process;
   here = find_mapped (awake of) qs k.process pid (λ x. refl) k.here;
@@ -154,30 +154,31 @@ kept_woken of qs pid o k = record {
     go true = refl
     go false = k.woke
 
-kept_front : (qs : List Process) (p : Process) (pid : ℕ) (o : Own) → Kept qs pid o → Kept (qs ++ p ∷ []) pid o
+kept_front : (qs : List Process) (p : Process) (pid : ℕ) (o : Belongings) → Kept qs pid o → Kept (qs ++ p ∷ []) pid o
 kept_front qs p pid o k = with_found qs (qs ++ p ∷ []) pid o k (find_front qs p k.process pid k.here)
 
 -- ---- changes
 
-left_kept : (b : Bool) (F : FlatState) (of parent pid : ℕ) (o : Own) → of ≢ pid → Kept F.processes pid o → Kept (left b F of parent).processes pid o
+left_kept : (b : Bool) (F : FlatState) (of parent pid : ℕ) (o : Belongings) → of ≢ pid → Kept F.processes pid o → Kept (left b F of parent).processes pid o
 left_kept true F of parent pid o other k = kept_without of F.processes pid o other k
 left_kept false F of parent pid o other k = kept_woken parent F.processes pid o k
 
-zombie_apart : (F : FlatState) (child pid : ℕ) (o : Own) → NamesChild F (Reap child) → Kept F.processes pid o → child ≢ pid
+zombie_apart : (F : FlatState) (child pid : ℕ) (o : Belongings) → NamesChild F (Reap child) → Kept F.processes pid o → child ≢ pid
 zombie_apart F child pid o may k = λ same.
     let one : Some may.0 ≡ Some k.process = sym may.2 ∙ ap (λ (n : ℕ). process_of F n) same ∙ k.here in
     let it : may.0 ≡ k.process = same_Some may.0 k.process one in
     let held : Zombie may.1 ≡ Holds o.space = sym may.3 ∙ ap (λ (r : Process). r.holding) it ∙ k.holds in
     absurd cc
 
-entered_kept : (F : FlatState) (p : Process) (t : Space) (image : ℕ) (named : Option NamedImage) (top : List ℕ) (pid : ℕ) (o : Own) → p.pid ≢ pid
+entered_kept : (F : FlatState) (p : Process) (t : Space) (image : ℕ) (named : Option NamedImage) (top : List ℕ) (pid : ℕ) (o : Belongings) → p.pid ≢ pid
     → Kept F.processes pid o → Kept (entered F p t image named top).processes pid o
 entered_kept F p t image None top pid o other k = k
 entered_kept F p t image (Some named) top pid o other k =
     kept_returned p.pid t (with_process F record p { holding = Holds (space_with F.next_sid image named.image top) }).processes pid o
     (kept_replaced F.processes (record p { holding = Holds (space_with F.next_sid image named.image top) }) pid o other k)
 
-changed_kept : (images : List NamedImage) (F : FlatState) (p : Process) (t : Space) (change : Change) (pid : ℕ) (o : Own) → NamesChild F change → p.pid ≢ pid
+changed_kept : (images : List NamedImage) (F : FlatState) (p : Process) (t : Space) (change : Change) (pid : ℕ) (o : Belongings) → NamesChild F change
+    → p.pid ≢ pid
     → Kept F.processes pid o → Kept (changed images F p t change).processes pid o
 changed_kept images F p t Keep pid o may other k = kept_replaced F.processes p pid o other k
 changed_kept images F p t (Resize a b) pid o may other k = kept_replaced F.processes (record p { holding = Holds (resized t a b) }) pid o other k
@@ -197,7 +198,7 @@ changed_kept images F p t (End status) pid o may other k =
     (kept_orphans p.pid (filter (λ q. not (is_zombie_child p.pid q)) (given_back (with_process F (record p { holding = Zombie status })) p.pid t).processes) pid o
     (kept_living p.pid (given_back (with_process F (record p { holding = Zombie status })) p.pid t).processes pid o gone))
 
-change_kept : (images : List NamedImage) (F : FlatState) (of : ℕ) (regs : Regs) (change : Change) (pid : ℕ) (o : Own) → NamesChild F change → of ≢ pid
+change_kept : (images : List NamedImage) (F : FlatState) (of : ℕ) (regs : Regs) (change : Change) (pid : ℕ) (o : Belongings) → NamesChild F change → of ≢ pid
     → Kept F.processes pid o → Kept (apply_change images F of regs change).processes pid o
 unfolding apply_change
 change_kept images F of regs change pid o may other k = go (process_of F of) refl
@@ -211,7 +212,7 @@ change_kept images F of regs change pid o may other k = go (process_of F of) ref
     go None e = k
     go (Some p) e = by (record p { regs = regs }) p.holding (λ z. other (sym (number_of_found F.processes of p e) ∙ z))
 
-writes_kept : (F : FlatState) (of : ℕ) (ws : List ByteWrite) (pid : ℕ) (o : Own) → of ≢ pid → Kept F.processes pid o → Kept
+writes_kept : (F : FlatState) (of : ℕ) (ws : List ByteWrite) (pid : ℕ) (o : Belongings) → of ≢ pid → Kept F.processes pid o → Kept
     (apply_writes F of ws).processes pid o
 unfolding apply_writes
 writes_kept F of ws pid o other k = go (process_of F of) refl
@@ -227,7 +228,7 @@ writes_kept F of ws pid o other k = go (process_of F of) refl
 
 -- ---- a step of another process
 
-pub step_kept : (A : Inputs) (F : FlatState) (of : ℕ) (refused : Bool) (pid : ℕ) (o : Own) → IsNumbered F → of ≢ pid →
+pub step_kept : (A : Inputs) (F : FlatState) (of : ℕ) (refused : Bool) (pid : ℕ) (o : Belongings) → IsNumbered F → of ≢ pid →
     ((flat_step A F of refused).entries ≡ [] → ⊥)
     → Kept F.processes pid o → Kept (flat_step A F of refused).after.processes pid o
 unfolding flat_step

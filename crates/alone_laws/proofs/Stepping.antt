@@ -25,7 +25,7 @@ use Rattle.flat_laws.proofs.Numbers.{step_numbered}
 use Rattle.run_laws.proofs.Others.{number_of_found}
 use Rattle.economy_laws.proofs.Idle.{found_after}
 use Rattle.economy_laws.proofs.Steps.{step_is}
-use Rattle.alone_laws.specs.Alone.{Own, own_ran, own_behind, own_step, own_steps, HasOwn, is_by, is_plain, steps_by, Comes, RunsAsAlone}
+use Rattle.alone_laws.specs.Alone.{Belongings, own_ran, own_behind, own_step, own_steps, HasBelongings, is_by, makes_no_call, steps_by, ComesAlone, RunsAsAlone}
 use Rattle.alone_laws.proofs.Keeping.{Kept, step_kept}
 
 -- ---- its own step
@@ -55,28 +55,28 @@ sized_own images F pid q s regs d t e h =
     ∙ found_after F pid q (record q { regs = regs; holding = Holds (resized s d t) }) e n
 
 -- the next own step, and that this step makes it, with one entry
-record Stepped (S : Step) (pid : ℕ) (o : Own) : Type 0 where
-  own : Own
+record Stepped (S : Step) (pid : ℕ) (o : Belongings) : Type 0 where
+  own : Belongings
   steps : own_step (Some o) ≡ Some own
-  has : HasOwn S.after pid own
+  has : HasBelongings S.after pid own
   entry : Entry
   one : S.entries ≡ entry ∷ []
 
 -- what the first entry that is due is, where it is plain
 abbrev FirstPlain : List Entry → Entry → Type 0
-FirstPlain es u = (b : Bool) → same_as (first_if b es) u ≡ true → is_plain u ≡ true → ⊥
+FirstPlain es u = (b : Bool) → same_as (first_if b es) u ≡ true → makes_no_call u ≡ true → ⊥
 
-never_plain : (e u : Entry) (es : List Entry) → is_plain e ≡ false → FirstPlain (e ∷ es) u
+never_plain : (e u : Entry) (es : List Entry) → makes_no_call e ≡ false → FirstPlain (e ∷ es) u
 never_plain (entries.Ran p n) u es k b h i = absurd cc
 never_plain (entries.Grew p n) u es k b h i = absurd cc
 never_plain e (entries.Ran p n) es k true h i = other e k h
   where
-    other : (x : Entry) → is_plain x ≡ false → same_entry x (entries.Ran p n) ≡ true → ⊥
+    other : (x : Entry) → makes_no_call x ≡ false → same_entry x (entries.Ran p n) ≡ true → ⊥
     other (entries.Ran q m) k h = absurd cc
     other _ k h = absurd cc
 never_plain e (entries.Grew p n) es k true h i = other e k h
   where
-    other : (x : Entry) → is_plain x ≡ false → same_entry x (entries.Grew p n) ≡ true → ⊥
+    other : (x : Entry) → makes_no_call x ≡ false → same_entry x (entries.Grew p n) ≡ true → ⊥
     other (entries.Grew q m) k h = absurd cc
     other _ k h = absurd cc
 never_plain e _ es k b h i = absurd cc
@@ -96,9 +96,9 @@ called_never images F p s refused effect None u = never_plain _ u [] refl
 called_never images F p s refused effect (Some call) u = replied_never images F p call effect (reply_behind images F p s refused call effect) u
 
 -- a step whose first entry is plain is the next own step
-stepped_own : (images : List NamedImage) (F : FlatState) (pid : ℕ) (p : Process) (s : Space) (r : Result Effect Refused) (o : Own) (u : Entry) (b : Bool)
+stepped_own : (images : List NamedImage) (F : FlatState) (pid : ℕ) (p : Process) (s : Space) (r : Result Effect Refused) (o : Belongings) (u : Entry) (b : Bool)
     → process_of F pid ≡ Some p → p.holding ≡ Holds s → p.regs ≡ o.regs → p.asleep ≡ false → s ≡ o.space → instruction_in s p.regs ≡ r
-    → same_as (first_if b (step_of images F p s false r).entries) u ≡ true → is_plain u ≡ true → Stepped (step_of images F p s false r) pid o
+    → same_as (first_if b (step_of images F p s false r).entries) u ≡ true → makes_no_call u ≡ true → Stepped (step_of images F p s false r) pid o
 stepped_own images F pid p s r o u b here holds regs awake space is first plain = go r is first
   where
     n : p.pid ≡ pid
@@ -192,7 +192,7 @@ leads A p q pid (entries.Refused n) e = Stays (ap (λ (x : Point). x.flat) (sym 
 leads A p q pid u e = behind_leads A p q pid (due_at A p pid) refl (where_is (same_as (act A p pid) u) (point_after A p pid) q e).1
 
 -- a plain entry may follow where nothing of a step is there yet
-open_due : (o : Option Entry) (pid : ℕ) (u : Entry) → may_follow o u ≡ true → is_plain u ≡ true → (is_refused o pid ≡ false) ×
+open_due : (o : Option Entry) (pid : ℕ) (u : Entry) → may_follow o u ≡ true → makes_no_call u ≡ true → (is_refused o pid ≡ false) ×
     ((es : List Entry) → due o pid es ≡ es)
 open_due (Some (entries.Refused p)) pid (entries.Ran q n) m i = absurd cc
 open_due (Some (entries.Refused p)) pid (entries.Grew q n) m i = absurd cc
@@ -203,8 +203,8 @@ open_due (Some (entries.Out p bytes)) pid _ m i = absurd cc
 open_due _ pid u m i = (refl, λ es. refl)
 
 -- a plain one of the process is its next own step
-unit_own : (A : Inputs) (p q : Point) (u : Entry) (pid : ℕ) (o : Own) → HasOwn p.flat pid o → may_follow p.last u ≡ true → is_plain u ≡ true
-    → same_as (act A p pid) u ≡ true → point_after A p pid ≡ q → (own : Own) × ((own_step (Some o) ≡ Some own) × HasOwn q.flat pid own)
+unit_own : (A : Inputs) (p q : Point) (u : Entry) (pid : ℕ) (o : Belongings) → HasBelongings p.flat pid o → may_follow p.last u ≡ true → makes_no_call u ≡ true
+    → same_as (act A p pid) u ≡ true → point_after A p pid ≡ q → (own : Belongings) × ((own_step (Some o) ≡ Some own) × HasBelongings q.flat pid own)
 unit_own A p q u pid o h follows plain same is =
     let open_is = open_due p.last pid u follows plain in
     let st : step_at A p pid ≡ step_of A.images p.flat h.process o.space false (instruction_in o.space (let x : Process = h.process in x.regs)) =
@@ -216,22 +216,23 @@ unit_own A p q u pid o h follows plain same is =
     stepped_own A.images p.flat pid h.process o.space (instruction_in o.space (let x : Process = h.process in x.regs)) o u (can_step p.flat pid) h.here h.holds h.regs h.awake refl refl first plain in
     let flat : q.flat ≡ (step_of A.images p.flat h.process o.space false (instruction_in o.space (let x : Process = h.process in x.regs))).after =
     ap (λ (y : Point). y.flat) (sym is) ∙ ap (λ (es : List Entry). (behind p (step_at A p pid).after es).flat) (due_is ∙ x.one) ∙ ap (λ (S : Step). S.after) st in
-    (x.own, (x.steps, subst (λ (F : FlatState). HasOwn F pid x.own) (sym flat) x.has))
+    (x.own, (x.steps, subst (λ (F : FlatState). HasBelongings F pid x.own) (sym flat) x.has))
 
 -- one of another leaves what it has
-unit_other : (A : Inputs) (p q : Point) (of pid : ℕ) (o : Own) → IsNumbered p.flat → of ≢ pid → HasOwn p.flat pid o → Leads A p q of → HasOwn q.flat pid o
-unit_other A p q of pid o nums other h (Stays e) = subst (λ (F : FlatState). HasOwn F pid o) (sym e) h
+unit_other : (A : Inputs) (p q : Point) (of pid : ℕ) (o : Belongings) → IsNumbered p.flat → of ≢ pid → HasBelongings p.flat pid o → Leads A p q of
+    → HasBelongings q.flat pid o
+unit_other A p q of pid o nums other h (Stays e) = subst (λ (F : FlatState). HasBelongings F pid o) (sym e) h
 unit_other A p q of pid o nums other h (Steps e some) =
     let k : Kept (step_at A p of).after.processes pid o = step_kept A p.flat of (is_refused p.last of) pid o nums other some
     (record { process = h.process; here = h.here; holds = h.holds; regs = h.regs; woke = h.awake }) in
-    subst (λ (F : FlatState). HasOwn F pid o) (sym e) (record { process = k.process; here = k.here; holds = k.holds; regs = k.regs; awake = k.woke })
+    subst (λ (F : FlatState). HasBelongings F pid o) (sym e) (record { process = k.process; here = k.here; holds = k.holds; regs = k.regs; awake = k.woke })
 
 unit_numbered : (A : Inputs) (p q : Point) (of : ℕ) → IsNumbered p.flat → Leads A p q of → IsNumbered q.flat
 unit_numbered A p q of nums (Stays e) = subst IsNumbered (sym e) nums
 unit_numbered A p q of nums (Steps e some) = subst IsNumbered (sym e) (step_numbered A p.flat of (is_refused p.last of) nums)
 
 -- a plain entry isn't a refusal
-plain_of : (A : Inputs) (p q : Point) (pid : ℕ) (u : Entry) → is_plain u ≡ true → flat_entry_of A p pid u ≡ Some q → (same_as (act A p pid) u ≡ true) ×
+plain_of : (A : Inputs) (p q : Point) (pid : ℕ) (u : Entry) → makes_no_call u ≡ true → flat_entry_of A p pid u ≡ Some q → (same_as (act A p pid) u ≡ true) ×
     (point_after A p pid ≡ q)
 plain_of A p q pid (entries.Ran n m) i e = where_is (same_as (act A p pid) (entries.Ran n m)) (point_after A p pid) q e
 plain_of A p q pid (entries.Grew n m) i e = where_is (same_as (act A p pid) (entries.Grew n m)) (point_after A p pid) q e
@@ -240,15 +241,15 @@ plain_of A p q pid _ i e = absurd cc
 -- ---- units in a row
 
 -- one more step of its own, or none
-more_steps : (n : ℕ) (o r : Own) (F : FlatState) (pid : ℕ) → own_step (Some o) ≡ Some r → Comes n r F pid → Comes (1 + n) o F pid
+more_steps : (n : ℕ) (o r : Belongings) (F : FlatState) (pid : ℕ) → own_step (Some o) ≡ Some r → ComesAlone n r F pid → ComesAlone (1 + n) o F pid
 more_steps n o r F pid e c = record {
   own = c.own;
   steps_to = subst (λ (m : ℕ). own_steps m (Some o) ≡ Some c.own) (let z : suc n ≡ 1 + n = omega arith in z) (ap (own_steps n) e ∙ c.steps_to);
   has = c.has;
 }
 
-no_steps : (n : ℕ) (o : Own) (F : FlatState) (pid : ℕ) → Comes n o F pid → Comes (0 + n) o F pid
-no_steps n o F pid c = subst (λ (m : ℕ). Comes m o F pid) (let z : n ≡ 0 + n = omega arith in z) c
+no_steps : (n : ℕ) (o : Belongings) (F : FlatState) (pid : ℕ) → ComesAlone n o F pid → ComesAlone (0 + n) o F pid
+no_steps n o F pid c = subst (λ (m : ℕ). ComesAlone m o F pid) (let z : n ≡ 0 + n = omega arith in z) c
 
 entered : (A : Inputs) (p q : Point) (u : Entry) → flat_entry A p u ≡ Some q → flat_entry_by A p (process_of_entry u) u ≡ Some q
 unfolding flat_entry
@@ -256,23 +257,23 @@ entered A p q u k = k
 
 pub runs_alone : RunsAsAlone
 unfolding flat_units
-runs_alone A from to [] pid o nums h none e = record { own = o; steps_to = refl; has = subst (λ (p : Point). HasOwn p.flat pid o) (same_Some from to e) h }
+runs_alone A from to [] pid o nums h none e = record { own = o; steps_to = refl; has = subst (λ (p : Point). HasBelongings p.flat pid o) (same_Some from to e) h }
 runs_alone A from to (u ∷ us) pid o nums h none e = go (flat_entry A from u) refl e (λ p r n k f. runs_alone A p to us pid r n k none.1 f)
   where
     by : (p : Point) (x : Option ℕ) → process_of_entry u ≡ x → flat_entry_by A from x u ≡ Some p
-        → ((r : Own) → IsNumbered p.flat → HasOwn p.flat pid r → Comes (steps_by pid us) r to.flat pid) → Comes (cond (is_by pid x) 1 0 + steps_by pid us) o to.flat pid
+        → ((r : Belongings) → IsNumbered p.flat → HasBelongings p.flat pid r → ComesAlone (steps_by pid us) r to.flat pid) → ComesAlone (cond (is_by pid x) 1 0 + steps_by pid us) o to.flat pid
     by p None i f more =
         let same : from ≡ p = same_Some from p f in
-        no_steps (steps_by pid us) o to.flat pid (more o (subst (λ (q : Point). IsNumbered q.flat) same nums) (subst (λ (q : Point). HasOwn q.flat pid o) same h))
+        no_steps (steps_by pid us) o to.flat pid (more o (subst (λ (q : Point). IsNumbered q.flat) same nums) (subst (λ (q : Point). HasBelongings q.flat pid o) same h))
     by p (Some n) i f more = at (n == pid) refl
       where
         x : (may_follow from.last u ≡ true) × (flat_entry_of A from n u ≡ Some p)
         x = if_is (may_follow from.last u) A from p n u f
 
-        at : (b : Bool) → (n == pid) ≡ b → Comes (cond b 1 0 + steps_by pid us) o to.flat pid
+        at : (b : Bool) → (n == pid) ≡ b → ComesAlone (cond b 1 0 + steps_by pid us) o to.flat pid
         at true j =
             let same : n ≡ pid = eqb-true n pid j in
-            let plain : is_plain u ≡ true = none.0 (ap (is_by pid) i ∙ j) in
+            let plain : makes_no_call u ≡ true = none.0 (ap (is_by pid) i ∙ j) in
             let mine : flat_entry_of A from pid u ≡ Some p = ap (λ (m : ℕ). flat_entry_of A from m u) (sym same) ∙ x.1 in
             let y = plain_of A from p pid u plain mine in
             let z = unit_own A from p u pid o h x.0 plain y.0 y.1 in
@@ -283,7 +284,7 @@ runs_alone A from to (u ∷ us) pid o nums h none e = go (flat_entry A from u) r
             (unit_other A from p n pid o nums (λ same. absurd (let z : true ≡ false = sym (Rattle.std.proofs.Common.eq-eqb n pid same) ∙ j in cc)) h l))
 
     go : (x : Option Point) → flat_entry A from u ≡ x → flat_units A x us ≡ Some to
-        → ((p : Point) (r : Own) → IsNumbered p.flat → HasOwn p.flat pid r → flat_units A (Some p) us ≡ Some to → Comes (steps_by pid us) r to.flat pid)
-        → Comes (cond (is_by pid (process_of_entry u)) 1 0 + steps_by pid us) o to.flat pid
+        → ((p : Point) (r : Belongings) → IsNumbered p.flat → HasBelongings p.flat pid r → flat_units A (Some p) us ≡ Some to → ComesAlone (steps_by pid us) r to.flat pid)
+        → ComesAlone (cond (is_by pid (process_of_entry u)) 1 0 + steps_by pid us) o to.flat pid
     go None i f more = absurd cc
     go (Some p) i f more = by p (process_of_entry u) refl (entered A from p u i) (λ r n k. more p r n k f)
