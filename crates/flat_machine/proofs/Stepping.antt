@@ -1,6 +1,7 @@
 -- A step, from what its instruction came to.
-use Rattle.std.proofs.Common.{◌≡◌, ℕ, Bool, false, List, length, Option, Some, None, Result, Ok, Err, ℤ, refl, sym, ap, ◌∙◌}
+use Rattle.std.proofs.Common.{◌≡◌, ℕ, Bool, false, List, [], ◌∷◌, length, Option, Some, None, Result, Ok, Err, ℤ, refl, sym, ap, ◌∙◌}
 use Rattle.vm_facts.specs.Answers.{ByteWrite}
+use Rattle.vm_facts.specs.declared.entry.Entry.TheVariants.{Ran}
 use Rattle.flat_state.specs.Space.{Space, answers_of, puts}
 use Rattle.flat_state.specs.Flat.{Process, FlatState, NamedImage, Inputs, process_of}
 use Rattle.vm_facts.specs.declared.regs.Regs.{Regs}
@@ -18,7 +19,7 @@ use Rattle.flat_model.specs.declared.calls.Reply.{Reply}
 use Rattle.flat_model.specs.declared.calls.Reply.TheVariants.{Writes}
 use Rattle.flat_model.specs.declared.calls.SystemCall.{SystemCall}
 use Rattle.flat_model.specs.Calls.{call_of, replied, or_fault, refused_reply, reply_of}
-use Rattle.flat_model.specs.Step.{flat_step, step_if, step_holding, step_of, step_behind, called_step, replied_step, written_process}
+use Rattle.flat_model.specs.Step.{flat_step, step_if, step_holding, step_of, step_behind, step_with, called_step, replied_step, written_process}
 use Rattle.flat_machine.specs.declared.deed.Did.TheVariants as deeds
 use Rattle.flat_machine.specs.declared.deed.Deed.{Deed}
 use Rattle.flat_machine.specs.Machine.{step_by, space_at, process_at, IsPlace, IsBehind}
@@ -107,3 +108,18 @@ pub step_left : (images : List NamedImage) (F G : FlatState) (p : Process) (s : 
 step_left images F G p s r place stepped regs deed behind =
     ap (λ (q : Process). apply_change images G q.pid deed.regs deed.change) behind.process
     ∙ ap (λ (H : FlatState). apply_change images H p.pid deed.regs deed.change) behind.state
+
+-- an instruction that was carried out, and makes no call, is the step
+pub done_made : (images : List NamedImage) (F G : FlatState) (p : Process) (s : Space) (refused : Bool) (r : Result Effect Refused)
+    (place : ℕ) (stepped : Stepped) (regs : Regs)
+    → stepped ≡ steps.Done → IsBehind F p s r G place stepped regs
+    → step_by images F p (writes_of r) (record { did = deeds.Ran; regs = regs; change = Keep }) ≡ step_of images F p s refused r
+done_made images F G p s refused (Ok effect) place stepped regs is behind = go effect.call (sym behind.answer ∙ is)
+  where
+    go : (o : Option ℤ) → answer_of_call o ≡ steps.Done
+        → step_by images F p effect.writes (record { did = deeds.Ran; regs = regs; change = Keep }) ≡ step_behind images F p s refused effect o
+    go None k = ap (λ (x : Regs). step_with images F p (Ran p.pid 1 ∷ []) effect.writes x Keep) behind.registers
+    go (Some number) k = absurd cc
+done_made images F G p s refused (Err (refusals.Miss address write)) place stepped regs is behind = absurd (behind.hits address write refl)
+done_made images F G p s refused (Err (refusals.Below address)) place stepped regs is behind = let a = behind.answer in absurd cc
+done_made images F G p s refused (Err (refusals.Signal number)) place stepped regs is behind = let a = behind.answer in absurd cc

@@ -444,6 +444,10 @@ impl Machine {
             → IfOk result (λ did. entries_of (process_at self.old place).pid did ≡ (flat_step A self.old (process_at self.old place).pid refused).entries) }
     {
         let (stepped, regs) = self.run(place);
+        if let Stepped::Done = stepped {
+            self.keep(place, regs);
+            return Ok(Did::Ran);
+        }
         let deed = self.deed(alloc, programs, place, stepped, regs, refused)?;
         self.change(alloc, programs, place, deed.regs, deed.change)?;
         Ok(deed.did)
