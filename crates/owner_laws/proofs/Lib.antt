@@ -6,3 +6,4 @@ pub mod Telling
 pub mod Area
 pub mod Auditing
 pub mod Noting
+pub mod First

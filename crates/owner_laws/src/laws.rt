@@ -1,4 +1,4 @@
-ghost use Rattle.std.specs.Prelude.{◌≡◌, ℕ, Bool, List, Some};
+ghost use Rattle.std.specs.Prelude.{◌≡◌, ◌<◌, ℕ, Bool, List, length, Some, None};
 ghost use Rattle.std.specs.List.{flat_map};
 ghost use Rattle.vm_facts.specs.declared.entry.Entry.{Entry};
 ghost use Rattle.vm_facts.specs.declared.entry.Entry.TheVariants.{Owners};
@@ -17,6 +17,7 @@ ghost use Rattle.owner_lines.specs.Owners.{frame_lines, swap_lines, owners_text}
 ghost use Rattle.owner_laws.specs.Lines.{FrameLine, frame_text, Extent, extent_text};
 ghost use Rattle.owner_laws.specs.Told.{FramesTold, SwapTold};
 ghost use Rattle.owner_laws.specs.Account.{OwnersTold, text_at, IsToldAt};
+ghost use Rattle.owner_laws.specs.First.{HasWholeEntries, ComeFirst};
 
 /// Where each frame has one owner, the lines of frames are one for each, in order, and what a line says is so: a free frame
 /// stands at the place that is told, a used one is off the free list with its page, and one in a transfer is a part of the
@@ -50,4 +51,16 @@ pub fn runs_are_told()
         → next_unit A s ≡ Some (owners_of s.place s.holdings) }
     ensures noted { (A : Inputs) (s : State) (free used moving held : ℕ) → next_unit A s ≡ Some (Owners free used moving held)
         → Owners free used moving held ≡ owners_of s.place s.holdings }
+{}
+
+/// Entries after which it is told who owns what are the first ones of the run: where the next unit isn't joined to the last of them, they
+/// come first in each longer journal of the same run, and in that of the finished run. There is one such journal of each length,
+/// and it leads to one state.
+pub fn entries_are_first()
+    ensures longer { (A : Inputs) (journal more : List Entry) (s t : State) → Reaches A journal s → Reaches A more t → HasWholeEntries A journal s
+        → length journal < length more → ComeFirst journal more }
+    ensures finished { (A : Inputs) (journal more : List Entry) (s t : State) → Reaches A journal s → Reaches A more t → HasWholeEntries A journal s
+        → next_unit A t ≡ None → ComeFirst journal more }
+    ensures one { (A : Inputs) (journal more : List Entry) (s t : State) → Reaches A journal s → Reaches A more t → HasWholeEntries A journal s
+        → HasWholeEntries A more t → length journal ≡ length more → (journal ≡ more) × (s ≡ t) }
 {}
