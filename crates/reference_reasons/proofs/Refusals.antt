@@ -1,5 +1,5 @@
 -- A line has a reason exactly where it is none of a file of references.
-use Rattle.std.proofs.Common.{◌≡◌, ◌≢◌, ◌∙◌, ◌⊎◌, inl, inr, ℕ, ◌^◌, ◌<◌, ◌≤◌, Bool, true, false, ◌&&◌, ◌||◌, is_none, List, [], ◌∷◌, ◌++◌, length, refl, sym, ap, subst, Option, Some, None, bytes_eq, codes, decimal, arith, lit<}
+use Rattle.std.proofs.Common.{◌≡◌, ◌≢◌, ◌∙◌, inl, inr, ℕ, ◌^◌, ◌<◌, Bool, true, false, ◌||◌, is_none, List, [], ◌∷◌, ◌++◌, length, refl, sym, ap, subst, Option, Some, None, bytes_eq, codes, decimal, arith, lit<}
 use Rattle.std.specs.Prelude.{◌==◌, if◌then◌else◌}
 use Rattle.std.specs.Str.Parse.{AllDigits}
 use Rattle.std.proofs.lemmas.Bool.Decides.{nat_tests}

@@ -1,4 +1,4 @@
-use Rattle.std.proofs.Common.{◌≡◌, ◌∙◌, ℕ, List, Option, Some, None, Ok, Vec, Global, sym, ap}
+use Rattle.std.proofs.Common.{◌∙◌, ℕ, List, Option, Some, None, Ok, Vec, Global, sym, ap}
 use Rattle.std.specs.Option.{option_map}
 use Rattle.reference_text.specs.declared.answers.References.{References}
 use Rattle.reference_reasons.specs.Reasons.{Why, why_at}
