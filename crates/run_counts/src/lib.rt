@@ -1,0 +1,10 @@
+//! What a run did, counted over its journal: of a process, of the pages of a space or of an image, and of the whole.
+#![tactic(auto)]
+
+mod amounts;
+mod texts;
+mod totals;
+
+pub use amounts::{Count, Owner, PageHead, ProcessHead};
+pub use texts::counts_text;
+pub use totals::total;
