@@ -1,5 +1,5 @@
-//! The commands `opt`, `curve` and `owners`: a schedule and images that words name are run in memory, and a question
-//! about the run is answered.
+//! The commands `opt`, `curve`, `owners` and `refs`: a schedule and images that words name are run in memory, and a
+//! question about the run is answered.
 #![tactic(auto)]
 
 mod command;
