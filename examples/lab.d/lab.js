@@ -7,7 +7,7 @@ const FIELDS = ["frames", "swap", "limit", "images"];
 const FIRST = ".word 0\nmovl $5,r1\nl: sobgtr r1,l\nmoval *$code,r12\nchmk $1\ncode: .long 1\n.long 7\n";
 const LINE = 22;
 
-const lab = { beginning: null, programs: [], current: 0, run: null, last: Promise.resolve(), waiting: 0, typed: 0 };
+const lab = { beginning: null, programs: [], current: 0, run: null, last: Promise.resolve(), asked: 0, waiting: 0, typed: 0 };
 
 // ---- What is asked of the server, one question after another. ----
 
@@ -24,6 +24,7 @@ async function post(name, asked) {
 
 // An answer, after those of the questions before.
 function ask(name, asked) {
+  lab.asked++;
   lab.waiting++;
   drawBusy();
   const answer = lab.last.then(() => post(name, asked));
@@ -37,6 +38,7 @@ function ask(name, asked) {
 
 function drawBusy() {
   at("lab-stop").disabled = lab.waiting === 0;
+  document.body.dataset.asked = lab.asked;
   document.body.dataset.waiting = lab.waiting;
 }
 
