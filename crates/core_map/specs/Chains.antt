@@ -33,6 +33,7 @@ pub record IsChain (chains : ℕ) (links : List ℕ) (keys : List (Option TextKe
   pub way : Way links (length keys + b) chain
   pub listed : (f : ℕ) → times f chain ≡ listings_in chains b (key_at keys f)
 
+-- each chain has the frames whose keys belong there, with a link for each frame and each chain; 0 is no frame
 pub record IsIndexed (count : ℕ) (links : List ℕ) (keys : List (Option TextKey)) : Type 0 where
   pub has_none : 0 < length keys
   pub small : length keys ≤ 2 ^ 32
@@ -41,9 +42,11 @@ pub record IsIndexed (count : ℕ) (links : List ℕ) (keys : List (Option TextK
   pub some : 0 < count
   pub chains : (b : ℕ) → b < count → IsChain count links keys b
 
+-- the text page of each frame, where it holds one
 abbrev pub keys_of : Inside → List (Option TextKey)
 keys_of a = a.keys.items
 
+-- the fields of an index are its chains, its links and its keys
 abbrev pub IsIndex : Inside → Type 0
 IsIndex a = IsIndexed a.chains a.links.items a.keys.items
 

@@ -13,11 +13,13 @@ use Rattle.core_map.specs.declared.slot.Whose.TheVariants.{Free as FreeOwner, Re
 abbrev pub slot_at : List Slot → ℕ → Slot
 slot_at slots frame = slice_index_or slots frame Away
 
+-- the frame is on the free list
 abbrev pub is_free : Slot → Bool
 is_free (Free token page) = true
 is_free (Resident token page dirty) = false
 is_free Away = false
 
+-- the frame is off the free list, and holds a page
 abbrev pub is_resident : Slot → Bool
 is_resident (Free token page) = false
 is_resident (Resident token page dirty) = true
@@ -47,6 +49,7 @@ token_of (Free token page) = token
 token_of (Resident token page dirty) = token
 token_of Away = record { number = 0; bytes = [] }
 
+-- the frame is off the free list with the mark that its page is dirty
 abbrev pub is_dirty : Slot → Bool
 is_dirty (Free token page) = false
 is_dirty (Resident token page dirty) = dirty

@@ -16,10 +16,12 @@ abbrev pub is_shown : List Page → Option Page → Bool
 is_shown pages None = true
 is_shown pages (Some q) = is_among q pages
 
+-- the byte where its page is there, else a miss
 abbrev pub read_where : Bool → ByteRead → ByteRead
 read_where true byte = byte
 read_where false byte = reads.Miss
 
+-- the answer to a test where the page is there, else a miss
 abbrev pub test_where : Bool → MayWrite → MayWrite
 test_where true may = may
 test_where false may = tests.Miss

@@ -75,6 +75,7 @@ IsUnit (Ran p n) = n ≡ 1
 IsUnit (Hands n) = n ≡ 1
 IsUnit e = Unit {0}
 
+-- each of these entries is a unit
 abbrev pub AllUnits : List Entry → Type 0
 AllUnits [] = Unit {0}
 AllUnits (u ∷ us) = IsUnit u × AllUnits us

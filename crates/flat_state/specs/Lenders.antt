@@ -9,6 +9,7 @@ HasOrLent sid (Holds s) = s.sid ≡ sid
 HasOrLent sid (Lends t child) = t ≡ sid
 HasOrLent sid (Zombie status) = ⊥
 
+-- the space is with this process: it has it, or lent it on
 abbrev pub IsWith : ℕ → Option Process → Type 0
 IsWith sid None = ⊥
 IsWith sid (Some q) = HasOrLent sid q.holding

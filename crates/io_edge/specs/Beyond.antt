@@ -12,6 +12,7 @@ zero_through zero_size one_size zero_size' one_size' a b c zero_same one_same fi
     (subst (λ (o : ℕ). KeepsBeyond (zero_needs (pair_blocks zero_size' o)) b c) one_same then)
     ∙ first
 
+-- device 1's part, over one row of calls and then another
 pub one_through : (zero_size one_size zero_size' one_size' : ℕ) (a b c : Option (List ℕ)) → zero_size' ≡ zero_size → one_size' ≡ one_size
     → KeepsBeyond (one_needs (pair_blocks zero_size one_size)) a b → KeepsBeyond (one_needs (pair_blocks zero_size' one_size')) b c
     → KeepsBeyond (one_needs (pair_blocks zero_size one_size)) a c

@@ -9,6 +9,7 @@ pub zero_has : (block even_size odd_size : ℕ) → block < pair_blocks even_siz
 unfolding pair_blocks device_of place_of
 zero_has block even_size odd_size within even = omega arith
 
+-- each block of the pair that is on device 1 is within that
 pub one_has : (block even_size odd_size other : ℕ) → block < pair_blocks even_size odd_size → device_of block ≡ suc other → place_of block < odd_size
 unfolding pair_blocks device_of place_of
 one_has block even_size odd_size other within odd = omega arith
@@ -17,6 +18,7 @@ one_has block even_size odd_size other within odd = omega arith
 abbrev pub HasBlocks : ℕ → List ℕ → List ℕ → Type 0
 HasBlocks blocks evens odds = (device block : ℕ) → device_of block ≡ device → block < blocks → 512 * place_of block + 512 ≤ length (of_device device evens odds)
 
+-- whole images of two devices of these sizes have each block of the pair
 pub has_blocks : (even_size odd_size : ℕ) (evens odds : List ℕ) → length evens ≡ 512 * even_size → length odds ≡ 512 * odd_size
     → HasBlocks (pair_blocks even_size odd_size) evens odds
 has_blocks even_size odd_size evens odds even_long odd_long zero block on within = omega (arith, zero_has block even_size odd_size within on)
@@ -30,6 +32,7 @@ length-block_at : (image : List ℕ) (block : ℕ) → 512 * block + 512 ≤ len
 unfolding block_at
 length-block_at image block within = length-take-le 512 (drop (512 * block) image) (omega (arith, length-drop (512 * block) image))
 
+-- a block of the pair has 512 bytes
 pub length-pair_block : (blocks block : ℕ) (evens odds : List ℕ) → HasBlocks blocks evens odds → block < blocks → length (pair_block block evens odds) ≡ 512
 length-pair_block blocks block evens odds has within =
     length-block_at (of_device (device_of block) evens odds) (place_of block) (has (device_of block) block refl within)

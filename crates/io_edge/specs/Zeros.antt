@@ -7,6 +7,7 @@ use Rattle.std.proofs.lemmas.List.{length-replicate}
 unfoldable pub with_zeros : ℕ → List ℕ → List ℕ
 with_zeros size bytes = bytes ++ replicate (size - length bytes) 0
 
+-- with the zeros after them, bytes that are no more than that are as many as is asked
 pub length-with_zeros : (size : ℕ) (bytes : List ℕ) → length bytes ≤ size → length (with_zeros size bytes) ≡ size
 unfolding with_zeros
 length-with_zeros size bytes within =

@@ -35,6 +35,7 @@ abbrev pub image_pieces : Placement → ℕ → ℕ → Image → List Wanted
 image_pieces p sid image facts =
     text_asked (sharers p image) image (2 * length (slots_of p (Text image 0))) ++ (wanted (owners.Data sid) (pieces (2 * data_pages_of facts)) ++ wanted (owners.Stack sid) (pieces 2))
 
+-- the pieces that a new space of an image wants; none where there is no such image
 abbrev pub image_asked : Placement → ℕ → ℕ → Option Image → List Wanted
 image_asked p sid image None = []
 image_asked p sid image (Some facts) = image_pieces p sid image facts
@@ -50,6 +51,7 @@ change_asks images p sid next_sid (Lend child) = wanted (owners.U child) (u_piec
 change_asks images p sid next_sid (Exec image top) = image_asked p next_sid image (facts_numbered images image)
 change_asks images p sid next_sid _ = []
 
+-- there is a space of this number
 abbrev pub HasSpace : Placement → ℕ → Type 0
 HasSpace p sid = numbered space_number sid p.spaces ≢ None
 
@@ -81,6 +83,7 @@ pub record WantsBy (k : Kernel) (pid : ℕ) (life : Life) (change : Change) : Ty
   pub alive : lives k.processes pid ≡ true
   pub may : MayAsk k.place k.processes (space_of_life life) (gave_back life) k.next_sid change
 
+-- the process of this number lives, and its change, by what it has, wants no other pieces
 abbrev pub WantsThese : Kernel → ℕ → Change → Type 0
 WantsThese k pid change = WantsBy k pid (life_of_proc (numbered (λ (q : Proc). q.pid) pid k.processes)) change
 

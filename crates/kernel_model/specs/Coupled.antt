@@ -20,6 +20,7 @@ abbrev pub text_of : Option NamedImage → List ℕ
 text_of None = []
 text_of (Some named) = named.image.text
 
+-- the data bytes of an image; none where there is no such image
 abbrev pub data_of : Option NamedImage → List ℕ
 data_of None = []
 data_of (Some named) = named.image.data
@@ -46,6 +47,7 @@ file_of images p (Data sid v) = page_at v (data_of (image_numbered images (image
 file_of images p (Stack sid v) = zeros
 file_of images p (Text image v) = page_at v (text_of (image_numbered images image))
 
+-- the bytes beside the machine's placement: of its frames, swap, files, kept stack pages, and the flat memory
 abbrev pub beside_kernel : Kernel → List NamedImage → List ℕ → FlatState → Bytes
 beside_kernel k images image flat = record {
   frames = k.frames;
@@ -76,6 +78,7 @@ pub record Outline : Type 0 where
 abbrev pub outline_of : Process → Outline
 outline_of q = record { pid = q.pid; parent = q.parent; life = life_of q.holding; asleep = q.asleep }
 
+-- the outline of a process of the machine
 abbrev pub outline_kept : Proc → Outline
 outline_kept p = record { pid = p.pid; parent = p.parent; life = p.life; asleep = p.asleep }
 

@@ -151,6 +151,7 @@ pub record MayComplete (size : ℕ) (images : List NamedImage) (m : KernelState)
   pub ready : ReadySpace m.kernel.place space.sid (has_lender m.kernel.processes pid) change
   pub pieces : place_all size m.kernel.holdings (asked (facts_of images) m.kernel pid change) ≡ Ok m.found
 
+-- what a unit asks of the kernel before it; noting an entry asks nothing
 abbrev pub May : ℕ → List NamedImage → KernelState → KernelUnit → Type 0
 May size images m (ZeroUnit q) = MayZero m.kernel.place q
 May size images m (CopyUnit q) = MayCopy m.kernel.place q

@@ -24,6 +24,7 @@ pub data Life : Type 0 where
   LendsSpace : ℕ → ℕ → Life
   Ended : ℕ → Life
 
+-- the record of a process
 pub record Proc : Type 0 where
   pub pid : ℕ
   pub parent : ℕ
@@ -36,6 +37,7 @@ pub record StartBytes : Type 0 where
   pub page : Page
   pub bytes : List ℕ
 
+-- the whole machine: its placement, holdings, processes, kept stack pages, frames and journal, and whether it stopped
 pub record Kernel : Type 0 where
   pub place : Placement
   pub holdings : Holdings
@@ -50,13 +52,16 @@ pub record Kernel : Type 0 where
 
 -- Bytes.
 
+-- the bytes that are kept for a page; zeros where none are
 abbrev pub start_bytes : List StartBytes → Page → List ℕ
 start_bytes [] q = zeros
 start_bytes (s ∷ ss) q = cond (same_page s.page q) s.bytes (start_bytes ss q)
 
+-- what is still kept once this page is filled
 abbrev pub starts_after : List StartBytes → Page → List StartBytes
 starts_after ss q = filter (λ (s : StartBytes). not (same_page s.page q)) ss
 
+-- the bytes of a frame; none where there is no such frame
 abbrev pub frame_bytes : Kernel → ℕ → List ℕ
 frame_bytes k f = at_frame k.frames f []
 
@@ -65,6 +70,7 @@ abbrev pub put_first : List ℕ → List (List ℕ) → List ℕ → List (List 
 put_first [] frames bytes = frames
 put_first (f ∷ rest) frames bytes = set_frame frames f bytes
 
+-- the bytes of a frame; zeros where a page has none
 abbrev pub bytes_at : Kernel → Option ℕ → List ℕ
 bytes_at k None = zeros
 bytes_at k (Some f) = frame_bytes k f
@@ -81,6 +87,7 @@ copied_bytes k (Some (CopyOf q parent)) = page_bytes k parent
 
 -- Steps.
 
+-- a page takes a free frame, and has there what is kept for it, or else zeros
 abbrev pub zero_step : Kernel → Page → Kernel
 zero_step k q = record k {
   place = filled k.place q;
@@ -89,6 +96,7 @@ zero_step k q = record k {
   journal = append k.journal (entries.Zero q);
 }
 
+-- a child's page takes a free frame, and has there the bytes of its parent's page
 abbrev pub copy_step : Kernel → Page → Kernel
 copy_step k q = record k {
   place = filled k.place q;
@@ -100,15 +108,19 @@ copy_step k q = record k {
 abbrev pub plain_step : Kernel → List Page → Entry → Kernel
 plain_step k locked e = record k { place = place_entry locked (length (append k.journal e)) k.place e; journal = append k.journal e }
 
+-- a read of so many pages begins
 abbrev pub get_step : Kernel → Page → ℕ → ℕ → Kernel
 get_step k q lo n = plain_step k [] (entries.Get q lo n)
 
+-- a page that is Invalid in its frame is Valid again
 abbrev pub reclaim_step : Kernel → Page → Kernel
 reclaim_step k q = plain_step k [] (entries.Reclaim q)
 
+-- both hands of the clock move once, while these pages are locked
 abbrev pub hand_step : Kernel → List Page → Kernel
 hand_step k locked = plain_step k locked (entries.Hands 1)
 
+-- a write of so many dirty pages from this one on begins, or a clean page's frame goes to the free list
 abbrev pub push_step : Kernel → Page → ℕ → Kernel
 push_step k q n = plain_step k [] (entries.Put q n)
 
@@ -118,10 +130,12 @@ read_into [] read frames = frames
 read_into (x ∷ xs) [] frames = frames
 read_into (x ∷ xs) (bytes ∷ more) frames = read_into xs more (set_frame frames x.frame bytes)
 
+-- the frames after a transfer of these pages: of a read with what was read, of a write as they were
 abbrev pub landed_by : Errand → List Part → List (List ℕ) → List (List ℕ) → List (List ℕ)
 landed_by Writes xs read frames = frames
 landed_by (Reads source demanded) xs read frames = read_into xs read frames
 
+-- the frames after the oldest transfer; as they were where none is in flight
 abbrev pub landed : List Transfer → List (List ℕ) → List (List ℕ) → List (List ℕ)
 landed [] read frames = frames
 landed (t ∷ ts) read frames = landed_by t.errand t.parts read frames
@@ -138,6 +152,7 @@ write_step k q f at byte = record k { place = touch k.place q; frames = set_fram
 abbrev pub note_step : Kernel → Entry → Kernel
 note_step k e = record k { journal = append k.journal e }
 
+-- a record with these registers, where it is that of this process
 abbrev pub with_regs : ℕ → Regs → Proc → Proc
 with_regs pid regs p = cond (p.pid == pid) (record p { regs = regs }) p
 
@@ -154,6 +169,7 @@ abbrev pub store_all : Kernel → List ℕ → List Part → List ℕ
 store_all k image [] = image
 store_all k image (x ∷ xs) = store_all k (store_at image (block_of k.holdings x.page) (frame_bytes k x.frame)) xs
 
+-- the image after a transfer: of a write with its pages in their blocks, of a read as it was
 abbrev pub image_after_by : Kernel → List ℕ → Transfer → Errand → List ℕ
 image_after_by k image t Writes = store_all k image t.parts
 image_after_by k image t (Reads source demanded) = image
@@ -163,6 +179,7 @@ abbrev pub image_after_of : Kernel → List ℕ → List Transfer → List ℕ
 image_after_of k image [] = image
 image_after_of k image (t ∷ ts) = image_after_by k image t t.errand
 
+-- the image after the oldest of the machine's transfers completes
 abbrev pub image_after : Kernel → List ℕ → List ℕ
 image_after k image = image_after_of k image k.place.transfers
 

@@ -18,6 +18,7 @@ use Rattle.kernel_model.specs.Asks.{HasSpace}
 abbrev pub EachResides : Kernel → Type 0
 EachResides k = (pid : ℕ) → lives k.processes pid ≡ true → IsResident k.place pid
 
+-- no two spaces and no two processes have one number, those to come are larger, and who lives is in or out
 pub record Numbered (k : Kernel) : Type 0 where
   pub spaces_differ : AllDistinct (map space_number k.place.spaces)
   pub spaces_below : AllBelow k.next_sid (map space_number k.place.spaces)
@@ -46,6 +47,7 @@ pub record ReadyBy (k : Kernel) (pid : ℕ) (life : Life) (change : Change) : Ty
   pub reaps : MayReap k.processes change
   pub space : ReadySpace k.place (space_of_life life) (gave_back life) change
 
+-- what is known of the process of this number before its change, by what it has
 abbrev pub ReadyFor : Kernel → ℕ → Change → Type 0
 ReadyFor k pid change = ReadyBy k pid (life_of_proc (numbered (λ (p : Proc). p.pid) pid k.processes)) change
 

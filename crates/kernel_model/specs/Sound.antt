@@ -15,10 +15,12 @@ use Rattle.kernel_model.specs.Coupled.{text_of}
 
 -- What is so of each machine that hasn't stopped.
 
+-- what a process has is no exit status: it is no zombie
 abbrev pub has_life : Life → Bool
 has_life (Ended status) = false
 has_life _ = true
 
+-- there is such a process, and it is no zombie
 abbrev pub lives_in : Option Proc → Bool
 lives_in None = false
 lives_in (Some p) = has_life p.life
@@ -27,19 +29,23 @@ lives_in (Some p) = has_life p.life
 abbrev pub lives : List Proc → ℕ → Bool
 lives ps pid = lives_in (numbered (λ (x : Proc). x.pid) pid ps)
 
+-- each frame and block has one owner, each frame its bytes, the hands are in place, and at most 16 transfers in flight
 pub record Sound (size : ℕ) (k : Kernel) : Type 0 where
   pub owner : OneOwner size (lives k.processes) k.place k.holdings
   pub tokens : length k.frames ≡ length k.place.holds
   pub hands : HandsStand k.place
   pub few_transfers : length k.place.transfers ≤ 16
 
+-- the machine stopped, or all this is so of it
 abbrev pub IsSound : ℕ → Kernel → Type 0
 IsSound size k = k.stopped ≡ false → Sound size k
 
+-- bytes are kept for the page
 abbrev pub has_start : List StartBytes → Page → Bool
 has_start [] q = false
 has_start (s ∷ ss) q = same_page s.page q || has_start ss q
 
+-- what is due is a new stack page 0, with bytes that are kept
 abbrev pub is_start : Option Due → Bool
 is_start None = false
 is_start (Some (Start q)) = true

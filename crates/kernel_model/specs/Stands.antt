@@ -11,6 +11,7 @@ abbrev pub holds_some : Option Process → Bool
 holds_some None = false
 holds_some (Some q) = holds_space q.holding
 
+-- each process that is out is there, and holds a space
 abbrev pub OutHold : Placement → FlatState → Type 0
 OutHold p flat = (pid : ℕ) → is_out p pid ≡ true → holds_some (process_of flat pid) ≡ true
 

@@ -11,6 +11,7 @@ use Rattle.kernel_model.specs.Kernel.{HoldsSpace, Proc, StartBytes, Kernel, life
 use Rattle.kernel_model.specs.Sound.{DataFits}
 use Rattle.page_model.specs.Place.{facts_of}
 
+-- the machine's record of a process of the flat state
 abbrev pub kept_of : Process → Proc
 kept_of q = record { pid = q.pid; parent = q.parent; regs = q.regs; life = life_of q.holding; asleep = q.asleep }
 
@@ -74,6 +75,7 @@ begin_step k found image name facts = record k {
 abbrev pub with_first : Inputs → ℕ → Inputs
 with_first A number = record A { first = A.first ++ number ∷ [] }
 
+-- a process that starts in this image
 abbrev pub starting_in : ℕ → NamedImage → Starting
 starting_in number named = record { image = number; facts = named.image.facts }
 

@@ -45,5 +45,6 @@ pub record MayChangeBy (images : List Image) (k : Kernel) (life : Life) (change 
   pub forgets : MayForget images k.place (space_of_life life) (gave_back life) k.next_sid change
   pub reaps : MayReap k.processes change
 
+-- what a change of the process of this number asks of the whole machine, by what the process has
 abbrev pub MayChange : List Image → Kernel → ℕ → Change → Type 0
 MayChange images k pid change = MayChangeBy images k (life_of_proc (numbered (λ (p : Proc). p.pid) pid k.processes)) change

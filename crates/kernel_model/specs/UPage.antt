@@ -29,6 +29,7 @@ longwords (suc n) _ = []
 abbrev pub has_bit : ℕ → ℕ → Bool
 has_bit codes weight = codes / weight % 2 == 1
 
+-- sixteen registers, with the condition codes that one number has
 abbrev pub regs_from : List ℕ → ℕ → Regs
 regs_from r codes = record { r = r; n = has_bit codes 8; z = has_bit codes 4; v = has_bit codes 2; c = has_bit codes 1 }
 

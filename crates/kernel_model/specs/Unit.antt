@@ -24,6 +24,7 @@ use Rattle.flat_state.specs.AoutImageImage.{Image}
 
 -- Spaces that are lent.
 
+-- a process lent its space to this one
 abbrev pub lends_life : ℕ → Life → Bool
 lends_life pid New = false
 lends_life pid (HoldsSpace sid) = false
@@ -63,6 +64,7 @@ abbrev pub u_bytes : Kernel → Option Proc → List ℕ
 u_bytes k None = []
 u_bytes k (Some p) = u_page p.regs (length (slots_of k.place (Data (space_of_life p.life) 0))) (length (slots_of k.place (Stack (space_of_life p.life) 0)))
 
+-- the process of this number, if there is one
 abbrev pub proc_of : Kernel → ℕ → Option Proc
 proc_of k pid = numbered (λ (p : Proc). p.pid) pid k.processes
 
@@ -119,6 +121,7 @@ pub record KernelState : Type 0 where
 abbrev pub with_found : KernelState → Kernel
 with_found m = record (m.kernel) { holdings = m.found }
 
+-- the machine after a unit
 abbrev pub kernel_step : List Image → KernelState → KernelUnit → Kernel
 kernel_step images m (ZeroUnit q) = zero_step m.kernel q
 kernel_step images m (CopyUnit q) = copy_step m.kernel q
@@ -154,9 +157,11 @@ flat_after images flat (RanUnit pid regs e) = apply_change images flat pid regs 
 flat_after images flat (ChangeUnit pid regs e change) = apply_change images flat pid regs change
 flat_after images flat u = flat
 
+-- the kernel after a unit: the machine, the pieces that were found, the swap image and the flat state
 abbrev pub state_after : List NamedImage → KernelState → KernelUnit → KernelState
 state_after images m u = record { kernel = kernel_step (facts_of images) m u; found = found_after (facts_of images) m u; image = swap_after m u; flat = flat_after images m.flat u }
 
+-- the kernel after these units, one after another
 abbrev pub states_after : List NamedImage → KernelState → List KernelUnit → KernelState
 states_after images m [] = m
 states_after images m (u ∷ us) = states_after images (state_after images m u) us

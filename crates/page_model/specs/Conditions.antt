@@ -34,6 +34,7 @@ AtRest (Coming f) = ⊥
 AtRest (Going f) = ⊥
 AtRest OnSwap = Unit {0}
 
+-- no transfer has any of these pages
 abbrev pub AllAtRest : Placement → List Page → Type 0
 AllAtRest p qs = EachPage (λ q. AtRest (state_of p q)) qs
 

@@ -24,9 +24,11 @@ pub record IsDue (p : Placement) (q : Page) (d : Due) : Type 0 where
   pub zeros : filling_of p q ≡ Zeros
   pub source : HasSource p d
 
+-- each page that is due still has to be filled, and what it is copied from is there
 abbrev pub DueStand : Placement → Type 0
 DueStand p = (q : Page) (d : Due) → due_at p.due q ≡ Some d → IsDue p q d
 
+-- the page isn't due
 abbrev pub NotDue : List Due → Page → Type 0
 NotDue ds q = due_at ds q ≡ None
 

@@ -22,6 +22,7 @@ pub record Bytes : Type 0 where
   pub start : Page → List ℕ
   pub memory : Page → List ℕ
 
+-- the bytes of a frame; none where there is no such frame
 abbrev pub bytes_in : Bytes → ℕ → List ℕ
 bytes_in b f = at_frame b.frames f []
 
@@ -62,6 +63,7 @@ IfSaved b (Data sid v) dirty = Unit {0}
 IfSaved b (Stack sid v) dirty = Unit {0}
 IfSaved b (Text image v) saved = saved ≡ true → b.swap (Text image v) ≡ b.memory (Text image v)
 
+-- where a page's flat bytes are, by its state
 abbrev pub KeepsBy : Placement → Bytes → Page → PageState → Type 0
 KeepsBy p b q Unfilled = KeepsUnfilled b q (due_at p.due q) (filling_of p q) × IsUnsaved q (mark_of p q)
 KeepsBy p b q (Valid f) = IsInFrame b (is_dirty p q) f q
@@ -74,6 +76,7 @@ KeepsBy p b q OnSwap = b.swap q ≡ b.memory q
 abbrev pub Keeps : Placement → Bytes → Page → Type 0
 Keeps p b q = KeepsBy p b q (state_of p q)
 
+-- the flat bytes of each page are where its state says, and those of text are its file's
 pub record CouplesPages (p : Placement) (b : Bytes) : Type 0 where
   pub each : (q : Page) → IsThere p q → Keeps p b q
   -- text is never written, and never due
@@ -135,6 +138,7 @@ abbrev pub StoresAll : Bytes → List Part → Bytes → Type 0
 StoresAll b [] c = b ≡ c
 StoresAll b (x ∷ xs) c = (m : Bytes) × Stores b m x.page (bytes_in b x.frame) × StoresAll m xs c
 
+-- what the end of a transfer makes of the bytes: of a write those on swap, of a read those of the frames
 abbrev pub BytesBy : Bytes → Errand → List Part → Bytes → Type 0
 BytesBy b Writes xs c = StoresAll b xs c
 BytesBy b (Reads source demanded) xs c = bytes_read b source xs ≡ c
@@ -162,6 +166,7 @@ abbrev pub FillsBy : Bytes → Page → Filling → Type 0
 FillsBy c q Zeros = zeros ≡ c.memory q
 FillsBy c q OfImage = c.file q ≡ c.memory q
 
+-- the page isn't one of a transfer's pages
 abbrev pub NotIn : Page → List Part → Type 0
 NotIn w [] = Unit {0}
 NotIn w (x ∷ xs) = (w ≢ x.page) × NotIn w xs

@@ -11,6 +11,7 @@ use Rattle.page_model.specs.Place.{pages_of_space, place_entry}
 use Rattle.page_model.specs.Ownership.{OwnsFrames}
 use Rattle.page_model.specs.Swapper.{is_out, first_seated, is_settled, put_out_unit}
 
+-- the process is listed, as in or as out
 abbrev pub IsResident : Placement → ℕ → Type 0
 IsResident p pid = numbered (λ (r : Residence). r.pid) pid p.residents ≢ None
 
@@ -19,9 +20,11 @@ abbrev pub is_active_by : Placement → PageState → Bool
 is_active_by p (Coming f) = true
 is_active_by p s = is_seated_by p s
 
+-- the page is in a frame off the free list, or is being read
 abbrev pub is_active : Placement → Page → Bool
 is_active p q = is_active_by p (state_of p q)
 
+-- how many of these pages are in a frame off the free list, or are being read
 abbrev pub active_count : Placement → List Page → ℕ
 active_count p [] = 0
 active_count p (q ∷ qs) = cond (is_active p q) 1 0 + active_count p qs
@@ -31,6 +34,7 @@ abbrev pub put_rank_by : Placement → ℕ → Bool → ℕ
 put_rank_by p sid true = 0
 put_rank_by p sid false = 1 + length p.transfers + 2 * active_count p (pages_of_space p sid)
 
+-- how far a process is from being out; 0 where it is
 abbrev pub put_rank : Placement → ℕ → ℕ → ℕ
 put_rank p pid sid = put_rank_by p sid (is_out p pid)
 

@@ -12,6 +12,7 @@ use Rattle.page_model.specs.Serve.{Forces, Serves}
 use Rattle.page_model.specs.Conditions.{Spares}
 use Rattle.page_model.specs.Ownership.{OwnsFrames}
 
+-- the page's bytes are in its frame, and it has to be reclaimed before it is used
 abbrev pub is_invalid : PageState → Bool
 is_invalid (Invalid f) = true
 is_invalid _ = false
@@ -21,6 +22,7 @@ abbrev pub is_open_page : List Page → Option Page → Bool
 is_open_page locked None = false
 is_open_page locked (Some q) = not (is_among q locked)
 
+-- this frame holds a page that isn't locked
 abbrev pub is_open : Placement → List Page → ℕ → Bool
 is_open p locked f = is_open_page locked (page_of p f)
 
@@ -29,6 +31,7 @@ abbrev pub is_usable_page : Placement → List Page → Option Page → Bool
 is_usable_page p locked None = false
 is_usable_page p locked (Some q) = is_invalid (state_of p q) && not (is_among q locked)
 
+-- the page of this frame is Invalid and not locked, so the back hand can use the frame
 abbrev pub is_usable : Placement → List Page → ℕ → Bool
 is_usable p locked f = is_usable_page p locked (page_of p f)
 
@@ -40,6 +43,7 @@ reach p locked zero ahead f = 0
 reach p locked (suc frames) zero f = cond (is_open p locked f) 0 (1 + reach p locked frames zero (next_frame (length p.holds) f))
 reach p locked (suc frames) (suc ahead) f = cond (is_usable p locked f) 0 (1 + reach p locked frames ahead (next_frame (length p.holds) f))
 
+-- the frame so many frames on from this one, of n
 abbrev pub walk : ℕ → ℕ → ℕ → ℕ
 walk n zero f = f
 walk n (suc k) f = walk n k (next_frame n f)
@@ -50,14 +54,17 @@ pub record HandsStand (p : Placement) : Type 0 where
   pub high : p.back ≤ length p.holds
   pub ahead : p.front ≡ walk (length p.holds) (length p.holds / 4) p.back
 
+-- how far a free frame is while this transfer is the oldest: one unit for a write, else all that may be left to go
 abbrev pub far_parts : Placement → Errand → List Part → ℕ → ℕ
 far_parts p Writes (x ∷ xs) more = 1
 far_parts p e xs more = length p.holds + 4 + more
 
+-- how far a free frame is where none is free: the back hand's way, or what the oldest transfer leaves to go
 abbrev pub far_transfers : Placement → List Page → List Transfer → ℕ
 far_transfers p locked [] = 2 + reach p locked (length p.holds) (length p.holds / 4) p.back
 far_transfers p locked (t ∷ ts) = far_parts p t.errand t.parts (length ts)
 
+-- how far a free frame is, by the free list: no unit where one is there
 abbrev pub far_by : Placement → List Page → List ℕ → ℕ
 far_by p locked [] = far_transfers p locked p.transfers
 far_by p locked (f ∷ fs) = 0
@@ -66,10 +73,12 @@ far_by p locked (f ∷ fs) = 0
 abbrev pub far : Placement → List Page → ℕ
 far p locked = far_by p locked p.free
 
+-- how far a page that was never filled is from being valid, by what fills it
 abbrev pub rank_unfilled : Placement → List Page → Filling → ℕ
 rank_unfilled p locked Zeros = 1 + far p locked
 rank_unfilled p locked OfImage = 4 + length p.transfers + 2 * far p locked
 
+-- how far a page is from being valid, by what fills it and its state
 abbrev pub rank_by : Placement → List Page → Filling → PageState → ℕ
 rank_by p locked x (Valid f) = 0
 rank_by p locked x (Invalid f) = 1

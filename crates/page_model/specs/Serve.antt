@@ -17,6 +17,7 @@ abbrev pub force_by : Placement → List Page → List Transfer → Placement
 force_by p locked [] = hand_move p locked
 force_by p locked (t ∷ ts) = done p
 
+-- one unit of forcing a frame
 abbrev pub force : Placement → List Page → Placement
 force p locked = force_by p locked p.transfers
 
@@ -49,6 +50,7 @@ read_entry p q = entries.Get q (run_in p q).lo (run_in p q).n
 -- Serving: the step, its entry, and the unit that the policy asks for, by the same cases on the same arguments:
 -- the state of the page, its filling, the free list, and whether 16 transfers are in flight.
 
+-- the oldest transfer completes while 16 are in flight, else the read begins
 abbrev pub read_if : Placement → Page → Bool → Placement
 read_if p q true = done p
 read_if p q false = read_step p q
@@ -58,6 +60,7 @@ abbrev pub read_entry_if : Placement → Page → Bool → Entry
 read_entry_if p q true = entries.Done
 read_entry_if p q false = read_entry p q
 
+-- the step where a frame is free: a fill with zeros; else a read, or the oldest transfer's end while 16 are in flight
 abbrev pub bring_by : Placement → Page → PageState → Filling → Bool → Placement
 bring_by p q Unfilled Zeros full = fill p q
 bring_by p q s filling full = read_if p q full
@@ -67,14 +70,17 @@ abbrev pub bring_entry_by : Placement → Page → PageState → Filling → Boo
 bring_entry_by p q Unfilled Zeros full = entries.Zero q
 bring_entry_by p q s filling full = read_entry_if p q full
 
+-- the step of a page without a frame: where no frame is free one is forced
 abbrev pub feed_by : Placement → List Page → Page → PageState → Filling → List ℕ → Bool → Placement
 feed_by p locked q s filling [] full = force p locked
 feed_by p locked q s filling (f ∷ fs) full = bring_by p q s filling full
 
+-- the entry of a page without a frame: that of forcing one where no frame is free
 abbrev pub feed_entry_by : Placement → Page → PageState → Filling → List ℕ → Bool → Entry
 feed_entry_by p q s filling [] full = force_entry p.transfers
 feed_entry_by p q s filling (f ∷ fs) full = bring_entry_by p q s filling full
 
+-- the placement after one unit of serving a page, by the page's state
 abbrev pub serve_by : Placement → List Page → Page → PageState → Placement
 serve_by p locked q (Valid f) = p
 serve_by p locked q (Invalid f) = reclaim p q
@@ -87,6 +93,7 @@ serve_by p locked q OnSwap = feed_by p locked q OnSwap (filling_of p q) p.free (
 abbrev pub serve_step : Placement → List Page → Page → Placement
 serve_step p locked q = serve_by p locked q (state_of p q)
 
+-- the entry of one unit of serving a page, by the page's state
 abbrev pub serve_entry_by : Placement → Page → PageState → Entry
 serve_entry_by p q (Valid f) = entries.Done
 serve_entry_by p q (Invalid f) = entries.Reclaim q

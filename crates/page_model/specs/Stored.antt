@@ -7,6 +7,7 @@ use Rattle.page_model.specs.Ownership.{block_of}
 
 -- The swap image.
 
+-- what the swap image has in the two blocks from this one on; nothing where there is no block
 abbrev pub stored_at : List ℕ → Option ℕ → List ℕ
 stored_at image None = []
 stored_at image (Some b) = blocks_at image b

@@ -4,6 +4,7 @@ use Rattle.page_model.specs.Placement.{Placement}
 use Rattle.page_model.specs.Runs.{desired_free}
 use Rattle.page_model.specs.Swapper.{Runner, is_out, since, is_larger, may_go_out}
 
+-- the process is one of these
 abbrev pub OneOf : Runner → List Runner → Type 0
 OneOf r [] = ⊥
 OneOf r (x ∷ xs) = (r ≡ x) ⊎ OneOf r xs

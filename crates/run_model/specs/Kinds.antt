@@ -34,6 +34,7 @@ Comes A s (marks.BringIn p) pid = p ≡ pid
 Comes A s (marks.Turn p since) pid = (p ≡ pid) × (goes_on A s pid (since + turn_instructions) ≡ true) × (is_out s.place pid ≡ true)
 Comes A s mark pid = ⊥
 
+-- what kind of unit comes next: what is due first, then what the last mark asks, and where that is over the next mark
 pub data Kind (A : Inputs) (s : State) (u : Entry) : Type 0 where
   -- a new stack page that is due is filled, or a frame is forced for it
   Fills : (q : Page) (due : List Due) → s.place.due ≡ Start q ∷ due → u ≡ fill_unit s.place (entries.Zero q) → Kind A s u

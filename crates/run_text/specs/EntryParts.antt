@@ -8,16 +8,19 @@ use Rattle.vm_facts.specs.declared.entry.Entry.TheVariants.{Event, Turn, Ran, Ou
 use Rattle.run_text.specs.Text.{part, parts, hex_text}
 use Rattle.run_text.specs.Transcript.{page_numbers, numbers_of, AllBelow, IsWithin}
 
+-- what a line has after its letter: numbers; a segment's letter and numbers; or a process and the bytes that it wrote
 pub data Body : Type 0 where
   Counted : List ℕ → Body
   Paged : ℕ → List ℕ → Body
   Written : ℕ → List ℕ → Body
 
+-- the letter of a page's segment: d, s or x
 abbrev pub segment_of : Page → ℕ
 segment_of (Data sid v) = 100
 segment_of (Stack sid v) = 115
 segment_of (Text image v) = 120
 
+-- the letter that an entry's line begins with
 abbrev pub letter_of : Entry → ℕ
 letter_of (Event line) = 101
 letter_of (Turn pid) = 116
@@ -39,6 +42,7 @@ letter_of (SwapOut pid) = 79
 letter_of (SwapIn pid) = 73
 letter_of (Owners free used moving held) = 77
 
+-- what an entry's line has after its letter
 abbrev pub body_of : Entry → Body
 body_of (Out pid bytes) = Written pid bytes
 body_of (Zero page) = Paged (segment_of page) (numbers_of (Zero page))
@@ -48,6 +52,7 @@ body_of (Reclaim page) = Paged (segment_of page) (numbers_of (Reclaim page))
 body_of (Put page n) = Paged (segment_of page) (numbers_of (Put page n))
 body_of e = Counted (numbers_of e)
 
+-- the text of a line after its letter: numbers in decimal, each after a space, and bytes in hexadecimal
 abbrev pub body_text : Body → List ℕ
 body_text (Counted ns) = parts ns
 body_text (Paged segment ns) = 32 ∷ segment ∷ parts ns
@@ -65,18 +70,23 @@ is_page_letter l = l == 90 || (l == 71 || (l == 67 || (l == 82 || l == 80)))
 abbrev pub with_none : ℕ → Option Entry
 with_none l = if l == 68 then Some Done else None
 
+-- the entry of a letter and one number
 abbrev pub with_one : ℕ → ℕ → Option Entry
 with_one l a = if l == 101 then Some (Event a) else (if l == 116 then Some (Turn a) else (if l == 102 then Some (Refused a) else (if l == 115 then Some (Sleeps a) else (if l == 79 then Some (SwapOut a) else (if l == 73 then Some (SwapIn a) else (if l == 72 && nat_lt 0 a then Some (Hands a) else None))))))
 
+-- the entry of a letter and two numbers
 abbrev pub with_two : ℕ → ℕ → ℕ → Option Entry
 with_two l a b = if l == 120 then Some (Ended a b) else (if l == 114 && nat_lt 0 b then Some (Ran a b) else (if l == 103 && nat_lt 0 b then Some (Grew a b) else None))
 
+-- the entry of a letter and four numbers
 abbrev pub with_four : ℕ → ℕ → ℕ → ℕ → ℕ → Option Entry
 with_four l a b c d = if l == 77 then Some (Owners a b c d) else None
 
+-- the entry of a letter and five numbers
 abbrev pub with_five : ℕ → ℕ → ℕ → ℕ → ℕ → ℕ → Option Entry
 with_five l a b c d e = if l == 99 && nat_lt c 2 then Some (Call a b (c == 1) d e) else None
 
+-- the entry of a letter and these numbers; none where no entry has that many
 abbrev pub from_numbers : ℕ → List ℕ → Option Entry
 from_numbers l [] = with_none l
 from_numbers l (a ∷ []) = with_one l a
@@ -95,14 +105,17 @@ abbrev pub page_alone : ℕ → Option Page → Option Entry
 page_alone l None = None
 page_alone l (Some page) = if l == 90 then Some (Zero page) else (if l == 67 then Some (Copy page) else (if l == 82 then Some (Reclaim page) else None))
 
+-- the entry of a letter, a page and one further number
 abbrev pub page_and_one : ℕ → Option Page → ℕ → Option Entry
 page_and_one l None n = None
 page_and_one l (Some page) n = if l == 80 && nat_lt 0 n then Some (Put page n) else None
 
+-- the entry of a letter, a page and two further numbers
 abbrev pub page_and_two : ℕ → Option Page → ℕ → ℕ → Option Entry
 page_and_two l None lo n = None
 page_and_two l (Some page) lo n = if l == 71 && nat_lt 0 n then Some (Get page lo n) else None
 
+-- the entry of a letter, a segment's letter and numbers, of which the first two are the page's
 abbrev pub from_paged : ℕ → ℕ → List ℕ → Option Entry
 from_paged l s [] = None
 from_paged l s (a ∷ []) = None
@@ -123,6 +136,7 @@ kind_of (Counted ns) = 0
 kind_of (Paged segment ns) = 1
 kind_of (Written pid bytes) = 2
 
+-- the kind of body that the entries of a letter have
 abbrev pub kind_for : ℕ → ℕ
 kind_for l = if l == 111 then 2 else (if is_page_letter l then 1 else 0)
 

@@ -25,6 +25,7 @@ abbrev pub text_unless_same : Bool → Run → List ℕ
 text_unless_same true r = []
 text_unless_same false r = line_of (Ran r.pid r.count)
 
+-- the line that is written before a `Ran` of this process; none where the two are joined
 abbrev pub text_before : Option Run → ℕ → List ℕ
 text_before None pid = []
 text_before (Some r) pid = text_unless_same (r.pid == pid) r
@@ -34,6 +35,7 @@ abbrev pub lengthened : Bool → Run → ℕ → ℕ → Run
 lengthened true r pid count = record { pid = r.pid; count = r.count + count }
 lengthened false r pid count = record { pid = pid; count = count }
 
+-- the `Ran` that waits once this one came: both as one where they are of one process
 abbrev pub run_with : Option Run → ℕ → ℕ → Run
 run_with None pid count = record { pid = pid; count = count }
 run_with (Some r) pid count = lengthened (r.pid == pid) r pid count
@@ -43,6 +45,7 @@ abbrev pub other_text : Bool → Option Run → Entry → List ℕ
 other_text true run e = []
 other_text false run e = waiting_text run ++ line_of e
 
+-- what waits after an entry that isn't a `Ran`: the same after a paging entry, else none
 abbrev pub other_run : Bool → Option Run → Option Run
 other_run true run = run
 other_run false run = None

@@ -51,6 +51,7 @@ bytes_of _ = []
 abbrev pub HasNumbers : Entry → Type 0
 HasNumbers e = AllBelow 4294967296 (numbers_of e) × AllBelow 256 (bytes_of e)
 
+-- the numbers of each entry have 32 bits, and what a process wrote are bytes
 abbrev pub HaveNumbers : List Entry → Type 0
 HaveNumbers [] = ⊤
 HaveNumbers (e ∷ es) = HasNumbers e × HaveNumbers es
@@ -69,6 +70,7 @@ CountsSome _ = ⊤
 abbrev pub IsWithin : Entry → Type 0
 IsWithin e = AllBelow 4294967296 (numbers_of e) × CountsSome e
 
+-- each entry is within its ranges
 abbrev pub AreWithin : List Entry → Type 0
 AreWithin [] = ⊤
 AreWithin (e ∷ es) = IsWithin e × AreWithin es

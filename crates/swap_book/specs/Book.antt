@@ -45,6 +45,7 @@ abbrev pub answer_of : Result Holdings ℕ → Grown
 answer_of (Ok hs) = AllFound
 answer_of (Err n) = NoFit n
 
+-- the book after growing: with the new holdings, or as it was where a piece finds no place
 abbrev pub grown_book : Book → Result Holdings ℕ → Book
 grown_book b (Ok hs) = with_holdings b hs
 grown_book b (Err n) = b

@@ -6,6 +6,7 @@ use Rattle.swap_book.specs.Holdings.{is_held}
 use Rattle.swap_book.specs.Book.{Book, IsBook}
 use Rattle.swap_book.specs.declared.SwapBook.TheInside.{Inside}
 
+-- the book as its callers see it: how many blocks there are, and who holds which
 abbrev pub book_of : Inside → Book
 book_of a = record { size = length a.map.free; holdings = a.holdings.items }
 
@@ -16,5 +17,6 @@ pub record Agrees (map : Blocks) (hs : List Held) : Type 0 where
   pub spare : map.spare ≡ length hs
   pub small : length map.free < 2 ^ 32
 
+-- the map of free blocks and the holdings of the book agree
 abbrev pub IsSound : Inside → Type 0
 IsSound a = Agrees a.map a.holdings.items
