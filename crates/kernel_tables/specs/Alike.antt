@@ -14,6 +14,7 @@ use Rattle.proc_table.specs.declared.process.Life.TheVariants as lives
 use Rattle.proc_table.specs.Records.{find, IsTable}
 use Rattle.kernel_tables.specs.Shown.{entry_in}
 
+-- something is so of each of these spaces
 abbrev pub EachSpace : (Places → Type 0) → List Places → Type 0
 EachSpace P [] = Unit {0}
 EachSpace P (s ∷ ss) = P s × EachSpace P ss
@@ -22,6 +23,7 @@ EachSpace P (s ∷ ss) = P s × EachSpace P ss
 abbrev pub IsLikeFirst : List Places → Places → Type 0
 IsLikeFirst ss s = (image v : ℕ) (x : Place) → place_in s (Text image v) ≡ Some x → entry_in ss (Text image v) ≡ Some x
 
+-- a page of text has one entry in all spaces that share it
 abbrev pub AreAlike : List Places → Type 0
 AreAlike ss = EachSpace (IsLikeFirst ss) ss
 
@@ -47,19 +49,23 @@ HasFewPages s = (length s.data ≤ 4096) × (length s.stack ≤ 512)
 
 -- Who lends a space to a process.
 
+-- what a record has is a space that it lends to this process
 abbrev pub lends_to_by : ℕ → RecordLife → Bool
 lends_to_by pid lives.New = false
 lends_to_by pid (lives.Holds sid) = false
 lends_to_by pid (lives.Lends sid child) = child == pid
 lends_to_by pid (lives.Zombie status) = false
 
+-- the process of this record lends its space to that one
 abbrev pub lends_to : ℕ → Record → Bool
 lends_to pid p = lends_to_by pid p.state
 
+-- there is a record, and it is marked as a borrower's
 abbrev pub is_borrower_in : Option Record → Bool
 is_borrower_in None = false
 is_borrower_in (Some p) = p.borrowed
 
+-- what a borrower's record may have: it holds a space, or lends it in turn
 abbrev pub HoldsBorrowed : RecordLife → Type 0
 HoldsBorrowed (lives.Holds sid) = Unit {0}
 HoldsBorrowed (lives.Lends sid child) = Unit {0}

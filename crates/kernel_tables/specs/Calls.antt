@@ -27,6 +27,7 @@ abbrev pub due_parent : Due → Option Page
 due_parent (Start q) = None
 due_parent (CopyOf q parent) = Some parent
 
+-- a page that is due, and its parent's where it is to be copied from that
 abbrev pub due_and_parent : Due → Page × Option Page
 due_and_parent d = (due_page d, due_parent d)
 

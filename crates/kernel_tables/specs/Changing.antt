@@ -48,6 +48,7 @@ pub record GaveUp (t u : Tables) (sid : ℕ) : Type 0 where
 abbrev pub started_place : Placement → ℕ → ℕ → Image → Placement
 started_place p sid image facts = record p { spaces = p.spaces ++ new_pages sid image facts ∷ []; due = p.due ++ Start (Stack sid 0) ∷ [] }
 
+-- a space of the next number is there, in which an image starts; these are the bytes of its stack page 0, which is due
 pub record EnteredImage (t u : Tables) (image : ℕ) (facts : Image) (top : List ℕ) : Type 0 where
   pub shows : Shows t u (started_place (placement_of (lists_of t)) t.next_sid image facts)
   pub starts : starts_of u.fills.items ≡ starts_of t.fills.items ++ record { page = Stack t.next_sid 0; bytes = top } ∷ []
@@ -71,15 +72,19 @@ pub record HasProcesses (t u : Tables) (next : ℕ) (ps : List Proc) (rs : List 
   pub records : AreRecords u.processes u.next_pid
   pub rest : u ≡ record t { processes = u.processes; next_pid = u.next_pid }
 
+-- the processes, as their records have them
 abbrev pub processes_in : Tables → List Proc
 processes_in t = processes_of t.processes t.next_pid
 
+-- who is in and who is out, as the records have it
 abbrev pub residents_in : Tables → List Residence
 residents_in t = residents_of t.processes t.next_pid
 
+-- the process of this number, if there is one
 abbrev pub process_in : Tables → ℕ → Option Proc
 process_in t pid = numbered (λ (p : Proc). p.pid) pid (processes_in t)
 
+-- what the process of this number has
 abbrev pub life_at : Tables → ℕ → Life
 life_at t pid = life_of_proc (process_in t pid)
 

@@ -24,6 +24,7 @@ abbrev pub AreWholePages : List Inbound → Type 0
 AreWholePages [] = Unit {0}
 AreWholePages (x ∷ xs) = (length x.token.bytes ≡ 1024) × AreWholePages xs
 
+-- the tokens of a transfer that reads have a page's bytes each
 abbrev pub IsWholeFlight : Flight → Type 0
 IsWholeFlight (flights.Read demanded parts) = AreWholePages parts.items
 IsWholeFlight (flights.Write parts) = Unit {0}
@@ -72,10 +73,12 @@ SpoilsAll k image (x ∷ xs) after =
     ((bytes : List ℕ) × (length bytes ≡ 1024) × (after ≡ store_at image (block_of k.holdings x.page) bytes))
     ⊎ SpoilsAll k (store_at image (block_of k.holdings x.page) (frame_bytes k x.frame)) xs after
 
+-- what a write that failed leaves of the image: the oldest transfer is that write
 abbrev pub SpoilsBy : Kernel → List ℕ → List Transfer → List ℕ → Type 0
 SpoilsBy k image [] after = ⊥
 SpoilsBy k image (t ∷ ts) after = (t.errand ≡ Writes) × SpoilsAll k image t.parts after
 
+-- the swap image, where it is told, after the oldest transfer's write failed
 abbrev pub SpoilsAfter : Kernel → Option (List ℕ) → Option (List ℕ) → Type 0
 SpoilsAfter k None after = after ≡ None
 SpoilsAfter k (Some image) after = (spoiled : List ℕ) × (after ≡ Some spoiled) × SpoilsBy k image k.place.transfers spoiled

@@ -25,6 +25,7 @@ abbrev pub IsWholeFill : DueFill → Type 0
 IsWholeFill (fills.Start page bytes) = length bytes ≡ 1024
 IsWholeFill (fills.Copy child parent) = Unit {0}
 
+-- what is kept for each new stack page that is due is a page
 abbrev pub AreWhole : List DueFill → Type 0
 AreWhole [] = Unit {0}
 AreWhole (d ∷ ds) = IsWholeFill d × AreWhole ds

@@ -13,18 +13,22 @@ use Rattle.kernel_tables.specs.Changing.{HasProcesses, processes_in, residents_i
 
 -- What is left of a record whose parent may have ended: nothing of a zombie child, and a child with no parent.
 
+-- what is left of a child, by what it has: nothing of a zombie
 abbrev pub left_life : Record → RecordLife → Option Record
 left_life p (lives.Zombie status) = None
 left_life p life = Some (record p { parent = 0 })
 
+-- what is left of a record, by whether it is a child of the process that ends
 abbrev pub left_by : Bool → Record → Option Record
 left_by true p = left_life p p.state
 left_by false p = Some p
 
+-- what is left of a record, if there is one, where the process of this number ends
 abbrev pub left_in : ℕ → Option Record → Option Record
 left_in parent None = None
 left_in parent (Some p) = left_by (p.parent == parent) p
 
+-- the zombie children of a process that ends are gone, and its other children have no parent
 pub record LeftChildren (t u : Tables) (pid : ℕ) : Type 0 where
   pub left : (n : ℕ) → find n u.processes ≡ left_in pid (find n t.processes)
   pub sound : IsTable u.processes

@@ -10,6 +10,7 @@ pub record HasFile (n : ImageNamed) (files : List NamedFile) : Type 0 where
   pub there : n.file < length files
   pub whole : file_length_of n.facts ≤ length (bytes_at files n.file)
 
+-- the file of each image is there, with all that its header says
 abbrev pub HaveFiles : List ImageNamed → List NamedFile → Type 0
 HaveFiles [] files = Unit {0}
 HaveFiles (n ∷ ns) files = HasFile n files × HaveFiles ns files
@@ -25,6 +26,7 @@ AreLoaded [] files [] = Unit {0}
 AreLoaded (n ∷ ns) files (x ∷ xs) = (x.image ≡ loaded n.facts (bytes_at files n.file)) × AreLoaded ns files xs
 AreLoaded ns files xs = ⊥
 
+-- the images, by number, as the files have them where these are told
 abbrev pub AreImages : List ImageNamed → Option (List NamedFile) → List NamedImage → Type 0
 AreImages ns None images = ⊥
 AreImages ns (Some files) images = AreLoaded ns files images

@@ -7,6 +7,7 @@ use Rattle.core_map.specs.declared.slot.Slot.{Slot as Token}
 use Rattle.core_map.specs.Slots.{page_of}
 use Rattle.flat_state.specs.PageNames.{same_page}
 
+-- what a frame holds is this page
 abbrev pub holds_it : Option Page → Page → Bool
 holds_it None q = false
 holds_it (Some r) q = same_page r q
@@ -16,6 +17,7 @@ abbrev pub found_from : ℕ → List Token → Page → Option ℕ
 found_from n [] q = None
 found_from n (s ∷ ss) q = cond (holds_it (page_of s) q) (Some n) (found_from (n + 1) ss q)
 
+-- the frame that holds the page, free or not, by the core map; none where no frame does
 abbrev pub frame_holding : List Token → Page → Option ℕ
 frame_holding slots q = found_from 0 slots q
 
@@ -24,5 +26,6 @@ abbrev pub cached_by : Option ℕ → ℕ → Place
 cached_by None v = places.Image v
 cached_by (Some f) v = places.Frame f false false
 
+-- where a text page is that no space shares, by the core map
 abbrev pub cached_place : List Token → Page → ℕ → Place
 cached_place slots q v = cached_by (frame_holding slots q) v

@@ -34,10 +34,12 @@ left_at map f (tokens.Resident token page dirty) = record { free = map.free ++ f
 left_at map f (tokens.Free token page) = map
 left_at map f tokens.Away = map
 
+-- the frame, where there is one, goes to the tail of the free list, if it is off that
 abbrev pub left_in : Frames → Option ℕ → Frames
 left_in map None = map
 left_in map (Some f) = left_at map f (slot_at map.slots f)
 
+-- the frame that holds this page goes to the tail of the free list, if it is off that
 abbrev pub left_page : Frames → Page → Frames
 left_page map q = left_in map (frame_holding map.slots q)
 
@@ -51,6 +53,7 @@ abbrev pub left_by : Option Places → Frames → ℕ → ℕ → Frames
 left_by None map image n = left_pages map image n
 left_by (Some s) map image n = map
 
+-- the pieces of a text go back where no space shares it any more
 abbrev pub text_left_by : Option Places → Holdings → ℕ → Holdings
 text_left_by None hs image = kept (owners.Text image) 0 hs
 text_left_by (Some s) hs image = hs

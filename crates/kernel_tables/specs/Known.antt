@@ -11,6 +11,7 @@ use Rattle.kernel_tables.specs.View.{Lists, flown_number, placement_of}
 use Rattle.kernel_tables.specs.Tied.{Tied}
 use Rattle.kernel_tables.specs.Rising.{sids_of}
 
+-- each frame has one owner, text that nobody shares is aside, no two spaces have one number, and the tables are tied
 pub record Known (t : Lists) : Type 0 where
   pub core : IsSound t.free t.slots
   pub owns : OwnsFrames (placement_of t)

@@ -61,6 +61,7 @@ abbrev pub HaveOwnBlocks : Holdings → List Outbound → Type 0
 HaveOwnBlocks hs [] = Unit {0}
 HaveOwnBlocks hs (x ∷ xs) = (block_of hs x.page ≡ Some x.block) × HaveOwnBlocks hs xs
 
+-- a write of pages to their own blocks
 abbrev pub IsOwnWrite : Holdings → Flight → Type 0
 IsOwnWrite hs (flights.Read demanded parts) = ⊥
 IsOwnWrite hs (flights.Write parts) = HaveOwnBlocks hs parts.items
@@ -89,10 +90,12 @@ pub record MayWrite (p : Placement) (q : Page) (lo n : ℕ) : Type 0 where
 
 -- The write of a run begins; or, where that has no pages, the frame of a clean page goes to the tail.
 
+-- what this asks: a run that may be written, or a clean page in a frame off the free list
 abbrev pub MayPutOut : Placement → Page → ℕ → ℕ → Type 0
 MayPutOut p q lo zero = MayRetire p q
 MayPutOut p q lo (suc m) = MayWrite p q lo (suc m)
 
+-- the placement that this leaves
 abbrev pub put_out : Placement → Page → ℕ → ℕ → Placement
 put_out p q lo zero = retire p q
 put_out p q lo (suc m) = launch_run p (pages_from q lo (suc m))
@@ -112,18 +115,22 @@ pub record MovedOn (t u : Tables) (p : Placement) : Type 0 where
 
 -- The page of a resident frame that isn't one of these, and whether it is valid.
 
+-- the entry names a frame, and its page is valid
 abbrev pub valid_named : Option Place → Bool
 valid_named (Some (places.Frame f valid changed)) = valid
 valid_named _ = false
 
+-- a page, and whether it is valid; none where it is one of these
 abbrev pub under_if : Bool → Page → Bool → Option (Page × Bool)
 under_if true q valid = None
 under_if false q valid = Some (q, valid)
 
+-- the page of a resident slot, if it is none of these, and whether it is valid; none of another slot
 abbrev pub under_by : List Places → List Page → Token → Option (Page × Bool)
 under_by spaces locked (tokens.Resident token q dirty) = under_if (is_among q locked) q (valid_named (entry_in spaces q))
 under_by spaces locked _ = None
 
+-- the page of this frame, if the frame is resident and the page none of these, and whether it is valid
 abbrev pub under : Lists → List Page → ℕ → Option (Page × Bool)
 under t locked f = under_by t.spaces locked (slot_at t.slots f)
 
@@ -132,9 +139,11 @@ abbrev pub expired_if : Bool → Page → ℕ → List Places → List Places
 expired_if true q f spaces = map (placed q (places.Frame f false (changed_named (entry_in spaces q)))) spaces
 expired_if false q f spaces = spaces
 
+-- the entries once the page under the front hand, if any, is invalid
 abbrev pub expired_by : Option (Page × Bool) → ℕ → List Places → List Places
 expired_by None f spaces = spaces
 expired_by (Some w) f spaces = expired_if w.1 w.0 f spaces
 
+-- the tables after the front hand's part of a move
 abbrev pub expired : Lists → List Page → Lists
 expired t locked = record t { spaces = expired_by (under t locked t.front) t.front t.spaces }

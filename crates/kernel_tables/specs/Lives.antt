@@ -14,6 +14,7 @@ space_by (lives.Holds sid) = Some sid
 space_by (lives.Lends sid child) = None
 space_by (lives.Zombie status) = None
 
+-- the space in which the process of a record runs, if there is a record
 abbrev pub space_held : Option Record → Option ℕ
 space_held None = None
 space_held (Some p) = space_by p.state

@@ -23,35 +23,43 @@ use Rattle.kernel_tables.specs.Sourced.{ImageNamed, AreNames, AreSourced}
 
 -- Processes, by rising pid.
 
+-- what a process has, by its record
 abbrev pub life_shown : RecordLife → Life
 life_shown lives.New = New
 life_shown (lives.Holds sid) = HoldsSpace sid
 life_shown (lives.Lends sid child) = LendsSpace sid child
 life_shown (lives.Zombie status) = Ended status
 
+-- the process that a record stands for
 abbrev pub proc_shown : Record → Proc
 proc_shown p = record { pid = p.pid; parent = p.parent; regs = p.regs; life = life_shown p.state; asleep = p.asleep }
 
+-- whether the process of a record is in or out, and since when; a zombie is neither
 abbrev pub residence_by : Record → RecordLife → Option Residence
 residence_by p (lives.Zombie status) = None
 residence_by p life = Some (let r : Residence = record { pid = p.pid; out = p.out; since = p.since } in r)
 
+-- the process that a record stands for, if there is a record
 abbrev pub proc_of : Option Record → Option Proc
 proc_of None = None
 proc_of (Some p) = Some (proc_shown p)
 
+-- whether the process of a record is in or out, if there is a record
 abbrev pub residence_of : Option Record → Option Residence
 residence_of None = None
 residence_of (Some p) = residence_by p p.state
 
+-- the processes that have records, of all numbers below the next one
 abbrev pub processes_of : List Record → ℕ → List Proc
 processes_of ps next = filter_map (λ pid. proc_of (find pid ps)) (range_with_len 1 (next - 1))
 
+-- who of these is in or out, and since when
 abbrev pub residents_of : List Record → ℕ → List Residence
 residents_of ps next = filter_map (λ pid. residence_of (find pid ps)) (range_with_len 1 (next - 1))
 
 -- The tables.
 
+-- what the tables hold, as lists
 abbrev pub lists_of : Tables → Lists
 lists_of t = record {
   slots = t.core.slots;
@@ -67,6 +75,7 @@ lists_of t = record {
   back = t.back;
 }
 
+-- the kernel that the tables stand for, with this journal, and stopped or not
 abbrev pub kernel_by : Tables → List Entry → Bool → Kernel
 kernel_by t journal stopped = record {
   place = placement_of (lists_of t);
@@ -84,6 +93,7 @@ kernel_by t journal stopped = record {
 abbrev pub image_shown : Named → ImageNamed
 image_shown n = record { name = string_bytes n.name; file = n.file; facts = n.facts }
 
+-- the images of the tables, by number from 1 on
 abbrev pub images_of : Tables → List ImageNamed
 images_of t = map image_shown t.images.items
 

@@ -28,6 +28,7 @@ use Rattle.kernel_tables.specs.Shown.{placed}
 use Rattle.vm_facts.specs.Lists.{without}
 use Rattle.kernel_tables.specs.Steps.{evicted, revived, saved_texts, source_by}
 
+-- the first free frame is taken: its token has left the core map, and a page that it still held has lost it
 pub record TookFrame (t u : Tables) (token : Frame) : Type 0 where
   pub free : t.core.free ≡ token.number ∷ u.core.free
   pub was : slot_at t.core.slots token.number ≡ tokens.Free token (page_of (slot_at t.core.slots token.number))
@@ -35,12 +36,14 @@ pub record TookFrame (t u : Tables) (token : Frame) : Type 0 where
   pub spaces : u.spaces ≡ evicted t.texts (page_of (slot_at t.core.slots token.number)) t.spaces
   pub rest : u ≡ record t { core = u.core; spaces = u.spaces }
 
+-- a page is in the frame of this token, usable, dirty or not
 pub record SeatedPage (t u : Tables) (token : Frame) (q : Page) (dirty : Bool) : Type 0 where
   pub free : u.core.free ≡ t.core.free
   pub slots : u.core.slots ≡ slice_set t.core.slots token.number (tokens.Resident token q dirty)
   pub spaces : u.spaces ≡ map (placed q (places.Frame token.number true dirty)) t.spaces
   pub rest : u ≡ record t { core = u.core; spaces = u.spaces }
 
+-- the fill that was due first isn't due any more
 pub record FinishedFill (t u : Tables) : Type 0 where
   pub fills : u.fills.items ≡ drop 1 t.fills.items
   pub rest : u ≡ record t { fills = u.fills }
@@ -85,12 +88,14 @@ pub record BeganRead (t u : Tables) (q : Page) (lo n : ℕ) : Type 0 where
   pub sourced : IsFlightSourced (images_of t) (image_at t) t.book.holdings t.book.size flight
   pub rest : u ≡ record t { core = u.core; ring = u.ring; spaces = u.spaces }
 
+-- a page that its frame still held is usable again, and the frame is off the free list
 pub record RevivedPage (t u : Tables) (q : Page) (f : ℕ) (changed : Bool) : Type 0 where
   pub free : u.core.free ≡ without f t.core.free
   pub slots : u.core.slots ≡ slice_set t.core.slots f (revived (slot_at t.core.slots f) q changed)
   pub spaces : u.spaces ≡ map (placed q (places.Frame f true changed)) t.spaces
   pub rest : u ≡ record t { core = u.core; spaces = u.spaces }
 
+-- a byte of a page was written in its frame, and the page is dirty
 pub record WroteByte (t u : Tables) (q : Page) (f at byte : ℕ) : Type 0 where
   pub free : u.core.free ≡ t.core.free
   pub slots : u.core.slots ≡ slice_set t.core.slots f (with_dirty (with_byte (slot_at t.core.slots f) at byte) true)
@@ -122,12 +127,15 @@ pub record LandedOut (t u : Tables) (token : Frame) (q : Page) : Type 0 where
 abbrev pub closing : Tables → Errand → List Part → List Flown → Lists
 closing t e xs fs = record (lists_of t) { transfers = record { errand = e; parts = xs } ∷ map transfer_shown t.ring; flown = fs ++ flown t.ring }
 
+-- the tables with a read that has left the ring, of which these pages have to land
 abbrev pub closing_in : Tables → Bool → Page → List Inbound → Lists
 closing_in t from_file demanded xs = closing t (Reads (source_by from_file) demanded) (map in_part xs) (map inbound_flown xs)
 
+-- the tables with a write that has left the ring, of which these pages have to land
 abbrev pub closing_out : Tables → List Outbound → Lists
 closing_out t xs = closing t Writes (map out_part xs) (map outbound_flown xs)
 
+-- the tables with a transfer that has left the ring, and of which no page has landed
 abbrev pub ending : Tables → Flight → Lists
 ending t x = record (lists_of t) { transfers = transfer_shown x ∷ map transfer_shown t.ring; flown = flown_in x ++ flown t.ring }
 

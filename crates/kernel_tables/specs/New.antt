@@ -10,6 +10,7 @@ use Rattle.kernel_model.specs.Start.{new_kernel}
 abbrev pub fresh_kernel : List Image → ℕ → Kernel
 fresh_kernel facts frames = new_kernel facts frames (replicate frames zeros)
 
+-- each of these headers is that of a sound image
 abbrev pub AreSound : List Image → Type 0
 AreSound [] = Unit {0}
 AreSound (facts ∷ more) = IsSound facts × AreSound more

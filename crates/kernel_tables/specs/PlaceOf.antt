@@ -15,6 +15,7 @@ abbrev pub text_if : Bool → Place → Option Place
 text_if true place = Some place
 text_if false place = None
 
+-- where a page is; none where it isn't there
 abbrev pub place_of : Lists → Page → Option Place
 place_of t (Data sid v) = entry_in t.spaces (Data sid v)
 place_of t (Stack sid v) = entry_in t.spaces (Stack sid v)
@@ -25,6 +26,7 @@ abbrev pub is_blank : PageState → Filling → Bool
 is_blank Unfilled Zeros = true
 is_blank _ _ = false
 
+-- the entry of a page that has to be filled with zeros
 abbrev pub is_zero_place : Option Place → Bool
 is_zero_place (Some places.Zero) = true
 is_zero_place _ = false

@@ -4,6 +4,7 @@ use Rattle.vm_facts.specs.declared.page.Page.{Page}
 use Rattle.vm_facts.specs.declared.page.Page.TheVariants.{Data, Stack, Text}
 use Rattle.space_map.specs.Space.{Places}
 
+-- the numbers of the spaces, in their order
 abbrev pub sids_of : List Places → List ℕ
 sids_of ss = map (λ (s : Places). s.sid) ss
 

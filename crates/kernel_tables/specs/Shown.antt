@@ -8,12 +8,14 @@ use Rattle.space_map.specs.Space.{Places, place_in, with_place}
 use Rattle.page_model.specs.Pages.{Slot, Filling, Zeros, OfImage, SpacePages}
 use Rattle.table_view.specs.Shown.{state_shown}
 
+-- whether an entry says that its page was changed
 abbrev pub changed_shown : Place → Bool
 changed_shown places.Zero = false
 changed_shown (places.Image v) = false
 changed_shown places.Swap = false
 changed_shown (places.Frame f valid changed) = changed
 
+-- what fills a page by its entry: its image where the entry says so, else zeros
 abbrev pub filling_shown : Place → Filling
 filling_shown places.Zero = Zeros
 filling_shown (places.Image v) = OfImage
@@ -24,9 +26,11 @@ filling_shown (places.Frame f valid changed) = Zeros
 abbrev pub slot_shown : List Token → Place → Slot
 slot_shown slots place = record { state = state_shown slots place; mark = changed_shown place; filling = filling_shown place }
 
+-- what is said of a page of text, by its entry and by whether it is saved
 abbrev pub text_shown : List Token → Bool → Place → Slot
 text_shown slots saved place = record { state = state_shown slots place; mark = saved; filling = Zeros }
 
+-- the pages of a space, by its entries and the core map
 abbrev pub space_shown : List Token → Places → SpacePages
 space_shown slots s = record { sid = s.sid; image = s.image; data_pages = map (slot_shown slots) s.data; stack_pages = map (slot_shown slots) s.stack }
 
@@ -35,6 +39,7 @@ abbrev pub or_else : {A : Type 0} → Option A → Option A → Option A
 or_else (Some x) o = Some x
 or_else None o = o
 
+-- the entry that a page has in the spaces, if it has one
 abbrev pub entry_in : List Places → Page → Option Place
 entry_in [] q = None
 entry_in (s ∷ ss) q = or_else (place_in s q) (entry_in ss q)
@@ -44,6 +49,7 @@ abbrev pub placed_by : Option Place → Page → Place → Places → Places
 placed_by None q place s = s
 placed_by (Some was) q place s = with_place s q place
 
+-- a space with this place for a page that it has; another space as it is
 abbrev pub placed : Page → Place → Places → Places
 placed q place s = placed_by (place_in s q) q place s
 
@@ -52,10 +58,12 @@ abbrev pub is_frame : Option Place → Bool
 is_frame (Some (places.Frame f valid changed)) = true
 is_frame _ = false
 
+-- the frame that an entry names; 0 where it names none
 abbrev pub frame_named : Option Place → ℕ
 frame_named (Some (places.Frame f valid changed)) = f
 frame_named _ = 0
 
+-- an entry names a frame, and says that its page was changed
 abbrev pub changed_named : Option Place → Bool
 changed_named (Some (places.Frame f valid changed)) = changed
 changed_named _ = false

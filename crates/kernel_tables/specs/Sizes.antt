@@ -2,6 +2,7 @@
 use Rattle.std.specs.Prelude.{ℕ, zero, suc, List, [], ◌∷◌}
 use Rattle.space_map.specs.Space.{Places, resized}
 
+-- a space with entries for so many pages of data and of stack
 abbrev pub with_sizes : ℕ → ℕ → Places → Places
 with_sizes data_pages stack_pages s = record s { «data» = resized s.data data_pages; stack = resized s.stack stack_pages }
 

@@ -39,6 +39,7 @@ pub record IsRange (n : ImageNamed) (text : Bool) (v id offset count : ℕ) : Ty
   pub offset_is : offset ≡ offset_of text n.facts + min (1024 * v) (given_of text n.facts)
   pub count_is : count ≡ min 1024 (given_of text n.facts - 1024 * v)
 
+-- the bytes of an image's file that fill a page; none where there is no such image
 abbrev pub IsRangeOf : Option ImageNamed → Bool → ℕ → ℕ → ℕ → ℕ → Type 0
 IsRangeOf None text v id offset count = ⊥
 IsRangeOf (Some n) text v id offset count = IsRange n text v id offset count
@@ -55,6 +56,7 @@ image_by image_of (Data sid v) = image_of sid
 image_by image_of (Stack sid v) = image_of sid
 image_by image_of (Text image v) = image
 
+-- the page is one of a text
 abbrev pub is_text : Page → Bool
 is_text (Data sid v) = false
 is_text (Stack sid v) = false
@@ -65,6 +67,7 @@ abbrev pub IsImagePage : Option ImageNamed → Bool → ℕ → Type 0
 IsImagePage None text v = ⊥
 IsImagePage (Some n) text v = IsSound n.facts × (v < pages_of text n.facts)
 
+-- the page is one that its image's file has; a stack page is none
 abbrev pub IsFilePage : List ImageNamed → (ℕ → ℕ) → Page → Type 0
 IsFilePage ns image_of (Data sid v) = IsImagePage (named_at ns (image_of sid)) false v
 IsFilePage ns image_of (Stack sid v) = ⊥
@@ -75,6 +78,7 @@ pub record IsOwnBlock (hs : Holdings) (size : ℕ) (q : Page) (block : ℕ) : Ty
   pub own : block_of hs q ≡ Some block
   pub place : IsBlock size block
 
+-- a page is read from its own blocks, or from its own bytes of its image's file
 abbrev pub IsSourced : List ImageNamed → (ℕ → ℕ) → Holdings → ℕ → Page → From → Type 0
 IsSourced ns image_of hs size q (froms.Swap block) = IsOwnBlock hs size q block
 IsSourced ns image_of hs size q (froms.File id offset count) = IsPageRange ns image_of q id offset count
@@ -85,14 +89,17 @@ AreSourcedIn ns image_of hs size source [] = Unit {0}
 AreSourcedIn ns image_of hs size source (x ∷ xs) =
     (source_of x.source ≡ source) × IsSourced ns image_of hs size x.page x.source × AreSourcedIn ns image_of hs size source xs
 
+-- each of these pages is written to its own two blocks
 abbrev pub AreOwnBlocks : Holdings → ℕ → List Outbound → Type 0
 AreOwnBlocks hs size [] = Unit {0}
 AreOwnBlocks hs size (x ∷ xs) = IsOwnBlock hs size x.page x.block × AreOwnBlocks hs size xs
 
+-- a transfer reads each page from where that is, or writes each to its own blocks
 abbrev pub IsFlightSourced : List ImageNamed → (ℕ → ℕ) → Holdings → ℕ → Flight → Type 0
 IsFlightSourced ns image_of hs size (flights.Read demanded parts) = AreSourcedIn ns image_of hs size (source_shown parts.items) parts.items
 IsFlightSourced ns image_of hs size (flights.Write parts) = AreOwnBlocks hs size parts.items
 
+-- each transfer in flight reads its pages from where they are, or writes them to their own blocks
 abbrev pub AreSourced : List ImageNamed → (ℕ → ℕ) → Holdings → ℕ → List Flight → Type 0
 AreSourced ns image_of hs size [] = Unit {0}
 AreSourced ns image_of hs size (t ∷ ts) = IsFlightSourced ns image_of hs size t × AreSourced ns image_of hs size ts

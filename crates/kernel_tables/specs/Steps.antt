@@ -20,6 +20,7 @@ abbrev pub left_text : Bool → ℕ → Place
 left_text true v = places.Swap
 left_text false v = places.Image v
 
+-- where a page is whose free frame is taken: on swap, or, text that isn't saved, in its file
 abbrev pub left_place : List SharedText → Page → Place
 left_place texts (Data sid v) = places.Swap
 left_place texts (Stack sid v) = places.Swap
@@ -72,6 +73,7 @@ arrives_dirty texts (Data sid v) from_file = from_file
 arrives_dirty texts (Stack sid v) from_file = from_file
 arrives_dirty texts (Text image v) from_file = not (is_saved (text_of texts image) v)
 
+-- where a page is read from: its image's file, or else swap
 abbrev pub source_by : Bool → Source
 source_by true = FromFile
 source_by false = FromSwap

@@ -10,6 +10,8 @@ use Rattle.kernel_tables.specs.New.{AreSound}
 use Rattle.kernel_tables.specs.Marked.{AreMarked}
 use Rattle.kernel_tables.specs.Due.{AreWhole, DueOnce}
 
+-- few enough frames, images and pages; entries that are of the spaces' images; text shared as it is counted;
+-- and fills that are due are whole, and due once
 pub record Tied (t : Lists) : Type 0 where
   pub few_frames : length t.slots ≤ 4097
   pub few_images : length t.facts ≤ 16

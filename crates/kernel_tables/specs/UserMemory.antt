@@ -30,12 +30,15 @@ use Rattle.kernel_tables.specs.Machine.{Standing}
 abbrev pub bytes_of : Placement → Page → ℕ
 bytes_of p q = 1024 * length (slots_of p q)
 
+-- how many bytes the text of a space has
 abbrev pub text_len : Placement → ℕ → ℕ
 text_len p sid = bytes_of p (pages.Text (image_of p sid) 0)
 
+-- how many bytes the data of a space has
 abbrev pub data_len : Placement → ℕ → ℕ
 data_len p sid = bytes_of p (pages.Data sid 0)
 
+-- how many bytes the stack of a space has
 abbrev pub stack_len : Placement → ℕ → ℕ
 stack_len p sid = bytes_of p (pages.Stack sid 0)
 
@@ -51,6 +54,7 @@ page_at_spot p sid (Stack i) = Some (pages.Stack sid (i / 1024))
 page_at_spot p sid Below = None
 page_at_spot p sid Outside = None
 
+-- the page that has the byte at an address of a space; none below the stack, and outside
 abbrev pub page_in : Placement → ℕ → ℕ → Option Page
 page_in p sid address = page_at_spot p sid (spot_in p sid address)
 
@@ -61,9 +65,11 @@ abbrev pub read_by_state : Kernel → PageState → ℕ → ByteRead
 read_by_state k (Valid f) at = reads.Is (slice_index (frame_bytes k f) at)
 read_by_state k _ at = reads.Miss
 
+-- a byte of a page, in its frame; a miss where the page isn't valid
 abbrev pub read_page : Kernel → Page → ℕ → ByteRead
 read_page k q at = read_by_state k (state_of k.place q) at
 
+-- what a space answers to a read of what an address names
 abbrev pub read_spot : Kernel → ℕ → Spot → ByteRead
 read_spot k sid (Text i) = read_page k (pages.Text (image_of k.place sid) (i / 1024)) (i % 1024)
 read_spot k sid (Data i) = read_page k (pages.Data sid (i / 1024)) (i % 1024)
@@ -71,6 +77,7 @@ read_spot k sid (Stack i) = read_page k (pages.Stack sid (i / 1024)) (i % 1024)
 read_spot k sid Below = reads.Below
 read_spot k sid Outside = reads.Outside
 
+-- a page that is valid may be written; any other one misses
 abbrev pub may_write_by : PageState → MayWrite
 may_write_by (Valid f) = tests.May
 may_write_by _ = tests.Miss
@@ -92,13 +99,16 @@ kernel_answers k sid = record {
 
 -- Writes.
 
+-- a byte of a page is written where its state is Valid; else nothing changes
 abbrev pub write_by_state : Kernel → Page → PageState → ℕ → ℕ → Kernel
 write_by_state k q (Valid f) at byte = write_step k q f at byte
 write_by_state k q _ at byte = k
 
+-- a byte of a page is written, where the page is valid
 abbrev pub write_page : Kernel → Page → ℕ → ℕ → Kernel
 write_page k q at byte = write_by_state k q (state_of k.place q) at byte
 
+-- the byte that an address names is written, where it is of a valid page of data or stack
 abbrev pub write_spot : Kernel → ℕ → Spot → ℕ → Kernel
 write_spot k sid (Text i) byte = k
 write_spot k sid (Data i) byte = write_page k (pages.Data sid (i / 1024)) (i % 1024) byte
@@ -110,6 +120,7 @@ write_spot k sid Outside byte = k
 abbrev pub write_in : Kernel → ℕ → ByteWrite → Kernel
 write_in k sid w = write_spot k sid (spot_in k.place sid w.address) w.byte
 
+-- the bytes of a list are written, one after another
 abbrev pub writes_in : Kernel → ℕ → List ByteWrite → Kernel
 writes_in k sid [] = k
 writes_in k sid (w ∷ ws) = writes_in (write_in k sid w) sid ws
@@ -124,6 +135,7 @@ pub record IsWritten (k : Kernel) (sid address : ℕ) : Type 0 where
   pub owner : OwnsFrames k.place
   pub whole : AreWhole k
 
+-- each of these writes, in order, is of a byte of a valid page
 abbrev pub AreWritten : Kernel → ℕ → List ByteWrite → Type 0
 AreWritten k sid [] = Unit {0}
 AreWritten k sid (w ∷ ws) = IsWritten k sid w.address × AreWritten (write_in k sid w) sid ws
