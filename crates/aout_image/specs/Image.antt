@@ -174,10 +174,12 @@ IfImage (NotImage reason) P = ⊤
 
 -- Pages.
 
+-- the bytes of an image's text, or else of its data
 abbrev pub segment_of : Bool → Loaded → List ℕ
 segment_of true image = image.text
 segment_of false image = image.data
 
+-- how many pages an image's text has, or else its data
 abbrev pub pages_of : Bool → Image → ℕ
 pages_of true image = text_pages_of image
 pages_of false image = data_pages_of image

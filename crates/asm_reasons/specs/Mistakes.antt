@@ -73,9 +73,11 @@ up_to byte text = before_first (λ x. x == byte) text
 abbrev pub past : ℕ → List ℕ → List ℕ
 past byte text = after_first (λ x. x == byte) text
 
+-- a byte of this value stands in the text
 abbrev pub has : ℕ → List ℕ → Bool
 has byte text = list_any (λ x. x == byte) text
 
+-- the text begins with a byte of this value
 abbrev pub begins : ℕ → List ℕ → Bool
 begins byte [] = false
 begins byte (first ∷ rest) = first == byte
@@ -115,6 +117,7 @@ register_of name =
     else (if same_text name (codes "pc") then Some 15
     else None)))
 
+-- a register by such a name, with its number here
 abbrev pub why_name : List ℕ → Option Why
 why_name name = option_map (RegisterName name) (register_of name)
 
@@ -131,9 +134,11 @@ size_for text =
     else (if is_in_its_range (codes "l^" ++ text) then Some 108
     else None))
 
+-- the text without the star that it begins with, if it does
 abbrev pub without_star : List ℕ → List ℕ
 without_star text = if begins 42 text then drop 1 text else text
 
+-- a text that is a displacement once it has a size, with the size that it wants
 abbrev pub why_displacement : List ℕ → Option Why
 why_displacement text = option_map (NoSize text) (size_for text)
 
@@ -142,6 +147,7 @@ unfoldable pub why_literal : List ℕ → Option Why
 why_literal text =
     if begins 36 text && is_immediate text && not (is_in_its_range text) then Some (NoLiteral text) else None
 
+-- a text that is no operand: a value alone, as a branch has it, or anything else
 abbrev pub why_value : List ℕ → Why
 why_value text = if is_target text then ValueAlone text else NoOperand text
 
@@ -181,11 +187,13 @@ why_operands row text =
 abbrev pub why_spaced : List ℕ → Why → Why
 why_spaced text why = if has 32 (past 32 text) then SpaceWithin else why
 
+-- a word that is a directive of the assembler
 abbrev pub is_directive : List ℕ → Bool
 is_directive word =
     same_text word (codes ".byte") || same_text word (codes ".word") || same_text word (codes ".long")
     || same_text word (codes ".space") || same_text word (codes ".bss")
 
+-- why a statement with a period before its first word is none
 unfoldable pub why_directive : List ℕ → Why
 why_directive text =
     if is_directive (up_to 32 text) then why_spaced text (NoValue (up_to 32 text)) else NoDirective (up_to 32 text)
@@ -195,9 +203,11 @@ abbrev pub why_instruction : Option Row → List ℕ → Why
 why_instruction None text = NoMnemonic (up_to 32 text)
 why_instruction (Some row) text = why_spaced text (why_operands row text)
 
+-- a capital letter of ASCII
 abbrev pub is_capital : ℕ → Bool
 is_capital byte = is_in_range 65 90 byte
 
+-- why a text is no statement: a capital letter in it first, then its directive or its instruction
 unfoldable pub why_statement : List ℕ → Why
 why_statement text =
     if list_any is_capital text then Capital
@@ -219,9 +229,11 @@ is_label text = is_some (line_of (text ++ codes ":"))
 abbrev pub why_after_label : List ℕ → Why
 why_after_label text = if begins 32 text && not (begins 32 (drop 1 text)) then why_statement (drop 1 text) else AfterLabel
 
+-- why a text with a colon is no line, by what stands before that and after it
 abbrev pub why_labelled : List ℕ → List ℕ → Why
 why_labelled label rest = if is_label label then why_after_label rest else NoLabel label
 
+-- why a text is no line: its label, or its statement
 unfoldable pub why_parts : List ℕ → Why
 why_parts text = if has 58 text then why_labelled (up_to 58 text) (past 58 text) else why_statement text
 

@@ -12,6 +12,7 @@ use Rattle.command_ending.specs.declared.fault.Fault.TheVariants.{BadWords, Abse
 abbrev pub Ending : Type 0
 Ending = Result (List ℕ) Fault
 
+-- what the code's answer says of the end of a command
 abbrev pub ending_of : {A : Type 0} → Result (Vec ℕ A) Fault → Ending
 ending_of (Ok output) = Ok output.items
 ending_of (Err fault) = Err fault

@@ -41,6 +41,7 @@ least_of ShortLimit = 1
 least_of Size = 1
 least_of _ = 0
 
+-- the most that an argument may be, where it is a number
 abbrev pub most_of : Argument → ℕ
 most_of Frames = 4096
 most_of Swap = 131072

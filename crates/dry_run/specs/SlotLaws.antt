@@ -9,9 +9,11 @@ stored_more : (slots : List Slot) (xs ys : List ByteWrite) → all_stored slots 
 stored_more slots [] ys = refl
 stored_more slots (x ∷ xs) ys = stored_more (map (stored x) slots) xs ys
 
+-- with no writes the memory is as it was
 pub slots_none : (memory : Answers) (slots : List Slot) → WroteSlots memory slots [] memory slots
 slots_none memory slots = record { same = refl; kept = refl; answers = refl }
 
+-- writes and then further ones are the writes of both in a row
 pub slots_more : (a b c : Answers) (x y z : List Slot) (xs ys : List ByteWrite) → WroteSlots a x xs b y → WroteSlots b y ys c z → WroteSlots a x (xs ++ ys) c z
 slots_more a b c x y z xs ys h k = record {
   same = k.same ∙ h.same;
@@ -19,5 +21,6 @@ slots_more a b c x y z xs ys h k = record {
   answers = k.answers ∙ ap (λ (m : Answers). written m ys) h.answers ∙ sym (written-append (over a x) xs ys);
 }
 
+-- after writes it answers as a memory to which they were made
 pub slots_after : (a b : Answers) (x y : List Slot) (ws : List ByteWrite) → WroteSlots a x ws b y → over b y ≡ written (over a x) ws
 slots_after a b x y ws h = h.answers

@@ -24,6 +24,7 @@ abbrev pub stored_by : Bool → ByteWrite → Slot → Slot
 stored_by true w slot = record slot { byte = Some w.byte }
 stored_by false w slot = slot
 
+-- a slot once this byte was written, which goes to it where it is for that address
 abbrev pub stored : ByteWrite → Slot → Slot
 stored w slot = stored_by (slot.address == w.address) w slot
 
@@ -57,6 +58,7 @@ pub record WroteSlots (memory : Answers) (slots : List Slot) (ws : List ByteWrit
 
 -- The byte that an instruction has to be granted.
 
+-- the address, where it may be written
 abbrev pub where_may : MayWrite → ℕ → Option ℕ
 where_may tests.May x = Some x
 where_may _ x = None

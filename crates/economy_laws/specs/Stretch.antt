@@ -57,6 +57,7 @@ pub record Grown (A : Inputs) (s t : State) (pid : ℕ) : Type 0 where
   pub clear : t.place.due ≡ []
   pub resident : is_out s.place pid ≡ false → is_out t.place pid ≡ false
 
+-- this is so of each `Grew` that comes next in a run
 abbrev pub AllGrown : Inputs → Type 0
 AllGrown A = (s : State) (pid pages : ℕ) → IsRun A s → next_unit A s ≡ Some (entries.Grew pid pages) → Grown A s (after A s (entries.Grew pid pages)) pid
 

@@ -26,6 +26,7 @@ pub record TakesOnce (now : Bool) (locked : List Page) (q : Page) (old new : Sta
 abbrev pub ServesAs : Served → Page → Standing → Standing → Option (List NamedFile) → Option (List ℕ) → Option (List ℕ) → Type 0
 ServesAs answer q old new holds before after = ServesTo false [] q old new holds before after × IsAnswer answer new.kernel.place q
 
+-- units of serving, for which waiting is allowed, lead to where the page is valid
 abbrev pub ServesNow : List Page → Page → Standing → Standing → Option (List NamedFile) → Option (List ℕ) → Option (List ℕ) → Type 0
 ServesNow locked q old new holds before after = ServesTo true locked q old new holds before after × (is_valid (state_of new.kernel.place q) ≡ true)
 

@@ -21,6 +21,7 @@ use Rattle.fault_fill.specs.declared.access.Access.{Access}
 use Rattle.fault_fill.specs.declared.access.Access.TheVariants as accesses
 use Rattle.fault_fill.specs.Access.{access_at}
 
+-- the process of this number, if there is one
 abbrev pub proc_in : Kernel → ℕ → Option Proc
 proc_in k pid = numbered (λ (p : Proc). p.pid) pid k.processes
 
@@ -61,6 +62,7 @@ growth k pid pages = Resize (data_count k.place (space_held k pid)) pages
 abbrev pub growth_found : Standing → ℕ → ℕ → Result Holdings ℕ
 growth_found m pid pages = place_all m.params.swap_blocks m.kernel.holdings (asked (facts_named m.images) m.kernel pid (growth m.kernel pid pages))
 
+-- the machine with the holdings in which the pieces were found
 abbrev pub with_pieces : Standing → Holdings → Standing
 with_pieces m hs = record m { kernel = record m.kernel { holdings = hs } }
 
@@ -82,6 +84,7 @@ pub record GrowthRefused (old new : Standing) (pid pages : ℕ) : Type 0 where
   pub keeps : KeepsFlat old.kernel new.kernel
   pub same : SameEverywhere old.kernel new.kernel
 
+-- growth of the stack by its answer: it grew, or it was refused
 abbrev pub GrowsBy : Bool → Standing → Standing → ℕ → ℕ → Type 0
 GrowsBy true old new pid pages = Grown old new pid pages
 GrowsBy false old new pid pages = GrowthRefused old new pid pages

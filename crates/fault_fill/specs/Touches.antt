@@ -40,6 +40,7 @@ pub record IsReady (q : Page) (old new : Standing) : Type 0 where
   pub low : last_moves new.kernel.journal ≤ last_moves old.kernel.journal
   pub can : CanServe new.kernel.place q
 
+-- the page of an access, where there is one, may be served
 abbrev pub ReadyIf : Result Page Served → Standing → Standing → Type 0
 ReadyIf (Ok q) old new = IsReady q old new
 ReadyIf (Err answer) old new = Unit {0}

@@ -32,6 +32,7 @@ pub record NeedsFrame (p : Placement) (q : Page) : Type 0 where
 abbrev pub AnyUnit : Page → Standing → Standing → Option (List NamedFile) → Option (List ℕ) → Option (List ℕ) → Type 0
 AnyUnit q old new holds before after = (now : Bool) (locked : List Page) → UnitMade now locked q old new holds before after
 
+-- a stop where the next unit would be, whether waiting is allowed or not
 abbrev pub AnyStop : Page → Standing → Standing → Option (List ℕ) → Option (List ℕ) → Stop → Type 0
 AnyStop q old new before after stop = (now : Bool) → UnitStops now q old new before after stop
 
@@ -39,6 +40,7 @@ AnyStop q old new before after stop = (now : Bool) → UnitStops now q old new b
 abbrev pub PlainMade : Page → Standing → Standing → Type 0
 PlainMade q old new = (holds : Option (List NamedFile)) (image : Option (List ℕ)) → AnyUnit q old new holds image image
 
+-- a stop where no device is called
 abbrev pub PlainStop : Page → Standing → Standing → Stop → Type 0
 PlainStop q old new stop = (image : Option (List ℕ)) → AnyStop q old new image image stop
 
@@ -49,6 +51,7 @@ pub record EndMade (old new : Standing) (holds : Option (List NamedFile)) (befor
   pub rest : IsSameBeside old new
   pub keeps : KeepsThrough old new holds before after
 
+-- the run stopped at the end of the oldest transfer
 pub record EndStops (old new : Standing) (before after : Option (List ℕ)) (stop : Stop) : Type 0 where
   pub at : StopsAt entries.Done old.kernel before stop new after
   pub params : new.params ≡ old.params
@@ -73,6 +76,7 @@ pub record Further (locked : List Page) (q : Page) (old new : Standing) (holds :
   pub some : 0 < length serves.units
   pub low : new.kernel.place.free ≡ [] → last_moves new.kernel.journal ≤ 1000000
 
+-- what serving the page now came to, by whether it went further
 abbrev pub GoesFurther : Bool → List Page → Page → Standing → Standing → Option (List NamedFile) → Option (List ℕ) → Option (List ℕ) → Type 0
 GoesFurther true locked q old new holds before after = Further locked q old new holds before after
 GoesFurther false locked q old new holds before after = NoneMade old new before after × (is_valid (state_of old.kernel.place q) ≡ true)

@@ -19,6 +19,7 @@ own_fault (entries.Get q lo n) = 1
 own_fault (entries.Reclaim q) = 1
 own_fault _ = 0
 
+-- how many faults these entries are
 abbrev pub own_faults : List Entry → ℕ
 own_faults [] = 0
 own_faults (e ∷ es) = own_fault e + own_faults es

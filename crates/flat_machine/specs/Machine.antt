@@ -22,6 +22,7 @@ use Rattle.flat_machine.specs.declared.deed.Deed.{Deed}
 abbrev pub process_at : FlatState → ℕ → Process
 process_at F place = slice_index_or F.processes place no_process
 
+-- the space of the process at a place; an empty one where it holds none
 abbrev pub space_at : FlatState → ℕ → Space
 space_at F place = space_in (process_at F place).holding
 
@@ -50,6 +51,7 @@ abbrev pub state_if : Bool → FlatState → Step → FlatState
 state_if true F step = step.after
 state_if false F step = F
 
+-- the entries of a step, where the process can make one
 abbrev pub entries_if : Bool → Step → List Entry
 entries_if true step = step.entries
 entries_if false step = []

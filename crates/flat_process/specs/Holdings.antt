@@ -17,6 +17,7 @@ holding_of (helds.Zombie status) = Zombie status
 abbrev pub no_space : Space
 no_space = record { sid = 0; image = 0; text_bytes = []; data_bytes = []; stack_bytes = [] }
 
+-- the space that a process holds, by its holding; an empty one where it holds none
 abbrev pub space_in : Holding → Space
 space_in (Holds s) = s
 space_in (Lends sid child) = no_space

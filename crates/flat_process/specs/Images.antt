@@ -36,6 +36,7 @@ pub record IsFit (n : NamedImage) : Type 0 where
   pub entry_fits : n.image.facts.entry + 2 < 2 ^ 32
   pub short : length n.name < 64
 
+-- a number with the image that it has, if there is one
 abbrev pub with_number : ℕ → Option NamedImage → Option (ℕ × NamedImage)
 with_number number None = None
 with_number number (Some image) = Some (number, image)
@@ -65,6 +66,7 @@ CanChange images (Reap child) = Unit {0}
 CanChange images Sleep = Unit {0}
 CanChange images (End status) = Unit {0}
 
+-- a reply can be made: its change can, and what it writes is within the limit
 abbrev pub CanReply : List NamedImage → Reply → Type 0
 CanReply images (Fails error) = Unit {0}
 CanReply images (Does regs change) = CanChange images change
@@ -72,6 +74,7 @@ CanReply images (Writes bytes) = length bytes ≤ write_limit
 CanReply images Waits = Unit {0}
 CanReply images (Exits status) = Unit {0}
 
+-- the reply of a call, if its reads weren't refused, can be made
 abbrev pub CanAnswer : List NamedImage → Result Reply Refused → Type 0
 CanAnswer images (Ok reply) = CanReply images reply
 CanAnswer images (Err refused) = Unit {0}

@@ -21,9 +21,11 @@ pub record WrotePresent (pages : List Page) (s : Space) (writes : List ByteWrite
 
 -- These writes keep to what a memory promises of its writes.
 
+-- with no writes the space is as it was
 pub present_none : (pages : List Page) (s : Space) → WrotePresent pages s [] pages s
 present_none pages s = record { kept = refl; wrote = refl; answers = refl }
 
+-- writes and then further ones are the writes of both in a row
 pub present_more : (some more most : List Page) (s t u : Space) (xs ys : List ByteWrite) → WrotePresent some s xs more t
     → WrotePresent more t ys most u → WrotePresent some s (xs ++ ys) most u
 present_more some more most s t u xs ys h k = record {
@@ -34,6 +36,7 @@ present_more some more most s t u xs ys h k = record {
       ∙ ap (λ (m : Answers). written m ys) h.answers ∙ sym (written-append (shown s some) xs ys);
 }
 
+-- after writes it answers as a memory to which they were made
 pub present_after : (some more : List Page) (s t : Space) (xs : List ByteWrite) → WrotePresent some s xs more t → shown t more ≡ written (shown s some) xs
 present_after some more s t xs h = ap (λ (ps : List Page). shown t ps) h.kept ∙ h.answers
 
@@ -46,6 +49,7 @@ access_of address false = ReadOf address
 abbrev pub pages_of : Space → List Access → List Page
 pages_of s list = filter_map (page_of_access s) list
 
+-- a page more, unless it is there
 abbrev pub with_page : Bool → List Page → Page → List Page
 with_page true pages page = pages
 with_page false pages page = pages ++ page ∷ []

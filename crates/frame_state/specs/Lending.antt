@@ -14,6 +14,7 @@ abbrev pub LendsResidentBytes : MutBor Frame → MutBor (List ℕ) → Fml
 LendsResidentBytes token bytes =
     Lends resident_row (Array u8 1024) token bytes (λ last. with_bytes token.now last)
 
+-- so does the token of a frame that is being filled
 abbrev pub LendsFillingBytes : MutBor Frame → MutBor (List ℕ) → Fml
 LendsFillingBytes token bytes =
     Lends filling_row (Array u8 1024) token bytes (λ last. with_bytes token.now last)

@@ -18,6 +18,7 @@ use Rattle.journal_laws.specs.Economy.{Economy}
 
 -- Next units, from a state at which a run stands.
 
+-- all is so of them that an account says
 abbrev pub UnitsAreAccounted : Type 0
 UnitsAreAccounted = (A : Inputs) (s t : State) (us : List Entry) → ImagesFit A.images → IsRun A s → Follows A s us t → Account A s us
 
@@ -38,10 +39,12 @@ abbrev pub JournalsAreLawful : Type 0
 JournalsAreLawful = (A : Inputs) (hs : Holdings) (us : List Entry) (t : State)
     → CanRun A hs → Follows A (start A hs) us t → (t.journal ≡ appended [] us) × IsLawful A (appended [] us) t
 
+-- all is so of them that an account says
 abbrev pub JournalsAreAccounted : Type 0
 JournalsAreAccounted = (A : Inputs) (hs : Holdings) (us : List Entry) (t : State)
     → CanRun A hs → Follows A (start A hs) us t → Account A (start A hs) us
 
+-- where there are at most 64 first processes, they are as few as economy says
 abbrev pub JournalsAreEconomical : Type 0
 JournalsAreEconomical = (A : Inputs) (hs : Holdings) (us : List Entry) (t : State)
     → CanRun A hs → length A.first ≤ 64 → Follows A (start A hs) us t → Economy A (start A hs) us

@@ -11,6 +11,7 @@ abbrev pub Expires : Placement → List Page → Option Page → Type 0
 Expires p locked front =
     (q : Page) → (front ≡ Some q) ↔ ((is_valid (state_of p q) ≡ true) × (is_valid (state_of (expire p locked) q) ≡ false))
 
+-- the page is the one that the front hand makes invalid
 abbrev pub is_front : Page → Option Page → Bool
 is_front q None = false
 is_front q (Some r) = same_page q r

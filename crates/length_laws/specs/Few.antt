@@ -56,6 +56,7 @@ abbrev pub most_entries : Inputs → (instructions children : ℕ) → ℕ
 most_entries A instructions children =
     244 * instructions + 73947 * children + 227 * length A.first + (9234 * length A.lines + 2 * moves_asked A.lines) + 219
 
+-- a journal has at most so many entries, by its instructions, its children and the inputs
 abbrev pub JournalsAreShort : Type 0
 JournalsAreShort = (A : Inputs) (hs : Holdings) (journal : List Entry) (s : State) → CanRun A hs → InputsSized A → Reaches A journal s
     → length journal ≤ most_entries A (instructions_of journal) (count_by is_fork journal)

@@ -32,6 +32,7 @@ files_for pages =
     ∷ record { name = codes "v"; bytes = program_file (v_bytes pages) (v_bss pages) }
     ∷ []
 
+-- the files of a workload, by its number
 unfoldable pub load_files : ℕ → List NamedFile
 load_files number = files_for (load_pages number)
 

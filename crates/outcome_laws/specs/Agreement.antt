@@ -34,6 +34,7 @@ pub record IsSame (journal other : List Entry) (p q : Point) : Type 0 where
   pub visible : visible_of journal ≡ visible_of other
   pub left : p ≡ q
 
+-- where the process can't step after either run, what it did, what is seen and what is left are the same
 abbrev pub BothOverAreSame : Type 0
 BothOverAreSame = (A B : Inputs) (journal other : List Entry) (p q : Point) → IsPair A B journal other p q
     → can_step p.flat 1 ≡ false → can_step q.flat 1 ≡ false → IsSame journal other p q

@@ -18,6 +18,7 @@ is_visible _ = false
 abbrev pub visible_of : List Entry → List Entry
 visible_of journal = filter is_visible journal
 
+-- a process ended
 abbrev pub is_end : Entry → Bool
 is_end (Ended p status) = true
 is_end _ = false
@@ -35,6 +36,7 @@ is_act e = is_some (process_of_entry e)
 abbrev pub acts_of : List Entry → List Entry
 acts_of journal = filter is_act (units_of journal)
 
+-- a call of fork or vfork, by its number, which answered with its carry clear
 abbrev pub is_fork_reply : ℕ → Bool → Bool
 is_fork_reply number true = false
 is_fork_reply number false = number == 2 || number == 66

@@ -23,6 +23,7 @@ HeldFits (Holds s) = HasOctets s
 HeldFits (Lends sid child) = Unit {0}
 HeldFits (Zombie status) = status < 2 ^ 32
 
+-- a process's registers are longwords, and what it holds fits
 abbrev pub ProcessFits : Process → Type 0
 ProcessFits q = AreRegs q.regs × HeldFits q.holding
 
@@ -38,6 +39,7 @@ pub record ImageFits (named : NamedImage) : Type 0 where
   pub text : AreOctets named.image.text
   pub «data» : AreOctets named.image.data
 
+-- each of these images fits
 abbrev pub AllImages : List NamedImage → Type 0
 AllImages [] = Unit {0}
 AllImages (named ∷ images) = ImageFits named × AllImages images

@@ -16,6 +16,7 @@ pub record Awaits (A : Inputs) (s : State) (pid : ℕ) : Type 0 where
   pub unwanted : wanted A s ≡ None
   pub left : due_at A s.point pid ≡ [] → ⊥
 
+-- after `Refused` and `Out` their process is next
 abbrev pub WaitsBy : Inputs → State → Option Entry → Type 0
 WaitsBy A s (Some (entries.Refused pid)) = Awaits A s pid
 WaitsBy A s (Some (entries.Out pid bytes)) = Awaits A s pid

@@ -14,6 +14,7 @@ abbrev pub AreFlat : Inputs → State → Kernel → List Part → Type 0
 AreFlat A s k [] = Unit {0}
 AreFlat A s k (x ∷ xs) = (frame_bytes k x.frame ≡ memory_of A.images s.point.flat x.page) × AreFlat A s k xs
 
+-- the frames of a transfer that writes have the flat bytes of their pages
 abbrev pub WritesFlat : Inputs → State → Kernel → Errand → List Part → Type 0
 WritesFlat A s k Writes xs = AreFlat A s k xs
 WritesFlat A s k (Reads source demanded) xs = Unit {0}

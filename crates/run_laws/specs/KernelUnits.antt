@@ -27,20 +27,24 @@ abbrev pub write_unit : ℕ → ByteWrite → Page → ℕ → PageState → Lis
 write_unit pid w q at (Valid f) = WriteUnit pid w q f at ∷ []
 write_unit pid w q at _ = []
 
+-- the units of a byte that is written: one where it has a page and that is valid, else none
 abbrev pub byte_units : ℕ → Kernel → ByteWrite → ℕ → Option Page → List KernelUnit
 byte_units pid k w at None = []
 byte_units pid k w at (Some q) = write_unit pid w q at (state_of k.place q)
 
+-- the units of bytes that are written to a space, one after another
 abbrev pub write_units : ℕ → Kernel → Space → List ByteWrite → List KernelUnit
 write_units pid k s [] = []
 write_units pid k s (w ∷ ws) =
     byte_units pid k w (place_in (address_in s w.address)) (page_tested s (address_in s w.address)) ++ write_units pid (write_byte k s w) s ws
 
+-- the units of bytes that are written by who has this holding: none without a space
 abbrev pub held_units : ℕ → Kernel → List ByteWrite → Holding → List KernelUnit
 held_units pid k ws (Holds s) = write_units pid k s ws
 held_units pid k ws (Lends sid child) = []
 held_units pid k ws (Zombie status) = []
 
+-- the units of bytes that a process writes, if there is one
 abbrev pub process_units : ℕ → Kernel → List ByteWrite → Option Process → List KernelUnit
 process_units pid k ws None = []
 process_units pid k ws (Some q) = held_units pid k ws q.holding

@@ -46,10 +46,12 @@ place_in (spots.Stack i) = i % 1024
 place_in spots.Below = 0
 place_in spots.Outside = 0
 
+-- a byte goes into the frame of a page in this state; none goes anywhere unless it is Valid
 abbrev pub write_into : Kernel → Page → PageState → ℕ → ℕ → Kernel
 write_into k q (Valid f) at byte = write_step k q f at byte
 write_into k q _ at byte = k
 
+-- a byte goes into the frame of a page, if it has a page
 abbrev pub write_page : Kernel → Option Page → ℕ → ℕ → Kernel
 write_page k None at byte = k
 write_page k (Some q) at byte = write_into k q (state_of k.place q) at byte
@@ -58,15 +60,18 @@ write_page k (Some q) at byte = write_into k q (state_of k.place q) at byte
 abbrev pub write_byte : Kernel → Space → ByteWrite → Kernel
 write_byte k s w = write_page k (page_tested s (address_in s w.address)) (place_in (address_in s w.address)) w.byte
 
+-- these bytes go into the frames of a space's pages, one after another
 abbrev pub write_bytes : Kernel → Space → List ByteWrite → Kernel
 write_bytes k s [] = k
 write_bytes k s (w ∷ ws) = write_bytes (write_byte k s w) s ws
 
+-- the bytes of a process with this holding: without a space it writes none
 abbrev pub write_held : Kernel → Holding → List ByteWrite → Kernel
 write_held k (Holds s) ws = write_bytes k s ws
 write_held k (Lends sid child) ws = k
 write_held k (Zombie status) ws = k
 
+-- the bytes of a process, if there is one
 abbrev pub write_by : Kernel → Option Process → List ByteWrite → Kernel
 write_by k None ws = k
 write_by k (Some q) ws = write_held k q.holding ws
@@ -90,6 +95,7 @@ abbrev pub process_step : Inputs → State → Kernel → ℕ → Entry → Kern
 process_step A s k pid e =
     passing_change (is_borrower s.point.flat.processes pid) (facts_of A.images) (taken_step A s k pid) pid (step_at A s.point pid).regs e (step_at A s.point pid).change
 
+-- a step without a change: its bytes are written, its registers left, and `Ran` is noted
 abbrev pub ran_step : Inputs → State → Kernel → ℕ → ℕ → Kernel
 ran_step A s k pid n = ran_by (written_step A s k pid) pid (step_at A s.point pid).regs (entries.Ran pid n)
 

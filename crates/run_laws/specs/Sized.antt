@@ -14,6 +14,7 @@ pub record SpaceSized (s : Space) : Type 0 where
   pub data_size : length s.data_bytes ≤ 1024 * 4096
   pub stack_size : length s.stack_bytes ≤ 1024 * 512
 
+-- a space that is held is no larger than may be
 abbrev pub HoldingSized : Holding → Type 0
 HoldingSized (Holds s) = SpaceSized s
 HoldingSized (Lends sid child) = Unit {0}

@@ -25,6 +25,7 @@ use Rattle.run_model.specs.State.{State}
 
 -- What a unit asks of the placement.
 
+-- a fill finds a free frame and a page to fill, a reclaim an invalid page, and `Done` a transfer
 abbrev pub Finds : Placement → Entry → Type 0
 Finds p (entries.Zero q) = (0 < length p.free) × (state_of p q ≡ Unfilled) × (filling_of p q ≡ Zeros)
 Finds p (entries.Copy q) = (0 < length p.free) × (state_of p q ≡ Unfilled)
@@ -101,11 +102,13 @@ pub record IsText (images : List NamedImage) (s : Space) : Type 0 where
   pub image : image_numbered images s.image ≡ Some named
   pub same : s.text_bytes ≡ named.image.text
 
+-- the text of a space that is held is its image's
 abbrev pub HasText : List NamedImage → Holding → Type 0
 HasText images (Holds s) = IsText images s
 HasText images (Lends sid child) = Unit {0}
 HasText images (Zombie status) = Unit {0}
 
+-- the text of each space that a process holds is its image's
 abbrev pub TextsHeld : List NamedImage → FlatState → Type 0
 TextsHeld images flat = EachProcess (λ q. HasText images q.holding) flat.processes
 

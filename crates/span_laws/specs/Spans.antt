@@ -3,6 +3,7 @@ use Rattle.std.specs.Prelude.{ℕ, ◌+◌, Bool, true, false, List, [], ◌∷�
 use Rattle.vm_facts.specs.declared.entry.Entry.{Entry}
 use Rattle.vm_facts.specs.declared.entry.Entry.TheVariants as entries
 
+-- moves of the hands
 abbrev pub is_hands : Entry → Bool
 is_hands (entries.Hands n) = true
 is_hands _ = false
@@ -39,6 +40,7 @@ abbrev pub moves : Entry → ℕ
 moves (entries.Hands n) = n
 moves _ = 0
 
+-- how many moves the hands make in these units
 abbrev pub moves_of : List Entry → ℕ
 moves_of [] = 0
 moves_of (u ∷ us) = moves u + moves_of us

@@ -25,6 +25,7 @@ use Rattle.kernel_tables.specs.Machine.{lists_of, images_of}
 use Rattle.kernel_tables.specs.Changing.{GaveUp, processes_in, process_in}
 use Rattle.kernel_tables.specs.Applying.{MayAct, IsWholeChange, leaves_space, makes_process}
 
+-- the placement that the tables stand for
 abbrev pub place_in : Tables → Placement
 place_in t = placement_of (lists_of t)
 
@@ -36,6 +37,7 @@ pub record MayGiveUp (t : Tables) (sid : ℕ) : Type 0 where
   pub settled : IsSettled (place_in t) sid
   pub forgets : CanForget (place_in t) sid
 
+-- the space that a process leaves, if it leaves one, may be given up
 abbrev pub MayLeave : Tables → Option ℕ → Type 0
 MayLeave t None = Unit {0}
 MayLeave t (Some sid) = MayGiveUp t sid
@@ -45,6 +47,7 @@ abbrev pub LeftSpace : Tables → Tables → Option ℕ → Type 0
 LeftSpace t u None = u ≡ t
 LeftSpace t u (Some sid) = GaveUp t u sid
 
+-- the space in which the process of this number runs, if it has one
 abbrev pub space_at : Tables → ℕ → Option ℕ
 space_at t pid = space_held (find pid t.processes)
 

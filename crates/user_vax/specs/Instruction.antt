@@ -73,6 +73,7 @@ instruction regs = do
   instr ← fetch 20 (register regs 15) []
   execution_by (row_for instr.op) regs instr
 
+-- a system call of the instruction, or that it is done
 abbrev pub answer_of_call : Option ℤ → Stepped
 answer_of_call None = answers.Done
 answer_of_call (Some number) = answers.Call number

@@ -10,12 +10,14 @@ use Rattle.user_vax.specs.declared.refused.Refused.TheVariants.{Miss, Below, Sig
 use Rattle.user_vax.specs.Signals.{sigill, sigfpe, sigbus, sigsegv}
 use Rattle.user_vax.specs.Program.{Program, run, Access, ReadOf, TestOf, accesses}
 
+-- how a read of an address is refused, by what the memory answers to it
 abbrev pub read_refusal : ByteRead → ℕ → Option Refused
 read_refusal (bytes.Is byte) address = None
 read_refusal bytes.Miss address = Some (Miss address false)
 read_refusal bytes.Below address = Some (Below address)
 read_refusal bytes.Outside address = Some (Signal sigsegv)
 
+-- how a test for a write to an address is refused, by what the memory answers to it
 abbrev pub test_refusal : MayWrite → ℕ → Option Refused
 test_refusal tests.May address = None
 test_refusal tests.Miss address = Some (Miss address true)
@@ -28,6 +30,7 @@ abbrev pub refusal : Answers → Access → Option Refused
 refusal memory (ReadOf address) = read_refusal (memory.read address) address
 refusal memory (TestOf address) = test_refusal (memory.may_write address) address
 
+-- the memory refuses none of these accesses
 abbrev pub AllGranted : Answers → List Access → Type 0
 AllGranted memory [] = Unit {0}
 AllGranted memory (access ∷ more) = (refusal memory access ≡ None) × AllGranted memory more

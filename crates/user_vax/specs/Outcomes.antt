@@ -49,6 +49,7 @@ bytes_in (Some write) = bytes_of write
 abbrev pub effect_of : Outcome → Effect
 effect_of outcome = record { regs = outcome.regs; writes = bytes_in outcome.write; call = outcome.call }
 
+-- a number that is written, if there is one, has 1, 2 or 4 bytes
 abbrev pub HasSize : Option Write → Type 0
 HasSize None = Unit {0}
 HasSize (Some write) = IsSize write.size

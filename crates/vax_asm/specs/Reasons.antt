@@ -34,11 +34,13 @@ unless false reason = Some reason
 
 -- ---- operands
 
+-- why a label is no value of so many bytes: it isn't defined, or its address is too large
 abbrev pub address_reason : ℕ → Label → Option Definition → Option Reason
 address_reason size label None = Some (reasons.UnknownLabel label)
 address_reason size label (Some definition) =
     unless (is_some (value_bits size (record { negative = false; magnitude = definition.address }))) reasons.ValueOutOfRange
 
+-- why a number or a label is no value of so many bytes
 unfoldable pub value_reason : List Definition → ℕ → Value → Option Reason
 value_reason labels size (values.Number number) = unless (is_some (value_bits size number)) reasons.ValueOutOfRange
 value_reason labels size (values.Label label) = address_reason size label (found labels label)
@@ -47,6 +49,7 @@ value_reason labels size (values.Label label) = address_reason size label (found
 abbrev pub register_reason : ℕ → Option Reason
 register_reason reg = unless (nat_lt reg 15) reasons.OperandRefused
 
+-- why an operand that has an address is refused: its register, or a value that is out of range
 unfoldable pub place_reason : List Definition → Place → Option Reason
 place_reason labels (places.Deferred reg) = register_reason reg
 place_reason labels (places.AutoDec reg) = register_reason reg
@@ -56,6 +59,7 @@ place_reason labels (places.Absolute address) = value_reason labels 4 address
 place_reason labels (places.Disp size reg by deferred) =
     if nat_lt reg 16 then unless (is_some (displacement_bits size by)) reasons.ValueOutOfRange else Some reasons.OperandRefused
 
+-- why an indexed operand is refused: PC as its index, a base that changes the index, or the base itself
 unfoldable pub indexed_reason : List Definition → ℕ → Place → Option Reason
 indexed_reason labels index base =
     if nat_lt index 15 && leaves_index index base then place_reason labels base else Some reasons.OperandRefused
@@ -65,10 +69,12 @@ unfoldable pub target_reason : List Definition → ℕ → Slot → Value → Op
 target_reason labels from slot target =
     option_or (value_reason labels 4 target) (unless (is_some (target_bytes labels from slot target)) reasons.BranchOutOfRange)
 
+-- why a branch displacement is refused, which is written as a target
 unfoldable pub branch_reason : List Definition → ℕ → Slot → Written → Option Reason
 branch_reason labels from slot (writtens.Target target) = target_reason labels from slot target
 branch_reason labels from slot _ = Some reasons.OperandRefused
 
+-- why an operand is refused in a slot that takes a specifier, by the slot's access and size
 unfoldable pub specifier_reason : List Definition → Slot → Written → Option Reason
 specifier_reason labels slot (writtens.Literal number) =
     if is_read slot.access then unless (is_some (literal_bytes number)) reasons.ValueOutOfRange else Some reasons.OperandRefused
@@ -81,6 +87,7 @@ specifier_reason labels slot writtens.Absent = Some reasons.OperandRefused
 specifier_reason labels slot (writtens.Misindexed immediate) = Some reasons.OperandRefused
 specifier_reason labels slot (writtens.Target target) = Some reasons.OperandRefused
 
+-- why an operand is refused where the instruction has none
 abbrev pub absent_reason : Written → Option Reason
 absent_reason writtens.Absent = None
 absent_reason _ = Some reasons.OperandRefused
@@ -107,6 +114,7 @@ abbrev pub bss_reason : Bool → Number → Option Reason
 bss_reason with_bss number =
     option_or (unless (is_up_to 4194304 number) reasons.ValueOutOfRange) (unless (not with_bss) reasons.SecondBss)
 
+-- why a statement at this address is bad, where a `.bss` stands before it or not
 unfoldable pub statement_reason : List Definition → Bool → ℕ → Statement → Option Reason
 statement_reason labels with_bss at (statements.Byte value) = value_reason labels 1 value
 statement_reason labels with_bss at (statements.Word value) = value_reason labels 2 value
@@ -115,10 +123,12 @@ statement_reason labels with_bss at (statements.Space number) = unless (is_up_to
 statement_reason labels with_bss at (statements.Bss number) = bss_reason with_bss number
 statement_reason labels with_bss at (statements.Instruction sentence) = sentence_reason labels at sentence
 
+-- why the statement of a line is bad, if it has one
 abbrev pub optional_reason : List Definition → Bool → ℕ → Option Statement → Option Reason
 optional_reason labels with_bss at None = None
 optional_reason labels with_bss at (Some statement) = statement_reason labels with_bss at statement
 
+-- why the label of a line, if it has one, is bad: an earlier line defines it too
 abbrev pub label_reason : List Definition → Option Label → Option Reason
 label_reason earlier None = None
 label_reason earlier (Some label) = unless (is_none (found earlier label)) (reasons.LabelTwice label)
@@ -134,6 +144,7 @@ abbrev pub outside_reason : Option (List ℕ) → Reason
 outside_reason None = reasons.NoLineFeed
 outside_reason (Some text) = if is_short text then reasons.NotStatement else reasons.LineTooLong
 
+-- why a line is bad, by what it says: that it is outside the grammar, or its own reason at its address
 abbrev pub reason_by : List Definition → List (Option SourceLine) → Option (List ℕ) → Option SourceLine → Option Reason
 reason_by labels before text None = Some (outside_reason text)
 reason_by labels before text (Some line) =

@@ -17,6 +17,7 @@ pub use Rattle.vm_facts.specs.Octets.{AreOctets}
 
 -- ---- numbers of 1, 2 or 4 bytes, the low byte first
 
+-- so many bytes are this number, read without a sign
 pub record SpellsNumber (size number : ℕ) (bytes : List ℕ) : Type 0 where
   pub sized : length bytes ≡ size
   pub valued : number ≡ from_le_bytes (width_of size) bytes
@@ -52,6 +53,7 @@ pub record SpellsDisplaced (mode size reg : ℕ) (by : ℤ) (bytes : List ℕ) :
 
 -- ---- operands that have an address: modes 6 to F
 
+-- these bytes spell an operand that has an address, by its mode
 abbrev pub SpellsBase : Base → List ℕ → Type 0
 SpellsBase (bases.Deferred reg) bytes = SpellsPlain 6 reg bytes
 SpellsBase (bases.AutoDec reg) bytes = SpellsPlain 7 reg bytes
@@ -99,6 +101,7 @@ abbrev pub SpellsBranch : Slot → Operand → List ℕ → Type 0
 SpellsBranch slot (operands.Branch by) bytes = SpellsSigned slot.size by bytes
 SpellsBranch slot _ bytes = ⊥
 
+-- these bytes spell the operand of a slot: a branch displacement, or a specifier
 abbrev pub SpellsOperand : Bool → Slot → Operand → List ℕ → Type 0
 SpellsOperand true slot operand bytes = SpellsBranch slot operand bytes
 SpellsOperand false slot operand bytes = SpellsSpecifier slot operand bytes

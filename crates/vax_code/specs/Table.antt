@@ -129,10 +129,12 @@ slot_in row place = slot_of (if place == 0 then row.a else (if place == 1 then r
 
 -- ---- the rule of the table
 
+-- the kind that fills the places after an instruction's operands
 abbrev pub is_filler : Kind → Bool
 is_filler Rl = true
 is_filler _ = false
 
+-- a branch displacement, of a byte or a word
 abbrev pub is_displacement : Kind → Bool
 is_displacement Bb = true
 is_displacement Bw = true
@@ -147,6 +149,7 @@ is_filled row =
 abbrev pub branches_last : Row → Bool
 branches_last row = (not (is_displacement row.a) || (row.count == 1)) && (not (is_displacement row.b) || (row.count == 2))
 
+-- a row has at most three operands, fillers after them, and a branch displacement last alone
 abbrev pub is_sound : Row → Bool
 is_sound row = nat_le row.count 3 && is_filled row && branches_last row
 

@@ -17,6 +17,7 @@ IsBase (bases.AutoIncDef reg) = reg < 16
 IsBase (bases.Absolute address) = Unit {0}
 IsBase (bases.Disp reg by deferred) = reg < 16
 
+-- the registers that an operand names are registers
 abbrev pub IsOperand : Operand → Type 0
 IsOperand (operands.Literal value) = Unit {0}
 IsOperand (operands.Immediate value) = Unit {0}
@@ -30,6 +31,7 @@ IsOperand (operands.Absolute address) = Unit {0}
 IsOperand (operands.Disp reg by deferred) = reg < 16
 IsOperand (operands.Indexed index base) = (index < 16) × IsBase base
 
+-- the registers that the three operands of an instruction name are registers
 pub record HasOperands (instr : Instr) : Type 0 where
   pub first : IsOperand instr.a
   pub second : IsOperand instr.b
