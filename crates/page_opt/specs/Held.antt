@@ -63,6 +63,7 @@ pub record LeavesAwaited (refs : List ℕ) (old new : Resident) (page : ℕ) : T
   pub spent : new.spent ≡ old.spent
   pub used : new.used ≡ old.used
 
+-- a page left by Belady's rule: one that is never used again, or else the one that is used again last
 abbrev pub Leaves : List ℕ → Resident → Resident → ℕ → Type 0
 Leaves refs old new page = LeavesSpent old new page ⊎ LeavesAwaited refs old new page
 
@@ -74,12 +75,14 @@ pub record HadRoom (n : ℕ) (old new : Resident) (before after : List Victim) :
   pub used : new.used ≡ old.used + 1
   pub victims : after ≡ before
 
+-- there was none, and a page left as the victim of the reference at place i
 pub record MadeRoom (refs : List ℕ) (n i : ℕ) (old new : Resident) (before after : List Victim) : Type 0 where
   pub full : n ≤ old.used
   pub victim : ℕ
   pub leaves : Leaves refs old new victim
   pub victims : after ≡ before ++ record { at = i + 1; page = victim } ∷ []
 
+-- there is room for a page: there was, or it was made
 abbrev pub HasRoom : List ℕ → ℕ → ℕ → Resident → Resident → List Victim → List Victim → Type 0
 HasRoom refs n i old new before after = HadRoom n old new before after ⊎ MadeRoom refs n i old new before after
 
@@ -89,11 +92,13 @@ pub record PutAwaited (old new : Resident) (k : ℕ) : Type 0 where
   pub spent : new.spent ≡ old.spent
   pub used : new.used ≡ old.used
 
+-- a page was put in that is never used again
 pub record PutSpent (old new : Resident) (page : ℕ) : Type 0 where
   pub spent : Changes old.spent new.spent page true
   pub awaited : new.awaited ≡ old.awaited
   pub used : new.used ≡ old.used
 
+-- a page was put in, by the place of its next use, if there is one
 abbrev pub Puts : ℕ → Option ℕ → Resident → Resident → Type 0
 Puts page (Some k) old new = PutAwaited old new k
 Puts page None old new = PutSpent old new page

@@ -8,6 +8,7 @@ pub record Bits : Type 0 where
   pub words : List ℕ
   pub first : ℕ
 
+-- the set as its callers see it: its words, and the node of place 0
 abbrev pub bits_of : Inside → Bits
 bits_of a = record { words = a.words.items; first = a.first }
 
@@ -38,6 +39,7 @@ pub record AreLevels (first height : ℕ) : Type 0 where
 abbrev pub AreSummaries : ℕ → List ℕ → Type 0
 AreSummaries first words = (k : ℕ) → 1 < k → k < first → bit_of words k ≡ min (slice_index_or words k 0) 1
 
+-- the bits are a tree: levels from the places up to node 1, and each bit above says whether its word has any
 pub record IsTree (a : Inside) : Type 0 where
   pub height : 0 < a.height
   pub small : a.first < 2 ^ 32
@@ -71,6 +73,7 @@ pub record IsLastPlace (bits : Bits) (place : ℕ) : Type 0 where
   pub there : has_place bits place ≡ true
   pub last : (k : ℕ) → has_place bits k ≡ true → k ≤ place
 
+-- what is found as the last place of the set: none where it is empty
 abbrev pub IsLast : Bits → Option ℕ → Type 0
 IsLast bits None = (k : ℕ) → has_place bits k ≡ false
 IsLast bits (Some place) = IsLastPlace bits place

@@ -65,6 +65,7 @@ faults_of (Some run) = all_left run.victims run.faults
 unfoldable pub plan_faults : List ℕ → ℕ → List Victim → Option ℕ
 plan_faults refs n victims = faults_of (runs n 1 refs (Some (record { cache = []; victims = victims; faults = 0 })))
 
+-- these victims are a plan for n frames
 abbrev pub IsPlan : List ℕ → ℕ → List Victim → Type 0
 IsPlan refs n victims = IsSome (plan_faults refs n victims)
 

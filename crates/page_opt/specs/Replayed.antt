@@ -24,6 +24,7 @@ pub record NoneLeft (old new : Replay) (ok : Bool) : Type 0 where
   pub victims : new.victims.now ≡ old.victims.now
   pub faults : new.faults ≡ old.faults
 
+-- this victim left, where it was in the cache
 pub record OneLeft (victim : ℕ) (old new : Replay) (ok : Bool) : Type 0 where
   pub test : ok ≡ in_set old.cache victim
   pub cache : Changes old.cache new.cache victim false
@@ -31,6 +32,7 @@ pub record OneLeft (victim : ℕ) (old new : Replay) (ok : Bool) : Type 0 where
   pub victims : ok ≡ true → new.victims.now ≡ drop 1 old.victims.now
   pub faults : new.faults ≡ old.faults
 
+-- the victim that is due left, if one is
 abbrev pub Leaving : Option ℕ → Replay → Replay → Bool → Type 0
 Leaving None old new ok = NoneLeft old new ok
 Leaving (Some victim) old new ok = OneLeft victim old new ok
@@ -43,6 +45,7 @@ pub record Enters (n page : ℕ) (old new : Replay) : Type 0 where
   pub victims : new.victims.now ≡ old.victims.now
   pub faults : new.faults ≡ old.faults + 1
 
+-- the page entered, or there was no room
 abbrev pub Entering : ℕ → ℕ → Replay → Replay → Bool → Type 0
 Entering n page old new true = Enters n page old new
 Entering n page old new false = n ≤ btree_set_len old.cache
@@ -54,6 +57,7 @@ pub record Serves (n at page : ℕ) (cache : List ℕ) (old new : Replay) : Type
   pub step : serve n at page (run_of cache old) ≡ Some (run_of later new)
   pub faults : new.faults ≤ old.faults + 1
 
+-- the reference by the code's answer: it was served, or no step of the plan serves it
 abbrev pub Serving : ℕ → ℕ → ℕ → List ℕ → Replay → Replay → Bool → Type 0
 Serving n at page cache old new true = Serves n at page cache old new
 Serving n at page cache old new false = serve n at page (run_of cache old) ≡ None

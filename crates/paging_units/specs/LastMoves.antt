@@ -3,6 +3,7 @@ use Rattle.std.specs.Prelude.{ℕ, List, [], ◌∷◌}
 use Rattle.vm_facts.specs.declared.entry.Entry.{Entry}
 use Rattle.vm_facts.specs.declared.entry.Entry.TheVariants as entries
 
+-- how many moves of the hands an entry counts
 abbrev pub moves_counted : Entry → ℕ
 moves_counted (entries.Hands n) = n
 moves_counted _ = 0

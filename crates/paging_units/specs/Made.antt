@@ -53,6 +53,7 @@ pub record MakesUnit (g : Ground) (e : Entry) (old new : Standing) (i j : Option
   pub told : ImageBy e old.kernel i j
   pub beside : IsSameBeside old new
 
+-- a call that makes these units in order, and leaves the machine's sizes and images
 pub record Makes (g : Ground) (us : List Entry) (old new : Standing) (i j : Option (List ℕ)) : Type 0 where
   pub made : Made g us old.kernel i new.kernel j
   pub beside : IsSameBeside old new
@@ -70,6 +71,7 @@ abbrev pub starts_by : Entry → List StartBytes → List StartBytes
 starts_by (entries.Zero q) ss = starts_after ss q
 starts_by _ ss = ss
 
+-- the bytes that are kept after these units
 abbrev pub starts_behind : List Entry → List StartBytes → List StartBytes
 starts_behind [] ss = ss
 starts_behind (e ∷ us) ss = starts_behind us (starts_by e ss)

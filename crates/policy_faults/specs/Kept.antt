@@ -16,8 +16,10 @@ pub record HaveMarks (marks : ℕ → Option Bool) (pages : List ℕ) : Type 0 w
   pub once : (page : ℕ) → times page pages ≤ 1
   pub inside : (page : ℕ) → is_some (marks page) ≡ has page pages
 
+-- the ring as its callers see it: each page with its mark
 abbrev pub ring_of : Inside → List MarkedPage
 ring_of a = with_marks (λ page. get nat_eq a.marks page) a.pages.items
 
+-- each page of the ring stands once, and just these have a mark
 abbrev pub IsPageRing : Inside → Type 0
 IsPageRing a = HaveMarks (λ page. get nat_eq a.marks page) a.pages.items

@@ -9,6 +9,7 @@ use Rattle.machine_state.specs.Machine.{Standing}
 use Rattle.machine_state.specs.Calls.{life_in}
 use Rattle.machine_state.specs.UserMemory.{CanLend}
 
+-- the process of this number, if there is one
 abbrev pub proc_in : Kernel → ℕ → Option Proc
 proc_in k pid = numbered (λ (p : Proc). p.pid) pid k.processes
 
@@ -16,6 +17,7 @@ proc_in k pid = numbered (λ (p : Proc). p.pid) pid k.processes
 abbrev pub space_held : Kernel → ℕ → ℕ
 space_held k pid = space_of_life (life_in k pid)
 
+-- the registers that a record has; all clear where there is none
 abbrev pub regs_by : Option Proc → Regs
 regs_by None = cleared
 regs_by (Some p) = p.regs
@@ -24,6 +26,7 @@ regs_by (Some p) = p.regs
 abbrev pub regs_of : Kernel → ℕ → Regs
 regs_of k pid = regs_by (proc_in k pid)
 
+-- the parent's number that a record has; 0 where there is none
 abbrev pub parent_by : Option Proc → ℕ
 parent_by None = 0
 parent_by (Some p) = p.parent

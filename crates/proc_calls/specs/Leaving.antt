@@ -37,6 +37,7 @@ abbrev pub HasLeftBy : Bool → Standing → Standing → ℕ → Option (List N
 HasLeftBy true old new pid holds before after = HasReturned old new pid before after
 HasLeftBy false old new pid holds before after = HasSettled old new (space_held old.kernel pid) holds before after
 
+-- a process left its space: it went back to its lender, or is its own and settled
 abbrev pub HasLeft : Standing → Standing → ℕ → Option (List NamedFile) → Option (List ℕ) → Option (List ℕ) → Type 0
 HasLeft old new pid holds before after = HasLeftBy (has_lender old.kernel.processes pid) old new pid holds before after
 

@@ -54,6 +54,7 @@ MakesChildBy false finds old new pid call regs Then = Answered old new pid call 
 MakesChildBy true false old new pid call regs Then = IsRefused old new pid call regs
 MakesChildBy true true old new pid call regs Then = Then
 
+-- a call that is to make a process fails, where there are as many as may be or pieces find no place; else this is so
 abbrev pub MakesChild : Standing → Standing → ℕ → SystemCall → Regs → Change → Type 0 → Type 0
 MakesChild old new pid call regs change Then = MakesChildBy (is_below_limit old.kernel) (finds_pieces old pid change) old new pid call regs Then
 
@@ -64,6 +65,7 @@ pub record HasLentSpace (old new : Standing) (pid : ℕ) (regs : Regs) (child : 
   pub passed : new ≡ record between { kernel = pass_step between.kernel pid child }
   pub lent : HasLent between.kernel new.kernel pid child
 
+-- a vfork answered: it failed, or the child is there with the space
 abbrev pub Vforked : Standing → Standing → ℕ → Regs → Type 0
 Vforked old new pid regs = MakesChild old new pid Vfork regs (Lend old.kernel.next_pid) (HasLentSpace old new pid regs old.kernel.next_pid)
 
@@ -82,6 +84,7 @@ pub record StopsMaking (old new : Standing) (pid : ℕ) (change : Change) (stop 
   pub cause : (stop ≡ stops.JournalFull) ⊎ (stop ≡ stops.NoMemory)
   pub full : stop ≡ stops.JournalFull → between.params.journal ≤ length between.kernel.journal
 
+-- where the code answers with a stop, the run stopped so
 abbrev pub StopsMakingBy : Standing → Standing → ℕ → Change → Result Called Stop → Type 0
 StopsMakingBy old new pid change (Ok called) = Unit {0}
 StopsMakingBy old new pid change (Err stop) = StopsMaking old new pid change stop

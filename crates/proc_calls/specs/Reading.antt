@@ -29,6 +29,7 @@ AreNamed [] (s ∷ named) = ⊥
 AreNamed (n ∷ images) [] = ⊥
 AreNamed (n ∷ images) (s ∷ named) = (n.name ≡ s.name) × (n.image.facts ≡ s.facts) × AreNamed images named
 
+-- this number where the name is the image's, else what is found further on
 abbrev pub number_by : Bool → ℕ → Option ℕ → Option ℕ
 number_by true number more = Some number
 number_by false number more = more

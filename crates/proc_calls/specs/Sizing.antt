@@ -32,6 +32,7 @@ use Rattle.proc_calls.specs.declared.replying.Called.{Called}
 abbrev pub data_pages_of : Kernel → ℕ → ℕ
 data_pages_of k pid = data_count k.place (space_held k pid)
 
+-- the pages of the stack of a process
 abbrev pub stack_pages_of : Kernel → ℕ → ℕ
 stack_pages_of k pid = stack_count k.place (space_held k pid)
 
@@ -58,6 +59,7 @@ break_read k pid regs (Err refused) = Err refused
 abbrev pub pieces_found : Standing → ℕ → ℕ → Result Holdings ℕ
 pieces_found m pid pages = place_all m.params.swap_blocks m.kernel.holdings (asked (facts_named m.images) m.kernel pid (data_sized m.kernel pid pages))
 
+-- the machine with the holdings in which the pieces were found
 abbrev pub with_pieces : Standing → Holdings → Standing
 with_pieces m hs = record m { kernel = record m.kernel { holdings = hs } }
 
@@ -99,6 +101,7 @@ pub record CutData (old new : Standing) (pid : ℕ) (regs : Regs) (pages : ℕ) 
 abbrev pub Grows : Standing → Standing → ℕ → Regs → ℕ → Called → Type 0
 Grows old new pid regs pages called = GrownData old new pid regs pages called ⊎ NoPieces old new pid regs pages called
 
+-- with no call of a device: the same size, a size that data may not have, or growth
 abbrev pub Plain : Standing → Standing → ℕ → Regs → ℕ → Called → Type 0
 Plain old new pid regs pages called = SameData old new pid regs pages called ⊎ Grows old new pid regs pages called
 
@@ -136,6 +139,7 @@ pub record StopsCutting (old new : Standing) (pid pages : ℕ) (holds : Option (
   pub fewer : pages < data_pages_of old.kernel pid
   pub stops : StopsSettling (space_held old.kernel pid) old new holds before after stop ⊎ StopsOnceSettled old new (space_held old.kernel pid) holds before after stop
 
+-- a break stops with no call of a device, or as it cuts the data
 abbrev pub StopsMoving : Standing → Standing → ℕ → ℕ → Option (List NamedFile) → Option (List ℕ) → Option (List ℕ) → Stop → Type 0
 StopsMoving old new pid pages holds before after stop =
     (StopsPlain old new pid pages stop × (after ≡ before)) ⊎ StopsCutting old new pid pages holds before after stop

@@ -114,6 +114,7 @@ abbrev pub StartsBy : Bool → Standing → Standing → ℕ → Regs → Regs �
 StartsBy true old new pid regs after image top holds before behind = HasStartedFilled old new pid after image top holds before behind
 StartsBy false old new pid regs after image top holds before behind = IsRefused old new pid Execve regs × (behind ≡ before)
 
+-- an execve starts an image, or the pieces find no place and it fails
 abbrev pub Starts : Standing → Standing → ℕ → Regs → Regs → ℕ → List ℕ → Option (List NamedFile) → Option (List ℕ) → Option (List ℕ) → Type 0
 Starts old new pid regs after image top holds before behind = StartsBy (is_ok (image_found image old)) old new pid regs after image top holds before behind
 
@@ -141,6 +142,7 @@ pub record StopsWithout (old new : Standing) (pid image : ℕ) (before after : O
   pub stops : StopsBefore (without_pieces old pid) new stop
   pub image_same : after ≡ before
 
+-- before the call answers: as its space is left for the image, or after the refusal of pieces
 abbrev pub StopsStarting : Standing → Standing → ℕ → ℕ → Option (List NamedFile) → Option (List ℕ) → Option (List ℕ) → Stop → Type 0
 StopsStarting old new pid image holds before after stop =
     StopsFinding (image_found image) old new pid holds before after stop ⊎ StopsWithout old new pid image before after stop

@@ -15,6 +15,7 @@ use Rattle.proc_table.specs.Records.{find as find_record}
 use Rattle.proc_calls.specs.declared.children.Children.{Children}
 use Rattle.proc_calls.specs.declared.children.Children.TheVariants as children
 
+-- a child of this process
 abbrev pub is_child : ℕ → Proc → Bool
 is_child pid q = q.parent == pid
 
@@ -22,6 +23,7 @@ is_child pid q = q.parent == pid
 abbrev pub is_ended_child : ℕ → Proc → Bool
 is_ended_child pid q = q.parent == pid && is_ended q.life
 
+-- the status with which a process ended; 0 where it hasn't
 abbrev pub status_of : Life → ℕ
 status_of New = 0
 status_of (HoldsSpace sid) = 0
@@ -34,9 +36,11 @@ wait_by None ended regs = Fails no_children
 wait_by (Some child) None regs = Waits
 wait_by (Some child) (Some z) regs = Does (replied_both regs z.pid (status_of z.life)) (Reap z.pid)
 
+-- what a wait of this process replies among these
 abbrev pub wait_among : List Proc → ℕ → Regs → Reply
 wait_among ps pid regs = wait_by (find (is_child pid) ps) (find (is_ended_child pid) ps) regs
 
+-- what a wait of this process replies
 abbrev pub wait_reply : Kernel → ℕ → Regs → Reply
 wait_reply k pid regs = wait_among k.processes pid regs
 
@@ -57,18 +61,22 @@ HasEnded ps _ = Unit {0}
 abbrev pub NoneEnded : (ℕ → Type 0) → List Record → ℕ → Type 0
 NoneEnded P ps parent = (n status : ℕ) (p : Record) → P n → find_record n ps ≡ Some p → p.parent ≡ parent → p.state ≡ records.Zombie status → ⊥
 
+-- the records with these numbers, of which none is a child
 abbrev pub NoChild : (ℕ → Type 0) → List Record → ℕ → Type 0
 NoChild P ps parent = (n : ℕ) (p : Record) → P n → find_record n ps ≡ Some p → p.parent ≡ parent → ⊥
 
+-- the record of this number is a child's
 pub record IsChild (ps : List Record) (parent n : ℕ) : Type 0 where
   pub there : Record
   pub found : find_record n ps ≡ Some there
   pub its : there.parent ≡ parent
 
+-- one of the records is a child's
 pub record HasChild (ps : List Record) (parent : ℕ) : Type 0 where
   pub child : ℕ
   pub is : IsChild ps parent child
 
+-- the record of this number is a child's, and a zombie with this status
 pub record IsZombieChild (ps : List Record) (parent n status : ℕ) : Type 0 where
   pub there : Record
   pub found : find_record n ps ≡ Some there

@@ -19,6 +19,7 @@ IsWrite (Writes bytes) = length bytes ≤ write_limit
 IsWrite Waits = ⊥
 IsWrite (Exits status) = ⊥
 
+-- what a write reads gives a reply of a write, or is refused
 abbrev pub MayWrite : Result Reply Refused → Type 0
 MayWrite (Ok reply) = IsWrite reply
 MayWrite (Err refused) = Unit {0}
@@ -38,6 +39,7 @@ abbrev pub bytes_of : Result Reply Refused → List ℕ
 bytes_of (Ok (Writes bytes)) = bytes
 bytes_of _ = []
 
+-- where the code answers with a stop, the write stopped so
 abbrev pub StopsBy : Standing → Standing → ℕ → List ℕ → Result Called Stop → Type 0
 StopsBy old new pid bytes (Ok called) = Unit {0}
 StopsBy old new pid bytes (Err stop) = StopsWriting old new pid bytes stop

@@ -38,6 +38,7 @@ pub record ForkComes (old new : Standing) (pid : ℕ) (regs : Regs) (holds : Opt
   pub forked : Forked old new pid regs holds i j
   pub on : HasCopied old new
 
+-- what a call comes to, by which one it is
 abbrev pub CallComes : SystemCall → Standing → Standing → ℕ → Regs → Option (List NamedFile) → Option (List ℕ) → Option (List ℕ) → Called → Type 0
 CallComes system_calls.Exit old new pid regs holds i j called = ExitComes old new pid regs (run (own_answers old pid) (exit_reply regs)) holds i j called
 CallComes system_calls.Fork old new pid regs holds i j called = (called ≡ calls.Ready) × ForkComes old new pid regs holds i j
@@ -51,6 +52,7 @@ CallComes system_calls.Execve old new pid regs holds i j called =
 CallComes system_calls.Vfork old new pid regs holds i j called = (called ≡ calls.Ready) × Vforked old new pid regs × (j ≡ i)
 CallComes system_calls.Wait old new pid regs holds i j called = Replied old new pid system_calls.Wait regs (wait_reply old.kernel pid regs) called × (j ≡ i)
 
+-- where the run stops in a call, by which one it is
 abbrev pub CallStops : SystemCall → Standing → Standing → ℕ → Regs → Option (List NamedFile) → Option (List ℕ) → Option (List ℕ) → Stop → Type 0
 CallStops system_calls.Exit old new pid regs holds i j stop = StopsExit old new pid (run (own_answers old pid) (exit_reply regs)) holds i j stop
 CallStops system_calls.Fork old new pid regs holds i j stop = StopsForking old new pid regs holds i j stop

@@ -9,6 +9,7 @@ use Rattle.proc_table.specs.declared.process.Proc.{Proc as Record}
 use Rattle.proc_table.specs.Records.{find as find_record}
 use Rattle.machine_state.specs.Machine.{proc_shown}
 
+-- what a process has is a space in which it can run
 abbrev pub holds_space : Life → Bool
 holds_space New = false
 holds_space (HoldsSpace sid) = true
@@ -19,6 +20,7 @@ holds_space (Ended status) = false
 abbrev pub can_step : Proc → Bool
 can_step p = holds_space p.life && not p.asleep
 
+-- the number of a process, if there is one
 abbrev pub pid_if : Option Proc → Option ℕ
 pid_if None = None
 pid_if (Some p) = Some p.pid
@@ -33,6 +35,7 @@ next_turned k last = or_else (next_ready k last) (next_ready k 0)
 
 -- The process that runs.
 
+-- a process that is there, and can step
 abbrev pub steps_by : Option Proc → Bool
 steps_by None = false
 steps_by (Some p) = can_step p
@@ -47,6 +50,7 @@ may_run k pid = steps_by (proc_of k pid) && not (is_out k.place pid)
 abbrev pub NoneReady : (ℕ → Type 0) → List Record → Type 0
 NoneReady P ps = (n : ℕ) (p : Record) → P n → find_record n ps ≡ Some p → can_step (proc_shown p) ≡ false
 
+-- the record of this number is there, and its process can step
 pub record IsReadyRecord (ps : List Record) (n : ℕ) : Type 0 where
   pub there : Record
   pub found : find_record n ps ≡ Some there

@@ -43,10 +43,12 @@ pub record RunLeads (A : Inputs) (s : State) (k : Kernel) (image : List ℕ) (pi
   pub lines : state.lines ≡ s.lines
   pub mark : state.mark ≡ s.mark
 
+-- for every state under such a mark at which the machine stands
 abbrev pub Runs : Standing → Standing → ℕ → Bool → ℕ → ℕ → Option (List NamedFile) → Option (List ℕ) → Option (List ℕ) → ℕ → Type 0
 Runs old new pid now counted until holds i j count =
     (A : Inputs) (s : State) (image : List ℕ) → UnderMark A s old holds i image pid now counted until → RunLeads A s old.kernel image pid now new.kernel j count
 
+-- and where the run stops, for every such state
 abbrev pub StopsRunning : Standing → Standing → ℕ → Bool → ℕ → ℕ → Option (List NamedFile) → Option (List ℕ) → Option (List ℕ) → Stop → Type 0
 StopsRunning old new pid now counted until holds i j stop =
     (A : Inputs) (s : State) (image : List ℕ) → UnderMark A s old holds i image pid now counted until → StopLeads A s old.kernel image stop new j

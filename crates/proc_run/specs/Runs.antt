@@ -56,6 +56,7 @@ abbrev pub Advances : Standing → Standing → ℕ → Bool → Option (List Na
 Advances old new pid now holds i j advance =
     (A : Inputs) (s : State) (image : List ℕ) (p : Process) (x : Space) → RunsAt A s old holds i image pid now p x → AdvancesTo A s old.kernel image advance new.kernel j
 
+-- and where it stops, for every such state
 abbrev pub StopsAdvancing : Standing → Standing → ℕ → Bool → Option (List NamedFile) → Option (List ℕ) → Option (List ℕ) → Stop → Type 0
 StopsAdvancing old new pid now holds i j stop =
     (A : Inputs) (s : State) (image : List ℕ) (p : Process) (x : Space) → RunsAt A s old holds i image pid now p x → StopLeads A s old.kernel image stop new j
@@ -66,6 +67,7 @@ AdvancesWaiting old new pid now address write holds i j advance =
     (A : Inputs) (s : State) (image : List ℕ) (p : Process) (x : Space) (before : List Page) → RunsAt A s old holds i image pid now p x → Waits A s old p x address write before
     → AdvancesTo A s old.kernel image advance new.kernel j
 
+-- and where it stops as it waits so
 abbrev pub StopsWaiting : Standing → Standing → ℕ → Bool → ℕ → Bool → Option (List NamedFile) → Option (List ℕ) → Option (List ℕ) → Stop → Type 0
 StopsWaiting old new pid now address write holds i j stop =
     (A : Inputs) (s : State) (image : List ℕ) (p : Process) (x : Space) (before : List Page) → RunsAt A s old holds i image pid now p x → Waits A s old p x address write before

@@ -34,6 +34,7 @@ ServedBy false old new pid address write holds i j answer =
 
 -- Stops.
 
+-- as it is served until its page is valid
 pub record StopsServedNow (old new : Standing) (pid address : ℕ) (write : Bool) (holds : Option (List NamedFile)) (i j : Option (List ℕ)) (stop : Stop) : Type 0 where
   pub pages : List Page
   pub kept : AreLocked old holds i pid pages
@@ -46,6 +47,7 @@ pub record StopsAtOnce (old new : Standing) (i j : Option (List ℕ)) (stop : St
   pub cause : stop ≡ stops.NoMemory
   pub image : j ≡ i
 
+-- by whether it is served by waiting
 abbrev pub StopsServed : Bool → Standing → Standing → ℕ → ℕ → Bool → Option (List NamedFile) → Option (List ℕ) → Option (List ℕ) → Stop → Type 0
 StopsServed true old new pid address write holds i j stop = StopsAtOnce old new i j stop ⊎ StopsServedNow old new pid address write holds i j stop
 StopsServed false old new pid address write holds i j stop = AccessStops false [] (access_by old.kernel pid address write) pid old new holds i j stop

@@ -17,6 +17,7 @@ abbrev pub argument_name : Argument → List ℕ
 argument_name Owner = codes "SID or IMAGE"
 argument_name Place = codes "V"
 
+-- the numbers that may stand in a reference
 abbrev pub range_text : List ℕ
 range_text = codes "0 to 4294967295, with no zero in front"
 

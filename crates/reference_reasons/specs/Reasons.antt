@@ -90,6 +90,7 @@ abbrev pub reason_or_full : Option Why → Why
 reason_or_full (Some why) = why
 reason_or_full None = TooManyReferences
 
+-- why the line of this number is the first bad one
 unfoldable pub why_at : ℕ → List ℕ → Why
 why_at number bytes = reason_or_full (why_line (line_at number bytes))
 

@@ -19,6 +19,7 @@ pub record AddsLine (old new : List Page) (line : List ℕ) : Type 0 where
 abbrev pub RefusesLine : List Page → List ℕ → Type 0
 RefusesLine old line = (read : Option Page) → IsReferenceLine read line → IsSome read × (length old ≡ most_references)
 
+-- by the code's answer: the line was read, or it can't be
 abbrev pub AddsOrRefuses : List Page → List Page → List ℕ → Bool → Type 0
 AddsOrRefuses old new line true = AddsLine old new line
 AddsOrRefuses old new line false = RefusesLine old line

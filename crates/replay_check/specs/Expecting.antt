@@ -16,6 +16,7 @@ begun (Some (Out p bytes)) = Some p
 begun (Some (Refused p)) = Some p
 begun _ = None
 
+-- the first number, where there is one, or else the second
 abbrev pub or_else : Option ℕ → Option ℕ → Option ℕ
 or_else None other = other
 or_else (Some p) other = Some p
@@ -24,14 +25,17 @@ or_else (Some p) other = Some p
 abbrev pub due_process : Option Entry → Entry → Option ℕ
 due_process last e = or_else (begun last) (process_of_entry e)
 
+-- this entry comes, or it would with no `Refused` before it
 abbrev pub comes_if : Bool → Entry → Expected
 comes_if true e = Comes e
 comes_if false e = Unrefused e
 
+-- why a process has no step: it isn't there, or can't step
 abbrev pub missing : ℕ → Option Process → Expected
 missing pid None = NoProcess pid
 missing pid (Some p) = CannotStep pid
 
+-- the entry of a process's step, or why it has none
 abbrev pub expected_by : Point → ℕ → Option Entry → Expected
 expected_by point pid (Some e) = comes_if (may_follow point.last e) e
 expected_by point pid None = missing pid (process_of point.flat pid)
@@ -77,6 +81,7 @@ pub record IsExpected (A : Inputs) (point : Point) (pid count : ℕ) (expected :
   pub most : RunsOnly A point pid count ran
   pub told : expected ≡ ran_or pid ran (expected_of A point pid)
 
+-- what this process gives in place of an entry; nothing where there is none
 abbrev pub IsExpectedOf : Inputs → Point → Entry → Option ℕ → Option Expected → Type 0
 IsExpectedOf A point e None expected = expected ≡ None
 IsExpectedOf A point e (Some pid) None = ⊥

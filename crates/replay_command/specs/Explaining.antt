@@ -16,9 +16,11 @@ use Rattle.command_ending.specs.Command.{Faults, Made}
 use Rattle.replay_command.specs.Reading.{Read, HasEntries, read_told}
 use Rattle.replay_command.specs.Command.{EndsReplay}
 
+-- a text, and then the line of an entry
 abbrev pub before_line : List ℕ → Entry → List ℕ
 before_line before e = before ++ line_of e
 
+-- a number between two texts
 abbrev pub around_number : List ℕ → ℕ → List ℕ → List ℕ
 around_number before n behind = before ++ decimal n ++ behind
 

@@ -56,6 +56,7 @@ HasBadLine (Ok (Some bytes)) line = IsFirstBad IsEntryLine 4294967295 line (with
 HasBadLine (Ok None) line = ⊥
 HasBadLine (Err unread) line = ⊥
 
+-- what was read, as a list
 abbrev pub items_of : {A B : Type 0} → Result (Vec A B) Fault → Result (List A) Fault
 items_of (Ok v) = Ok v.items
 items_of (Err fault) = Err fault

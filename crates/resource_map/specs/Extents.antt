@@ -48,9 +48,11 @@ put_in false true es at e = slice_set es at (merged e (slice_index_or es at e))
 put_in true true es at e =
     remove (slice_set es (at - 1) (merged (slice_index_or es (at - 1) e) (merged e (slice_index_or es at e)))) at
 
+-- the extent is joined by the one before its place, if there is one
 abbrev pub joins_left : List Extent → ℕ → Extent → Bool
 joins_left es at e = nat_lt 0 at && joins (slice_index_or es (at - 1) e) e
 
+-- the extent joins the one at its place, if there is one
 abbrev pub joins_right : List Extent → ℕ → Extent → Bool
 joins_right es at e = nat_lt at (length es) && joins e (slice_index_or es at e)
 

@@ -4,6 +4,7 @@ use Rattle.resource_map.specs.Blocks.{Blocks}
 use Rattle.resource_map.specs.Extents.{InOrder, free_blocks}
 use Rattle.resource_map.specs.declared.ResourceMap.TheInside.{Inside}
 
+-- the map as its callers see it: which blocks are free, and how many ranges may still be freed
 abbrev pub blocks_of : Inside → Blocks
 blocks_of a = record { free = free_blocks a.size a.extents.items; spare = a.spare }
 

@@ -22,6 +22,7 @@ unfinished_by JournalFull = ends.Stopped stops.JournalFull
 unfinished_by (NoSpace pid) = ends.NoSpace pid
 unfinished_by _ = ends.Stopped stops.NoMemory
 
+-- whether a run is finished, or why it isn't, but for the device that failed
 abbrev pub unfinished_of : Result (Unit {0}) Fault → Result (Unit {0}) Unfinished
 unfinished_of (Ok done) = Ok done
 unfinished_of (Err fault) = Err (unfinished_by fault)
@@ -45,6 +46,7 @@ abbrev pub ReadsFail : Result (Unit {0}) Fault → DeviceFaults → Type 0
 ReadsFail (Err (SwapReadFault device)) f = DeviceFailed device f
 ReadsFail _ f = NoneFailed f
 
+-- a device failed to write exactly where that is the fault
 abbrev pub WritesFail : Result (Unit {0}) Fault → DeviceFaults → Type 0
 WritesFail (Err (SwapWriteFault device)) f = DeviceFailed device f
 WritesFail _ f = NoneFailed f

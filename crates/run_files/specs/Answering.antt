@@ -41,6 +41,7 @@ CountsFault (Err (NotImage reason)) old new = new ≡ old
 CountsFault (Err FileFault) old new = Rose old new
 CountsFault (Err NoMemory) old new = new ≡ old
 
+-- no file failed
 abbrev pub BothStay : ℕ → ℕ → ℕ → ℕ → Type 0
 BothStay open_old open_new page_old page_new = (open_new ≡ open_old) × (page_new ≡ page_old)
 
@@ -52,6 +53,7 @@ OpenRose open_old open_new page_old page_new = Rose open_old open_new × (page_n
 abbrev pub PageRose : ℕ → ℕ → ℕ → ℕ → Type 0
 PageRose open_old open_new page_old page_new = (open_new ≡ open_old) × Rose page_old page_new
 
+-- a file failed, before its first bytes or after them
 abbrev pub OneRose : ℕ → ℕ → ℕ → ℕ → Type 0
 OneRose open_old open_new page_old page_new =
     OpenRose open_old open_new page_old page_new ⊎ PageRose open_old open_new page_old page_new

@@ -34,6 +34,7 @@ abbrev pub facts_in : Result Loaded ℕ → Result Image Unread
 facts_in (Ok image) = Ok image.facts
 facts_in (Err reason) = Err (NotImage reason)
 
+-- the facts of the image at a place; it is absent where there is no place
 abbrev pub facts_told_at : List NamedFile → Option ℕ → Result Image Unread
 facts_told_at files None = Err Absent
 facts_told_at files (Some place) = facts_in (image_of (bytes_at files place))

@@ -33,6 +33,7 @@ images_found files (name ∷ names) = before (image_found files name) (images_fo
 abbrev pub image_in : List NamedFile → OpenedImage → NamedImage
 image_in files image = record { name = image.name.now; image = loaded image.facts (bytes_at files image.file) }
 
+-- the images, as their files have them
 abbrev pub images_in : List NamedFile → List OpenedImage → List NamedImage
 images_in files images = map (image_in files) images
 

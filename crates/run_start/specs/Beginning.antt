@@ -20,6 +20,7 @@ abbrev pub BeginsUntil : ℕ → List ℕ → Standing → Standing → Type 0
 BeginsUntil pid [] old new = ⊥
 BeginsUntil pid (n ∷ ns) old new = ((new ≡ old) × LacksPlace old n pid) ⊎ ((next : Standing) × StartedFirst old next n × BeginsUntil pid ns next new)
 
+-- by the code's answer: processes began in all these images, or until one's pieces found no place
 abbrev pub Begins : Started → List ℕ → Standing → Standing → Type 0
 Begins starteds.Ok ns old new = BeginsAll ns old new
 Begins (starteds.NoSpace pid) ns old new = BeginsUntil pid ns old new

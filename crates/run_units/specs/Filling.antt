@@ -41,6 +41,7 @@ ForcedNext =
     (A : Inputs) (s : State) (e : Entry) (locked : List Page) → FillsFirst s.place s.place.due e locked → s.place.free ≡ []
     → next_unit A s ≡ Some (force_entry s.place.transfers)
 
+-- where a frame is free, the fill of the page that is due first is the next unit
 abbrev pub FillIsNext : Type 0
 FillIsNext =
     (A : Inputs) (s : State) (e : Entry) (locked : List Page) (f : ℕ) (free : List ℕ) → FillsFirst s.place s.place.due e locked → s.place.free ≡ f ∷ free
@@ -53,6 +54,7 @@ BringingIsNext =
     → At A s k image → HasImages g A → g.locked ≡ parent ∷ [] → s.place.due ≡ CopyOf child parent ∷ ds
     → Serves us k.place g.locked parent true l.place → Made g us k (Some image) l j → LeadsDue A s k image us l j
 
+-- so is the unit that serves it next
 abbrev pub BroughtNext : Type 0
 BroughtNext =
     (A : Inputs) (s : State) (child parent : Page) (ds : List Due) (u : Entry) → s.place.due ≡ CopyOf child parent ∷ ds → serve_unit s.place parent true ≡ Some u

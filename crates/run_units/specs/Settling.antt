@@ -39,6 +39,7 @@ SettlingIsNext =
     → At A s k image → HasImages g A → IsLeaving A s pid now sid → EndsWhile g.from sid n k (Some image) l j
     → LeadsLeaving A s k image pid now sid (replicate n entries.Done) l j
 
+-- while the space isn't settled, the end of a transfer is the next unit
 abbrev pub SettledNext : Type 0
 SettledNext =
     (A : Inputs) (s : State) (pid : ℕ) (now : Bool) (sid : ℕ) → IsLeaving A s pid now sid → is_settled s.place sid ≡ false → next_unit A s ≡ Some entries.Done

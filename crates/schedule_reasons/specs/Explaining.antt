@@ -20,12 +20,15 @@ argument_name Process = codes "P of d"
 argument_name Turn = codes "N of d"
 argument_name Moves = codes "N of h"
 
+-- the numbers that it may be
 abbrev pub range_text : Argument → List ℕ
 range_text argument = codes "1 to " ++ decimal (most_of argument)
 
+-- the letters of the five events
 abbrev pub event_letters : List ℕ
 event_letters = codes "d, i, h, w or m"
 
+-- a number of an event, and what stands for it
 abbrev pub given_text : Argument → List ℕ → List ℕ
 given_text argument word = argument_name argument ++ codes " is " ++ shown word
 
@@ -48,6 +51,7 @@ why_text NoLineFeed = codes "the last line has no line feed"
 abbrev pub why_line : List ℕ → ℕ → Why → List ℕ
 why_line name number why = codes "vmrun: " ++ name ++ codes " line " ++ decimal number ++ codes ": " ++ why_text why ++ 10 ∷ []
 
+-- the line that tells why the line of this number is bad, if it is
 abbrev pub line_explained : List ℕ → ℕ → List ℕ → Option (List ℕ)
 line_explained name number bytes = option_map (why_line name number) (why_at number bytes)
 

@@ -51,6 +51,7 @@ abbrev pub or_else : Option Why → Option Why → Option Why
 or_else (Some why) other = Some why
 or_else None other = other
 
+-- why a word is no value of a number: it is none, or out of its range
 abbrev pub why_value : Argument → List ℕ → Option ℕ → Option Why
 why_value argument word (Some value) = if nat_le 1 value && nat_le value (most_of argument) then None else Some (OutOfRange argument word)
 why_value argument word None = Some (NotNumber argument word)

@@ -15,9 +15,11 @@ use Rattle.run_files.specs.declared.answers.Unread.TheVariants.{Absent, NotImage
 use Rattle.run_files.specs.Told.{bytes_told}
 use Rattle.source_commands.specs.Command.{source_bytes}
 
+-- a label between two texts
 abbrev pub around_label : List ℕ → Label → List ℕ → List ℕ
 around_label before label behind = before ++ label_name label.bytes ++ behind
 
+-- a number of operands, in words
 abbrev pub count_text : ℕ → List ℕ
 count_text count =
     if count == 0 then codes "no operand" else (if count == 1 then codes "1 operand" else decimal count ++ codes " operands")

@@ -5,8 +5,10 @@ use Rattle.space_map.specs.Tables.{place_named, IsWord}
 use Rattle.space_map.specs.declared.page_table.PageTable.TheInside.{Inside}
 use Rattle.vax_pte.specs.declared.Place.{Place}
 
+-- the places of a segment's pages, as its words have them
 abbrev pub places_of : Inside → List Place
 places_of a = map place_named a.words.items
 
+-- each word is that of its place, with the segment's protection
 pub record IsTable (a : Inside) : Type 0 where
   pub words : All (IsWord a.user_write) a.words.items

@@ -9,6 +9,7 @@ use Rattle.vax_pte.specs.declared.Place.TheVariants.{Zero, Image}
 use Rattle.vm_facts.specs.declared.page.Page.{Page}
 use Rattle.vm_facts.specs.declared.page.Page.TheVariants.{Data, Stack, Text}
 
+-- a space: its number, its image with what the header says, and the places of its pages
 pub record Places : Type 0 where
   pub sid : ℕ
   pub image : ℕ

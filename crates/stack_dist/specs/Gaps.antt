@@ -18,9 +18,11 @@ unfoldable pub bit_counts : List ℕ → List ℕ
 bit_counts [] = []
 bit_counts (word ∷ words) = total (bits 64 word) ∷ bit_counts words
 
+-- the places, as the bits of all words
 abbrev pub places_of : Inside → List ℕ
 places_of a = all_bits a.words.items
 
+-- the counts are those of the bits that are set in each word
 pub record AreGaps (a : Inside) : Type 0 where
   pub room : length a.words.items < 2 ^ 26
   pub counts : a.counts ≡ bit_counts a.words.items

@@ -19,6 +19,7 @@ AreSums size sums = (k : ℕ) → 0 < k → k < size → slice_index_or sums k 0
 abbrev pub IsPower : ℕ → Type 0
 IsPower n = (d : ℕ) × (n ≡ 2 ^ d)
 
+-- the counts are a power of 2 in number, and each node above them has the sum of the two below it
 pub record IsTree (a : Inside) : Type 0 where
   pub power : IsPower a.size
   pub some : 1 < a.size

@@ -41,6 +41,7 @@ abbrev pub RepliesNone : Reply → Type 0
 RepliesNone (Does regs change) = LeavesNone change
 RepliesNone _ = Unit {0}
 
+-- such a reply, or reads that are refused
 abbrev pub AnswersNone : Result Reply Refused → Type 0
 AnswersNone (Ok reply) = RepliesNone reply
 AnswersNone (Err refused) = Unit {0}
@@ -58,6 +59,7 @@ ReplyContinues =
     (old new : Standing) (pid : ℕ) (call : SystemCall) (regs : Regs) (reply : Reply) (called : Called) → IsCaller old pid → RepliesNone reply
     → Replied old new pid call regs reply called → Continues old new (called_count called)
 
+-- a call that reads before it replies
 abbrev pub CallContinues : Type 0
 CallContinues =
     (old new : Standing) (pid : ℕ) (call : SystemCall) (regs : Regs) (r : Result Reply Refused) (called : Called) → IsCaller old pid → AnswersNone r
@@ -69,6 +71,7 @@ WriteContinues =
     (old new : Standing) (pid : ℕ) (regs : Regs) (memory : Answers) (called : Called) → IsCaller old pid
     → Comes old new pid Write regs (run memory (write_reply regs)) called → Continues old new (called_count called)
 
+-- a wait
 abbrev pub WaitContinues : Type 0
 WaitContinues =
     (old new : Standing) (pid : ℕ) (regs : Regs) (called : Called) → IsCaller old pid → Replied old new pid Wait regs (wait_reply old.kernel pid regs) called
@@ -78,6 +81,7 @@ WaitContinues =
 abbrev pub VforkContinues : Type 0
 VforkContinues = (old new : Standing) (pid : ℕ) (regs : Regs) → IsCaller old pid → Vforked old new pid regs → Continues old new 1
 
+-- a fork, once all pages that are due were copied
 abbrev pub ForkContinues : Type 0
 ForkContinues =
     (old new : Standing) (pid : ℕ) (regs : Regs) (holds : Option (List NamedFile)) (before after : Option (List ℕ)) → IsCaller old pid
@@ -89,6 +93,7 @@ EndContinues =
     (old new : Standing) (pid status : ℕ) (holds : Option (List NamedFile)) (before after : Option (List ℕ)) → IsCaller old pid
     → HasEnded old new pid status holds before after → Continues old new 1
 
+-- an exit
 abbrev pub ExitContinues : Type 0
 ExitContinues =
     (old new : Standing) (pid : ℕ) (regs : Regs) (r : Result Reply Refused) (holds : Option (List NamedFile)) (before after : Option (List ℕ)) (called : Called)
@@ -105,6 +110,7 @@ abbrev pub RefusalContinues : Type 0
 RefusalContinues =
     (old new : Standing) (pid : ℕ) (call : SystemCall) (regs : Regs) → IsCaller old pid → IsRefused old new pid call regs → Continues old new 1
 
+-- an execve, once its new stack page was filled
 abbrev pub StartContinues : Type 0
 StartContinues =
     (old between new : Standing) (pid : ℕ) (after : Regs) (image : ℕ) (top : List ℕ) (holds later : Option (List NamedFile)) (h i j : Option (List ℕ)) → IsCaller old pid

@@ -22,25 +22,31 @@ use Rattle.proc_calls.specs.Waiting.{wait_reply}
 
 -- The calls that ask for processes, and those whose reply is what the memory of the process has.
 
+-- a wait, by the records of the processes
 abbrev pub WaitComes : Standing → Standing → ℕ → Regs → Called → Type 0
 WaitComes old new pid regs called = Replied old new pid numbers.Wait regs (wait_reply old.kernel pid regs) called
 
+-- getpid, which replies with the numbers of the process and of its parent
 abbrev pub GetpidComes : Standing → Standing → ℕ → Regs → Called → Type 0
 GetpidComes old new pid regs called = Replied old new pid numbers.Getpid regs (Does (replied_both regs pid (parent_of old.kernel pid)) Keep) called
 
+-- a write, by what the memory of the process has
 abbrev pub WriteComes : Standing → Standing → ℕ → Regs → Called → Type 0
 WriteComes old new pid regs called =
     Comes old new pid numbers.Write regs (run (kernel_answers old.kernel (space_held old.kernel pid)) (write_reply regs)) called
 
+-- an execve with these images, by what the memory of the process has
 abbrev pub ExecveComes : List NamedImage → Standing → Standing → ℕ → Regs → Option (List NamedFile) → Option (List ℕ) → Option (List ℕ) → Called → Type 0
 ExecveComes known old new pid regs holds before after called = ExecComes old new pid regs (execve_read known old pid regs) holds before after called
 
 -- An access whose page is served, as far as that needs no waiting, or until it is valid.
 
+-- as far as that needs no waiting
 abbrev pub AccessServed : Access → Served → ℕ → Standing → Standing → Option (List NamedFile) → Option (List ℕ) → Option (List ℕ) → Type 0
 AccessServed access answer pid old new holds before after =
     AccessComes (λ came q from. TouchedAs came q from new holds before after) access answer pid old new before after
 
+-- until it is valid, by hands that pass over these pages
 abbrev pub AccessServedNow : List Page → Access → Served → ℕ → Standing → Standing → Option (List NamedFile) → Option (List ℕ) → Option (List ℕ) → Type 0
 AccessServedNow locked access answer pid old new holds before after =
     AccessComes (λ came q from. TouchedNow locked came q from new holds before after) access answer pid old new before after

@@ -31,6 +31,7 @@ EntryContinues =
     (old new : Standing) (pid : ℕ) (regs : Regs) (e : Entry) (change : Change) → IsCaller old pid → IsPlain e → LeavesNone change → Entered old new pid regs e change
     → Continues old new (counted e)
 
+-- an entry of a process with its change, for which pieces were found before
 abbrev pub FoundContinues : Type 0
 FoundContinues =
     (old new : Standing) (found : Holdings) (pid : ℕ) (regs : Regs) (e : Entry) (change : Change) → IsCaller old pid → IsPlain e → LeavesNone change
@@ -47,6 +48,7 @@ NoteCountsNone =
     (old new : Standing) (e : Entry) → IsPlain e → new ≡ record old { kernel = note_step old.kernel e; room = None }
     → last_moves new.kernel.journal ≡ 0
 
+-- an entry that goes into the journal alone, after moves of the hands
 abbrev pub MovedNoteContinues : Type 0
 MovedNoteContinues =
     (old between new : Standing) (moves : ℕ) (e : Entry) → RunsMoved old between moves → IsPlain e
@@ -58,9 +60,11 @@ RanContinues =
     (old new : Standing) (pid : ℕ) (regs : Regs) → IsReady old → new ≡ record old { kernel = ran_by old.kernel pid regs (entries.Ran pid 1); room = None }
     → Continues old new 1
 
+-- room for an instruction that is to be counted
 abbrev pub RoomContinues : Type 0
 RoomContinues = (old new : Standing) (made : Option ℕ) → IsReady old → new ≡ record old { room = made } → Continues old new 0
 
+-- the writes of an instruction
 abbrev pub WritesContinue : Type 0
 WritesContinue =
     (old new : Standing) (sid : ℕ) (ws : List ByteWrite) → IsReady old → new ≡ record old { kernel = writes_in old.kernel sid ws } → Continues old new 0

@@ -13,6 +13,7 @@ use Rattle.machine_state.specs.Calls.{life_in}
 use Rattle.machine_state.specs.Machine.{Standing}
 use Rattle.swapper.specs.Turns.{HoldersHaveSpaces}
 
+-- each process that holds a space holds one that is there, and no two hold one
 pub record HoldersStand (k : Kernel) : Type 0 where
   pub spaces : HoldersHaveSpaces k
   -- no two processes hold one space

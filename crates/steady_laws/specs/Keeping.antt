@@ -22,26 +22,31 @@ use Rattle.proc_calls.specs.Starting.{IsImageOf, HasStarted}
 use Rattle.steady_laws.specs.Holders.{HoldersStand, KeepsHolders}
 use Rattle.steady_laws.specs.Coming.{ExecveComes, AccessServedNow}
 
+-- after a break who holds a space holds one that is there, and alone
 abbrev pub BreakKeeps : Type 0
 BreakKeeps =
     (old new : Standing) (pid : ℕ) (regs : Regs) (asked : Result ℕ Refused) (holds : Option (List NamedFile)) (i j : Option (List ℕ)) (called : Called)
     → IsCaller old pid → BreakComes old new pid regs asked holds i j called → KeepsHolders old new
 
+-- so it is after an exit
 abbrev pub ExitKeeps : Type 0
 ExitKeeps =
     (old new : Standing) (pid : ℕ) (regs : Regs) (asked : Result Reply Refused) (holds : Option (List NamedFile)) (i j : Option (List ℕ)) (called : Called)
     → IsCaller old pid → ExitComes old new pid regs asked holds i j called → KeepsHolders old new
 
+-- so it is after an execve
 abbrev pub ExecveKeeps : Type 0
 ExecveKeeps =
     (known : List NamedImage) (old new : Standing) (pid : ℕ) (regs : Regs) (holds : Option (List NamedFile)) (i j : Option (List ℕ)) (called : Called)
     → IsCaller old pid → AreNamed known old.images → ExecveComes known old new pid regs holds i j called → KeepsHolders old new
 
+-- so it is once an image has started, before its stack page is filled
 abbrev pub StartKeeps : Type 0
 StartKeeps =
     (old new : Standing) (pid : ℕ) (after : Regs) (image : ℕ) (top : List ℕ) (holds : Option (List NamedFile)) (i j : Option (List ℕ))
     → IsCaller old pid → IsImageOf old image → HasStarted old new pid after image top holds i j → KeepsHolders old new
 
+-- so it is after an access whose page is served until it is valid
 abbrev pub AccessNowKeeps : Type 0
 AccessNowKeeps =
     (locked : List Page) (access : Access) (answer : Served) (pid : ℕ) (old new : Standing) (holds : Option (List NamedFile)) (i j : Option (List ℕ))

@@ -20,6 +20,7 @@ abbrev pub MovesContinue : Type 0
 MovesContinue =
     (old new : Standing) (n made : ℕ) (holds : Option (List NamedFile)) (i j : Option (List ℕ)) → IsReady old → Moved n old new made holds i j → RunsMoved old new made
 
+-- a frame that is forced: the hands move at most as often as there are frames
 abbrev pub ForcedContinues : Type 0
 ForcedContinues =
     (old new : Standing) (locked : List Page) (holds : Option (List NamedFile)) (i j : Option (List ℕ)) → IsReady old → Forced locked old new holds i j
@@ -42,11 +43,13 @@ BeginContinues =
     (old new : Standing) (image : ℕ) → IsRunning old → StartedFirst old new image
     → RunsDue old new 0 (old.kernel.place.due ++ Start (Stack old.kernel.next_pid 0) ∷ [])
 
+-- the page that is due first, filled with zeros or with what is kept for it
 abbrev pub ZeroContinues : Type 0
 ZeroContinues =
     (old new : Standing) (page : Page) (ds : List Due) → IsRunning old → old.kernel.place.due ≡ Start page ∷ ds
     → new ≡ record old { kernel = zero_step old.kernel page; room = None } → RunsDue old new 0 ds
 
+-- the stack page that is due first, for which a frame is forced where none is free
 abbrev pub FillContinues : Type 0
 FillContinues =
     (old new : Standing) (page : Page) (ds : List Due) (holds : Option (List NamedFile)) (i j : Option (List ℕ)) → IsRunning old

@@ -61,6 +61,7 @@ pub record RunsMoved (old new : Standing) (moves : ℕ) : Type 0 where
 abbrev pub SelfContinues : Type 0
 SelfContinues = (m : Standing) → IsReady m → Continues m m 0
 
+-- one that went on twice goes on by both together
 abbrev pub BothContinue : Type 0
 BothContinue = (a b c : Standing) (m n : ℕ) → Continues a b m → Continues b c n → Continues a c (m + n)
 
@@ -69,9 +70,11 @@ BothContinue = (a b c : Standing) (m n : ℕ) → Continues a b m → Continues 
 abbrev pub StaysReady : Type 0
 StaysReady = (old new : Standing) (n : ℕ) → Continues old new n → IsReady new
 
+-- a process that holds a space and is in may make a call
 abbrev pub StaysCaller : Type 0
 StaysCaller = (old new : Standing) (n pid : ℕ) → Continues old new n → CanLend new.kernel pid → IsCaller new pid
 
+-- the hands have the room that they had
 abbrev pub StaysRoomy : Type 0
 StaysRoomy =
     (old new : Standing) (n : ℕ) (locked : List Page) → Continues old new n → HasRoom old.kernel.place locked → HasRoom new.kernel.place locked
@@ -80,10 +83,12 @@ StaysRoomy =
 abbrev pub NoneDueContinues : Type 0
 NoneDueContinues = (old new : Standing) (n : ℕ) → RunsDue old new n [] → Continues old new n
 
+-- where pages are due it runs, and the hands have the room that they had
 abbrev pub DueStaysRoomy : Type 0
 DueStaysRoomy =
     (old new : Standing) (n : ℕ) (ds : List Due) (locked : List Page) → RunsDue old new n ds → HasRoom old.kernel.place locked → IsRunning new × HasRoom new.kernel.place locked
 
+-- where the hands moved it is ready, and they have the room that they had
 abbrev pub MovedStaysReady : Type 0
 MovedStaysReady =
     (old new : Standing) (moves : ℕ) (locked : List Page) → RunsMoved old new moves → HasRoom old.kernel.place locked → IsReady new × HasRoom new.kernel.place locked

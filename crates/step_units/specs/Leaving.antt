@@ -53,6 +53,7 @@ EndIsMade =
     → MachineAt A s old holds image → IsRunning A s pid now p x → EndsWith A s pid p status → HasEnded old new pid status holds (Some image) behind
     → StepLeads A s old.kernel image 1 new.kernel behind
 
+-- where the machine stops before that, next units lead to the stop
 abbrev pub EndStops : Type 0
 EndStops =
     (A : Inputs) (s : State) (old new : Standing) (holds : Option (List NamedFile)) (image : List ℕ) (behind : Option (List ℕ)) (pid : ℕ) (now : Bool) (p : Process) (x : Space) (status : ℕ)
@@ -69,6 +70,7 @@ ExitIsMade =
     → ExitComes old new pid effect.regs (run (kernel_answers old.kernel x.sid) (exit_reply effect.regs)) holds (Some image) behind called
     → CallLeads A s old.kernel image x called new.kernel behind
 
+-- where the machine stops in it, next units lead to the stop
 abbrev pub ExitStops : Type 0
 ExitStops =
     (A : Inputs) (s : State) (old new : Standing) (holds : Option (List NamedFile)) (image : List ℕ) (behind : Option (List ℕ)) (pid : ℕ) (now : Bool) (p : Process) (x : Space) (effect : Effect)
@@ -88,6 +90,7 @@ ExecIsMade =
     → ExecComes old new pid effect.regs (run (kernel_answers old.kernel x.sid) (execve_reply A.images effect.regs)) holds (Some image) behind called
     → CallLeads A s old.kernel image x called new.kernel behind
 
+-- where the machine stops in it, next units lead to the stop
 abbrev pub ExecStops : Type 0
 ExecStops =
     (A : Inputs) (s : State) (old new : Standing) (holds : Option (List NamedFile)) (image : List ℕ) (behind : Option (List ℕ)) (pid : ℕ) (now : Bool) (p : Process) (x : Space) (effect : Effect)

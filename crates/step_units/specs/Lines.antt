@@ -64,6 +64,7 @@ pub record LineBegun (A : Inputs) (s : State) (k : Kernel) (image : List ℕ) (e
   pub lines : state.lines ≡ s.lines + 1
   pub mark : state.mark ≡ mark_of_event s e
 
+-- the entry of the next line, noted by a machine between two lines, begins it
 abbrev pub LineBegins : Type 0
 LineBegins =
     (A : Inputs) (s : State) (old : Standing) (l : Kernel) (holds : Option (List NamedFile)) (image : List ℕ) (e : Event) → MachineAt A s old holds image → IsOver A s → s.count < A.limit
@@ -77,6 +78,7 @@ pub record StopsNoting (old new : Standing) (stop : Stop) : Type 0 where
   pub cause : (stop ≡ stops.JournalFull) ⊎ (stop ≡ stops.NoMemory)
   pub full : stop ≡ stops.JournalFull → old.params.journal ≤ length old.kernel.journal
 
+-- where the machine stops so before a line's entry, next units lead to the stop
 abbrev pub LineStops : Type 0
 LineStops =
     (A : Inputs) (s : State) (old new : Standing) (holds : Option (List NamedFile)) (image : List ℕ) (e : Event) (stop : Stop) → MachineAt A s old holds image → IsOver A s → s.count < A.limit
@@ -95,6 +97,7 @@ InterruptIsMade =
 abbrev pub IdleInterruptEnds : Type 0
 IdleInterruptEnds = (A : Inputs) (s : State) → IsClear s → s.mark ≡ interrupt_mark s.place.transfers → s.place.transfers ≡ [] → IsOver A s
 
+-- where the machine stops as it ends, next units lead to the stop
 abbrev pub InterruptStops : Type 0
 InterruptStops =
     (A : Inputs) (s : State) (old new : Standing) (holds : Option (List NamedFile)) (image : List ℕ) (j : Option (List ℕ)) (stop : Stop) → MachineAt A s old holds image → IsClear s
@@ -106,6 +109,7 @@ HandsAreMade =
     (A : Inputs) (s : State) (old new : Standing) (holds : Option (List NamedFile)) (image : List ℕ) (j : Option (List ℕ)) (n made : ℕ) → MachineAt A s old holds image → IsClear s
     → s.mark ≡ marks.Hands n → Moved n old new made holds (Some image) j → LineLeads A s old.kernel image new.kernel j
 
+-- where the machine stops as they move, next units lead to the stop
 abbrev pub HandsStop : Type 0
 HandsStop =
     (A : Inputs) (s : State) (old new : Standing) (holds : Option (List NamedFile)) (image : List ℕ) (j : Option (List ℕ)) (n : ℕ) (stop : Stop) → MachineAt A s old holds image → IsClear s
@@ -118,6 +122,7 @@ SwapperIsMade =
     → AllFit s.point.flat.processes → s.mark ≡ swap_mark (swap_choice s.place (runners s.point.flat)) → choice_of t ≡ swap_choice old.kernel.place (runners_of old.kernel)
     → Turns t old new holds (Some image) j → LineLeads A s old.kernel image new.kernel j
 
+-- where the machine stops in that turn, next units lead to the stop
 abbrev pub SwapperStops : Type 0
 SwapperStops =
     (A : Inputs) (s : State) (old new : Standing) (holds : Option (List NamedFile)) (image : List ℕ) (j : Option (List ℕ)) (t : Turned) (stop : Stop) → MachineAt A s old holds image → IsClear s
@@ -130,6 +135,7 @@ AuditIsMade =
     (A : Inputs) (s : State) (old : Standing) (l : Kernel) (holds : Option (List NamedFile)) (image : List ℕ) → MachineAt A s old holds image → IsClear s → s.mark ≡ marks.Audit
     → l ≡ note_step old.kernel (owners_of old.kernel.place old.kernel.holdings) → LineLeads A s old.kernel image l (Some image)
 
+-- where the machine stops before that entry, next units lead to the stop
 abbrev pub AuditStops : Type 0
 AuditStops =
     (A : Inputs) (s : State) (old new : Standing) (holds : Option (List NamedFile)) (image : List ℕ) (stop : Stop) → MachineAt A s old holds image → IsClear s → s.mark ≡ marks.Audit
@@ -156,11 +162,13 @@ pub record TurnBegun (A : Inputs) (s : State) (k : Kernel) (image : List ℕ) (p
   pub mark : state.mark ≡ marks.Turn pid s.count
   pub on : goes_on A state pid (s.count + turn_instructions) ≡ true
 
+-- the entry of a turn that is due begins it
 abbrev pub TurnBegins : Type 0
 TurnBegins =
     (A : Inputs) (s : State) (old : Standing) (l : Kernel) (holds : Option (List NamedFile)) (image : List ℕ) (pid : ℕ) → MachineAt A s old holds image → TurnDue A s pid
     → l ≡ note_step old.kernel (entries.Turn pid) → TurnBegun A s old.kernel image pid l
 
+-- where the machine stops before that entry, next units lead to the stop
 abbrev pub TurnStops : Type 0
 TurnStops =
     (A : Inputs) (s : State) (old new : Standing) (holds : Option (List NamedFile)) (image : List ℕ) (pid : ℕ) (stop : Stop) → MachineAt A s old holds image → TurnDue A s pid
@@ -178,11 +186,13 @@ pub record CameIn (A : Inputs) (s : State) (k : Kernel) (image : List ℕ) (pid 
   pub mark : state.mark ≡ marks.Turn pid since
   pub on : goes_on A state pid (since + turn_instructions) ≡ true
 
+-- the entry by which it comes in is the next unit
 abbrev pub ComingInIsMade : Type 0
 ComingInIsMade =
     (A : Inputs) (s : State) (old new : Standing) (holds : Option (List NamedFile)) (image : List ℕ) (pid since : ℕ) → MachineAt A s old holds image → IsClear s → s.mark ≡ marks.Turn pid since
     → goes_on A s pid (since + turn_instructions) ≡ true → is_out s.place pid ≡ true → IsIn old.kernel new.kernel pid (Some image) → CameIn A s old.kernel image pid since new.kernel
 
+-- where the machine stops before that entry, next units lead to the stop
 abbrev pub ComingInStops : Type 0
 ComingInStops =
     (A : Inputs) (s : State) (old new : Standing) (holds : Option (List NamedFile)) (image : List ℕ) (j : Option (List ℕ)) (pid since : ℕ) (stop : Stop) → MachineAt A s old holds image → IsClear s

@@ -20,6 +20,7 @@ VforkIsMade =
     (A : Inputs) (s : State) (old new : Standing) (holds : Option (List NamedFile)) (image : List ℕ) (pid : ℕ) (now : Bool) (p : Process) (x : Space) (effect : Effect)
     → RunsOn A s old holds image pid now p x → MakesCall old p x effect system_calls.Vfork → Vforked old new pid effect.regs → StepLeads A s old.kernel image 1 new.kernel (Some image)
 
+-- where the machine stops in it, next units lead to the stop
 abbrev pub VforkStops : Type 0
 VforkStops =
     (A : Inputs) (s : State) (old new : Standing) (holds : Option (List NamedFile)) (image : List ℕ) (pid : ℕ) (now : Bool) (p : Process) (x : Space) (effect : Effect) (stop : Stop)
@@ -33,6 +34,7 @@ ForkIsMade =
     → RunsOn A s old holds image pid now p x → MakesCall old p x effect system_calls.Fork → Forked old new pid effect.regs holds (Some image) behind
     → StepLeads A s old.kernel image 1 new.kernel behind
 
+-- where the machine stops in it, next units lead to the stop
 abbrev pub ForkStops : Type 0
 ForkStops =
     (A : Inputs) (s : State) (old new : Standing) (holds : Option (List NamedFile)) (image : List ℕ) (behind : Option (List ℕ)) (pid : ℕ) (now : Bool) (p : Process) (x : Space) (effect : Effect)

@@ -72,6 +72,7 @@ ServeIsMade =
     → AccessComes (λ came q from. TouchedAs came q from new holds (Some image) j) (access_by old.kernel pid address write) answer pid old new (Some image) j
     → ServeLeads A s old new holds image j pid false p x answer
 
+-- where the machine stops in that, next units lead to the stop
 abbrev pub ServeStops : Type 0
 ServeStops =
     (A : Inputs) (s : State) (old new : Standing) (holds : Option (List NamedFile)) (image : List ℕ) (j : Option (List ℕ)) (pid : ℕ) (p : Process) (x : Space) (address : ℕ) (write : Bool)
@@ -88,6 +89,7 @@ ServeNowIsMade =
     → AccessComes (λ came q from. TouchedNow before came q from new holds (Some image) j) (access_by old.kernel pid address write) answer pid old new (Some image) j
     → ServeLeads A s old new holds image j pid true p x answer
 
+-- where the machine stops in that, next units lead to the stop
 abbrev pub ServeNowStops : Type 0
 ServeNowStops =
     (A : Inputs) (s : State) (old new : Standing) (holds : Option (List NamedFile)) (image : List ℕ) (j : Option (List ℕ)) (pid : ℕ) (p : Process) (x : Space) (address : ℕ) (write : Bool)

@@ -25,6 +25,7 @@ BreakIsMade =
     → BreakComes old new pid effect.regs (run (kernel_answers old.kernel x.sid) (argument effect.regs 1)) holds (Some image) behind called
     → CallLeads A s old.kernel image x called new.kernel behind
 
+-- where the machine stops in it, next units lead to the stop
 abbrev pub BreakStops : Type 0
 BreakStops =
     (A : Inputs) (s : State) (old new : Standing) (holds : Option (List NamedFile)) (image : List ℕ) (behind : Option (List ℕ)) (pid : ℕ) (now : Bool) (p : Process) (x : Space) (effect : Effect)

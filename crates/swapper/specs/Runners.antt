@@ -23,6 +23,7 @@ runner_by all q (HoldsSpace sid) = Some (let r : Runner = record { pid = q.pid; 
 runner_by all q (LendsSpace sid child) = None
 runner_by all q (Ended status) = None
 
+-- those of these processes that hold a space
 abbrev pub runners_in : List Proc → List Runner
 runners_in all = filter_map (λ q. runner_by all q q.life) all
 
@@ -32,9 +33,11 @@ runners_of k = runners_in k.processes
 
 -- The code's view.
 
+-- a process as the code saw it
 abbrev pub runner_seen : Seen → Runner
 runner_seen s = record { pid = s.pid; sid = s.sid; borrowed = s.borrowed; asleep = s.asleep }
 
+-- a process as the code saw it, if it saw one
 abbrev pub runner_of : Option Seen → Option Runner
 runner_of None = None
 runner_of (Some s) = Some (runner_seen s)
@@ -48,6 +51,7 @@ IsPlaced p (Some s) = (s.out ≡ is_out p s.pid) × (s.since ≡ since p (runner
 abbrev pub HasResidents : Placement → List Record → ℕ → Type 0
 HasResidents p ps next = p.residents ≡ residents_of ps next
 
+-- the process is a candidate of this kind: to come in, to go out, or to go out asleep
 abbrev pub passes : Placement → Kind → Runner → Bool
 passes p kinds.ComesIn r = may_come_in p r
 passes p kinds.GoesOut r = may_go_out p r
@@ -58,6 +62,7 @@ abbrev pub kept : (Runner → Bool) → Option Runner → Option Runner
 kept test None = None
 kept test (Some r) = cond (test r) (Some r) None
 
+-- what the swapper asks of a process, if there is one that holds a space
 abbrev pub runner_from : List Proc → Option Proc → Option Runner
 runner_from all None = None
 runner_from all (Some q) = runner_by all q q.life
@@ -95,9 +100,11 @@ abbrev pub stands_before : Placement → Option Measured → Measured → Bool
 stands_before p None x = false
 stands_before p (Some y) x = is_larger p (runner_seen y.seen) (runner_seen x.seen)
 
+-- the four largest, the largest first, as far as there are so many
 abbrev pub options_of : Largest → List (Option Measured)
 options_of l = l.first ∷ l.second ∷ l.third ∷ l.fourth ∷ []
 
+-- each of these, where it is there, has its size and its place
 abbrev pub AreMeasured : Placement → List (Option Measured) → Type 0
 AreMeasured p [] = Unit {0}
 AreMeasured p (o ∷ os) = IsMeasured p o × AreMeasured p os
@@ -118,10 +125,12 @@ abbrev pub placed_in : Placement → Measured → List (Option Measured) → Lis
 placed_in p x [] = []
 placed_in p x (o ∷ os) = cond (stands_before p o x) (o ∷ placed_in p x os) (Some x ∷ moved_on o os)
 
+-- one more in its place, where it is there
 abbrev pub placed_with : Placement → Option Measured → List (Option Measured) → List (Option Measured)
 placed_with p None os = os
 placed_with p (Some x) os = placed_in p x os
 
+-- a process whose size the code saw, if it saw one
 abbrev pub runner_measured : Option Measured → Option Runner
 runner_measured None = None
 runner_measured (Some x) = Some (runner_seen x.seen)
@@ -132,10 +141,12 @@ choice_of turns.Nothing = Nothing
 choice_of (turns.In pid) = In pid
 choice_of (turns.Out pid) = Out pid
 
+-- the process that is found goes out; without one nothing is done
 abbrev pub out_choice : Option ℕ → Choice
 out_choice None = Nothing
 out_choice (Some pid) = Out pid
 
+-- the process that is found comes in; without one nothing is done
 abbrev pub in_choice : Option ℕ → Choice
 in_choice None = Nothing
 in_choice (Some pid) = In pid

@@ -21,6 +21,7 @@ idle_state f false changed = Invalid f
 idle_state f true true = Going f
 idle_state f true false = Coming f
 
+-- the state of a page, by its entry and by the slot of its frame
 abbrev pub state_shown : List Slot → Place → PageState
 state_shown slots places.Zero = Unfilled
 state_shown slots (places.Image v) = Unfilled
@@ -35,6 +36,7 @@ MarkShown (Free token page) valid dirty = valid ≡ false
 MarkShown (Resident token page mark) valid dirty = mark ≡ dirty
 MarkShown Away valid dirty = valid ≡ false
 
+-- what the core map's mark says of a page, by the page's entry: nothing without a frame
 abbrev pub ShowsMark : List Slot → Place → Bool → Type 0
 ShowsMark slots places.Zero dirty = Unit {0}
 ShowsMark slots (places.Image v) dirty = Unit {0}

@@ -19,6 +19,7 @@ text_in line = if ends_in 10 line then take (length line - 1) line else line
 abbrev pub blank_in : List ℕ → Option ℕ
 blank_in text = position (λ byte. byte == 32) text
 
+-- the text before this place, or all of it without one
 abbrev pub word_by : Option ℕ → List ℕ → List ℕ
 word_by (Some place) text = take place text
 word_by None text = text

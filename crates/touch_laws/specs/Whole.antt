@@ -21,6 +21,7 @@ pub record ImageWhole (named : NamedImage) : Type 0 where
   pub text_fits : text_pages_of named.image.facts ≤ 2048
   pub data_fits : data_pages_of named.image.facts ≤ 4096
 
+-- each image is such
 abbrev pub ImagesWhole : List NamedImage → Type 0
 ImagesWhole images = (number : ℕ) (named : NamedImage) → image_numbered images number ≡ Some named → ImageWhole named
 
@@ -35,6 +36,7 @@ pub record IsSized (s : Space) : Type 0 where
   pub «data» : length s.data_bytes % 1024 ≡ 0
   pub data_fits : length s.data_bytes ≤ 4096 * 1024
 
+-- the space that a process holds is such, where it holds one
 abbrev pub HasSize : Holding → Type 0
 HasSize (Holds s) = IsSized s
 HasSize (Lends sid child) = Unit {0}

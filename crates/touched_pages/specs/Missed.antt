@@ -34,6 +34,7 @@ abbrev pub missed_by_call : List NamedImage → FlatState → Process → Space 
 missed_by_call images F p s memory regs None = None
 missed_by_call images F p s memory regs (Some call) = missed_byte (run memory (reply_of images F p s call regs))
 
+-- that of the call of this number, if the instruction makes one
 abbrev pub missed_behind_by : List NamedImage → FlatState → Process → Space → Answers → Regs → Option ℤ → Option ℕ
 missed_behind_by images F p s memory regs None = None
 missed_behind_by images F p s memory regs (Some number) = missed_by_call images F p s memory regs (call_of number)
@@ -54,6 +55,7 @@ abbrev pub page_missed : Kernel → ℕ → Option ℕ → Option Page
 page_missed k pid None = None
 page_missed k pid (Some address) = page_in k.place (space_held k pid) address
 
+-- the page, by whether it is valid
 abbrev pub valid_by : Bool → Page → Option Page
 valid_by true q = Some q
 valid_by false q = None

@@ -9,9 +9,11 @@ use Rattle.machine_state.specs.Machine.{Standing}
 use Rattle.machine_state.specs.UserMemoryLaws.{through_none, through_more}
 use Rattle.touched_pages.specs.Shown.{shown_in, WroteShown}
 
+-- with no writes the memory is as it was
 pub shown_none : (m : MutBor Standing) (l : Layout) (pages : List Page) → WroteShown m l pages [] m l pages
 shown_none m l pages = record { through = through_none m l; kept = refl; answers = refl }
 
+-- writes and then further ones are the writes of both in a row
 pub shown_more : (a b c : MutBor Standing) (x y z : Layout) (ps qs rs : List Page) (xs ys : List ByteWrite) → WroteShown a x ps xs b y qs
     → WroteShown b y qs ys c z rs
     → WroteShown a x ps (xs ++ ys) c z rs
@@ -23,6 +25,7 @@ shown_more a b c x y z ps qs rs xs ys h k = record {
       ∙ sym (written-append (shown_in a.now.kernel x.sid ps) xs ys);
 }
 
+-- after writes it answers as a memory to which they were made
 pub shown_after : (a b : MutBor Standing) (x y : Layout) (ps qs : List Page) (ws : List ByteWrite) → WroteShown a x ps ws b y qs
     → shown_in b.now.kernel y.sid qs ≡ written (shown_in a.now.kernel x.sid ps) ws
 shown_after a b x y ps qs ws h = h.answers

@@ -4,6 +4,7 @@ use Rattle.transfer_ring.specs.declared.transfer.Transfer.{Transfer}
 use Rattle.transfer_ring.specs.declared.transfer.Transfer.TheVariants.{Read, Write}
 use Rattle.transfer_ring.specs.Sound.{HasSources}
 
+-- how many pages a transfer has
 abbrev pub pages_of : Transfer → ℕ
 pages_of (Read demanded parts) = length parts.items
 pages_of (Write parts) = length parts.items

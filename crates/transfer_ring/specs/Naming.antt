@@ -10,13 +10,16 @@ use Rattle.transfer_ring.specs.declared.transfer.Outbound.{Outbound}
 use Rattle.transfer_ring.specs.declared.transfer.Transfer.{Transfer}
 use Rattle.transfer_ring.specs.declared.transfer.Transfer.TheVariants.{Read, Write}
 
+-- the page is this owner's: of a space's data or stack, or of an image's text
 abbrev pub is_page_of : Owner → Page → Bool
 is_page_of (Space sid) page = is_of_space sid page
 is_page_of (Image image) page = is_of_text image page
 
+-- some page that is read is this owner's
 abbrev pub reads_of : Owner → List Inbound → Bool
 reads_of owner parts = list_any (λ part. is_page_of owner part.page) parts
 
+-- some page that is written is this owner's
 abbrev pub writes_of : Owner → List Outbound → Bool
 writes_of owner parts = list_any (λ part. is_page_of owner part.page) parts
 

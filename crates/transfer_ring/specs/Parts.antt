@@ -18,6 +18,7 @@ abbrev pub IsSwap : Source → Type 0
 IsSwap (Swap block) = ⊤
 IsSwap (File id offset count) = ⊥
 
+-- the other kind: the range of a file
 abbrev pub IsFile : Source → Type 0
 IsFile (Swap block) = ⊥
 IsFile (File id offset count) = ⊤
@@ -33,6 +34,7 @@ pub record IsSamePart (old new : Inbound) : Type 0 where
   pub frame : new.token.number ≡ old.token.number
   pub source : new.source ≡ old.source
 
+-- the same parts, one by one
 abbrev pub AreSameParts : List Inbound → List Inbound → Type 0
 AreSameParts [] [] = ⊤
 AreSameParts (old ∷ olds) (new ∷ news) = IsSamePart old new × AreSameParts olds news

@@ -22,10 +22,12 @@ abbrev pub Rise : Page → List Page → Type 0
 Rise page [] = ⊤
 Rise page (next ∷ rest) = IsBefore page next × Rise next rest
 
+-- the pages of a read, in the order of its parts
 abbrev pub inbound_pages : List Inbound → List Page
 inbound_pages [] = []
 inbound_pages (part ∷ rest) = part.page ∷ inbound_pages rest
 
+-- the pages of a write, in the order of its parts
 abbrev pub outbound_pages : List Outbound → List Page
 outbound_pages [] = []
 outbound_pages (part ∷ rest) = part.page ∷ outbound_pages rest
@@ -40,6 +42,7 @@ abbrev pub IsSource : Source → Type 0
 IsSource (Swap block) = ⊤
 IsSource (File id offset count) = (0 < offset) × (count ≤ 1024)
 
+-- each part that is read from a file has a range that a page has room for
 abbrev pub AreSources : List Inbound → Type 0
 AreSources [] = ⊤
 AreSources (part ∷ rest) = IsSource part.source × AreSources rest
@@ -68,10 +71,12 @@ abbrev pub IsThere : Option (List NamedFile) → ℕ → Source → Type 0
 IsThere holds blocks (Swap block) = IsBlock blocks block
 IsThere holds blocks (File id offset count) = HasRange holds id offset count
 
+-- the source of each part is there
 abbrev pub AreThere : Option (List NamedFile) → ℕ → List Inbound → Type 0
 AreThere holds blocks [] = ⊤
 AreThere holds blocks (part ∷ rest) = IsThere holds blocks part.source × AreThere holds blocks rest
 
+-- the block of each part is that of a page of the device
 abbrev pub AreBlocks : ℕ → List Outbound → Type 0
 AreBlocks blocks [] = ⊤
 AreBlocks blocks (part ∷ rest) = IsBlock blocks part.block × AreBlocks blocks rest
@@ -82,6 +87,7 @@ abbrev pub IsReachable : Option (List NamedFile) → ℕ → Transfer → Type 0
 IsReachable holds blocks (Read demanded parts) = AreThere holds blocks parts.items
 IsReachable holds blocks (Write parts) = AreBlocks blocks parts.items
 
+-- each of these transfers is so
 abbrev pub AreReachable : Option (List NamedFile) → ℕ → List Transfer → Type 0
 AreReachable holds blocks [] = ⊤
 AreReachable holds blocks (transfer ∷ rest) = IsReachable holds blocks transfer × AreReachable holds blocks rest

@@ -83,6 +83,7 @@ abbrev pub TakesLine : Underway → Underway → ℕ → Event → Option (List 
 TakesLine old new line e holds i j =
     (A : Inputs) (s : State) (image : List ℕ) → CoreAt A s old holds i image → LineDue A s line e → LineTaken A s old new holds image j
 
+-- or next units that are accounted for lead to where the run stopped in the line
 abbrev pub StopsTaking : Underway → Underway → ℕ → Event → Option (List NamedFile) → Option (List ℕ) → Option (List ℕ) → Stop → Type 0
 StopsTaking old new line e holds i j stop =
     (A : Inputs) (s : State) (image : List ℕ) → CoreAt A s old holds i image → LineDue A s line e → StopsAccounted A s old.machine.kernel image stop new.machine j
@@ -105,10 +106,12 @@ pub record LineDone (A : Inputs) (s : State) (old new : Standing) (image : List 
   pub counts : state.count ≡ count
   pub lines : state.lines ≡ s.lines
 
+-- for every state at which the machine stands after the line's entry
 abbrev pub CarriesOut : Standing → Standing → ℕ → ℕ → Event → Option (List NamedFile) → Option (List ℕ) → Option (List ℕ) → Type 0
 CarriesOut old new counted count e holds i j =
     (A : Inputs) (s : State) (image : List ℕ) → AskedAt A s old holds i image counted e → LineDone A s old new image j count
 
+-- or next units lead to where the run stopped under the line's mark
 abbrev pub StopsCarrying : Standing → Standing → ℕ → Event → Option (List NamedFile) → Option (List ℕ) → Option (List ℕ) → Stop → Type 0
 StopsCarrying old new counted e holds i j stop =
     (A : Inputs) (s : State) (image : List ℕ) → AskedAt A s old holds i image counted e → StopLeads A s old.kernel image stop new j

@@ -56,6 +56,7 @@ pub record LinesFinished (A : Inputs) (s : State) (old new : Underway) (image : 
   pub leads : Leads A s old.machine.kernel image units state new.machine.kernel j
   pub none : next_unit A state ≡ None
 
+-- for every state at which the core stands before these lines
 abbrev pub FinishesLines : Underway → Underway → List Event → Option (List NamedFile) → Option (List ℕ) → Option (List ℕ) → Type 0
 FinishesLines old new lines holds i j =
     (A : Inputs) (s : State) (image : List ℕ) → IsBeforeLines A s old lines holds i image → LinesFinished A s old new image j
