@@ -39,6 +39,7 @@ use Rattle.table_steps.specs.UserMemory.{bytes_of, stack_len, spot_in, read_by_s
 page_cases : (q r : Page) → (r ≡ q) ⊎ (r ≢ q)
 page_cases q r = Rattle.page_laws.proofs.Lists.Pages.page_cases r q
 
+-- a user write leaves the state of each page as it was
 pub touch_state : (p : Placement) (q r : Page) (f : ℕ) → IsWritable q → state_of p q ≡ Valid f → state_of (touch p q) r ≡ state_of p r
 touch_state p q r f w e = subst (λ (s : PageState). state_of (touch_to p q s) r ≡ state_of p r) (sym e) (go q w e (page_cases q r))
   where
@@ -246,6 +247,7 @@ pub writes_append : (k : Kernel) (sid : ℕ) (xs ys : List ByteWrite) → writes
 writes_append k sid [] ys = refl
 writes_append k sid (x ∷ xs) ys = writes_append (write_in k sid x) sid xs ys
 
+-- each of the writes of two rows, one after the other, is of a byte of a valid page
 pub written_append : (k : Kernel) (sid : ℕ) (xs ys : List ByteWrite) → AreWritten k sid xs → AreWritten (writes_in k sid xs) sid ys
     → AreWritten k sid (xs ++ ys)
 written_append k sid [] ys h j = j
@@ -253,9 +255,11 @@ written_append k sid (x ∷ xs) ys h j = (h.0, written_append (write_in k sid x)
 
 -- The whole machine.
 
+-- with no writes the machine is as it was
 pub wrote_none : (m : Standing) (sid : ℕ) → Wrote m sid [] m
 wrote_none m sid = record { machine = refl; each = tt }
 
+-- writes and then further ones are the writes of both in a row
 pub wrote_more : (a b c : Standing) (sid : ℕ) (xs ys : List ByteWrite) → Wrote a sid xs b → Wrote b sid ys c → Wrote a sid (xs ++ ys) c
 wrote_more a b c sid xs ys h j =
     let k : b.kernel ≡ writes_in a.kernel sid xs = ap (λ (s : Standing). s.kernel) h.machine in
@@ -266,19 +270,23 @@ wrote_more a b c sid xs ys h j =
       each = written_append a.kernel sid xs ys h.each (subst (λ (x : Kernel). AreWritten x sid ys) k j.each);
     }
 
+-- after writes the space answers as a memory to which they were made
 pub wrote_answers : (a b : Standing) (sid : ℕ) (ws : List ByteWrite) → Wrote a sid ws b → kernel_answers b.kernel sid ≡ written (kernel_answers a.kernel sid) ws
 wrote_answers a b sid ws h = ap (λ (s : Standing). kernel_answers s.kernel sid) h.machine ∙ writes_answer a.kernel sid ws h.each
 
 -- Through a reference.
 
+-- with no writes the machine is as it was
 pub through_none : (m : MutBor Standing) (l : Layout) → WroteThrough m l [] m l
 through_none m l = (refl, refl, wrote_none m.now l.sid)
 
+-- writes and then further ones are the writes of both in a row
 pub through_more : (a b c : MutBor Standing) (x y z : Layout) (xs ys : List ByteWrite) → WroteThrough a x xs b y → WroteThrough b y ys c z
     → WroteThrough a x (xs ++ ys) c z
 through_more a b c x y z xs ys h j =
     (j.0 ∙ h.0, j.1 ∙ h.1, wrote_more a.now b.now c.now x.sid xs ys h.2 (subst (λ (l : Layout). Wrote b.now l.sid ys c.now) h.1 j.2))
 
+-- after writes the space answers as a memory to which they were made
 pub through_answers : (a b : MutBor Standing) (x y : Layout) (ws : List ByteWrite) → WroteThrough a x ws b y
     → kernel_answers b.now.kernel y.sid ≡ written (kernel_answers a.now.kernel x.sid) ws
 through_answers a b x y ws h = ap (λ (l : Layout). kernel_answers b.now.kernel l.sid) h.1 ∙ wrote_answers a.now b.now x.sid ws h.2

@@ -16,6 +16,7 @@ wanted_of hs (w ∷ ws) = more_pieces hs w.owner w.blocks ++ wanted_of hs ws
 abbrev pub found_for : ℕ → Holdings → List Want → Result Holdings ℕ
 found_for size hs ws = place_all size hs (wanted_of hs ws)
 
+-- all these pieces find places
 abbrev pub fits_for : ℕ → Holdings → List Want → Bool
 fits_for size hs ws = is_ok (found_for size hs ws)
 
@@ -24,6 +25,7 @@ abbrev pub IsOther : Owner → List Want → Type 0
 IsOther owner [] = Unit {0}
 IsOther owner (w ∷ ws) = (owner ≢ w.owner) × IsOther owner ws
 
+-- no owner is asked for twice
 abbrev pub OwnersDiffer : List Want → Type 0
 OwnersDiffer [] = Unit {0}
 OwnersDiffer (w ∷ ws) = IsOther w.owner ws × OwnersDiffer ws
@@ -43,6 +45,7 @@ abbrev pub book_asked : Bool → Book → List Want → Book
 book_asked true b ws = grown_book b (found_for b.size b.holdings ws)
 book_asked false b ws = b
 
+-- what is found is kept: it was asked to be, and found, and memory sufficed
 abbrev pub is_kept : Bool → Result Bool NoMemory → Bool
 is_kept true (Ok true) = true
 is_kept _ _ = false

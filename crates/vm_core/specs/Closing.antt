@@ -44,12 +44,10 @@ pub record InTurn (A : Inputs) (s : State) (old new : Standing) (holds : Option 
   pub resident : is_out state.place pid ≡ false
   pub lines : state.lines ≡ s.lines
 
--- for every state at which it has its turn
 abbrev pub ComesIn : Standing → Standing → ℕ → ℕ → Option (List NamedFile) → Option (List ℕ) → Option (List ℕ) → Type 0
 ComesIn old new pid counted holds i j =
     (A : Inputs) (s : State) (image : List ℕ) → TurnAt A s old holds i image counted pid → InTurn A s old new holds image j counted pid
 
--- or next units lead to where the run stopped before that
 abbrev pub StopsComingIn : Standing → Standing → ℕ → ℕ → Option (List NamedFile) → Option (List ℕ) → Option (List ℕ) → Stop → Type 0
 StopsComingIn old new pid counted holds i j stop =
     (A : Inputs) (s : State) (image : List ℕ) → TurnAt A s old holds i image counted pid → StopLeads A s old.kernel image stop new j
@@ -64,12 +62,10 @@ pub record TurnDone (A : Inputs) (s : State) (old new : Standing) (image : List 
   pub lines : state.lines ≡ s.lines
   pub turned : last_turned state.mark ≡ pid
 
--- for every state at which it has its turn, and is in
 abbrev pub FinishesTurn : Standing → Standing → ℕ → ℕ → ℕ → Option (List NamedFile) → Option (List ℕ) → Option (List ℕ) → Type 0
 FinishesTurn old new pid counted count holds i j =
     (A : Inputs) (s : State) (image : List ℕ) → TurnAt A s old holds i image counted pid → is_out s.place pid ≡ false → TurnDone A s old new image j pid count
 
--- or next units lead to where the run stopped in the turn
 abbrev pub StopsFinishing : Standing → Standing → ℕ → ℕ → Option (List NamedFile) → Option (List ℕ) → Option (List ℕ) → Stop → Type 0
 StopsFinishing old new pid counted holds i j stop =
     (A : Inputs) (s : State) (image : List ℕ) → TurnAt A s old holds i image counted pid → is_out s.place pid ≡ false → StopLeads A s old.kernel image stop new j
@@ -85,12 +81,10 @@ pub record TurnHad (A : Inputs) (s : State) (old new : Standing) (holds : Option
   pub lines : state.lines ≡ s.lines
   pub turned : last_turned state.mark ≡ pid
 
--- for every state at which the turn is due
 abbrev pub HasTurn : Standing → Standing → ℕ → ℕ → ℕ → Option (List NamedFile) → Option (List ℕ) → Option (List ℕ) → Type 0
 HasTurn old new pid counted count holds i j =
     (A : Inputs) (s : State) (image : List ℕ) → StandsIn A s old holds i image counted → TurnDue A s pid → TurnHad A s old new holds image j pid count
 
--- or next units lead to where the run stopped in the turn
 abbrev pub StopsTurn : Standing → Standing → ℕ → ℕ → Option (List NamedFile) → Option (List ℕ) → Option (List ℕ) → Stop → Type 0
 StopsTurn old new pid counted holds i j stop =
     (A : Inputs) (s : State) (image : List ℕ) → StandsIn A s old holds i image counted → TurnDue A s pid → StopLeads A s old.kernel image stop new j
@@ -127,7 +121,6 @@ pub record LinesAre (A : Inputs) (s : State) (m : Standing) (holds : Option (Lis
   pub lines : length A.lines ≡ s.lines
   pub unturned : last_turned s.mark ≡ 0
 
--- for every state at which it stands so
 abbrev pub ClosesTo : Standing → Standing → ℕ → ℕ → ℕ → ℕ → Option (List NamedFile) → Option (List ℕ) → Option (List ℕ) → Type 0
 ClosesTo old new counted count last idle holds i j =
     (A : Inputs) (s : State) (image : List ℕ) → LinesAre A s old holds i image counted → Closing A s old new holds image j count last idle
@@ -145,12 +138,10 @@ pub record Closed (A : Inputs) (s : State) (old new : Standing) (holds : Option 
   pub economy : Economy A s units
   pub swapped : behind ≡ swapped_from A s units image
 
--- for every state at which the machine stands after the last line
 abbrev pub Closes : Standing → Standing → ℕ → ℕ → Option (List NamedFile) → Option (List ℕ) → Option (List ℕ) → Type 0
 Closes old new counted count holds i j =
     (A : Inputs) (s : State) (image : List ℕ) → LinesAre A s old holds i image counted → Closed A s old new holds image j count
 
--- or next units lead to where the run stopped in the phase
 abbrev pub StopsClosing : Standing → Standing → ℕ → Option (List NamedFile) → Option (List ℕ) → Option (List ℕ) → Stop → Type 0
 StopsClosing old new counted holds i j stop =
     (A : Inputs) (s : State) (image : List ℕ) → LinesAre A s old holds i image counted → StopLeads A s old.kernel image stop new j
@@ -160,7 +151,6 @@ abbrev pub ClosesRun : Underway → Underway → Option (List NamedFile) → Opt
 ClosesRun old new holds i j =
     (A : Inputs) (s : State) (image : List ℕ) → CoreAt A s old holds i image → length A.lines ≡ s.lines → Closed A s old.machine new.machine holds image j new.counted
 
--- or next units that are accounted for lead to where the run stopped in the phase
 abbrev pub StopsClosingRun : Underway → Underway → Option (List NamedFile) → Option (List ℕ) → Option (List ℕ) → Stop → Type 0
 StopsClosingRun old new holds i j stop =
     (A : Inputs) (s : State) (image : List ℕ) → CoreAt A s old holds i image → length A.lines ≡ s.lines → StopsAccounted A s old.machine.kernel image stop new.machine j
