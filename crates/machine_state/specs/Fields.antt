@@ -6,7 +6,7 @@ use Rattle.table_steps.specs.Joined.{instructions_in, last_says}
 use Rattle.machine_state.specs.declared.machine.Machine.TheInside.{Inside}
 use Rattle.table_steps.specs.Machine.{Standing, Stands, images_of, before_of, kernel_by}
 
--- a machine as its callers see it: its kernel, its sizes and images, and what was found or made ready for an entry to come
+-- a machine as its callers see it: its kernel, its sizes and images, and what stands ready for an entry to come
 abbrev pub standing_of : Inside → Standing
 standing_of m = record {
   kernel = kernel_by m.tables m.journal.items m.stopped;

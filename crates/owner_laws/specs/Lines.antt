@@ -17,19 +17,23 @@ pub data Said : Type 0 where
   -- whether its page is written or read, the number of the transfer, and the page
   InTransfer : Bool → ℕ → Page → Said
 
+-- the line of a frame: its number, and what is said of it
 pub record FrameLine : Type 0 where
   pub frame : ℕ
   pub said : Said
 
+-- the word that tells whether a page is valid
 abbrev pub valid_word : Bool → List ℕ
 valid_word true = codes " valid"
 valid_word false = codes " invalid"
 
+-- what is said of a frame, in words
 abbrev pub said_text : Said → List ℕ
 said_text (Free n page) = free_text n page
 said_text (Used valid q dirty) = kept_text (valid_word valid) q dirty
 said_text (InTransfer write n q) = moved_text (carrying_word write) n q
 
+-- the line of a frame
 abbrev pub frame_text : FrameLine → List ℕ
 frame_text x = codes "frame" ++ parts (x.frame ∷ []) ++ said_text x.said ++ codes "\n"
 
@@ -39,11 +43,13 @@ free_one (Free n page) = 1
 free_one (Used valid q dirty) = 0
 free_one (InTransfer write n q) = 0
 
+-- 1 for a frame with a page off the free list
 abbrev pub used_one : Said → ℕ
 used_one (Free n page) = 0
 used_one (Used valid q dirty) = 1
 used_one (InTransfer write n q) = 0
 
+-- 1 for a frame that a transfer has
 abbrev pub moving_one : Said → ℕ
 moving_one (Free n page) = 0
 moving_one (Used valid q dirty) = 0
@@ -54,6 +60,7 @@ abbrev pub counted : (Said → ℕ) → List FrameLine → ℕ
 counted one [] = 0
 counted one (x ∷ xs) = one x.said + counted one xs
 
+-- the place on the free list that a line tells, if its frame is free
 abbrev pub place_told : Said → List ℕ
 place_told (Free n page) = n ∷ []
 place_told (Used valid q dirty) = []
@@ -77,13 +84,16 @@ pub record Extent : Type 0 where
   pub length : ℕ
   pub holder : Option Owner
 
+-- who holds a row of blocks, in words
 abbrev pub holder_text : Option Owner → List ℕ
 holder_text None = codes " free"
 holder_text (Some owner) = owner_of_piece owner
 
+-- the line of a row of blocks
 abbrev pub extent_text : Extent → List ℕ
 extent_text x = swap_line x.start x.length (holder_text x.holder)
 
+-- so many blocks, where someone holds them, or else none
 abbrev pub blocks_if_held : Option Owner → ℕ → ℕ
 blocks_if_held None n = 0
 blocks_if_held (Some owner) n = n

@@ -55,10 +55,12 @@ IsSo p f (Free n page) = IsFree p f n page
 IsSo p f (Used valid q dirty) = IsUsed p f valid q dirty
 IsSo p f (InTransfer write n q) = IsInTransfer p f write n q
 
+-- what each of these lines says of its frame is so
 abbrev pub AreSo : Placement → List FrameLine → Type 0
 AreSo p [] = Unit {0}
 AreSo p (x ∷ xs) = IsSo p x.frame x.said × AreSo p xs
 
+-- the lines tell each frame once, and what they say is so
 pub record FramesTold (p : Placement) (lines : List FrameLine) : Type 0 where
   -- each frame has one line, in the order of their numbers
   pub frames : frames_told lines ≡ count_up 1 (length p.holds)
@@ -83,6 +85,7 @@ abbrev pub holder_of : ℕ → Holdings → Option Owner
 holder_of b [] = None
 holder_of b (h ∷ hs) = if is_in h b then Some h.owner else holder_of b hs
 
+-- the lines tell each block of the swap area once, with its holder
 pub record SwapTold (size : ℕ) (hs : Holdings) (extents : List Extent) : Type 0 where
   -- the extents cover the area, without a gap or an overlap
   pub tiled : Tile 0 size extents

@@ -20,10 +20,12 @@ abbrev pub page_in : ℕ → List Part → Option Page
 page_in f [] = None
 page_in f (x ∷ xs) = if x.frame == f then Some x.page else page_in f xs
 
+-- the transfer is a write
 abbrev pub is_write : Errand → Bool
 is_write Writes = true
 is_write (Reads source demanded) = false
 
+-- what a transfer of this number carries in a frame, if it has a page there, or else this
 abbrev pub carried_by : ℕ → Errand → Option Page → Option Carried → Option Carried
 carried_by n e None rest = rest
 carried_by n e (Some q) rest = Some (record { number = n; is_write = is_write e; page = q })
@@ -32,6 +34,7 @@ carried_by n e (Some q) rest = Some (record { number = n; is_write = is_write e;
 abbrev pub carried_in : ℕ → ℕ → Transfer → Option Carried
 carried_in n f t = carried_by n t.errand (page_in f t.parts) None
 
+-- the page that a transfer of this number has in a frame, if there is such a transfer
 abbrev pub carried_if : ℕ → ℕ → Option Transfer → Option Carried
 carried_if n f None = None
 carried_if n f (Some t) = carried_in n f t
@@ -41,10 +44,12 @@ abbrev pub carried_from : ℕ → ℕ → List Transfer → Option Carried
 carried_from n f [] = None
 carried_from n f (t ∷ ts) = carried_by n t.errand (page_in f t.parts) (carried_from (n + 1) f ts)
 
+-- the word that tells whether a page is written or read
 abbrev pub carrying_word : Bool → List ℕ
 carrying_word true = codes " write"
 carrying_word false = codes " read"
 
+-- what is said of a frame that a transfer has
 abbrev pub carried_text : Option Carried → List ℕ
 carried_text None = []
 carried_text (Some c) = moved_text (carrying_word c.is_write) c.number c.page
@@ -54,9 +59,11 @@ abbrev pub block_read : From → Option ℕ
 block_read (froms.Swap block) = Some block
 block_read (froms.File id offset count) = None
 
+-- the line of a page that is read
 abbrev pub inbound_line : Inbound → List ℕ
 inbound_line x = moved_line x.page x.token.number (block_read x.source)
 
+-- the line of a page that is written
 abbrev pub outbound_line : Outbound → List ℕ
 outbound_line x = moved_line x.page x.token.number (Some x.block)
 
@@ -70,6 +77,7 @@ abbrev pub transfer_if : Holdings → ℕ → Option Transfer → List ℕ
 transfer_if hs n None = []
 transfer_if hs n (Some t) = transfer_lines hs n t
 
+-- the line of a page that is due, if one is
 abbrev pub due_if : Option Due → List ℕ
 due_if None = []
 due_if (Some d) = due_line d

@@ -122,6 +122,7 @@ abbrev pub DiffersFrom : List ℕ → List (List ℕ) → Type 0
 DiffersFrom name [] = Unit {0}
 DiffersFrom name (other ∷ others) = (bytes_eq other name ≡ false) × DiffersFrom name others
 
+-- no two of these names are one
 abbrev pub AllDiffer : List (List ℕ) → Type 0
 AllDiffer [] = Unit {0}
 AllDiffer (name ∷ names) = DiffersFrom name names × AllDiffer names

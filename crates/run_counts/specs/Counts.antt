@@ -121,6 +121,7 @@ owner_of (Data sid v) = Space sid
 owner_of (Stack sid v) = Space sid
 owner_of (Text image v) = Image image
 
+-- both are one space, or one image
 abbrev pub is_same_owner : Owner → Owner → Bool
 is_same_owner (Space a) (Space b) = a == b
 is_same_owner (Image a) (Image b) = a == b

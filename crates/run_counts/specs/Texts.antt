@@ -42,6 +42,7 @@ pages_text journal owner =
 abbrev pub space_line : List Entry → ℕ → List ℕ
 space_line journal sid = part (codes "space ") sid ++ pages_text journal (Space sid)
 
+-- the line of an image: the counts of its text's pages
 abbrev pub image_line : List Entry → ℕ → List ℕ
 image_line journal image = part (codes "image ") image ++ pages_text journal (Image image)
 

@@ -31,6 +31,7 @@ pub record NoneRose (seen : Seen) : Type 0 where
 abbrev pub IsComplete : (request : Request) (seen : Seen) (status : ℕ) → Runs request seen status → Type 0
 IsComplete request seen status runs = (status ≡ 0) ⊎ ((status ≡ 9) ⊎ ((status ≡ 10) × (length runs.journal ≡ journal_entries)))
 
+-- a run of sound inputs is complete, where no count of failed calls rose
 abbrev pub RunsComplete : Type 0
 RunsComplete =
     (request : Request) (seen : Seen) (status : ℕ) (files : List NamedFile) (image : List ℕ) (runs : Runs request seen status)
@@ -40,6 +41,7 @@ RunsComplete =
 abbrev pub IsCompleteLoad : (number : ℕ) (seen : Seen) (status : ℕ) → Loads number seen status → Type 0
 IsCompleteLoad number seen status loads = (status ≡ 0) ⊎ ((status ≡ 9) ⊎ ((status ≡ 10) × (length loads.journal ≡ journal_entries)))
 
+-- so is a load on such devices
 abbrev pub LoadsComplete : Type 0
 LoadsComplete =
     (number : ℕ) (seen : Seen) (status : ℕ) (loads : Loads number seen status) → DevicesSuffice load_numbers.swap seen → NoneRose seen → IsCompleteLoad number seen status loads
