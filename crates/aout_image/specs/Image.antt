@@ -102,7 +102,7 @@ is_too_large image = nat_lt 2048 (text_pages_of image) || nat_lt 4096 (data_page
 abbrev pub is_cut_short : Image → ℕ → Bool
 is_cut_short image len = nat_lt len (file_length_of image)
 
--- reason 6: the first instruction, behind the entry mask, lies behind the bytes that the file gives
+-- reason 6: the first instruction, after the entry mask, lies after the bytes that the file gives
 abbrev pub starts_outside : Image → Bool
 starts_outside image = nat_le (end_of image) (image.entry + 2)
 

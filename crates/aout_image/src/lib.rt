@@ -46,7 +46,7 @@ pub enum Judged {
     /// 3. The kind is `Paged`, and text or data is no multiple of 1,024.
     /// 4. The text segment has more than 2,048 pages, or the data segment more than 4,096.
     /// 5. The file ends before its text and data do.
-    /// 6. The first instruction, at `entry` and 2, lies behind the bytes that the file gives.
+    /// 6. The first instruction, at `entry` and 2, lies after the bytes that the file gives.
     ///
     /// The limits of 4 and the choice of 6 are this project's profile.
     NotImage(u8),

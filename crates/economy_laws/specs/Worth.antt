@@ -67,7 +67,7 @@ is_empty (n ∷ ns) = false
 abbrev pub frees_text : Inputs → State → Entry → ℕ → Bool
 frees_text A s u image = is_empty (lengths (owners.Text image) (after A s u).holdings)
 
--- a unit behind which a page may be written again
+-- a unit after which a page may be written again
 abbrev pub renews : Inputs → State → Entry → Page → Bool
 renews A s u (Data sid v) = renews_page A s u (Data sid v)
 renews A s u (Stack sid v) = renews_page A s u (Stack sid v)

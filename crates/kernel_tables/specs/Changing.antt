@@ -44,7 +44,7 @@ pub record GaveUp (t u : Tables) (sid : ℕ) : Type 0 where
   pub book : u.book ≡ with_holdings t.book (space_given_back t.book.holdings sid (image_at t sid) (sharers (placement_of (lists_of u)) (image_at t sid)))
   pub rest : u ≡ record t { core = u.core; spaces = u.spaces; texts = u.texts; book = u.book }
 
--- a space of the next number is there, behind the others, in which an image starts: its stack page 0 is due, last
+-- a space of the next number is there, after the others, in which an image starts: its stack page 0 is due, last
 abbrev pub started_place : Placement → ℕ → ℕ → Image → Placement
 started_place p sid image facts = record p { spaces = p.spaces ++ new_pages sid image facts ∷ []; due = p.due ++ Start (Stack sid 0) ∷ [] }
 
@@ -55,7 +55,7 @@ pub record EnteredImage (t u : Tables) (image : ℕ) (facts : Image) (top : List
   pub number : u.next_sid ≡ t.next_sid + 1
   pub rest : u ≡ record t { spaces = u.spaces; texts = u.texts; fills = u.fills; next_sid = u.next_sid }
 
--- a space of the next number is there, behind the others, with a copy of this one's pages: those that were filled are due
+-- a space of the next number is there, after the others, with a copy of this one's pages: those that were filled are due
 pub record Forked (t u : Tables) (parent : ℕ) : Type 0 where
   pub shows : Shows t u (fork_space (placement_of (lists_of t)) parent t.next_sid)
   pub starts : starts_of u.fills.items ≡ []

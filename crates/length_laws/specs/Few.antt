@@ -34,7 +34,7 @@ abbrev pub SleepsAreFew : Type 0
 SleepsAreFew = (A : Inputs) (hs : Holdings) (journal : List Entry) (s : State) → CanRun A hs → Reaches A journal s
     → count_by is_sleep journal ≤ length A.first + count_by is_fork journal
 
--- a turn is the first, or begins behind an instruction, or where a process fell asleep
+-- a turn is the first, or begins after an instruction, or where a process fell asleep
 abbrev pub TurnsAreFew : Type 0
 TurnsAreFew = (A : Inputs) (hs : Holdings) (journal : List Entry) (s : State) → CanRun A hs → Reaches A journal s
     → count_by is_turn journal ≤ instructions_of journal + count_by is_sleep journal + 1

@@ -71,7 +71,7 @@ impl Machine {
         Some(space)
     }
 
-    /// Who holds which pieces of swap, those that `ask` found last behind the others.
+    /// Who holds which pieces of swap, those that `ask` found last after the others.
     pub fn holdings(&self) -> &[Held]
         ensures { result.now ≡ self.now.kernel.holdings }
     {

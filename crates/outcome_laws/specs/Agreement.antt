@@ -23,7 +23,7 @@ abbrev pub VisibleAgrees : Type 0
 VisibleAgrees = (A B : Inputs) (journal other : List Entry) (p q : Point) → IsPair A B journal other p q
     → Begins (visible_of journal) (visible_of other) ⊎ Begins (visible_of other) (visible_of journal)
 
--- no run goes further than one behind which the process can't step: nothing more is seen of it
+-- no run goes further than one after which the process can't step: nothing more is seen of it
 abbrev pub OverIsAll : Type 0
 OverIsAll = (A B : Inputs) (journal other : List Entry) (p q : Point) → IsPair A B journal other p q
     → can_step p.flat 1 ≡ false → Begins (visible_of other) (visible_of journal)

@@ -50,7 +50,7 @@ IsAt A F lasts.Other point = (point.flat ≡ F) × IsFree point.last
 IsAt A F (lasts.Refused pid) point = (point.flat ≡ F) × (point.last ≡ Some (entries.Refused pid))
 IsAt A F (lasts.Wrote pid call regs) point = IsWriting A F pid (call_entry pid call regs) point
 
--- the verdict on an entry, behind which the judge stands where the entry leaves a run
+-- the verdict on an entry, after which the judge stands where the entry leaves a run
 abbrev pub IsVerdict : Inputs → Bool → FlatState → Last → Option Point → Type 0
 IsVerdict A true F last (Some point) = IsAt A F last point
 IsVerdict A true F last None = ⊥

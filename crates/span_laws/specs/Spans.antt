@@ -14,7 +14,7 @@ ends_moving [] = false
 ends_moving (e ∷ []) = is_hands e
 ends_moving (e ∷ f ∷ journal) = ends_moving (f ∷ journal)
 
--- a unit adds an entry, but for a move of the hands behind another
+-- a unit adds an entry, but for a move of the hands after another
 abbrev pub adds : Bool → Entry → ℕ
 adds true (entries.Hands n) = 0
 adds moved e = 1

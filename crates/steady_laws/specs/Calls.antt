@@ -36,7 +36,7 @@ called_count (calls.Miss address) = 0
 called_count calls.Asleep = 0
 called_count calls.Gone = 1
 
--- a reply behind which no page is due, where none was
+-- a reply after which no page is due, where none was
 abbrev pub RepliesNone : Reply → Type 0
 RepliesNone (Does regs change) = LeavesNone change
 RepliesNone _ = Unit {0}

@@ -18,7 +18,7 @@ use Rattle.proc_calls.specs.Callers.{IsCaller}
 use Rattle.proc_calls.specs.Making.{with_pieces}
 use Rattle.steady_laws.specs.Ready.{IsReady, Continues, RunsMoved}
 
--- a change behind which no page is due, where none was
+-- a change after which no page is due, where none was
 abbrev pub LeavesNone : Change → Type 0
 LeavesNone (Fork child) = ⊥
 LeavesNone (Exec image top) = ⊥

@@ -17,7 +17,7 @@ pub fn calls_are_steps()
     ensures write_stops { WriteStops }
 {}
 
-/// A vfork is a step with which the space passes, and a fork one behind which each page that is due is copied.
+/// A vfork is a step with which the space passes, and a fork one after which each page that is due is copied.
 pub fn forks_are_steps()
     ensures vfork { VforkIsMade }
     ensures vfork_stops { VforkStops }
@@ -36,7 +36,7 @@ pub fn ends_are_steps()
     ensures exit_stops { ExitStops }
 {}
 
-/// An execve is a step behind which the new stack page is filled.
+/// An execve is a step after which the new stack page is filled.
 pub fn images_are_steps()
     ensures exec { ExecIsMade }
     ensures exec_stops { ExecStops }

@@ -46,7 +46,7 @@ impl Touched {
         self.as_slice().len() == 32
     }
 
-    /// One more page, behind the others.
+    /// One more page, after the others.
     pub fn push(&mut self, page: Page)
         requires { length self.old < 32 }
         ensures { self.new ≡ self.old ++ page ∷ [] }

@@ -4,7 +4,7 @@ use Rattle.transfer_ring.specs.declared.transfer.Transfer.{Transfer}
 use Rattle.transfer_ring.specs.declared.transfer.Begun.{Begun}
 use Rattle.transfer_ring.specs.declared.transfer.Begun.TheVariants.{Ok, RingFull}
 
--- the transfer is in flight behind the others, or it is handed back, and nothing changes, where 16 are
+-- the transfer is in flight after the others, or it is handed back, and nothing changes, where 16 are
 abbrev pub Begins : List Transfer → Transfer → List Transfer → Begun → Type 0
 Begins old transfer new Ok = (new ≡ old ++ transfer ∷ [])
 Begins old transfer new (RingFull back) = (back ≡ transfer) × (new ≡ old)
