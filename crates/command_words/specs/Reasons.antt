@@ -32,7 +32,7 @@ why_of (bad.TooMany word) = TooMany word.now
 why_of bad.TooManyImages = TooManyImages
 why_of bad.NoneStarts = NoneStarts
 
--- the least and the most that an argument may be, where it is a number
+-- the least that an argument may be, where it is a number
 abbrev pub least_of : Argument → ℕ
 least_of Frames = 64
 least_of Swap = 256

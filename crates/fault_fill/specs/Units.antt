@@ -28,7 +28,7 @@ pub record NeedsFrame (p : Placement) (q : Page) : Type 0 where
   pub frameless : frame_of (state_of p q) ≡ None
   pub none : p.free ≡ []
 
--- a unit, or a stop, that is the next one whether waiting is allowed or not
+-- a unit that is the next one whether waiting is allowed or not
 abbrev pub AnyUnit : Page → Standing → Standing → Option (List NamedFile) → Option (List ℕ) → Option (List ℕ) → Type 0
 AnyUnit q old new holds before after = (now : Bool) (locked : List Page) → UnitMade now locked q old new holds before after
 
@@ -36,7 +36,7 @@ AnyUnit q old new holds before after = (now : Bool) (locked : List Page) → Uni
 abbrev pub AnyStop : Page → Standing → Standing → Option (List ℕ) → Option (List ℕ) → Stop → Type 0
 AnyStop q old new before after stop = (now : Bool) → UnitStops now q old new before after stop
 
--- a unit, or a stop, that calls no device
+-- a unit that calls no device
 abbrev pub PlainMade : Page → Standing → Standing → Type 0
 PlainMade q old new = (holds : Option (List NamedFile)) (image : Option (List ℕ)) → AnyUnit q old new holds image image
 

@@ -3,7 +3,7 @@ use Rattle.std.specs.Prelude.{◌≡◌, ℕ, List, Option}
 use Rattle.std.proofs.Common.{ap, ◌∙◌, subst, sym}
 use Rattle.io_edge.specs.Striping.{zero_needs, one_needs, pair_blocks, KeepsBeyond}
 
--- over one row of calls and then another, while the devices have as many blocks
+-- device 0's part, over one row of calls and then another, while the devices have as many blocks
 pub zero_through : (zero_size one_size zero_size' one_size' : ℕ) (a b c : Option (List ℕ)) → zero_size' ≡ zero_size → one_size' ≡ one_size
     → KeepsBeyond (zero_needs (pair_blocks zero_size one_size)) a b → KeepsBeyond (zero_needs (pair_blocks zero_size' one_size')) b c
     → KeepsBeyond (zero_needs (pair_blocks zero_size one_size)) a c

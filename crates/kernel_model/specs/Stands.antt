@@ -6,7 +6,7 @@ use Rattle.page_model.specs.Swapper.{is_out}
 use Rattle.kernel_model.specs.Kernel.{Kernel}
 use Rattle.kernel_model.specs.Sound.{KeepsStarts, TextFits}
 
--- who is out is there, and holds a space
+-- the process is there, and holds a space
 abbrev pub holds_some : Option Process → Bool
 holds_some None = false
 holds_some (Some q) = holds_space q.holding

@@ -89,7 +89,7 @@ kernel_by t journal stopped = record {
   stopped = stopped;
 }
 
--- the images, by number from 1 on
+-- an image of the tables, by its name, its file and its facts
 abbrev pub image_shown : Named → ImageNamed
 image_shown n = record { name = string_bytes n.name; file = n.file; facts = n.facts }
 

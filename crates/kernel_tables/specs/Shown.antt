@@ -22,7 +22,7 @@ filling_shown (places.Image v) = OfImage
 filling_shown places.Swap = Zeros
 filling_shown (places.Frame f valid changed) = Zeros
 
--- a page of data or stack, and one of text, whose mark says that it is saved
+-- what is said of a page of data or stack, by its entry
 abbrev pub slot_shown : List Token → Place → Slot
 slot_shown slots place = record { state = state_shown slots place; mark = changed_shown place; filling = filling_shown place }
 
@@ -34,12 +34,12 @@ text_shown slots saved place = record { state = state_shown slots place; mark = 
 abbrev pub space_shown : List Token → Places → SpacePages
 space_shown slots s = record { sid = s.sid; image = s.image; data_pages = map (slot_shown slots) s.data; stack_pages = map (slot_shown slots) s.stack }
 
--- the entry of a page in the first space that has it
+-- the first of two, where it is there, or else the second
 abbrev pub or_else : {A : Type 0} → Option A → Option A → Option A
 or_else (Some x) o = Some x
 or_else None o = o
 
--- the entry that a page has in the spaces, if it has one
+-- the entry of a page in the first of these spaces that has it
 abbrev pub entry_in : List Places → Page → Option Place
 entry_in [] q = None
 entry_in (s ∷ ss) q = or_else (place_in s q) (entry_in ss q)
@@ -53,7 +53,7 @@ placed_by (Some was) q place s = with_place s q place
 abbrev pub placed : Page → Place → Places → Places
 placed q place s = placed_by (place_in s q) q place s
 
--- an entry that names a frame, the frame, and whether the page was changed
+-- an entry names a frame
 abbrev pub is_frame : Option Place → Bool
 is_frame (Some (places.Frame f valid changed)) = true
 is_frame _ = false

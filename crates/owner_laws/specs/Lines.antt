@@ -37,7 +37,7 @@ said_text (InTransfer write n q) = moved_text (carrying_word write) n q
 abbrev pub frame_text : FrameLine → List ℕ
 frame_text x = codes "frame" ++ parts (x.frame ∷ []) ++ said_text x.said ++ codes "\n"
 
--- 1 for a frame of the kind: free, in use off the free list, or in a transfer
+-- 1 for a frame on the free list
 abbrev pub free_one : Said → ℕ
 free_one (Free n page) = 1
 free_one (Used valid q dirty) = 0

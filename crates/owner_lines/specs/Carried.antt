@@ -72,7 +72,7 @@ abbrev pub flight_text : Flight → List ℕ
 flight_text (flights.Read demanded parts) = source_word (source_shown parts.items) ++ page_text demanded ++ codes "\n" ++ flat_map inbound_line parts.items
 flight_text (flights.Write parts) = codes " write\n" ++ flat_map outbound_line parts.items
 
--- the lines of a transfer of this number, where there is one, and the line of a page that is due
+-- the lines of a transfer of this number, where there is one
 abbrev pub transfer_if : Holdings → ℕ → Option Transfer → List ℕ
 transfer_if hs n None = []
 transfer_if hs n (Some t) = transfer_lines hs n t

@@ -67,7 +67,7 @@ pub record LeavesAwaited (refs : List ℕ) (old new : Resident) (page : ℕ) : T
 abbrev pub Leaves : List ℕ → Resident → Resident → ℕ → Type 0
 Leaves refs old new page = LeavesSpent old new page ⊎ LeavesAwaited refs old new page
 
--- there was room, or else a page left as the victim of the reference at place i
+-- there was room for a page
 pub record HadRoom (n : ℕ) (old new : Resident) (before after : List Victim) : Type 0 where
   pub room : old.used < n
   pub awaited : new.awaited ≡ old.awaited

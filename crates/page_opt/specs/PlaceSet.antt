@@ -68,7 +68,7 @@ pub record IsLastLeaf (first : ℕ) (words : List ℕ) (node : ℕ) : Type 0 whe
   pub there : bit_of words node ≡ 1
   pub last : (k : ℕ) → first ≤ k → bit_of words k ≡ 1 → k ≤ node
 
--- the last place of the set, and none where it is empty
+-- the last place of the set
 pub record IsLastPlace (bits : Bits) (place : ℕ) : Type 0 where
   pub there : has_place bits place ≡ true
   pub last : (k : ℕ) → has_place bits k ≡ true → k ≤ place

@@ -17,7 +17,7 @@ pub record Tracks (cache : List ℕ) (set : BTreeSet ℕ) : Type 0 where
 abbrev pub run_of : List ℕ → Replay → Run
 run_of cache r = record { cache = cache; victims = r.victims.now; faults = r.faults }
 
--- the next victim left, or there was none
+-- no victim was due
 pub record NoneLeft (old new : Replay) (ok : Bool) : Type 0 where
   pub yes : ok ≡ true
   pub cache : new.cache ≡ old.cache
@@ -50,7 +50,7 @@ abbrev pub Entering : ℕ → ℕ → Replay → Replay → Bool → Type 0
 Entering n page old new true = Enters n page old new
 Entering n page old new false = n ≤ btree_set_len old.cache
 
--- the reference was served, or the victims are no plan
+-- the reference was served
 pub record Serves (n at page : ℕ) (cache : List ℕ) (old new : Replay) : Type 0 where
   pub later : List ℕ
   pub tracks : Tracks later new.cache

@@ -47,7 +47,7 @@ abbrev pub Made : Ground → List Entry → Kernel → Option (List ℕ) → Ker
 Made g [] k i l j = (k ≡ l) × (i ≡ j)
 Made g (e ∷ us) k i l j = MadeFirst g e k i (λ m h. Made g us m h l j)
 
--- Of a machine: a call that makes one unit, and one that makes these in order, and leaves its sizes and images.
+-- Of a machine: a call that makes one unit, and leaves its sizes and images.
 pub record MakesUnit (g : Ground) (e : Entry) (old new : Standing) (i j : Option (List ℕ)) : Type 0 where
   pub made : MadeBy g e old.kernel i new.kernel
   pub told : ImageBy e old.kernel i j

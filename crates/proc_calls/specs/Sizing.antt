@@ -28,7 +28,7 @@ use Rattle.proc_calls.specs.declared.replying.Called.{Called}
 
 -- The sizes.
 
--- the pages of the data and of the stack of a process
+-- the pages of the data of a process
 abbrev pub data_pages_of : Kernel → ℕ → ℕ
 data_pages_of k pid = data_count k.place (space_held k pid)
 

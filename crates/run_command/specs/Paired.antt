@@ -41,7 +41,7 @@ IsRunFault _ = ⊥
 abbrev pub IsFaultOf : Stop → Fault → Type 0
 IsFaultOf stop fault = unfinished_by fault ≡ ends.Stopped stop
 
--- a device failed to read, or to write, exactly where that is the fault
+-- a device failed to read exactly where that is the fault
 abbrev pub ReadsFail : Result (Unit {0}) Fault → DeviceFaults → Type 0
 ReadsFail (Err (SwapReadFault device)) f = DeviceFailed device f
 ReadsFail _ f = NoneFailed f

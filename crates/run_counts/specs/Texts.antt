@@ -38,7 +38,7 @@ pages_text journal owner =
     ++ part (codes " pages put ") (total (OfPages owner PagesPut) journal)
     ++ codes "\n"
 
--- the line of a space, and that of an image
+-- the line of a space: the counts of its pages
 abbrev pub space_line : List Entry → ℕ → List ℕ
 space_line journal sid = part (codes "space ") sid ++ pages_text journal (Space sid)
 

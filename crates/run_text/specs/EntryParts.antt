@@ -66,7 +66,7 @@ entry_text e = letter_of e ∷ body_text (body_of e)
 abbrev pub is_page_letter : ℕ → Bool
 is_page_letter l = l == 90 || (l == 71 || (l == 67 || (l == 82 || l == 80)))
 
--- the entry of a letter and numbers
+-- the entry of a letter with no number
 abbrev pub with_none : ℕ → Option Entry
 with_none l = if l == 68 then Some Done else None
 
@@ -100,7 +100,7 @@ from_numbers l (a ∷ b ∷ c ∷ d ∷ e ∷ f ∷ ns) = None
 abbrev pub page_from : ℕ → ℕ → ℕ → Option Page
 page_from s a b = if s == 100 then Some (Data a b) else (if s == 115 then Some (Stack a b) else (if s == 120 then Some (Text a b) else None))
 
--- the entry of a letter, a page and further numbers
+-- the entry of a letter and a page alone
 abbrev pub page_alone : ℕ → Option Page → Option Entry
 page_alone l None = None
 page_alone l (Some page) = if l == 90 then Some (Zero page) else (if l == 67 then Some (Copy page) else (if l == 82 then Some (Reclaim page) else None))
@@ -130,7 +130,7 @@ entry_from l (Counted ns) = from_numbers l ns
 entry_from l (Paged segment ns) = from_paged l segment ns
 entry_from l (Written pid bytes) = if l == 111 then Some (Out pid bytes) else None
 
--- the kind of body that a letter wants
+-- the kind of a body: numbers, a page's, or bytes
 abbrev pub kind_of : Body → ℕ
 kind_of (Counted ns) = 0
 kind_of (Paged segment ns) = 1

@@ -40,7 +40,7 @@ abbrev pub run_with : Option Run → ℕ → ℕ → Run
 run_with None pid count = record { pid = pid; count = count }
 run_with (Some r) pid count = lengthened (r.pid == pid) r pid count
 
--- what is written, and what waits, where an entry comes that isn't a `Ran`, which may be a paging entry
+-- what is written where an entry comes that isn't a `Ran`, which may be a paging entry
 abbrev pub other_text : Bool → Option Run → Entry → List ℕ
 other_text true run e = []
 other_text false run e = waiting_text run ++ line_of e

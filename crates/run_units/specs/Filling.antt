@@ -35,7 +35,7 @@ ForcingIsNext =
     → At A s k image → HasImages g A → FillsFirst s.place s.place.due e g.locked → Forces us k.place g.locked l.place → Made g us k (Some image) l j
     → (led : LeadsDue A s k image us l j) × FillsFirst led.state.place led.state.place.due e g.locked
 
--- so is the one that forces next, and the fill, where a frame is free
+-- so is the one that forces a frame next, where none is free
 abbrev pub ForcedNext : Type 0
 ForcedNext =
     (A : Inputs) (s : State) (e : Entry) (locked : List Page) → FillsFirst s.place s.place.due e locked → s.place.free ≡ []

@@ -53,7 +53,7 @@ StartsOrFails (Ok (Fails error)) = Unit {0}
 StartsOrFails (Ok _) = ⊥
 StartsOrFails (Err refused) = Unit {0}
 
--- A call that replies at once, and one that reads before it does.
+-- A call that replies at once.
 abbrev pub ReplyContinues : Type 0
 ReplyContinues =
     (old new : Standing) (pid : ℕ) (call : SystemCall) (regs : Regs) (reply : Reply) (called : Called) → IsCaller old pid → RepliesNone reply
@@ -65,7 +65,7 @@ CallContinues =
     (old new : Standing) (pid : ℕ) (call : SystemCall) (regs : Regs) (r : Result Reply Refused) (called : Called) → IsCaller old pid → AnswersNone r
     → Comes old new pid call regs r called → Continues old new (called_count called)
 
--- A write, whatever the memory that it reads; and a wait.
+-- A write, whatever the memory that it reads.
 abbrev pub WriteContinues : Type 0
 WriteContinues =
     (old new : Standing) (pid : ℕ) (regs : Regs) (memory : Answers) (called : Called) → IsCaller old pid
@@ -77,7 +77,7 @@ WaitContinues =
     (old new : Standing) (pid : ℕ) (regs : Regs) (called : Called) → IsCaller old pid → Replied old new pid Wait regs (wait_reply old.kernel pid regs) called
     → Continues old new (called_count called)
 
--- A vfork; and a fork, once all pages that are due were copied.
+-- A vfork.
 abbrev pub VforkContinues : Type 0
 VforkContinues = (old new : Standing) (pid : ℕ) (regs : Regs) → IsCaller old pid → Vforked old new pid regs → Continues old new 1
 
@@ -87,7 +87,7 @@ ForkContinues =
     (old new : Standing) (pid : ℕ) (regs : Regs) (holds : Option (List NamedFile)) (before after : Option (List ℕ)) → IsCaller old pid
     → Forked old new pid regs holds before after → HasCopied old new → Continues old new 1
 
--- An end of a process, and its exit.
+-- An end of a process.
 abbrev pub EndContinues : Type 0
 EndContinues =
     (old new : Standing) (pid status : ℕ) (holds : Option (List NamedFile)) (before after : Option (List ℕ)) → IsCaller old pid
@@ -105,7 +105,7 @@ BreakContinues =
     (old new : Standing) (pid : ℕ) (regs : Regs) (r : Result ℕ Refused) (holds : Option (List NamedFile)) (before after : Option (List ℕ)) (called : Called)
     → IsCaller old pid → BreakComes old new pid regs r holds before after called → Continues old new (called_count called)
 
--- A call whose pieces find no place; and an execve, once its new stack page was filled.
+-- A call whose pieces find no place.
 abbrev pub RefusalContinues : Type 0
 RefusalContinues =
     (old new : Standing) (pid : ℕ) (call : SystemCall) (regs : Regs) → IsCaller old pid → IsRefused old new pid call regs → Continues old new 1

@@ -24,8 +24,7 @@ LeavesNone (Fork child) = ⊥
 LeavesNone (Exec image top) = ⊥
 LeavesNone _ = Unit {0}
 
--- An entry of a process with its change, and one for which pieces were found before: none of an instruction, and none of the
--- hands.
+-- An entry of a process with its change: none of an instruction, and none of the hands.
 abbrev pub EntryContinues : Type 0
 EntryContinues =
     (old new : Standing) (pid : ℕ) (regs : Regs) (e : Entry) (change : Change) → IsCaller old pid → IsPlain e → LeavesNone change → Entered old new pid regs e change
@@ -54,7 +53,7 @@ MovedNoteContinues =
     (old between new : Standing) (moves : ℕ) (e : Entry) → RunsMoved old between moves → IsPlain e
     → new ≡ record between { kernel = note_step between.kernel e; room = None } → Continues old new (counted e)
 
--- An instruction that is counted; room for it, which was made before; and its writes.
+-- An instruction that is counted.
 abbrev pub RanContinues : Type 0
 RanContinues =
     (old new : Standing) (pid : ℕ) (regs : Regs) → IsReady old → new ≡ record old { kernel = ran_by old.kernel pid regs (entries.Ran pid 1); room = None }

@@ -15,7 +15,7 @@ use Rattle.swapper.specs.declared.Turned.{Turned}
 use Rattle.swapper.specs.Turns.{Turns}
 use Rattle.steady_laws.specs.Ready.{IsRunning, IsReady, Continues, RunsDue, RunsMoved}
 
--- Moves of the hands, and a frame that they force.
+-- Moves of the hands.
 abbrev pub MovesContinue : Type 0
 MovesContinue =
     (old new : Standing) (n made : ℕ) (holds : Option (List NamedFile)) (i j : Option (List ℕ)) → IsReady old → Moved n old new made holds i j → RunsMoved old new made
@@ -37,7 +37,7 @@ abbrev pub TurnContinues : Type 0
 TurnContinues =
     (turned : Turned) (old new : Standing) (holds : Option (List NamedFile)) (i j : Option (List ℕ)) → IsReady old → Turns turned old new holds i j → Continues old new 0
 
--- A first process that begins: its stack page 0 is due after those that were. The pages that are due first are filled in turn.
+-- A first process that begins: its stack page 0 is due after those that were.
 abbrev pub BeginContinues : Type 0
 BeginContinues =
     (old new : Standing) (image : ℕ) → IsRunning old → StartedFirst old new image

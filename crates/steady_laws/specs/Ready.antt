@@ -57,7 +57,7 @@ pub record RunsMoved (old new : Standing) (moves : ℕ) : Type 0 where
   pub clear : new.kernel.place.due ≡ []
   pub most : last_moves new.kernel.journal ≤ last_moves old.kernel.journal + moves
 
--- A machine goes on as it is, and one goes on that went on twice.
+-- A machine goes on as it is.
 abbrev pub SelfContinues : Type 0
 SelfContinues = (m : Standing) → IsReady m → Continues m m 0
 
@@ -65,8 +65,7 @@ SelfContinues = (m : Standing) → IsReady m → Continues m m 0
 abbrev pub BothContinue : Type 0
 BothContinue = (a b c : Standing) (m n : ℕ) → Continues a b m → Continues b c n → Continues a c (m + n)
 
--- One that goes on may be called again: as any call asks, and as one of a process that is there and in; and the hands have the
--- room that they had.
+-- One that goes on may be called again, as any call asks.
 abbrev pub StaysReady : Type 0
 StaysReady = (old new : Standing) (n : ℕ) → Continues old new n → IsReady new
 

@@ -40,7 +40,7 @@ CanShrink (Text image) = ⊥
 abbrev pub growth_of : Book → Owner → ℕ → Result Holdings ℕ
 growth_of b owner blocks = place_all b.size b.holdings (more_pieces b.holdings owner blocks)
 
--- what growing answers, and the book that it leaves
+-- what growing answers
 abbrev pub answer_of : Result Holdings ℕ → Grown
 answer_of (Ok hs) = AllFound
 answer_of (Err n) = NoFit n
