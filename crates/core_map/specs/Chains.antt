@@ -46,7 +46,7 @@ pub record IsIndexed (count : ℕ) (links : List ℕ) (keys : List (Option TextK
 abbrev pub keys_of : Inside → List (Option TextKey)
 keys_of a = a.keys.items
 
--- the fields of an index are its chains, its links and its keys
+-- this is so of an index, by its fields
 abbrev pub IsIndex : Inside → Type 0
 IsIndex a = IsIndexed a.chains a.links.items a.keys.items
 
