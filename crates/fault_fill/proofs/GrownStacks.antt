@@ -21,7 +21,7 @@ use Rattle.kernel_model.specs.Sound.{Sound, has_life, lives_in}
 use Rattle.kernel_model.specs.ChangeStep.{space_of_life, life_of_proc, change_if, change_by}
 use Rattle.clock_hands.specs.LastMoves.{last_moves}
 use Rattle.clock_hands.proofs.LastMoves.{last_of}
-use Rattle.machine_state.specs.declared.pieces.Want.{Want}
+use Rattle.machine_state.specs.Want.{Want}
 use Rattle.machine_state.specs.Machine.{Standing}
 use Rattle.machine_state.specs.Wants.{wanted_of, found_for, fits_for}
 use Rattle.machine_state.specs.Conditions.{KeepsFlat, SameEverywhere}

@@ -12,7 +12,7 @@ use Rattle.page_model.specs.Placement.{Placement}
 use Rattle.page_model.specs.Place.{data_count, stack_count}
 use Rattle.kernel_model.specs.Asks.{further, change_asks}
 use Rattle.machine_state.specs.Wants.{wanted_of}
-use Rattle.machine_state.specs.declared.pieces.Want.{Want}
+use Rattle.machine_state.specs.Want.{Want}
 
 drop_all_of : (xs : List ℕ) → drop (length xs) xs ≡ []
 drop_all_of [] = refl

@@ -30,13 +30,14 @@ pub record CanZero (p : Placement) (q : Page) : Type 0 where
 abbrev pub kernel_before : Standing → Kernel
 kernel_before m = record m.kernel { holdings = m.before }
 
--- The run stops at a call, with the journal, the sizes and the images as before. Where the machine runs on, as it does where the journal
--- was at its bound, all else is as before too, but for pieces that were found for the entry that has no room: so it goes on standing there.
+-- The run stops at a call, with the journal, the sizes and the images as before. Where the journal was at its bound the machine is as
+-- before, but that room for an instruction may be gone. Where the machine wants memory and runs on, all else is as before too, but for
+-- pieces that were found for the entry for which there was none.
 pub record HasStopped (old new : Standing) : Type 0 where
   pub journal : new.kernel.journal ≡ old.kernel.journal
   pub params : new.params ≡ old.params
   pub images : new.images ≡ old.images
-  pub full : old.params.journal ≤ length old.kernel.journal → new.kernel.stopped ≡ old.kernel.stopped
+  pub full : old.params.journal ≤ length old.kernel.journal → new ≡ record old { room = new.room }
   pub held : new.kernel.stopped ≡ old.kernel.stopped → kernel_before new ≡ kernel_before old
 
 -- stopped within a step that has no entry, with the journal, the sizes and the images as before

@@ -1,5 +1,5 @@
 -- A machine that was asked for pieces of swap space.
-use Rattle.std.proofs.Common.{◌≡◌, ℕ, ◌+◌, ◌-◌, ◌≤◌, Bool, true, false, List, length, take, Result, Ok, Err, refl, sym, ap, ◌∙◌, subst, arith}
+use Rattle.std.proofs.Common.{◌≡◌, ℕ, ◌+◌, ◌-◌, ◌<◌, ◌≤◌, Bool, true, false, List, length, take, Result, Ok, Err, refl, sym, ap, ◌∙◌, subst, arith}
 use Rattle.std.specs.Prelude.{is_ok, is_err, IfOk, OnOk, OnErr}
 use Rattle.std.proofs.lemmas.List.{length-append, take-append-le, take_all}
 use Rattle.vm_facts.specs.declared.stop.NoMemory.{NoMemory}
@@ -9,10 +9,11 @@ use Rattle.swap_book.specs.Placing.{Wanted, place_all}
 use Rattle.swap_book.specs.Book.{Book, with_holdings, grown_book}
 use Rattle.swap_book.proofs.GrowthLaws.{Added, place_all_adds}
 use Rattle.kernel_model.specs.Kernel.{Kernel}
-use Rattle.machine_state.specs.declared.pieces.Want.{Want}
+use Rattle.swap_wants.specs.declared.Want.{Want}
 use Rattle.table_steps.specs.Tables.{Tables}
 use Rattle.machine_state.specs.declared.machine.Machine.TheInside.{Inside}
-use Rattle.machine_state.specs.Wants.{found_for, fits_for, book_asked}
+use Rattle.swap_wants.specs.Wants.{found_for, fits_for, book_asked}
+use Rattle.table_steps.specs.Conditions.{HasStopped}
 use Rattle.table_steps.specs.Sourced.{AreSourced}
 use Rattle.table_steps.specs.Machine.{Standing, Runs, lists_of, kernel_by, images_of, image_at, before_of}
 use Rattle.machine_state.specs.Fields.{standing_of, RunsNow, RunsInside}
@@ -126,3 +127,10 @@ asked_standing m s b found ws hs a =
     let k : Kernel = record (kernel_by t m.journal.items m.stopped) { holdings = hs } in
     ap (λ (x : Book). record (standing_of m) { kernel = record (kernel_by t m.journal.items m.stopped) { holdings = x.holdings }; before = take (length b.holdings - found) b.holdings }) a.book
     ∙ ap (λ (x : Holdings). record (standing_of m) { kernel = k; before = x }) before
+
+-- Where the entry that takes the pieces can't be made the machine has stopped, which is so too of the one before the pieces were found: there
+-- the journal had room.
+pub stopped_found : (m asked new : Standing) (hs : Holdings) → asked ≡ record m { kernel = record m.kernel { holdings = hs } } → length m.kernel.journal < m.params.journal → HasStopped asked new → HasStopped m new
+stopped_found m asked new hs e room s =
+    let t : HasStopped (record m { kernel = record m.kernel { holdings = hs } }) new = subst (λ (x : Standing). HasStopped x new) e s in
+    record { journal = t.journal; params = t.params; images = t.images; full = λ bound. absurd (omega arith); held = t.held }

@@ -19,13 +19,13 @@ use Rattle.text_table.specs.Texts.{text_of}
 use Rattle.page_model.specs.Placement.{Placement, slots_of, sharers}
 use Rattle.page_model.specs.Place.{facts_numbered}
 use Rattle.kernel_model.specs.Asks.{text_asked, begin_asks}
-use Rattle.machine_state.specs.declared.pieces.Want.{Want}
+use Rattle.swap_wants.specs.declared.Want.{Want}
 use Rattle.table_steps.specs.Named.{Named}
 use Rattle.table_steps.specs.Tables.{Tables}
 use Rattle.table_steps.specs.Machine.{lists_of}
 use Rattle.table_steps.specs.Alike.{facts_in}
 use Rattle.table_steps.specs.View.{Lists, placement_of}
-use Rattle.machine_state.specs.Wants.{CanAsk, wanted_of, fits_for, book_asked}
+use Rattle.swap_wants.specs.Wants.{CanAsk, wanted_of, fits_for, book_asked}
 use Rattle.machine_state.specs.Beginning.{HoldsNone, MayLookFirst, LookedFirst}
 use Rattle.table_steps.proofs.Shows.{texts_shown, text_length}
 use Rattle.table_steps.proofs.AddedTied.{facts_pages}

@@ -57,7 +57,6 @@ pub mod MovesOn
 pub mod InFlight
 pub mod Instructions
 pub mod Sharers
-pub mod Growing
 pub mod Asked
 pub mod Showings
 pub mod Knowing

@@ -20,9 +20,9 @@ pub use Rattle.table_steps.specs.Applying
 pub use Rattle.table_steps.specs.Swapping
 pub use Rattle.table_steps.specs.UserMemory
 pub use Rattle.table_steps.specs.Joined
+pub use Rattle.swap_wants.specs.Wants
+pub use Rattle.swap_wants.specs.declared.Want
 pub mod Texts
-pub mod GivingBack
-pub mod Wants
 pub mod Fields
 pub mod Showing
 pub mod Beginning

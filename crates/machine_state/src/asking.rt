@@ -1,13 +1,13 @@
 //! Requests for pieces of swap space.
-ghost use Rattle.std.specs.Prelude.{◌≡◌, ◌⊎◌, ◌<◌, ◌≤◌, true, false, length, None, IfOk, OnOk, OnErr, Ok, Err};
+ghost use Rattle.std.specs.Prelude.{◌≡◌, ◌⊎◌, ◌<◌, ◌≤◌, ◌↔◌, true, false, length, None, IfOk, OnOk, OnErr, Ok, Err};
 ghost use Rattle.vm_facts.specs.declared.entry.Entry.TheVariants.{Refused};
 ghost use Rattle.swap_book.specs.Holdings.{Holdings};
 ghost use Rattle.kernel_model.specs.Kernel.{note_step};
-ghost use Rattle.machine_state.specs.Wants.{CanAsk, found_for, fits_for};
+ghost use Rattle.swap_wants.specs.Wants.{CanAsk, found_for, fits_for};
 ghost use Rattle.table_steps.specs.Conditions.{HasStopped, KeepsFlat, SameEverywhere};
 
 use crate::machine::Machine;
-use crate::pieces::{self, Want};
+use swap_wants::{Want, find_all};
 use table_steps::notes;
 use vm_facts::{Entry, Stop};
 
@@ -21,7 +21,7 @@ impl Machine {
         ensures stop { OnErr result (HasStopped self.old self.new) }
         ensures cause { OnErr result (result ≡ Err Stop.NoMemory) }
     {
-        let found = pieces::find_all(&mut self.tables.book, wants, false);
+        let found = find_all(&mut self.tables.book, wants, false);
         notes::or_stop(found)
     }
 
@@ -39,12 +39,12 @@ impl Machine {
         ensures same { result ≡ Ok false → SameEverywhere self.old.kernel self.new.kernel }
         ensures stop { OnErr result (HasStopped self.old self.new) }
         ensures cause { OnErr result ((result ≡ Err Stop.JournalFull) ⊎ (result ≡ Err Stop.NoMemory)) }
-        ensures full { result ≡ Err Stop.JournalFull → (fits_for self.old.params.swap_blocks self.old.kernel.holdings wants.now ≡ false)
-            × (self.old.params.journal ≤ length self.old.kernel.journal) }
-        ensures has_room { result ≡ Ok false → length self.old.kernel.journal < self.old.params.journal }
+        ensures full { (result ≡ Err Stop.JournalFull) ↔ (self.old.params.journal ≤ length self.old.kernel.journal) }
+        ensures has_room { OnOk result (length self.old.kernel.journal < self.old.params.journal) }
     {
+        self.make_room()?;
         let before = self.tables.book.holdings().len();
-        let found = pieces::find_all(&mut self.tables.book, wants, true);
+        let found = find_all(&mut self.tables.book, wants, true);
         if notes::or_stop(found)? {
             self.tables.found = self.tables.book.holdings().len() - before;
             return Ok(true);

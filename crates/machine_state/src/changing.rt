@@ -40,6 +40,15 @@ impl Machine {
         Ok(())
     }
 
+    /// The journal may have so many entries from here on, which are no fewer than before.
+    pub fn widen(&mut self, entries: u32)
+        requires running { self.old.kernel.stopped ≡ false }
+        requires more { self.old.params.journal ≤ entries }
+        ensures { self.new ≡ record self.old { params = record self.old.params { journal = entries } } }
+    {
+        self.tables.params.journal = entries;
+    }
+
     /// Makes room for one more entry, and changes nothing else.
     pub fn make_room(&mut self) -> Result<(), Stop>
         requires running { self.old.kernel.stopped ≡ false }

@@ -8,7 +8,6 @@ mod ending;
 mod laws;
 mod machine;
 mod paging;
-mod pieces;
 mod places;
 mod starting;
 mod swapping;
@@ -16,7 +15,7 @@ mod user_memory;
 
 pub use laws::memory_is_flat;
 pub use machine::Machine;
-pub use pieces::{Want, image_wants};
+pub use swap_wants::{Want, image_wants};
 pub use table_steps::kernel_tables::Named;
 pub use table_steps::notes::or_stop;
 pub use user_memory::SpaceMemory;

@@ -1,46 +1,15 @@
 //! What the machine tells of the places of pages.
-ghost use Rattle.std.specs.Prelude.{◌≡◌, ◌↔◌, ◌<◌, false, IsSome, IfSome};
-ghost use Rattle.core_map.specs.Slots.{slot_at};
+ghost use Rattle.std.specs.Prelude.{◌≡◌, ◌↔◌, false, IsSome, IfSome};
 ghost use Rattle.page_model.specs.Placement.{IsThere, state_of, filling_of};
-ghost use Rattle.table_steps.specs.TableViewShown.{is_away, idle_state, state_shown};
 ghost use Rattle.table_steps.specs.Alike.{AreRecords};
 ghost use Rattle.table_steps.specs.Lives.{AreMarked};
 ghost use Rattle.table_steps.specs.Machine.{processes_of, residents_of};
 ghost use Rattle.table_steps.specs.PlaceOf.{place_of, is_blank};
 
 use crate::machine::Machine;
-use core_map::{CoreMap, Whose};
 use proc_table::ProcTable;
-use vax_pte::Place;
+use table_steps::places::state_shown;
 use vm_facts::{Page, PageState};
-
-// The state of a page that has this frame, and isn't valid.
-fn idle_state(core: &CoreMap, frame: u32, changed: bool) -> PageState
-    ensures { result ≡ idle_state frame (is_away (slot_at core.now.slots frame)) changed }
-{
-    match core.owner(frame) {
-        Whose::Free(_) | Whose::Resident(_) => PageState::Invalid(frame),
-        Whose::Away => {
-            if changed {
-                PageState::Going(frame)
-            } else {
-                PageState::Coming(frame)
-            }
-        }
-    }
-}
-
-// The state of a page, by its entry.
-fn state_shown(core: &CoreMap, place: Place) -> PageState
-    ensures { result ≡ state_shown core.now.slots place }
-{
-    match place {
-        Place::Zero | Place::Image(_) => PageState::Unfilled,
-        Place::Swap => PageState::OnSwap,
-        Place::Frame { f, valid: true, .. } => PageState::Valid(f),
-        Place::Frame { f, changed, .. } => idle_state(core, f, changed),
-    }
-}
 
 impl Machine {
     /// The state of a page; None exactly where no live space and no image has it.

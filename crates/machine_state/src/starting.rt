@@ -6,11 +6,11 @@ ghost use Rattle.machine_state.specs.Beginning.{MayStart, StartedFirst, FindsNoP
 ghost use Rattle.table_steps.specs.Conditions.{HasBrokenOff};
 
 use crate::machine::Machine;
-use crate::pieces::{self, Want, image_wants};
 use flat_model::{Arguments, start_page, start_regs};
 use proc_table::Life;
 use std::alloc::Global;
 use swap_book::Owner;
+use swap_wants::{Want, find_all, image_wants};
 use table_steps::kernel_tables::{Named, Tables};
 use table_steps::notes;
 use vm_facts::{Bytes, NoMemory, Regs, Stop};
@@ -42,9 +42,9 @@ fn find_first(tables: &mut Tables, pid: u32, image: u32) -> Result<bool, NoMemor
         blocks: 2,
     };
     if tables.texts.sharers(image) > 0 {
-        pieces::find_all(&mut tables.book, &[data, stack, u], true)
+        find_all(&mut tables.book, &[data, stack, u], true)
     } else {
-        pieces::find_all(&mut tables.book, &[text, data, stack, u], true)
+        find_all(&mut tables.book, &[text, data, stack, u], true)
     }
 }
 

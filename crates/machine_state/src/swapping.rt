@@ -1,90 +1,18 @@
 //! Processes that go out and come in: their u pages.
-ghost use Rattle.std.specs.Prelude.{◌≡◌, ◌≢◌, ◌⊎◌, ℕ, ◌+◌, ◌<◌, ◌≤◌, ◌^◌, ◌↔◌, false, length, Some, None, IsSome, OnOk, OnErr, Err};
-ghost use Rattle.flat_state.specs.Flat.{cleared};
-ghost use Rattle.proc_table.specs.Records.{find};
-ghost use Rattle.swap_book.specs.declared.Owner.TheVariants.{U as UOwner};
-ghost use Rattle.swap_book.specs.Holdings.{block_in};
-ghost use Rattle.page_model.specs.Pages.{numbered};
+ghost use Rattle.std.specs.Prelude.{◌≡◌, ◌⊎◌, ◌≤◌, ◌↔◌, false, length, None, OnOk, OnErr, Err};
 ghost use Rattle.kernel_model.specs.Kernel.{out_step};
-ghost use Rattle.table_steps.specs.Lives.{space_held};
 ghost use Rattle.table_steps.specs.Calls.{CanGoOut, CanComeIn};
 ghost use Rattle.table_steps.specs.Conditions.{HasStopped};
 ghost use Rattle.table_steps.specs.Failing.{FailsFor};
-ghost use Rattle.table_steps.specs.Swapping.{IsIn, WritesU, SwapBehind, CallsNone, KeepsOut, KeepsIn, MovedRecord, IsUPage};
+ghost use Rattle.table_steps.specs.Swapping.{IsIn, WritesU, SwapBehind, CallsNone, KeepsOut, KeepsIn};
 ghost use Rattle.machine_state.specs.Outside.{stop_of, MovesSwapPages};
 
 use crate::machine::Machine;
 use io_edge::{Moved, SwapDev};
-use proc_table::{Life, Proc, ProcTable};
-use swap_book::Owner;
-use table_steps::kernel_tables::{Tables, record_of, regs_in, u_page};
-use table_steps::notes;
-use vm_facts::{Entry, Regs, Stop};
-
-// The registers in the record of a process that is out.
-fn no_regs() -> Regs
-    ensures { result ≡ cleared }
-{
-    Regs {
-        r: [0; 16],
-        n: false,
-        z: false,
-        v: false,
-        c: false,
-    }
-}
-
-// A process has other registers, and is out or in since this place in the journal.
-fn move_record(processes: &mut ProcTable, pid: u32, regs: Regs, out: bool, since: u32)
-    requires { IsSome (find pid processes.old) }
-    ensures { MovedRecord processes.old processes.new pid regs out since }
-{
-    let process = record_of(processes, pid);
-    let _known = processes.set(Proc {
-        regs,
-        out,
-        since,
-        ..process
-    });
-}
-
-// The place in a journal of the entry that comes next, where there is room for it.
-fn next_place(journal: &[Entry], limit: u32) -> u32
-    requires { length journal.now < limit }
-    ensures { result ≡ length journal.now + 1 }
-{
-    if journal.len() < limit as usize {
-        journal.len() as u32 + 1
-    } else {
-        unreachable!()
-    }
-}
-
-// The first of the two blocks of a process's u page.
-fn u_block(tables: &Tables, pid: u32) -> u32
-    requires { IsSome (block_in tables.now.book.holdings (UOwner pid) 0) }
-    ensures { Some result ≡ block_in tables.now.book.holdings (UOwner pid) 0 }
-{
-    match tables.book.block_of(Owner::U(pid), 0) {
-        Some(block) => block,
-        None => unreachable!(),
-    }
-}
-
-// The u page of a process that holds a space.
-fn u_page_of(tables: &Tables, pid: u32) -> [u8; 1024]
-    requires holds { (sid : ℕ) × (space_held (find pid tables.now.processes) ≡ Some sid) × IsSome (numbered (λ s. s.sid) sid tables.now.spaces) }
-    ensures { IsUPage tables.now pid result }
-{
-    let process = tables.process(pid);
-    let Life::Holds(sid) = process.state else {
-        unreachable!()
-    };
-    let Some(space) = tables.spaces.find(sid) else {
-        unreachable!()
-    };
-    u_page(&process.regs, space.data_pages(), space.stack_pages())
-}
+use table_steps::kernel_tables::regs_in;
+use table_steps::notes::{self, next_place};
+use table_steps::u_pages::{move_record, no_regs, u_block, u_page_of};
+use vm_facts::{Entry, Stop};
 
 impl Machine {
     /// The step of `SwapOut`: the u page of a process is written, and the process is out. Its registers are in its u

@@ -1,5 +1,5 @@
 //! The journal: room is made for an entry before the step that it stands for.
-ghost use Rattle.std.specs.Prelude.{◌≡◌, ◌⊎◌, ◌<◌, ◌≤◌, ◌↔◌, true, length, None, IfOk, OnOk, OnErr, Ok, Err, is_err};
+ghost use Rattle.std.specs.Prelude.{◌≡◌, ◌⊎◌, ◌+◌, ◌<◌, ◌≤◌, ◌↔◌, true, length, None, IfOk, OnOk, OnErr, Ok, Err, is_err};
 ghost use Rattle.std.specs.Vec.{vec_capacity, vec_len};
 
 use std::mem;
@@ -22,6 +22,18 @@ pub fn make_room(journal: &mut Vec<Entry>, room: &mut Option<u32>, limit: u32) -
         return Err(Stop::NoMemory);
     }
     Ok(())
+}
+
+/// The place in a journal of the entry that comes next, where there is room for it.
+pub fn next_place(journal: &[Entry], limit: u32) -> u32
+    requires { length journal.now < limit }
+    ensures { result ≡ length journal.now + 1 }
+{
+    if journal.len() < limit as usize {
+        journal.len() as u32 + 1
+    } else {
+        unreachable!()
+    }
 }
 
 /// Keeps a transfer that failed; the machine stops.

@@ -5,7 +5,7 @@ use Rattle.page_model.specs.Placement.{Placement, sharers}
 use Rattle.table_steps.specs.Tables.{Tables}
 use Rattle.table_steps.specs.View.{placement_of}
 use Rattle.table_steps.specs.Machine.{lists_of}
-use Rattle.machine_state.specs.Wants.{CanAsk, wanted_of}
+use Rattle.swap_wants.specs.Wants.{CanAsk, wanted_of}
 use Rattle.table_steps.proofs.AddedImage.{facts_by_number, sound_number, named_here}
 use Rattle.machine_state.proofs.FirstPieces.{asks_shared, asks_first, text_size, can_all, all_asked, own_asked, wants_all, wants_own, shares, looked}
 use Rattle.machine_state.proofs.starting.find_first.Goals as goal

@@ -4,7 +4,7 @@ use Rattle.swap_book.specs.Holdings.{Holdings}
 use Rattle.swap_book.specs.Book.{Book}
 use Rattle.table_steps.specs.Conditions.{KeepsFlat}
 use Rattle.table_steps.specs.Machine.{Standing}
-use Rattle.machine_state.specs.Wants.{found_for, wanted_of}
+use Rattle.swap_wants.specs.Wants.{found_for, wanted_of}
 use Rattle.machine_state.specs.Fields.{standing_of, RunsNow}
 use Rattle.machine_state.proofs.Standings.{stands_now, runs_by, runs_within}
 use Rattle.machine_state.proofs.Asked.{found_ok, found_none, unlooked, asked_more, asked_none, standing_none, booked, Asked, asked_stands, asked_standing}
@@ -12,8 +12,9 @@ use Rattle.machine_state.proofs.machine.Machine.ask.Goals as goal
 
 pub invariant_of-self : goal.invariant_of-self
 invariant_of-self c =
-    runs_within _ (runs_by c.self.inside c.args.self.now c.self.view_is c.requires.running) (λ _.
-    asked_none c.self.inside c.args.self.now c.find_all-found.new.book c.self.invariant c.self.view_is c.requires.running
+    let view : standing_of c.self.inside ≡ c.args.self.now = c.self.view_is ∙ c.in_ok-make_room.ensures.ok in
+    runs_within _ (runs_by c.self.inside c.args.self.now view c.requires.running) (λ _.
+    asked_none c.self.inside c.args.self.now c.find_all-found.new.book c.self.invariant view c.requires.running
     (unlooked c.find_all-found.result c.self.inside.tables.book c.find_all-found.new.book c.in_err-or_stop.ensures.unmade c.find_all-found.ensures.err))
 
 pub overflow_sub-self : goal.overflow_sub-self
@@ -28,13 +29,14 @@ overflow_sub-self c =
 
 pub invariant_of-self-then-branch : goal.invariant_of-self-then-branch
 invariant_of-self-then-branch c =
-    runs_within _ (runs_by c.self.inside c.args.self.now c.self.view_is c.requires.running) (λ _.
+    let view : standing_of c.self.inside ≡ c.args.self.now = c.self.view_is ∙ c.in_ok-make_room.ensures.ok in
+    runs_within _ (runs_by c.self.inside c.args.self.now view c.requires.running) (λ _.
     let b : Book = c.self.inside.tables.book in
     let yes : c.find_all-found.result ≡ Ok true = c.in_ok-or_stop.ensures.made ∙ ap (λ (x : Bool). let r : Result Bool NoMemory = Ok x in r) c.if-branch.true in
     let f = found_ok c.find_all-found.result b c.find_all-found.new.book c.args.wants.now yes c.find_all-found.ensures.answer c.find_all-found.ensures.book in
     let found : ℕ = length c.holdings.result.now - length c.holdings-before.result.now in
     let a : Asked c.self.inside c.args.self.now c.find_all-found.new.book found (wanted_of b.holdings c.args.wants.now) f.0 = record {
-      view_is = c.self.view_is;
+      view_is = view;
       whole = c.requires.whole;
       placed = f.1;
       book = f.2;
@@ -44,33 +46,36 @@ invariant_of-self-then-branch c =
 
 pub returns-then-branch-clause-found : goal.returns-then-branch-clause-found
 returns-then-branch-clause-found c _ =
+    let view : standing_of c.self.inside ≡ c.args.self.now = c.self.view_is ∙ c.in_ok-make_room.ensures.ok in
     let b : Book = c.self.inside.tables.book in
     let yes : c.find_all-found.result ≡ Ok true = c.in_ok-or_stop.ensures.made ∙ ap (λ (x : Bool). let r : Result Bool NoMemory = Ok x in r) c.if-branch.true in
     let f = found_ok c.find_all-found.result b c.find_all-found.new.book c.args.wants.now yes c.find_all-found.ensures.answer c.find_all-found.ensures.book in
     let found : ℕ = length c.holdings.result.now - length c.holdings-before.result.now in
     let a : Asked c.self.inside c.args.self.now c.find_all-found.new.book found (wanted_of b.holdings c.args.wants.now) f.0 = record {
-      view_is = c.self.view_is;
+      view_is = view;
       whole = c.requires.whole;
       placed = f.1;
       book = f.2;
       count = ap (λ (hs : Holdings). length hs - length c.holdings-before.result.now) c.holdings.ensures ∙ ap (λ (hs : Holdings). length c.find_all-found.new.book.holdings - length hs) c.holdings-before.ensures;
     } in
-    let n : RunsNow c.self.inside = stands_now c.self.inside c.args.self.now c.self.invariant c.self.view_is c.requires.running in
+    let n : RunsNow c.self.inside = stands_now c.self.inside c.args.self.now c.self.invariant view c.requires.running in
     let is : found_for c.self.inside.tables.params.swap_blocks b.holdings c.args.wants.now ≡ Ok f.0 = ap (λ (size : ℕ). found_for size b.holdings c.args.wants.now) (sym n.stands.book) ∙ f.1 in
     let z = asked_standing c.self.inside c.args.self.now c.find_all-found.new.book found (wanted_of b.holdings c.args.wants.now) f.0 a in
-    subst (λ (s : Standing). (hs : Holdings) × (found_for s.params.swap_blocks s.kernel.holdings c.args.wants.now ≡ Ok hs) × (standing_of (booked c.self.inside c.find_all-found.new.book found) ≡ record s { kernel = record s.kernel { holdings = hs } })) c.self.view_is
+    subst (λ (s : Standing). (hs : Holdings) × (found_for s.params.swap_blocks s.kernel.holdings c.args.wants.now ≡ Ok hs) × (standing_of (booked c.self.inside c.find_all-found.new.book found) ≡ record s { kernel = record s.kernel { holdings = hs } })) view
     (f.0, is, z)
 
 pub invariant_of-self-else-branch : goal.invariant_of-self-else-branch
 invariant_of-self-else-branch c =
-    runs_within _ (runs_by c.self.inside c.args.self.now c.self.view_is c.requires.running) (λ _.
+    let view : standing_of c.self.inside ≡ c.args.self.now = c.self.view_is ∙ c.in_ok-make_room.ensures.ok in
+    runs_within _ (runs_by c.self.inside c.args.self.now view c.requires.running) (λ _.
     let no : c.find_all-found.result ≡ Ok false = c.in_ok-or_stop.ensures.made ∙ ap (λ (x : Bool). let r : Result Bool NoMemory = Ok x in r) c.if-branch.false in
-    asked_none c.self.inside c.args.self.now c.find_all-found.new.book c.self.invariant c.self.view_is c.requires.running
+    asked_none c.self.inside c.args.self.now c.find_all-found.new.book c.self.invariant view c.requires.running
     (found_none c.find_all-found.result c.self.inside.tables.book c.find_all-found.new.book c.args.wants.now no c.find_all-found.ensures.answer c.find_all-found.ensures.book))
 
 pub returns-clause-keeps : goal.returns-clause-keeps
 returns-clause-keeps c _ images image flat coupled =
+    let view : standing_of c.self.inside ≡ c.args.self.now = c.self.view_is ∙ c.in_ok-make_room.ensures.ok in
     let no : c.find_all-found.result ≡ Ok false = c.in_ok-or_stop.ensures.made ∙ ap (λ (x : Bool). let r : Result Bool NoMemory = Ok x in r) c.if-branch.false in
     let book = found_none c.find_all-found.result c.self.inside.tables.book c.find_all-found.new.book c.args.wants.now no c.find_all-found.ensures.answer c.find_all-found.ensures.book in
-    subst (λ (x : Standing). KeepsFlat x.kernel c.note.new.self.kernel) (standing_none c.self.inside c.args.self.now c.find_all-found.new.book c.self.view_is book)
+    subst (λ (x : Standing). KeepsFlat x.kernel c.note.new.self.kernel) (standing_none c.self.inside c.args.self.now c.find_all-found.new.book view book)
     c.in_ok-note.ensures.keeps images image flat coupled

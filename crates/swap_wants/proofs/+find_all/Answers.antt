@@ -2,11 +2,11 @@ use Rattle.std.proofs.Common.{◌≡◌, ℕ, ◌-◌, Bool, true, false, List, 
 use Rattle.std.specs.Prelude.{slice_index_or, is_ok, IfOk, OnOk}
 use Rattle.swap_book.specs.Holdings.{Holdings, of_owner, kept as kept_first}
 use Rattle.swap_book.specs.Book.{Book, with_holdings, growth_of, grown_book}
-use Rattle.machine_state.specs.declared.pieces.Want.{Want}
-use Rattle.machine_state.specs.GivingBack.{MayGiveBack}
-use Rattle.machine_state.specs.Wants.{found_for, fits_for, book_asked, CanAsk}
-use Rattle.machine_state.proofs.Growing.{no_wants, split_wants, fewer_wants, no_fit, all_found, none_behind, can_behind, Behind, behind_answer, behind_kept, behind_back, behind_not, behind_may, behind_err}
-use Rattle.machine_state.proofs.pieces.+find_all.Goals as goal
+use Rattle.swap_wants.specs.declared.Want.{Want}
+use Rattle.swap_wants.specs.GivingBack.{MayGiveBack}
+use Rattle.swap_wants.specs.Wants.{found_for, fits_for, book_asked, CanAsk}
+use Rattle.swap_wants.proofs.Growing.{no_wants, split_wants, fewer_wants, no_fit, all_found, none_behind, can_behind, Behind, behind_answer, behind_kept, behind_back, behind_not, behind_may, behind_err}
+use Rattle.swap_wants.proofs.+find_all.Goals as goal
 
 pub returns-in_default-clause-answer : goal.returns-in_default-clause-answer
 returns-in_default-clause-answer t c = ap (λ (r : Result Holdings ℕ). is_ok r) (sym (no_wants c.args.book.now.size c.args.book.now.holdings c.args.wants.now c.in_default.len_below))

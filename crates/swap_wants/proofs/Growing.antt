@@ -19,13 +19,13 @@ use Rattle.swap_book.proofs.OwnerLaws.{same_owner_gives}
 use Rattle.swap_book.proofs.HoldingLaws.{filter_kept, filter_left, kept_all}
 use Rattle.swap_book.proofs.GrowthLaws.{wanted_as, Added, place_all-append, place_all_adds}
 use Rattle.swap_book.proofs.KeptLaws.{kept_added}
-use Rattle.table_steps.proofs.Wanted.{lengths_own, lengths_other}
-use Rattle.table_steps.proofs.Found.{found_lengths}
-use Rattle.table_steps.proofs.GivenBack.{drop_past}
+use Rattle.kernel_laws.proofs.Pieces.Wanted.{lengths_own, lengths_other}
+use Rattle.kernel_laws.proofs.Pieces.Found.{found_lengths}
+use Rattle.kernel_laws.proofs.Pieces.GivenBack.{drop_past}
 use Rattle.vm_facts.specs.declared.stop.NoMemory.{NoMemory}
-use Rattle.machine_state.specs.declared.pieces.Want.{Want}
-use Rattle.machine_state.specs.GivingBack.{MayGiveBack}
-use Rattle.machine_state.specs.Wants.{wanted_of, found_for, fits_for, IsOther, MayGrow, CanAsk, book_asked, is_kept}
+use Rattle.swap_wants.specs.declared.Want.{Want}
+use Rattle.swap_wants.specs.GivingBack.{MayGiveBack}
+use Rattle.swap_wants.specs.Wants.{wanted_of, found_for, fits_for, IsOther, MayGrow, CanAsk, book_asked, is_kept}
 
 -- Chunks.
 

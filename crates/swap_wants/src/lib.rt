@@ -1,4 +1,9 @@
-//! Pieces of swap space that are found for a request: all of them, or none.
+//! Pieces of swap space that are found for what owners want: all of them, or none.
+//!
+//! - Want: the blocks that an owner is to hold in all; `image_wants` has those of the space in which an image starts.
+//! - `find_all` finds the pieces of several wants, one after another, in a swap book, and keeps them or gives them back.
+#![tactic(auto)]
+
 ghost use Rattle.std.specs.Prelude.{◌≡◌, ◌<◌, ◌*◌, ◌∷◌, [], length, IfOk, OnOk, OnErr};
 ghost use Rattle.aout_image.specs.Image.{IsSound, text_pages_of, data_pages_of};
 ghost use Rattle.swap_book.specs.declared.Owner.TheVariants.{Text as TextOf, Data as DataOf, Stack as StackOf};
@@ -6,8 +11,8 @@ ghost use Rattle.swap_dmap.specs.Chunks.{pieces, chunk_start};
 ghost use Rattle.swap_book.specs.Owners.{same_owner as is_same_owner};
 ghost use Rattle.swap_book.specs.Holdings.{of_owner, kept};
 ghost use Rattle.swap_book.specs.Book.{with_holdings};
-ghost use Rattle.machine_state.specs.GivingBack.{MayGiveBack};
-ghost use Rattle.machine_state.specs.Wants.{CanAsk, fits_for, book_asked, is_kept};
+ghost use Rattle.swap_wants.specs.GivingBack.{MayGiveBack};
+ghost use Rattle.swap_wants.specs.Wants.{CanAsk, fits_for, book_asked, is_kept};
 
 use aout_image::Image;
 use swap_book::{Grown, Held, Owner, SwapBook};
@@ -101,7 +106,7 @@ fn is_kept(keeps: bool, found: &Result<bool, NoMemory>) -> bool
 
 /// Finds the pieces with which each owner holds its blocks, and keeps them, or gives them back. False comes exactly
 /// where they find no place; then and without memory the holdings are as before.
-pub(crate) fn find_all(book: &mut SwapBook, wants: &[Want], keeps: bool) -> Result<bool, NoMemory>
+pub fn find_all(book: &mut SwapBook, wants: &[Want], keeps: bool) -> Result<bool, NoMemory>
     requires { CanAsk book.old.holdings wants.now }
     ensures answer { IfOk result (λ fits. fits ≡ fits_for book.old.size book.old.holdings wants.now) }
     ensures book { OnOk result (book.new ≡ book_asked keeps book.old wants.now) }

@@ -1,5 +1,5 @@
 use Rattle.std.proofs.Common.{vec_len}
-use Rattle.machine_state.proofs.ending.end_reads.Given as goal
+use Rattle.table_steps.proofs.ending.end_reads.Given as goal
 
 abbrev pub decreases-loop-part : goal.decreases-loop-part
 decreases-loop-part l = vec_len l.parts

@@ -5,7 +5,7 @@ use Rattle.swap_book.specs.Holdings.{Holdings}
 use Rattle.swap_book.specs.Placing.{Wanted, more_pieces, place_all}
 use Rattle.swap_book.specs.Book.{Book, CanGrow, grown_book}
 use Rattle.vm_facts.specs.declared.stop.NoMemory.{NoMemory}
-use Rattle.machine_state.specs.declared.pieces.Want.{Want}
+use Rattle.swap_wants.specs.declared.Want.{Want}
 
 -- the pieces beyond those that are held with which each owner holds its blocks
 abbrev pub wanted_of : Holdings → List Want → List Wanted

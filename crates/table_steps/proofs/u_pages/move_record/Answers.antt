@@ -1,7 +1,7 @@
 use Rattle.std.proofs.Common.{◌≡◌, ℕ, Some, is_some, ap, ◌∙◌, subst}
 use Rattle.proc_table.specs.Records.{find, Changes}
-use Rattle.table_steps.proofs.Records.{found_pid}
-use Rattle.machine_state.proofs.swapping.move_record.Goals as goal
+use Rattle.kernel_tables.proofs.Records.{found_pid}
+use Rattle.table_steps.proofs.u_pages.move_record.Goals as goal
 
 pub returns : goal.returns
 returns c =

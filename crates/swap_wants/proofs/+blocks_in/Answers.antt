@@ -1,8 +1,8 @@
 use Rattle.std.proofs.Common.{◌≡◌, ℕ, ◌+◌, ◌-◌, ◌<◌, sym, ap, arith}
 use Rattle.swap_dmap.specs.Chunks.{chunk_start, chunk}
 use Rattle.swap_dmap.proofs.ChunkLaws.{chunk_start_next}
-use Rattle.machine_state.proofs.Growing.{start_below}
-use Rattle.machine_state.proofs.pieces.+blocks_in.Goals as goal
+use Rattle.swap_wants.proofs.Growing.{start_below}
+use Rattle.swap_wants.proofs.+blocks_in.Goals as goal
 
 none : (n : ℕ) → n ≡ 0 → 0 ≡ chunk_start n
 unfolding chunk_start

@@ -2,8 +2,8 @@ use Rattle.std.proofs.Common.{ℕ, length, ap, ◌∙◌, arith}
 use Rattle.swap_book.specs.Owners.{pieces_of}
 use Rattle.swap_book.specs.Holdings.{kept}
 use Rattle.swap_book.specs.Book.{with_holdings}
-use Rattle.machine_state.proofs.Growing.{shrinks, never_shrinks, shrunk, nothing_back, none_back}
-use Rattle.machine_state.proofs.pieces.give_back.Goals as goal
+use Rattle.swap_wants.proofs.Growing.{shrinks, never_shrinks, shrunk, nothing_back, none_back}
+use Rattle.swap_wants.proofs.give_back.Goals as goal
 
 pub returns-then-keep-chunks_for : goal.returns-then-keep-chunks_for
 returns-then-keep-chunks_for c =

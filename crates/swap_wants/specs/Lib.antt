@@ -1,0 +1,2 @@
+pub mod GivingBack
+pub mod Wants
