@@ -9,13 +9,14 @@ use Rattle.vm_facts.specs.declared.stop.Stop.TheVariants as stops
 use Rattle.flat_state.specs.Journal.{append, IsPlain}
 use Rattle.flat_state.proofs.Joins.{append_plain}
 use Rattle.page_model.specs.Placement.{Transfer, Source, FromSwap, FromFile}
+use Rattle.page_model.specs.Holdings.{Holdings}
 use Rattle.kernel_model.specs.Kernel.{Kernel}
 use Rattle.kernel_model.specs.Coupled.{outline_kept}
 use Rattle.machine_state.specs.Machine.{Standing}
 use Rattle.machine_state.specs.Conditions.{HasStopped}
 use Rattle.machine_state.specs.Failing.{HasLostOldest, LosesFor, HasFailed, FailsFor}
 use Rattle.machine_state.specs.Done.{ImageAfter, StopsFor, SwapAfter, OldestReadsFrom, OldestWrites}
-use Rattle.paging_units.specs.Stops.{CauseBy, SpoilsBy, StopsAt, StaysPut, StopsPut, StopsLess, LeftBy}
+use Rattle.paging_units.specs.Stops.{CauseBy, SpoilsBy, StopsAt, StaysPut, StaysStarved, StopsPut, StopsLess, LeftBy}
 
 -- an entry that is never joined makes the journal longer
 pub plain_longer : (journal : List Entry) (e : Entry) → IsPlain e → length journal < length (append journal e)
@@ -27,20 +28,19 @@ plain_longer journal e p =
 err_same : {A : Type 0} (s t : Stop) → (let r : Result A Stop = Err s in r) ≡ Err t → s ≡ t
 err_same s t e = cc
 
--- a machine that runs on after a call that stopped has the placement, the processes and the holdings as they were, where no pieces wait
-pub stays_put : (old new : Standing) → HasStopped old new → old.before ≡ old.kernel.holdings → new.kernel.stopped ≡ old.kernel.stopped → StaysPut old.kernel new
-stays_put old new s w running =
-    let same = s.held running in
-    record {
-      stopped = running;
-      place = ap (λ (k : Kernel). k.place) same;
-      holdings = ap (λ (k : Kernel). k.holdings) same ∙ w;
-      processes = ap (λ (k : Kernel). map outline_kept k.processes) same;
-    }
+-- a machine in which no pieces wait runs on after a call that stopped, as it was but for pieces that were found
+pub stays_starved : (old new : Standing) → HasStopped old new → old.before ≡ old.kernel.holdings → new.kernel.stopped ≡ old.kernel.stopped → StaysStarved old.kernel new
+stays_starved old new s w running = s.held running ∙ ap (λ (hs : Holdings). record old.kernel { holdings = hs }) w
 
--- so it does at the journal's bound
+-- at the journal's bound it is as it was
 pub full_here : (old new : Standing) → HasStopped old new → old.before ≡ old.kernel.holdings → old.params.journal ≤ length old.kernel.journal → StaysPut old.kernel new
-full_here old new s w bound = stays_put old new s w (s.full bound)
+full_here old new s w bound =
+    let same = s.full bound in
+    let kernel : new.kernel ≡ old.kernel = ap (λ (m : Standing). m.kernel) same in
+    record {
+      kernel = kernel;
+      whole = ap (λ (m : Standing). m.before) same ∙ w ∙ sym (ap (λ (k : Kernel). k.holdings) kernel);
+    }
 
 -- a call that stops for want of memory, or at the journal's bound
 pub held_here : (stop : Stop) (old new : Standing) → HasStopped old new → old.before ≡ old.kernel.holdings → (stop ≡ stops.JournalFull) ⊎ (stop ≡ stops.NoMemory)
@@ -48,7 +48,7 @@ pub held_here : (stop : Stop) (old new : Standing) → HasStopped old new → ol
     → LeftBy stop old.kernel new
 held_here stop old new s w cause full = elim cause [
   | inl e ↦ subst (λ (x : Stop). LeftBy x old.kernel new) (sym e) (full_here old new s w (full e))
-  | inr e ↦ subst (λ (x : Stop). LeftBy x old.kernel new) (sym e) (λ running. inl (stays_put old new s w running))
+  | inr e ↦ subst (λ (x : Stop). LeftBy x old.kernel new) (sym e) (λ running. inl (stays_starved old new s w running))
 ]
 
 -- where the oldest transfer is lost
@@ -73,7 +73,7 @@ stops_put old new w l = record {
 pub ending_left : (stop : Stop) (old new : Standing) → HasStopped old new → old.before ≡ old.kernel.holdings → (stop ≡ stops.JournalFull → old.params.journal ≤ length old.kernel.journal)
     → LosesFor (Err stop) old new → LeftBy stop old.kernel new
 ending_left stops.JournalFull old new s w full lost = full_here old new s w (full refl)
-ending_left stops.NoMemory old new s w full lost = λ running. inl (stays_put old new s w running)
+ending_left stops.NoMemory old new s w full lost = λ running. inl (stays_starved old new s w running)
 ending_left stops.FileFault old new s w full lost = stops_less old new w lost
 ending_left stops.SwapReadFault old new s w full lost = inl (stops_less old new w lost)
 ending_left stops.SwapWriteFault old new s w full lost = inl (stops_less old new w lost)
@@ -82,7 +82,7 @@ ending_left stops.SwapWriteFault old new s w full lost = inl (stops_less old new
 pub moved_left : (stop : Stop) (old new : Standing) → HasStopped old new → old.before ≡ old.kernel.holdings → (stop ≡ stops.JournalFull → old.params.journal ≤ length old.kernel.journal)
     → (stop ≡ stops.FileFault → ⊥) → FailsFor (Err stop) old new → LeftBy stop old.kernel new
 moved_left stops.JournalFull old new s w full never failed = full_here old new s w (full refl)
-moved_left stops.NoMemory old new s w full never failed = λ running. inl (stays_put old new s w running)
+moved_left stops.NoMemory old new s w full never failed = λ running. inl (stays_starved old new s w running)
 moved_left stops.FileFault old new s w full never failed = absurd (never refl)
 moved_left stops.SwapReadFault old new s w full never failed = inr (stops_put old new w failed)
 moved_left stops.SwapWriteFault old new s w full never failed = inr (stops_put old new w failed)

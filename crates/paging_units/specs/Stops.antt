@@ -10,6 +10,7 @@ use Rattle.kernel_model.specs.Kernel.{Kernel}
 use Rattle.kernel_model.specs.Coupled.{outline_kept}
 use Rattle.kernel_model.specs.ChangeStep.{pass_step}
 use Rattle.machine_state.specs.Machine.{Standing}
+use Rattle.machine_state.specs.Conditions.{kernel_before}
 use Rattle.machine_state.specs.Failing.{LosesOldest}
 use Rattle.machine_state.specs.Done.{StopsFor, SwapAfter}
 use Rattle.machine_state.specs.Swapping.{SwapBehind}
@@ -28,13 +29,14 @@ SpoilsBy entries.Done stop k i j = SwapAfter (Err stop) k i j
 SpoilsBy (entries.SwapOut pid) stop k i j = let r : Result Bool Stop = Err stop in SwapBehind r k pid i j
 SpoilsBy _ stop k i j = j ≡ i
 
--- The machine runs on with the placement of a kernel, with its processes, whatever their registers, and with its holdings, but for
--- pieces that were found for an entry that comes yet.
+-- The machine has this kernel, and no pieces wait: it is as it was, its bytes and registers too.
 pub record StaysPut (k : Kernel) (new : Standing) : Type 0 where
-  pub stopped : new.kernel.stopped ≡ k.stopped
-  pub place : new.kernel.place ≡ k.place
-  pub holdings : new.before ≡ k.holdings
-  pub processes : map outline_kept new.kernel.processes ≡ map outline_kept k.processes
+  pub kernel : new.kernel ≡ k
+  pub whole : new.before ≡ new.kernel.holdings
+
+-- The machine has this kernel, but for pieces that were found for an entry for which there was no memory.
+abbrev pub StaysStarved : Kernel → Standing → Type 0
+StaysStarved k new = kernel_before new ≡ k
 
 -- The machine has stopped there.
 pub record StopsPut (k : Kernel) (new : Standing) : Type 0 where
@@ -52,14 +54,14 @@ pub record StopsLess (k : Kernel) (new : Standing) : Type 0 where
 
 -- the space of a process went back to its lender before its entry, for which there was no memory then
 abbrev pub StaysReturned : Kernel → Standing → Type 0
-StaysReturned k new = (pid lender : ℕ) × StaysPut (pass_step k pid lender) new
+StaysReturned k new = (pid lender : ℕ) × StaysStarved (pass_step k pid lender) new
 
--- How the machine is left, by the cause. Where the journal is full it runs on and stays there. Where it wants memory and runs on, it
--- stays there too; it doesn't run on where it broke off within an entry of a process. Where the end of the oldest transfer failed that
+-- How the machine is left, by the cause. Where the journal is full it stays there, and runs on. Where it wants memory and runs on, it
+-- stays there too, but for pieces that were found; it doesn't run on where it broke off within an entry of a process. Where the end of the oldest transfer failed that
 -- is lost, and where a u page failed nothing is.
 abbrev pub LeftBy : Stop → Kernel → Standing → Type 0
 LeftBy stops.JournalFull k new = StaysPut k new
-LeftBy stops.NoMemory k new = new.kernel.stopped ≡ k.stopped → StaysPut k new ⊎ StaysReturned k new
+LeftBy stops.NoMemory k new = new.kernel.stopped ≡ k.stopped → StaysStarved k new ⊎ StaysReturned k new
 LeftBy stops.FileFault k new = StopsLess k new
 LeftBy stops.SwapReadFault k new = StopsLess k new ⊎ StopsPut k new
 LeftBy stops.SwapWriteFault k new = StopsLess k new ⊎ StopsPut k new

@@ -41,7 +41,8 @@ use Rattle.proc_calls.specs.Leaving.{HasSettled, HasLeftBy}
 use Rattle.proc_calls.specs.Making.{with_pieces}
 use Rattle.proc_calls.specs.Starting.{image_wanted, image_found, LeavesFor, StaysWithout, FindsBy, Finds, StartsBy, Starts, ExecComes, StopsImage, StopsExec}
 use Rattle.proc_calls.proofs.Callers.{caller_lives}
-use Rattle.proc_calls.proofs.Stopping.{before_found, left_whole}
+use Rattle.machine_state.proofs.Asked.{stopped_found}
+use Rattle.proc_calls.proofs.Stopping.{left_whole}
 use Rattle.proc_calls.proofs.Leaving.{GoesOn, settled_goes, space_stays, lender_lives}
 
 -- Once its space is settled.
@@ -205,17 +206,18 @@ stops_before old new stop s w c f = record {
 }
 
 pub reply_stops : (stop : Stop) (fits : Bool) (m asked new : Standing) (pid image : ℕ) (after : Regs) (top : List ℕ) (holds : Option (List NamedFile)) (i j : Option (List ℕ))
-    → fits ≡ true → Finds (image_found image) fits m asked pid holds i j → m.before ≡ m.kernel.holdings → HasStopped asked new
+    → fits ≡ true → Finds (image_found image) fits m asked pid holds i j → m.before ≡ m.kernel.holdings → length asked.kernel.journal < asked.params.journal → HasStopped asked new
     → ((let r : Result Called Stop = Err stop in r) ≡ Err stops.JournalFull) ⊎ ((let r : Result Called Stop = Err stop in r) ≡ Err stops.NoMemory)
     → ((let r : Result Called Stop = Err stop in r) ≡ Err stops.JournalFull → asked.params.journal ≤ length asked.kernel.journal) → StopsImage m new pid after image top holds i j stop
-reply_stops stop fits m asked new pid image after top holds i j e f w s cause full =
+reply_stops stop fits m asked new pid image after top holds i j e f w room s cause full =
     let l : LeavesFor (image_found image) m asked pid holds i j = found_of fits true m asked pid image holds i j e f in
     inl (inl (inr (
       sym f.answer ∙ e,
       inr (record {
         between = l.between;
         left = l.left;
-        stops = stops_before l.between new stop (before_found l.between new l.found (subst (λ (x : Standing). HasStopped x new) l.step s))
+        stops = stops_before l.between new stop
+            (stopped_found l.between asked new l.found l.step (subst (λ (x : Standing). length x.kernel.journal < x.params.journal) l.step room) s)
             (left_whole (has_lender m.kernel.processes pid) m l.between pid holds i j l.left w) cause
             (λ h. subst (λ (x : Standing). x.params.journal ≤ length x.kernel.journal) l.step (full h));
       }),

@@ -31,7 +31,7 @@ use Rattle.kernel_model.specs.Numbers.{Numbered}
 use Rattle.kernel_model.specs.Asks.{asked, HasSpace}
 use Rattle.kernel_model.specs.ChangeStep.{space_of_life, life_of_proc, change_if, change_step}
 use Rattle.machine_state.proofs.Numbered.{absent_none, below_absent}
-use Rattle.machine_state.specs.declared.pieces.Want.{Want}
+use Rattle.machine_state.specs.Want.{Want}
 use Rattle.machine_state.specs.Wants.{wanted_of}
 use Rattle.machine_state.specs.Machine.{Standing}
 use Rattle.machine_state.specs.Applying.{CanApply, MayAct, facts_named}

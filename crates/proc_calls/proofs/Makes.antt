@@ -30,7 +30,7 @@ use Rattle.kernel_model.specs.ChangeStep.{with_proc, child_proc, life_of_proc, c
 use Rattle.kernel_model.specs.Asks.{asked}
 use Rattle.machine_state.proofs.Numbered.{has_number, absent_none, below_absent, pushed_new, pushed_found}
 use Rattle.machine_state.proofs.KernelLawsMachineProcesses.{with_at, with_not}
-use Rattle.machine_state.specs.declared.pieces.Want.{Want}
+use Rattle.machine_state.specs.Want.{Want}
 use Rattle.machine_state.specs.Wants.{wanted_of, found_for, fits_for}
 use Rattle.machine_state.specs.Calls.{life_in}
 use Rattle.machine_state.specs.Machine.{Standing, processes_of}

@@ -40,7 +40,7 @@ use Rattle.machine_state.specs.Applying.{CanApply, MayAct, facts_named}
 use Rattle.machine_state.specs.Done.{sources}
 use Rattle.machine_state.specs.UserMemory.{CanLend}
 use Rattle.machine_state.specs.Wants.{wanted_of, found_for}
-use Rattle.machine_state.specs.declared.pieces.Want.{Want}
+use Rattle.machine_state.specs.Want.{Want}
 use Rattle.proc_calls.specs.Callers.{space_held, IsCaller}
 use Rattle.proc_calls.specs.Sizing.{data_pages_of, stack_pages_of, break_at, pieces_found, with_pieces, with_refusal}
 use Rattle.proc_calls.specs.Leaving.{HasSettled}

@@ -31,7 +31,7 @@ use Rattle.kernel_model.specs.Numbers.{Numbered}
 use Rattle.kernel_model.specs.Asks.{text_asked, image_pieces, image_asked}
 use Rattle.machine_state.proofs.Numbered.{absent_none}
 use Rattle.machine_state.proofs.KernelLawsSoundAllowed.{new_number}
-use Rattle.machine_state.specs.declared.pieces.Want.{Want}
+use Rattle.machine_state.specs.Want.{Want}
 use Rattle.machine_state.specs.Named.{Named}
 use Rattle.machine_state.specs.Machine.{Standing, image_shown}
 use Rattle.machine_state.specs.Sourced.{ImageNamed, named_at}

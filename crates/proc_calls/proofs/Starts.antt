@@ -13,7 +13,7 @@ use Rattle.page_laws.proofs.Moves.Puts.{KeptByPuts, rest_by_puts, done_kept}
 use Rattle.machine_state.proofs.Shapes.{done_shaped, sizes_kept}
 use Rattle.kernel_model.specs.Kernel.{Kernel, done_step}
 use Rattle.kernel_model.specs.Unit.{has_lender}
-use Rattle.machine_state.specs.declared.pieces.Want.{Want}
+use Rattle.machine_state.specs.Want.{Want}
 use Rattle.machine_state.specs.Machine.{Standing}
 use Rattle.machine_state.specs.Conditions.{KeepsFlat}
 use Rattle.machine_state.specs.Done.{Sources, sources}

@@ -13,6 +13,7 @@ use Rattle.machine_state.specs.Machine.{Standing}
 use Rattle.machine_state.specs.Conditions.{HasStopped}
 use Rattle.machine_state.specs.Done.{sources}
 use Rattle.machine_state.specs.Settled.{StopsSettling}
+use Rattle.machine_state.proofs.Asked.{stopped_found}
 use Rattle.proc_calls.specs.Answered.{StopsEntering, StopsBefore}
 use Rattle.proc_calls.specs.Callers.{space_held}
 use Rattle.proc_calls.specs.Leaving.{HasSettled, HasLeftBy, HasLeft, StopsLeaving, StopsAlive}
@@ -25,19 +26,17 @@ use Rattle.proc_calls.proofs.Leaving.{settled_goes}
 pub whole_stops : (m new : Standing) (stop : Stop) → m.before ≡ m.kernel.holdings → StopsEntering m new stop → StopsBefore m new stop
 whole_stops m new stop w s = record { stopped = s.stopped; whole = w; cause = s.cause; full = s.full }
 
--- pieces that were found change no more than the holdings
-pub before_found : (b new : Standing) (hs : Holdings) → HasStopped (with_pieces b hs) new → HasStopped b new
-before_found b new hs s = record { journal = s.journal; params = s.params; images = s.images; full = s.full; held = s.held }
-
-pub found_stops : (m asked new : Standing) (hs : Holdings) (stop : Stop) → asked ≡ with_pieces m hs → m.before ≡ m.kernel.holdings → StopsEntering asked new stop → StopsBefore m new stop
-found_stops m asked new hs stop e w s =
+-- before the entry that takes the pieces
+pub found_stops : (m asked new : Standing) (hs : Holdings) (stop : Stop) → asked ≡ with_pieces m hs → m.before ≡ m.kernel.holdings → length m.kernel.journal < m.params.journal → StopsEntering asked new stop
+    → StopsBefore m new stop
+found_stops m asked new hs stop e w room s =
     let t : StopsEntering (with_pieces m hs) new stop = subst (λ (x : Standing). StopsEntering x new stop) e s in
-    record { stopped = before_found m new hs t.stopped; whole = w; cause = t.cause; full = t.full }
+    record { stopped = stopped_found m asked new hs e room s.stopped; whole = w; cause = t.cause; full = t.full }
 
-pub grown_stops : {A : Type 0} (r : Result A Stop) (m asked new : Standing) (pid pages : ℕ) (hs : Holdings) → asked ≡ with_pieces m hs → m.before ≡ m.kernel.holdings → IfErr r (StopsEntering asked new)
-    → IfErr r (StopsPlain m new pid pages)
-grown_stops (Ok x) m asked new pid pages hs e w s = tt
-grown_stops (Err stop) m asked new pid pages hs e w s = inl (found_stops m asked new hs stop e w s)
+pub grown_stops : {A : Type 0} (r : Result A Stop) (m asked new : Standing) (pid pages : ℕ) (hs : Holdings) → asked ≡ with_pieces m hs → m.before ≡ m.kernel.holdings → length m.kernel.journal < m.params.journal
+    → IfErr r (StopsEntering asked new) → IfErr r (StopsPlain m new pid pages)
+grown_stops (Ok x) m asked new pid pages hs e w room s = tt
+grown_stops (Err stop) m asked new pid pages hs e w room s = inl (found_stops m asked new hs stop e w room s)
 
 -- transfers that end take no pieces
 settled_whole : (m b : Standing) (sid : ℕ) (holds : Option (List NamedFile)) (i j : Option (List ℕ)) → HasSettled m b sid holds i j → m.before ≡ m.kernel.holdings → b.before ≡ b.kernel.holdings

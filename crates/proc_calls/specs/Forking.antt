@@ -8,7 +8,7 @@ use Rattle.flat_state.specs.declared.change.Change.TheVariants as changes
 use Rattle.flat_model.specs.declared.calls.SystemCall.TheVariants.{Fork}
 use Rattle.page_model.specs.Place.{data_count, stack_count, fork_space}
 use Rattle.kernel_model.specs.Kernel.{Kernel}
-use Rattle.machine_state.specs.declared.pieces.Want.{Want}
+use Rattle.machine_state.specs.Want.{Want}
 use Rattle.machine_state.specs.Machine.{Standing}
 use Rattle.proc_calls.specs.Callers.{space_held}
 use Rattle.proc_calls.specs.Copying.{AreCopiesFrom, CopiesAll, StopsCopying}

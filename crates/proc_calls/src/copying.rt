@@ -23,8 +23,8 @@ fn page_in(sid: u32, page: Page) -> Page
     }
 }
 
-// The page that is due first is copied from its parent's page, which comes in first.
-fn copy_page<F: Files, D: SwapDev>(
+/// The page that is due first is copied from its parent's page, which comes in first, and is locked meanwhile.
+pub fn copy_page<F: Files, D: SwapDev>(
     m: &mut Machine,
     files: &mut F,
     swap: &mut D,

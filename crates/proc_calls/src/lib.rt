@@ -19,7 +19,7 @@ mod starting;
 mod writing;
 
 pub use children::{getpid, wait};
-pub use copying::copy_due;
+pub use copying::{copy_due, copy_page};
 pub use ending::{exit, kill, leave_space};
 pub use executing::execve;
 pub use fault_fill;
@@ -28,6 +28,6 @@ pub use filling::fill_start;
 pub use laws::break_is_flat;
 pub use making::{fork, vfork};
 pub use reading::read_by_call;
-pub use replying::Called;
+pub use replying::{Called, answer_refused, answer_sent};
 pub use sizing::brk;
 pub use writing::write;

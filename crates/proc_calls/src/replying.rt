@@ -1,17 +1,17 @@
 // Replies of calls.
 ghost use Rattle.std.specs.Prelude.{◌≡◌, ◌⊎◌, ◌≤◌, ◌↔◌, [], true, false, length, Some, IsSome, IfOk, OnOk, IfErr, OnErr, Ok, Err};
 ghost use Rattle.flat_state.specs.declared.change.Change.TheVariants.{Keep};
-ghost use Rattle.flat_model.specs.Calls.{replied, replied_both};
+ghost use Rattle.flat_model.specs.Calls.{no_memory, replied, replied_both};
 ghost use Rattle.flat_model.specs.declared.calls.Reply.TheVariants.{Fails};
 ghost use Rattle.flat_model.specs.Step.{call_entry};
 ghost use Rattle.machine_state.specs.Machine.{proc_shown};
 ghost use Rattle.machine_state.specs.Applying.{CanApply};
 ghost use Rattle.machine_state.specs.Conditions.{HasStopped};
 ghost use Rattle.machine_state.specs.UserMemory.{CanLend};
-ghost use Rattle.proc_calls.specs.Answered.{Answered, Replied, Comes, StopsReading};
+ghost use Rattle.proc_calls.specs.Answered.{Answered, Replied, Comes, StopsBefore, StopsReading};
 ghost use Rattle.proc_calls.specs.Callers.{proc_in};
 
-use flat_model::{EFAULT, SystemCall};
+use flat_model::{EFAULT, ENOMEM, SystemCall};
 use flat_state::Change;
 use machine_state::Machine;
 use proc_table::Proc;
@@ -136,4 +136,39 @@ pub fn refuse(
         Refused::Miss { address, .. } => Ok(Called::Miss { address }),
         Refused::Below { .. } | Refused::Signal(_) => fail(m, pid, call, regs, EFAULT),
     }
+}
+
+/// The rest of a call of which so many bytes went out, after their entry.
+pub fn answer_sent(
+    m: &mut Machine,
+    pid: u32,
+    call: SystemCall,
+    regs: &Regs,
+    count: u32,
+) -> Result<Called, Stop>
+    requires running { m.old.kernel.stopped ≡ false }
+    requires whole { m.old.before ≡ m.old.kernel.holdings }
+    requires clear { m.old.kernel.place.due ≡ [] }
+    requires lends { CanLend m.old.kernel pid }
+    ensures answered { OnOk result (Answered m.old m.new pid call (replied regs.now false count) Keep) }
+    ensures stops { IfErr result (StopsBefore m.old m.new) }
+{
+    reply(m, pid, call, &replied_one(regs, count), Change::Keep)
+}
+
+/// The rest of a call whose pieces of swap found no place, after the entry that says so.
+pub fn answer_refused(
+    m: &mut Machine,
+    pid: u32,
+    call: SystemCall,
+    regs: &Regs,
+) -> Result<Called, Stop>
+    requires running { m.old.kernel.stopped ≡ false }
+    requires whole { m.old.before ≡ m.old.kernel.holdings }
+    requires clear { m.old.kernel.place.due ≡ [] }
+    requires lends { CanLend m.old.kernel pid }
+    ensures answered { OnOk result (Answered m.old m.new pid call (replied regs.now true no_memory) Keep) }
+    ensures stops { IfErr result (StopsBefore m.old m.new) }
+{
+    fail(m, pid, call, regs, ENOMEM)
 }

@@ -55,7 +55,7 @@ vforked_keeps old new pid regs v =
 
 -- Copies.
 
-copied_keeps : (child parent : Page) (old new : Standing) (holds : Option (List NamedFile)) (i j : Option (List ℕ))
+pub copied_keeps : (child parent : Page) (old new : Standing) (holds : Option (List NamedFile)) (i j : Option (List ℕ))
     → CopiesPage child parent old new holds i j → HoldersStand old.kernel
     → HoldersStand new.kernel
 copied_keeps child parent old new holds i j c h = subst (λ (m : Standing). HoldersStand m.kernel) (sym c.copies)

@@ -59,7 +59,7 @@ forked_counts old between pid regs child c h =
     (caller_there old.kernel pid c.lends) h.made.answer in
     on.counted
 
-page_counts : (child parent : Page) (old new : Standing) (holds : Option (List NamedFile)) (i j : Option (List ℕ)) → CopiesPage child parent old new holds i j
+pub page_counts : (child parent : Page) (old new : Standing) (holds : Option (List NamedFile)) (i j : Option (List ℕ)) → CopiesPage child parent old new holds i j
     → instructions_of new.kernel.journal ≡ instructions_of old.kernel.journal
 page_counts child parent old new holds i j c =
     let s = c.serves.0 in

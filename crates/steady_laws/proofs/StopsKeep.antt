@@ -119,7 +119,7 @@ pub filled_same : (page : Page) (old new : Standing) (holds : Option (List Named
 filled_same page old new holds i j h =
     same_through old h.roomy new (forced_same [] old h.roomy holds i j h.forces) (record { params = ap (λ (m : Standing). m.params) h.fills; images = ap (λ (m : Standing). m.images) h.fills })
 
-page_same : (child parent : Page) (old new : Standing) (holds : Option (List NamedFile)) (i j : Option (List ℕ)) (stop : Stop) → StopsPage child parent old new holds i j stop → KeptAtStop old new stop
+pub page_same : (child parent : Page) (old new : Standing) (holds : Option (List NamedFile)) (i j : Option (List ℕ)) (stop : Stop) → StopsPage child parent old new holds i j stop → KeptAtStop old new stop
 page_same child parent old new holds i j stop h = elim h [
   | inl x ↦ serving_same true (parent ∷ []) parent old new holds i j stop x
   | inr x ↦ kept_through old x.served new stop (beside_same old x.served x.serves.0.makes.beside) (elim x.stops [

@@ -49,8 +49,8 @@ fn choose_out(m: &Machine, processes: &ProcTable, next: u32) -> Option<u32>
     }
 }
 
-// What the turn is to do.
-fn choose(m: &Machine) -> Turned
+/// What a turn is to do.
+pub fn choose(m: &Machine) -> Turned
     requires { m.now.kernel.stopped ≡ false }
     ensures { choice_of result ≡ swap_choice m.now.kernel.place (runners_of m.now.kernel) }
 {

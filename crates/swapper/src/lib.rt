@@ -8,7 +8,7 @@ mod largest;
 mod putting_out;
 mod seats;
 
-pub use choosing::turn;
+pub use choosing::{choose, turn};
 pub use putting_out::{swap_in, swap_out};
 
 /// What a turn of the swapper did.

@@ -8,7 +8,6 @@ ghost use Rattle.page_model.specs.Serve.{is_full};
 ghost use Rattle.page_model.specs.Place.{pages_of_space};
 ghost use Rattle.page_model.specs.Swapper.{is_out, put_out_unit, first_seated};
 ghost use Rattle.kernel_model.specs.Asks.{HasSpace};
-ghost use Rattle.kernel_model.specs.Unit.{has_lender};
 ghost use Rattle.machine_state.specs.Files.{AreFiles};
 ghost use Rattle.machine_state.specs.Calls.{CanComeIn};
 ghost use Rattle.machine_state.specs.Conditions.{KeepsFlat};
@@ -233,7 +232,7 @@ fn held_by(m: &Machine, pid: u32) -> u32
     sid
 }
 
-/// Puts a process out that is in and holds a space of its own: its pages leave their frames in turn, each dirty run by a
+/// Puts a process out that is in and holds a space: its pages leave their frames in turn, each dirty run by a
 /// write that is waited for, and then its u page is written. Its record keeps no registers.
 pub fn swap_out<F: Files, D: SwapDev>(
     m: &mut Machine,
@@ -247,7 +246,6 @@ pub fn swap_out<F: Files, D: SwapDev>(
     requires files { AreFiles m.old.images (F.holds files.old) }
     requires clear { m.old.kernel.place.due ≡ [] }
     requires holds { (sid : ℕ) × HoldsThere m.old.kernel pid sid }
-    requires own { has_lender m.old.kernel.processes pid ≡ false }
     requires resident { is_out m.old.kernel.place pid ≡ false }
     ensures put { OnOk result ((sid : ℕ) × HoldsThere m.old.kernel pid sid
         × PutOut pid sid m.old m.new (F.holds files.old) (D.image swap.old) (D.image swap.new)) }

@@ -55,7 +55,7 @@ returns-clause-finds g c =
 pub returns-then-not-branch-clause-stops : goal.returns-then-not-branch-clause-stops
 returns-then-not-branch-clause-stops g c =
     asked_before c.ask.result (wants_found c.args.wants.now) c.args.m.now c.fits.new.self c.ask.new.self c.args.pid (g.F.Files.holds c.args.files.now) (g.D.SwapDev.image c.args.swap.now)
-    c.in_ok-fits.ensures.same c.requires.calls.whole c.ask.ensures.stop c.ask.ensures.cause (λ e. (c.ask.ensures.full e).1)
+    c.in_ok-fits.ensures.same c.requires.calls.whole c.ask.ensures.stop c.ask.ensures.cause c.ask.ensures.full.0
 
 pub returns-clause-stops : goal.returns-clause-stops
 returns-clause-stops g c =
@@ -65,4 +65,4 @@ returns-clause-stops g c =
     let n = c.leave_space.new.m in
     let left = subst (λ (x : Standing). HasLeft x n c.args.pid holds i j) c.in_ok-fits.ensures.same c.in_ok-leave_space.ensures.left in
     asked_alive c.ask-2.result (wants_found c.args.wants.now) c.args.m.now c.ask-2.new.self c.args.pid holds i j (sym c.in_ok-fits.ensures.answer ∙ c.if-not-branch.false)
-    (once_left c.ask-2.result c.args.m.now n c.ask-2.new.self c.args.pid holds i j c.requires.calls.whole left c.ask-2.ensures.stop c.ask-2.ensures.cause (λ e. (c.ask-2.ensures.full e).1))
+    (once_left c.ask-2.result c.args.m.now n c.ask-2.new.self c.args.pid holds i j c.requires.calls.whole left c.ask-2.ensures.stop c.ask-2.ensures.cause c.ask-2.ensures.full.0)
