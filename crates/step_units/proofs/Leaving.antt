@@ -19,8 +19,8 @@ use Rattle.kernel_model.specs.Unit.{has_lender, lender_among}
 use Rattle.machine_state.specs.Machine.{Standing}
 use Rattle.machine_state.specs.Done.{sources}
 use Rattle.machine_state.specs.Settled.{StopsSettling}
-use Rattle.swapper.proofs.Stopping.{stays_put, full_here}
-use Rattle.swapper.specs.Stops.{StaysPut, StaysReturned, LeftBy}
+use Rattle.swapper.proofs.Stopping.{stays_starved, full_here}
+use Rattle.swapper.specs.Stops.{StaysPut, StaysStarved, StaysReturned, LeftBy}
 use Rattle.proc_calls.specs.Callers.{space_held}
 use Rattle.proc_calls.specs.Leaving.{HasSettled, HasLeftBy, HasLeft, StopsOwn, StopsLent, StopsLeaving}
 use Rattle.proc_calls.proofs.Leaving.{GoesOn, settled_goes}
@@ -242,13 +242,13 @@ module _ (A : Inputs) (s : State) (old between : Standing) (image : List ℕ) (p
           subst (λ (k : Kernel). StaysPut k new) (l.back ∙ ap (λ (b : Bool). returned b l.kernel pid) e) (full_here between new h.stopped h.whole (h.full f))
 
       -- where it went back it may be that the entry found no memory
-      starves : (b : Bool) → has_lender l.kernel.processes pid ≡ b → new.kernel.stopped ≡ l.kernel.stopped → StaysPut l.kernel new ⊎ StaysReturned l.kernel new
-      starves b e running = gave b (subst (λ (k : Kernel). StaysPut k new) is (stays_put between new h.stopped h.whole (running ∙ sym (returned_stopped b l.kernel pid) ∙ sym (ap (λ (k : Kernel). k.stopped) is))))
+      starves : (b : Bool) → has_lender l.kernel.processes pid ≡ b → new.kernel.stopped ≡ l.kernel.stopped → StaysStarved l.kernel new ⊎ StaysReturned l.kernel new
+      starves b e running = gave b (subst (λ (k : Kernel). StaysStarved k new) is (stays_starved between new h.stopped h.whole (running ∙ sym (returned_stopped b l.kernel pid) ∙ sym (ap (λ (k : Kernel). k.stopped) is))))
         where
           is : between.kernel ≡ returned b l.kernel pid
           is = l.back ∙ ap (λ (c : Bool). returned c l.kernel pid) e
 
-          gave : (c : Bool) → StaysPut (returned c l.kernel pid) new → StaysPut l.kernel new ⊎ StaysReturned l.kernel new
+          gave : (c : Bool) → StaysStarved (returned c l.kernel pid) new → StaysStarved l.kernel new ⊎ StaysReturned l.kernel new
           gave true put = inr (pid, lender_among l.kernel.processes pid, put)
           gave false put = inl put
 

@@ -41,3 +41,6 @@ pub mod Choosing
 pub mod PuttingOut
 pub mod Longwords
 pub mod Residing
+pub mod Telling
+pub mod Resting
+pub mod Finding

@@ -31,7 +31,7 @@ use Rattle.swapper.proofs.PagingUnitsUnits.{unit_place}
 use Rattle.swapper.specs.declared.Turned.{Turned}
 use Rattle.swapper.specs.declared.Turned.TheVariants as turns
 use Rattle.swapper.specs.Runners.{runners_of, choice_of}
-use Rattle.swapper.specs.Putting.{HoldsThere, PutOut}
+use Rattle.swapper.specs.Putting.{HoldsThere, PutOut, StopsPutting}
 use Rattle.swapper.specs.Turns.{Turns, StopsTurning}
 use Rattle.run_units.specs.Longwords.{AllFit}
 use Rattle.run_model.specs.declared.mark.Mark.{Mark}
@@ -162,7 +162,7 @@ nothing_made A s old new image j c m e i = record {
   unturned = ap last_turned m;
 }
 
-in_comes : (A : Inputs) (s : State) (old new : Standing) (image : List ℕ) (j : Option (List ℕ)) (pid : ℕ) → IsClear s → s.mark ≡ marks.BringIn pid
+pub in_comes : (A : Inputs) (s : State) (old new : Standing) (image : List ℕ) (j : Option (List ℕ)) (pid : ℕ) → IsClear s → s.mark ≡ marks.BringIn pid
     → IsIn old.kernel new.kernel pid (Some image)
     → j ≡ Some image → LineLeads A s old.kernel image new.kernel j
 unfolding after
@@ -203,7 +203,7 @@ last_out A s k l image j pid sid at b p h o fit e step w =
       unturned = ap (λ (x : Mark). last_turned (put_out x)) p.mark;
     }
 
-out_comes : (A : Inputs) (s : State) (old new : Standing) (holds : Option (List NamedFile)) (image : List ℕ) (j : Option (List ℕ)) (pid sid : ℕ)
+pub out_comes : (A : Inputs) (s : State) (old new : Standing) (holds : Option (List NamedFile)) (image : List ℕ) (j : Option (List ℕ)) (pid sid : ℕ)
     → MachineAt A s old holds image → IsClear s
     → AllFit s.point.flat.processes → s.mark ≡ marks.PutOut pid → HoldsThere old.kernel pid sid → PutOut pid sid old new holds (Some image) j → LineLeads A s old.kernel image new.kernel j
 out_comes A s old new holds image j pid sid at c fit m there o =
@@ -245,6 +245,21 @@ swapper_made A s old new holds image j (turns.In pid) at c fit m e t = in_comes 
 swapper_made A s old new holds image j (turns.Out pid) at c fit m e t =
     out_comes A s old new holds image j pid t.0 at c fit (chosen_mark A s old holds image (turns.Out pid) at m e) t.1 t.2
 
+pub out_stops : (A : Inputs) (s : State) (old new : Standing) (holds : Option (List NamedFile)) (image : List ℕ) (j : Option (List ℕ)) (pid sid : ℕ) (stop : Stop)
+    → MachineAt A s old holds image → IsClear s → s.mark ≡ marks.PutOut pid → HoldsThere old.kernel pid sid → StopsPutting pid sid old stop new holds (Some image) j
+    → StopLeads A s old.kernel image stop new j
+out_stops A s old new holds image j pid sid stop at c m there o =
+    let g : Ground = ground old holds [] in
+    let h : Holder s.point.flat pid sid = holder old.kernel s.point.flat pid sid at.at.stands.keeps.coupled.tables there.holds in
+    let led : LeadsPutting A s old.kernel image pid sid o.units o.at o.image =
+    putting o.units A g s old.kernel o.at image o.image pid sid (length old.kernel.journal) at.at at.images (puts_process s old.kernel pid sid c m h) o.puts o.made in
+    let b : List ℕ = led.leads.behind in
+    let leads : Leads A s old.kernel image o.units led.state o.at (Some b) = subst (λ (z : Option (List ℕ)). Leads A s old.kernel image o.units led.state o.at z) led.leads.told led.leads in
+    let behind : At A led.state o.at b = leads_at A s led.state old.kernel o.at image b o.units at.at leads in
+    stops_behind A s led.state old.kernel o.at image b o.units stop new j (put_out_unit o.at.place pid sid) leads
+    (put_next A led.state pid sid led.puts ∙ ap (λ (y : Placement). Some (put_out_unit y pid sid)) (sym behind.stands.place))
+    (subst (λ (z : Option (List ℕ)). StopsAt (put_out_unit o.at.place pid sid) o.at z stop new j) led.leads.told o.stops)
+
 pub swapper_stops : (A : Inputs) (s : State) (old new : Standing) (holds : Option (List NamedFile)) (image : List ℕ) (j : Option (List ℕ)) (t : Turned) (stop : Stop)
     → MachineAt A s old holds image
     → IsClear s → s.mark ≡ swap_mark (swap_choice s.place (runners s.point.flat)) → choice_of t ≡ swap_choice old.kernel.place (runners_of old.kernel)
@@ -254,16 +269,4 @@ swapper_stops A s old new holds image j turns.Nothing stop at c m e x = absurd x
 swapper_stops A s old new holds image j (turns.In pid) stop at c m e x =
     stops_here A s old.kernel image stop new j (entries.SwapIn pid) ((line_asks A s c.clear).0 pid (chosen_mark A s old holds image (turns.In pid) at m e)) x
 swapper_stops A s old new holds image j (turns.Out pid) stop at c m e x =
-    let sid : ℕ = x.0 in
-    let o = x.2 in
-    let g : Ground = ground old holds [] in
-    let h : Holder s.point.flat pid sid = holder old.kernel s.point.flat pid sid at.at.stands.keeps.coupled.tables x.1.holds in
-    let led : LeadsPutting A s old.kernel image pid sid o.units o.at o.image =
-    putting o.units A g s old.kernel o.at image o.image pid sid (length old.kernel.journal) at.at at.images
-    (puts_process s old.kernel pid sid c (chosen_mark A s old holds image (turns.Out pid) at m e) h) o.puts o.made in
-    let b : List ℕ = led.leads.behind in
-    let leads : Leads A s old.kernel image o.units led.state o.at (Some b) = subst (λ (z : Option (List ℕ)). Leads A s old.kernel image o.units led.state o.at z) led.leads.told led.leads in
-    let behind : At A led.state o.at b = leads_at A s led.state old.kernel o.at image b o.units at.at leads in
-    stops_behind A s led.state old.kernel o.at image b o.units stop new j (put_out_unit o.at.place pid sid) leads
-    (put_next A led.state pid sid led.puts ∙ ap (λ (y : Placement). Some (put_out_unit y pid sid)) (sym behind.stands.place))
-    (subst (λ (z : Option (List ℕ)). StopsAt (put_out_unit o.at.place pid sid) o.at z stop new j) led.leads.told o.stops)
+    out_stops A s old new holds image j pid x.0 stop at c (chosen_mark A s old holds image (turns.Out pid) at m e) x.1 x.2

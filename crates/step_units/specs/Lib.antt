@@ -1,3 +1,4 @@
+pub use Rattle.run_units.specs.Acting
 pub use Rattle.run_units.specs.RunLawsRunning
 pub use Rattle.run_units.specs.Filling
 pub use Rattle.run_units.specs.Leads
@@ -12,3 +13,5 @@ pub mod Running
 pub mod Lines
 pub mod Registers
 pub mod Residing
+pub mod Rests
+pub mod Halfway

@@ -2,6 +2,7 @@ ghost use Rattle.step_units.specs.Plain.{WaitIsMade, GetpidIsMade, WriteIsMade, 
 ghost use Rattle.step_units.specs.Making.{VforkIsMade, VforkStops, ForkIsMade, ForkStops};
 ghost use Rattle.step_units.specs.Leaving.{SignalEnds, NoCallEnds, EndIsMade, EndStops, ExitIsMade, ExitStops, ExecIsMade, ExecStops};
 ghost use Rattle.step_units.specs.Sizing.{BreakIsMade, BreakStops};
+ghost use Rattle.step_units.specs.Rests.{BeginningIsLast, SentRests, RefusedRests, RestIsMade, RestStops};
 ghost use Rattle.step_units.specs.Running.{InstructionIsMade, ServeIsMade, ServeStops, ServeNowIsMade, ServeNowStops};
 
 /// A wait, a question for its number and a write of a process are its step, and so is any call whose read was refused. Where a
@@ -56,4 +57,14 @@ pub fn instructions_are_steps()
     ensures serve_stops { ServeStops }
     ensures serves_now { ServeNowIsMade }
     ensures serve_now_stops { ServeNowStops }
+{}
+
+/// A step of which bytes went out, or whose pieces found no place, is begun where that entry is the last one but for ends of
+/// transfers. What is left of it is the reply of its call, or the end of a process whose stack can't grow.
+pub fn rests_are_made()
+    ensures begun { BeginningIsLast }
+    ensures sent { SentRests }
+    ensures refused { RefusedRests }
+    ensures is { RestIsMade }
+    ensures stops { RestStops }
 {}

@@ -3,11 +3,13 @@
 //! code here: each law is the clause of a function with an empty body.
 #![tactic(auto)]
 
+mod halfway;
 mod laws;
 mod lines;
 
+pub use halfway::{marks_find_theirs, marks_go_on};
 pub use laws::{
     breaks_are_steps, calls_are_steps, ends_are_steps, forks_are_steps, images_are_steps,
-    instructions_are_steps,
+    instructions_are_steps, rests_are_made,
 };
 pub use lines::{lines_are_made, lines_begin, longwords_stay, turns_begin};
