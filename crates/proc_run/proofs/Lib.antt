@@ -15,3 +15,5 @@ pub mod Marks
 pub mod SoFar
 mod StopsSame
 pub mod Stretched
+mod Finished
+pub mod BegunTold

@@ -48,7 +48,7 @@ flat_outline n (q ∷ qs) = go (q.pid == n) (flat_outline n qs)
     go true e = ready_one q.asleep q.holding
     go false e = e
 
-steps_same : (k : Kernel) (F : FlatState) (pid : ℕ) → SameTables k F → flat_steps F pid ≡ steps_by (proc_of k pid)
+pub steps_same : (k : Kernel) (F : FlatState) (pid : ℕ) → SameTables k F → flat_steps F pid ≡ steps_by (proc_of k pid)
 steps_same k F pid t =
     flat_outline pid F.processes ∙ ap (λ (os : List Outline). steps_outline (find (λ (o : Outline). o.pid == pid) os)) (sym t.processes) ∙ sym (kept_steps pid k.processes)
 
@@ -79,19 +79,19 @@ none_left true false y h = refl
 none_left true true false h = refl
 none_left true true true h = absurd (h refl refl)
 
-goes_true : (A : Inputs) (s : State) (pid more until : ℕ) → until ≡ min more A.limit → s.count < until → flat_steps s.point.flat pid ≡ true
+pub goes_true : (A : Inputs) (s : State) (pid more until : ℕ) → until ≡ min more A.limit → s.count < until → flat_steps s.point.flat pid ≡ true
     → goes_on A s pid more ≡ true
 goes_true A s pid more until e l c =
     let below : s.count < A.limit = omega (arith, e, l) in
     let short : s.count < more = omega (arith, e, l) in
     all_true (flat_steps s.point.flat pid) (nat_lt s.count A.limit) (nat_lt s.count more) c (grind (arith, nat_tests)) (grind (arith, nat_tests))
 
-goes_false : (A : Inputs) (s : State) (pid more until : ℕ) → until ≡ min more A.limit → until ≤ s.count → goes_on A s pid more ≡ false
+pub goes_false : (A : Inputs) (s : State) (pid more until : ℕ) → until ≡ min more A.limit → until ≤ s.count → goes_on A s pid more ≡ false
 goes_false A s pid more until e l =
     none_left (flat_steps s.point.flat pid) (nat_lt s.count A.limit) (nat_lt s.count more)
     (λ x y. let a : s.count < A.limit = grind (arith, nat_tests) in let b : s.count < more = grind (arith, nat_tests) in absurd (let z : s.count < until = omega (arith, e, a, b) in omega (arith, z, l)))
 
-idle : (A : Inputs) (s : State) (pid more : ℕ) → flat_steps s.point.flat pid ≡ false → goes_on A s pid more ≡ false
+pub idle : (A : Inputs) (s : State) (pid more : ℕ) → flat_steps s.point.flat pid ≡ false → goes_on A s pid more ≡ false
 idle A s pid more e = ap (λ (c : Bool). c && (nat_lt s.count A.limit && nat_lt s.count more)) e
 
 is_false : (b : Bool) → not b ≡ true → b ≡ false
@@ -99,17 +99,17 @@ is_false true e = absurd cc
 is_false false e = refl
 
 module _ (A : Inputs) (s : State) (k : Kernel) (image : List ℕ) (pid until : ℕ) (at : At A s k image) where
-  steps : flat_steps s.point.flat pid ≡ steps_by (proc_of k pid)
-  steps = steps_same k s.point.flat pid at.stands.keeps.coupled.tables
+  pub can_steps : flat_steps s.point.flat pid ≡ steps_by (proc_of k pid)
+  can_steps = steps_same k s.point.flat pid at.stands.keeps.coupled.tables
 
-  out_same : is_out k.place pid ≡ is_out s.place pid
+  pub out_same : is_out k.place pid ≡ is_out s.place pid
   out_same = ap (λ (p : Placement). is_out p pid) at.stands.place
 
   pub runs : (now : Bool) → AsksRun A s pid now until → s.place.due ≡ [] → s.count < until → may_run k pid ≡ true
       → (p : Process) × (x : Space) × IsRunning A s pid now p x
   runs now asks clear l m =
       let parts = and_parts (steps_by (proc_of k pid)) (not (is_out k.place pid)) m in
-      let can : flat_steps s.point.flat pid ≡ true = steps ∙ parts.0 in
+      let can : flat_steps s.point.flat pid ≡ true = can_steps ∙ parts.0 in
       let t = there s.point.flat pid (process_of s.point.flat pid) refl can in
       let goes : Goes A s pid now = record { clear = clear; on = on now asks can; resident = sym out_same ∙ is_false (is_out k.place pid) parts.1 } in
       (t.0, t.1, record { runs = goes; here = t.2; holds = t.3 })
@@ -150,7 +150,7 @@ module _ (A : Inputs) (s : State) (k : Kernel) (image : List ℕ) (pid until : �
   over_idle now asks m r = go now asks r
     where
       idle_flat : (flat_steps s.point.flat pid && not (is_out s.place pid)) ≡ false
-      idle_flat = ap (λ (c : Bool). c && not (is_out s.place pid)) steps ∙ ap (λ (o : Bool). steps_by (proc_of k pid) && not o) (sym out_same) ∙ m
+      idle_flat = ap (λ (c : Bool). c && not (is_out s.place pid)) can_steps ∙ ap (λ (o : Bool). steps_by (proc_of k pid) && not o) (sym out_same) ∙ m
 
       go : (now : Bool) → AsksRun A s pid now until → (now ≡ true → is_out s.place pid ≡ false) → under A s s.mark ≡ None
       go false (n, since, e, u) r =

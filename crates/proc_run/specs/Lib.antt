@@ -4,3 +4,4 @@ pub mod Calls
 pub mod Serving
 pub mod Running
 pub mod Stretch
+pub mod Rests

@@ -6,10 +6,12 @@ mod advancing;
 mod attempting;
 mod calling;
 mod choosing;
+mod finishing;
 mod running;
 mod serving;
 mod stretch;
 
 pub use advancing::Patience;
 pub use choosing::{can_step, next_turned, ready_regs};
+pub use finishing::{Begun, begun_step, begun_steps_are_told, finish_step};
 pub use running::run;

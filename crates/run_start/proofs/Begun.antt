@@ -1,11 +1,9 @@
 -- What is so of a machine in which first processes begin.
-use Rattle.std.proofs.Common.{◌≡◌, inl, inr, ℕ, ◌+◌, ◌/◌, ◌<◌, ◌≤◌, List, [], ◌∷◌, ◌++◌, length, sym, ap, ◌∙◌, subst, arith}
+use Rattle.std.proofs.Common.{◌≡◌, inl, inr, ℕ, List, [], ◌∷◌, ◌++◌, length, sym, ap, ◌∙◌, subst}
 use Rattle.std.specs.Prelude.{None}
 use Rattle.std.proofs.lemmas.List.{length-replicate}
-use Rattle.vm_facts.specs.declared.page.Page.{Page}
 use Rattle.vm_facts.specs.declared.page.Page.TheVariants.{Stack}
-use Rattle.page_model.specs.Placement.{Due, Start, CopyOf}
-use Rattle.page_model.specs.Rank.{HasRoom}
+use Rattle.page_model.specs.Placement.{Start}
 use Rattle.kernel_model.specs.Kernel.{Kernel}
 use Rattle.kernel_model.specs.Numbers.{Numbered}
 use Rattle.kernel_laws.proofs.Sound.NumbersApart.{begin_numbered}
@@ -21,12 +19,10 @@ use Rattle.run_start.specs.Starting.{IsNew}
 use Rattle.run_start.specs.declared.starting.Started.{Started}
 use Rattle.run_start.specs.declared.starting.Started.TheVariants as starteds
 use Rattle.run_start.specs.Beginning.{BeginsAll, BeginsUntil, Begins}
-use Rattle.run_start.specs.Filling.{AreStarts}
 
 -- a machine in which a first process may begin
 pub record MayBegin (m : Standing) : Type 0 where
   pub running : IsRunning m
-  pub starts : AreStarts m.kernel.place.due
   pub holders : HoldersStand m.kernel
   pub same : m.kernel.next_sid ≡ m.kernel.next_pid
   pub numbered : Numbered m.kernel
@@ -34,7 +30,6 @@ pub record MayBegin (m : Standing) : Type 0 where
 pub new_may : (m : Standing) → IsNew m → Numbered m.kernel → MayBegin m
 new_may m n numbered = record {
   running = record { running = ap (λ (k : Kernel). k.stopped) n.kernel; whole = n.before ∙ sym (ap (λ (k : Kernel). k.holdings) n.kernel) };
-  starts = subst (λ (k : Kernel). AreStarts k.place.due) (sym n.kernel) tt;
   holders = subst HoldersStand (sym n.kernel) (fresh_stands (facts_named m.images) m.params.frames);
   same = ap (λ (k : Kernel). k.next_sid) n.kernel ∙ sym (ap (λ (k : Kernel). k.next_pid) n.kernel);
   numbered = numbered;
@@ -43,11 +38,6 @@ new_may m n numbered = record {
 pub new_frames : (m : Standing) → IsNew m → length m.kernel.place.holds ≡ m.params.frames
 new_frames m n = ap (λ (k : Kernel). length k.place.holds) n.kernel ∙ length-replicate m.params.frames None
 
-starts_more : (ds : List Due) (q : Page) → AreStarts ds → AreStarts (ds ++ Start q ∷ [])
-starts_more [] q a = tt
-starts_more (Start p ∷ ds) q a = starts_more ds q a
-starts_more (CopyOf p parent ∷ ds) q a = absurd a
-
 -- one more
 pub next_may : (old next : Standing) (n : ℕ) → MayBegin old → StartedFirst old next n → RunsOn old next 0 × MayBegin next
 next_may old next n b s =
@@ -55,7 +45,6 @@ next_may old next n b s =
       d.on,
       record {
         running = record { running = d.on.running; whole = d.on.whole };
-        starts = subst AreStarts (sym d.due) (starts_more old.kernel.place.due (Stack old.kernel.next_pid 0) b.starts);
         holders = started_stands old next n s b.same b.numbered b.holders;
         same = started_same old next n s b.same;
         numbered = subst (λ (m : Standing). Numbered m.kernel) (sym s.step) (begin_numbered old.kernel s.found n s.named.name s.named.facts b.same b.numbered);
@@ -69,16 +58,6 @@ all_may (n ∷ ns) old new b h =
     let one = next_may old next n b h.1 in
     let more = all_may ns next new one.1 h.2 in
     (runs_both old next new 0 0 one.0 more.0, more.1)
-
--- the room of the hands
-roomy : (n : ℕ) → 64 ≤ n → (0 < n / 4) × (0 + n / 4 < n)
-roomy n l = (omega (arith, l), omega (arith, l))
-
-pub room_in : (old new : Standing) → IsNew old → 64 ≤ old.params.frames → RunsOn old new 0 → HasRoom new.kernel.place []
-room_in old new n l on =
-    let r = roomy old.params.frames l in
-    let e : old.params.frames ≡ length new.kernel.place.holds = sym (on.frames ∙ new_frames old n) in
-    record { quarter = subst (λ (c : ℕ). 0 < c / 4) e r.0; rest = subst (λ (c : ℕ). 0 + c / 4 < c) e r.1 }
 
 -- where one finds no place the machine has its sizes and its images still
 until_kept : (pid : ℕ) (ns : List ℕ) (old new : Standing) → BeginsUntil pid ns old new → (new.params ≡ old.params) × (new.images ≡ old.images)

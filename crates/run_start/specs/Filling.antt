@@ -1,28 +1,29 @@
--- New stack pages that are due are filled in turn.
-use Rattle.std.specs.Prelude.{◌≡◌, ◌⊎◌, ℕ, List, [], ◌∷◌, Option}
+-- What is due is filled: a new stack page with its bytes, a page of a child by a copy.
+use Rattle.std.specs.Prelude.{◌≡◌, ℕ, List, ◌∷◌, Option, Some, None}
+use Rattle.vm_facts.specs.declared.page.Page.{Page}
 use Rattle.vm_facts.specs.declared.stop.Stop.{Stop}
 use Rattle.io_edge.specs.FileHolding.{NamedFile}
-use Rattle.page_model.specs.Placement.{Due, Start, CopyOf}
+use Rattle.page_model.specs.Placement.{Placement, Due, Start, CopyOf}
 use Rattle.machine_state.specs.Machine.{Standing}
+use Rattle.steady_laws.specs.Copying.{CopiesPage, StopsPage, GoesOn}
 use Rattle.steady_laws.specs.Filling.{FillsStart, StopsStart}
 
--- only new stack pages are due
-abbrev pub AreStarts : List Due → Type 0
-AreStarts [] = Unit {0}
-AreStarts (Start q ∷ ds) = AreStarts ds
-AreStarts (CopyOf q parent ∷ ds) = ⊥
+-- what is due of a page, by its parent's page, where it is to be copied from one
+abbrev pub due_of : Page → Option Page → Due
+due_of page None = Start page
+due_of page (Some parent) = CopyOf page parent
 
--- each of the pages that are due is filled
-abbrev pub FillsAll : List Due → Standing → Standing → Option (List NamedFile) → Option (List ℕ) → Option (List ℕ) → Type 0
-FillsAll [] old new holds before after = (new ≡ old) × (after ≡ before)
-FillsAll (Start q ∷ ds) old new holds before after =
-    (next : Standing) × (between : Option (List ℕ)) × FillsStart q old next holds before between × FillsAll ds next new holds between after
-FillsAll (CopyOf q parent ∷ ds) old new holds before after = ⊥
+-- this is due first
+pub record IsDueFirst (p : Placement) (d : Due) : Type 0 where
+  pub others : List Due
+  pub first : p.due ≡ d ∷ others
 
--- the run stops at one of them
-abbrev pub StopsFilling : List Due → Standing → Standing → Option (List NamedFile) → Option (List ℕ) → Option (List ℕ) → Stop → Type 0
-StopsFilling [] old new holds before after stop = ⊥
-StopsFilling (Start q ∷ ds) old new holds before after stop =
-    StopsStart q old new holds before after stop
-    ⊎ ((next : Standing) × (between : Option (List ℕ)) × FillsStart q old next holds before between × StopsFilling ds next new holds between after stop)
-StopsFilling (CopyOf q parent ∷ ds) old new holds before after stop = ⊥
+-- a new stack page is filled; or a child's page is copied, and the machine goes on
+abbrev pub FillsDue : Due → Standing → Standing → Option (List NamedFile) → Option (List ℕ) → Option (List ℕ) → Type 0
+FillsDue (Start q) old new holds before after = FillsStart q old new holds before after
+FillsDue (CopyOf q parent) old new holds before after = CopiesPage q parent old new holds before after × GoesOn q old new
+
+-- or the run stops there
+abbrev pub StopsDue : Due → Standing → Standing → Option (List NamedFile) → Option (List ℕ) → Option (List ℕ) → Stop → Type 0
+StopsDue (Start q) old new holds before after stop = StopsStart q old new holds before after stop
+StopsDue (CopyOf q parent) old new holds before after stop = StopsPage q parent old new holds before after stop

@@ -1,36 +1,69 @@
-//! The new stack pages that are due are filled in turn.
-ghost use Rattle.std.specs.Prelude.{◌≡◌, ◌≤◌, [], false, MatchResult};
+//! What is due is filled in turn.
+ghost use Rattle.std.specs.Prelude.{◌≡◌, ◌≤◌, ◌∷◌, [], length, false, OnOk, IfErr, MatchResult};
+ghost use Rattle.vm_facts.specs.declared.page.Page.{Page as AnyPage};
 ghost use Rattle.page_model.specs.Rank.{HasRoom};
 ghost use Rattle.machine_state.specs.Files.{AreFiles};
 ghost use Rattle.machine_state.specs.Outside.{stop_of, TransfersPages};
 ghost use Rattle.steady_laws.specs.LastMoves.{last_moves};
-ghost use Rattle.run_start.specs.Filling.{AreStarts, FillsAll, StopsFilling};
+ghost use Rattle.steady_laws.specs.Holders.{HoldersStand};
+ghost use Rattle.steady_laws.specs.Ready.{Continues};
+ghost use Rattle.steady_laws.specs.Sizes.{KeptAtStop};
+ghost use Rattle.run_start.specs.Filling.{due_of, IsDueFirst, FillsDue, StopsDue};
+ghost use Rattle.run_start.specs.Leading.{FillsRest, StopsRest};
 
 use io_edge::{Files, SwapDev};
 use machine_state::Machine;
-use steady_laws::proc_calls::fill_start;
-use vm_facts::Stop;
+use steady_laws::proc_calls::{copy_page, fill_start};
+use vm_facts::{Page, Stop};
 
-/// The new stack pages that are due are filled in turn, while nothing is locked.
-pub(crate) fn fill_due<F: Files, D: SwapDev>(
+// What is due first is filled: a new stack page with its bytes, while nothing is locked, or a child's page by a copy of its
+// parent's, while that is locked.
+fn fill_first<F: Files, D: SwapDev>(
+    m: &mut Machine,
+    files: &mut F,
+    swap: &mut D,
+    page: Page,
+    parent: Option<Page>,
+) -> Result<(), Stop>
+    requires running { m.old.kernel.stopped ≡ false }
+    requires whole { m.old.before ≡ m.old.kernel.holdings }
+    requires area { m.old.params.swap_blocks ≤ D.blocks swap.old }
+    requires files { AreFiles m.old.images (F.holds files.old) }
+    requires first { IsDueFirst m.old.kernel.place (due_of page parent) }
+    requires room { (q : AnyPage) → HasRoom m.old.kernel.place (q ∷ []) }
+    requires low { last_moves m.old.kernel.journal ≤ 1000000 }
+    ensures filled { MatchResult result (λ u. FillsDue (due_of page parent) m.old m.new (F.holds files.old) (D.image swap.old) (D.image swap.new))
+        (StopsDue (due_of page parent) m.old m.new (F.holds files.old) (D.image swap.old) (D.image swap.new)) }
+    ensures outside { TransfersPages F.Files D.SwapDev (stop_of result) files.old files.new swap.old swap.new }
+{
+    match parent {
+        Some(parent) => copy_page(m, files, swap, page, parent),
+        None => fill_start(m, files, swap, page),
+    }
+}
+
+/// Whatever is due is filled, one page after another: what is left of a fork's copies, the new stack page of an execve, or those
+/// of the start of a run. Nothing else of the run changes but pages and journal.
+pub fn fill_rest<F: Files, D: SwapDev>(
     m: &mut Machine,
     files: &mut F,
     swap: &mut D,
 ) -> Result<(), Stop>
     requires running { m.old.kernel.stopped ≡ false }
     requires whole { m.old.before ≡ m.old.kernel.holdings }
+    requires frames { 64 ≤ length m.old.kernel.place.holds }
+    requires low { last_moves m.old.kernel.journal ≤ 1000000 }
     requires area { m.old.params.swap_blocks ≤ D.blocks swap.old }
     requires files { AreFiles m.old.images (F.holds files.old) }
-    requires due { AreStarts m.old.kernel.place.due }
-    requires room { HasRoom m.old.kernel.place [] }
-    requires low { last_moves m.old.kernel.journal ≤ 1000000 }
-    ensures filled { MatchResult result (λ u. FillsAll m.old.kernel.place.due m.old m.new (F.holds files.old) (D.image swap.old) (D.image swap.new))
-        (StopsFilling m.old.kernel.place.due m.old m.new (F.holds files.old) (D.image swap.old) (D.image swap.new)) }
+    ensures leads { OnOk result (FillsRest m.old m.new (F.holds files.old) (D.image swap.old) (D.image swap.new)) }
+    ensures stops { IfErr result (StopsRest m.old m.new (F.holds files.old) (D.image swap.old) (D.image swap.new)) }
+    ensures goes_on { OnOk result (Continues m.old m.new 0) }
+    ensures holders { OnOk result (HoldersStand m.old.kernel → HoldersStand m.new.kernel) }
+    ensures kept { IfErr result (KeptAtStop m.old m.new) }
     ensures outside { TransfersPages F.Files D.SwapDev (stop_of result) files.old files.new swap.old swap.new }
 {
-    let Some(page) = m.due() else {
-        return Ok(());
-    };
-    fill_start(m, files, swap, page)?;
-    fill_due(m, files, swap)
+    while let Some((page, parent)) = m.due_at(0) {
+        fill_first(m, files, swap, page, parent)?;
+    }
+    Ok(())
 }

@@ -9,7 +9,7 @@ ghost use Rattle.run_start.specs.Starting.{IsNew, AreAmong, StartsFrom, started_
 ghost use Rattle.run_start.specs.Leading.{IsTold, StartLeads, StartStops};
 
 use crate::beginning::begin_all;
-use crate::filling::fill_due;
+use crate::filling::fill_rest;
 use io_edge::{Files, SwapDev};
 use machine_state::Machine;
 use vm_facts::Stop;
@@ -53,7 +53,7 @@ pub fn start<F: Files, D: SwapDev>(
     m.sound();
     let started = begin_all(m, first)?;
     match started {
-        Started::Ok => fill_due(m, files, swap)?,
+        Started::Ok => fill_rest(m, files, swap)?,
         Started::NoSpace(_) => {}
     }
     Ok(started)

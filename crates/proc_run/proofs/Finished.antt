@@ -1,0 +1,261 @@
+-- The rest of a step, by what the instruction of its process came to over the frames.
+use Rattle.std.proofs.Common.{◌≡◌, ◌⊎◌, inl, inr, ℕ, ℤ, ◌+◌, not, ◌&&◌, Bool, true, List, length, Option, Some, None, Result, Ok, Err, refl, sym, ap, ap₂, ◌∙◌, subst, arith}
+use Rattle.std.specs.Prelude.{IfErr, OnOk}
+use Rattle.std.proofs.lemmas.Option.{same_Some}
+use Rattle.io_edge.specs.FileHolding.{NamedFile}
+use Rattle.vm_facts.specs.declared.entry.Entry.{Entry}
+use Rattle.vm_facts.specs.declared.entry.Entry.TheVariants as entries
+use Rattle.vm_facts.specs.declared.regs.Regs.{Regs}
+use Rattle.vm_facts.specs.declared.stop.Stop.{Stop}
+use Rattle.user_vax.specs.Program.{run}
+use Rattle.user_vax.specs.Effects.{Effect}
+use Rattle.user_vax.specs.Instruction.{instruction, answer_of, answer_of_call}
+use Rattle.user_vax.specs.declared.refused.Refused.{Refused}
+use Rattle.user_vax.specs.declared.refused.Refused.TheVariants.{Below}
+use Rattle.user_vax.specs.declared.stepping.Stepped.{Stepped}
+use Rattle.user_vax.specs.declared.stepping.Stepped.TheVariants as steps
+use Rattle.flat_state.specs.Flat.{Process, Inputs}
+use Rattle.flat_state.specs.Journal.{instructions_of}
+use Rattle.flat_state.specs.Space.{Space}
+use Rattle.flat_state.specs.declared.change.Change.TheVariants.{Keep}
+use Rattle.flat_model.specs.Calls.{call_of, replied}
+use Rattle.flat_model.specs.declared.calls.Reply.TheVariants.{Does}
+use Rattle.flat_model.specs.declared.calls.SystemCall.{SystemCall}
+use Rattle.kernel_model.specs.Kernel.{Kernel}
+use Rattle.kernel_model.specs.Numbers.{Numbered}
+use Rattle.machine_state.specs.Machine.{Standing}
+use Rattle.machine_state.specs.UserMemory.{CanLend, kernel_answers}
+use Rattle.steady_laws.specs.Answered.{Answered, StopsBefore}
+use Rattle.steady_laws.specs.Called.TheVariants as calls
+use Rattle.steady_laws.specs.Callers.{IsCaller, regs_of}
+use Rattle.steady_laws.specs.Holders.{HoldersStand}
+use Rattle.steady_laws.specs.Leaving.{HasEnded, StopsAlive}
+use Rattle.steady_laws.specs.Ready.{Continues}
+use Rattle.steady_laws.proofs.Calls.{caller_holds, replied_keeps}
+use Rattle.steady_laws.proofs.CallsContinue.{reply_continues, end_continues}
+use Rattle.steady_laws.proofs.Leaving.{ended_keeps}
+use Rattle.run_model.specs.State.{State}
+use Rattle.touched_pages.proofs.Flows.{on_steps}
+use Rattle.touched_pages.specs.RunUnitsTouching.{IsRunning}
+use Rattle.touched_pages.specs.Serving.{At}
+use Rattle.step_units.specs.Rests.{ReplyRests, EndRests}
+use Rattle.step_units.specs.Stepped.{StepLeads, StopLeads}
+use Rattle.step_units.proofs.Ending.{ended, end_stops}
+use Rattle.step_units.proofs.Resting.{sent_rests, refused_rests, rest_made, rest_stops}
+use Rattle.step_units.proofs.Serving.{same_space}
+use Rattle.step_units.proofs.Tables.{regs_is, is_kept}
+use Rattle.proc_run.specs.declared.finishing.Begun.{Begun}
+use Rattle.proc_run.specs.declared.finishing.Begun.TheVariants as begun
+use Rattle.proc_run.specs.Calls.{own_answers, MadeCall}
+use Rattle.proc_run.specs.Choosing.{may_run}
+use Rattle.proc_run.specs.Rests.{begun_by, pid_of, carry_of, r0_of, SentFew, BegunAt, IsBegun, FinishesStep, StopsStep}
+use Rattle.proc_run.specs.Running.{CountsTo}
+use Rattle.proc_run.specs.Runs.{IsSteady}
+use Rattle.proc_run.proofs.Attempts.{RoomOnly, room_kernel, room_steady, room_lends, room_regs, room_goes_on}
+use Rattle.proc_run.proofs.Made.{caller_of}
+use Rattle.proc_run.proofs.Marks.{can_steps, out_same}
+use Rattle.proc_run.proofs.SoFar.{steady_on}
+
+-- What is left, by how the step is begun.
+
+abbrev Rests : Inputs → State → Standing → Begun → ℕ → Type 0
+Rests A s m b pid = SentFew b × (ReplyRests A s m pid (carry_of b) (r0_of b) ⊎ EndRests A s m pid)
+
+module _ (A : Inputs) (s : State) (m : Standing) (b : Begun) (holds : Option (List NamedFile)) (i : Option (List ℕ)) (image : List ℕ) (pid : ℕ) (is : pid ≡ pid_of b)
+    (h : BegunAt A s m b holds i image) where
+  rests : Rests A s m b pid
+  rests = subst (Rests A s m b) (sym is) (go s.point.last refl h.begun)
+    where
+      go : (o : Option Entry) → s.point.last ≡ o → begun_by o ≡ Some b → Rests A s m b (pid_of b)
+      go (Some (entries.Out n bytes)) l e =
+          let r = sent_rests A s m holds image n bytes h.machine l in
+          subst (λ (c : Begun). Rests A s m c (pid_of c)) (same_Some (begun.Sent n (length bytes)) b e) (r.1, inl r.0)
+      go (Some (entries.Refused n)) l e =
+          subst (λ (c : Begun). Rests A s m c (pid_of c)) (same_Some (begun.Refused n) b e) (tt, refused_rests A s m holds image n h.machine l)
+      go None l e = absurd cc
+      go (Some _) l e = absurd cc
+
+  runs_so : (now : Bool) (p : Process) (x : Space) → IsRunning A s pid now p x → may_run m.kernel pid ≡ true
+  runs_so now p x r =
+      ap₂ (λ (a c : Bool). a && not c) (sym (can_steps A s m.kernel image pid 0 h.machine.at) ∙ on_steps A s s.mark pid now r.runs.on)
+      (out_same A s m.kernel image pid 0 h.machine.at ∙ r.runs.resident)
+
+  rest_runs : may_run m.kernel pid ≡ true
+  rest_runs = elim rests.1 [
+    | inl r ↦ runs_so r.now r.process r.space r.running
+    | inr r ↦ runs_so r.now r.process r.space r.running
+  ]
+
+module _ (m : Standing) (b : Begun) (holds : Option (List NamedFile)) (i : Option (List ℕ)) (pid : ℕ) (is : pid ≡ pid_of b) (h : IsBegun m b holds i) where
+  pub begun_runs : may_run m.kernel pid ≡ true
+  begun_runs = rest_runs h.0 h.1 m b holds i h.2 pid is h.3
+
+  pub begun_short : SentFew b
+  begun_short = (rests h.0 h.1 m b holds i h.2 pid is h.3).0
+
+-- The instruction of the process, with the registers of its record.
+
+module _ (m : Standing) (b : Begun) (holds : Option (List NamedFile)) (i : Option (List ℕ)) (pid : ℕ) (is : pid ≡ pid_of b) (before : Regs) (same : before ≡ regs_of m.kernel pid) where
+  abbrev tried : Result Effect Refused
+  tried = run (own_answers m pid) (instruction before)
+
+  own : (A : Inputs) (s : State) (image : List ℕ) (now : Bool) (p : Process) (x : Space) → At A s m.kernel image → IsRunning A s pid now p x
+      → tried ≡ run (kernel_answers m.kernel x.sid) (instruction p.regs)
+  own A s image now p x at r =
+      ap (λ (n : ℕ). run (kernel_answers m.kernel n) (instruction before)) (same_space A s m.kernel image pid now p x at r)
+      ∙ ap (λ (g : Regs). run (kernel_answers m.kernel x.sid) (instruction g)) (same ∙ regs_is m.kernel pid p x (is_kept A s m.kernel image pid now p x at r))
+
+  module _ (A : Inputs) (s : State) (image : List ℕ) (h : BegunAt A s m b holds i image) where
+    replies : (r : ReplyRests A s m pid (carry_of b) (r0_of b)) → tried ≡ Ok r.effect
+    replies r = own A s image r.now r.process r.space h.machine.at r.running ∙ r.makes.made
+
+    below : (r : EndRests A s m pid) → tried ≡ Err (Below r.address)
+    below r = own A s image r.now r.process r.space h.machine.at r.running ∙ r.below
+
+    -- it came to a call, or fell below the stack
+    comes : ((number : ℤ) × (call : SystemCall) × (answer_of tried ≡ steps.Call number) × (call_of number ≡ Some call)) ⊎ ((address : ℕ) × (answer_of tried ≡ steps.Below address))
+    comes = elim (rests A s m b holds i image pid is h).1 [
+      | inl r ↦ inl (r.makes.names.number, r.call, ap answer_of (replies r) ∙ ap answer_of_call r.makes.names.is_number, r.makes.names.names)
+      | inr r ↦ inr (r.address, ap answer_of (below r))
+    ]
+
+    -- A call that was made is the one that replies.
+    module _ (number : ℤ) (after : Regs) (call : SystemCall) (made : MadeCall m pid before number after) (names : call_of number ≡ Some call) where
+      same_effect : (r : ReplyRests A s m pid (carry_of b) (r0_of b)) → r.effect ≡ made.effect
+      same_effect r = let e : Ok r.effect ≡ Ok made.effect = sym (replies r) ∙ made.made in cc
+
+      same_call : (r : ReplyRests A s m pid (carry_of b) (r0_of b)) → call ≡ r.call
+      same_call r =
+          let e : Some number ≡ Some r.makes.names.number = sym made.number_is ∙ ap (λ (y : Effect). y.call) (sym (same_effect r)) ∙ r.makes.names.is_number in
+          let n : number ≡ r.makes.names.number = cc in
+          same_Some call r.call (sym names ∙ ap call_of n ∙ r.makes.names.names)
+
+      never_below : (r : EndRests A s m pid) → ⊥
+      never_below r = let e : Ok made.effect ≡ Err (Below r.address) = sym made.made ∙ below r in absurd cc
+
+      answer_leads : (new : Standing) → Answered m new pid call (replied after (carry_of b) (r0_of b)) Keep → StepLeads A s m.kernel image 1 new.kernel i
+      answer_leads new a = subst (λ (o : Option (List ℕ)). StepLeads A s m.kernel image 1 new.kernel o) (sym h.told) (elim (rests A s m b holds i image pid is h).1 [
+        | inl r ↦ rest_made A s m new holds image pid (carry_of b) (r0_of b) h.machine r
+            (subst (λ (c : SystemCall). Answered m new pid c (replied r.effect.regs (carry_of b) (r0_of b)) Keep) (same_call r)
+            (subst (λ (g : Regs). Answered m new pid call (replied g (carry_of b) (r0_of b)) Keep) (sym made.left ∙ ap (λ (y : Effect). y.regs) (sym (same_effect r))) a))
+        | inr r ↦ absurd (never_below r)
+      ])
+
+      answer_halts : (new : Standing) (stop : Stop) → StopsBefore m new stop → StopLeads A s m.kernel image stop new i
+      answer_halts new stop a = subst (λ (o : Option (List ℕ)). StopLeads A s m.kernel image stop new o) (sym h.told) (elim (rests A s m b holds i image pid is h).1 [
+        | inl r ↦ rest_stops A s m new image pid (carry_of b) (r0_of b) stop r a
+        | inr r ↦ absurd (never_below r)
+      ])
+
+    -- A process that fell below its stack ends.
+    module _ (address : ℕ) (fell : tried ≡ Err (Below address)) (new : Standing) (j : Option (List ℕ)) where
+      never_replies : (r : ReplyRests A s m pid (carry_of b) (r0_of b)) → ⊥
+      never_replies r = let e : Ok r.effect ≡ Err (Below address) = sym (replies r) ∙ fell in absurd cc
+
+      end_leads : HasEnded m new pid 11 holds i j → StepLeads A s m.kernel image 1 new.kernel j
+      end_leads e = elim (rests A s m b holds i image pid is h).1 [
+        | inl r ↦ absurd (never_replies r)
+        | inr r ↦ ended A s m holds image pid r.now r.process r.space 11 h.machine r.running r.ends new j (subst (λ (o : Option (List ℕ)). HasEnded m new pid 11 holds o j) h.told e)
+      ]
+
+      end_halts : (stop : Stop) → StopsAlive m new pid holds i j stop → StopLeads A s m.kernel image stop new j
+      end_halts stop e = elim (rests A s m b holds i image pid is h).1 [
+        | inl r ↦ absurd (never_replies r)
+        | inr r ↦ end_stops A s m holds image pid r.now r.process r.space 11 h.machine r.running r.ends new j stop (subst (λ (o : Option (List ℕ)). StopsAlive m new pid holds o j stop) h.told e)
+      ]
+
+  -- It came to nothing else.
+  module _ (h : IsBegun m b holds i) where
+    pub never_unnamed : (number : ℤ) → answer_of tried ≡ steps.Call number → call_of number ≡ None → ⊥
+    never_unnamed number e none = elim (comes h.0 h.1 h.2 h.3) [
+      | inl x ↦
+          let same : steps.Call x.0 ≡ steps.Call number = sym x.2 ∙ e in
+          let n : x.0 ≡ number = cc in
+          let z : Some x.1 ≡ None = sym x.3 ∙ ap call_of n ∙ none in absurd cc
+      | inr x ↦ let z : steps.Below x.0 ≡ steps.Call number = sym x.1 ∙ e in absurd cc
+    ]
+
+    pub never_else : (y : Stepped) → y ≡ answer_of tried
+        → (y ≡ steps.Done) ⊎ (((address : ℕ) × (write : Bool) × (y ≡ steps.Miss address write)) ⊎ ((number : ℕ) × (y ≡ steps.Signal number))) → ⊥
+    never_else y e other = elim (comes h.0 h.1 h.2 h.3) [
+      | inl x ↦ calls x.0 (e ∙ x.2) other
+      | inr x ↦ falls x.0 (e ∙ x.1) other
+    ]
+      where
+        calls : (number : ℤ) → y ≡ steps.Call number → (y ≡ steps.Done) ⊎ (((address : ℕ) × (write : Bool) × (y ≡ steps.Miss address write)) ⊎ ((number : ℕ) × (y ≡ steps.Signal number))) → ⊥
+        calls number k (inl z) = let w : steps.Call number ≡ steps.Done = sym k ∙ z in absurd cc
+        calls number k (inr (inl z)) = let w : steps.Call number ≡ steps.Miss z.0 z.1 = sym k ∙ z.2 in absurd cc
+        calls number k (inr (inr z)) = let w : steps.Call number ≡ steps.Signal z.0 = sym k ∙ z.1 in absurd cc
+
+        falls : (address : ℕ) → y ≡ steps.Below address → (y ≡ steps.Done) ⊎ (((address : ℕ) × (write : Bool) × (y ≡ steps.Miss address write)) ⊎ ((number : ℕ) × (y ≡ steps.Signal number))) → ⊥
+        falls address k (inl z) = let w : steps.Below address ≡ steps.Done = sym k ∙ z in absurd cc
+        falls address k (inr (inl z)) = let w : steps.Below address ≡ steps.Miss z.0 z.1 = sym k ∙ z.2 in absurd cc
+        falls address k (inr (inr z)) = let w : steps.Below address ≡ steps.Signal z.0 = sym k ∙ z.1 in absurd cc
+
+-- The machine that it left is as it was, but for the room for one more entry.
+
+begun_again : (A : Inputs) (s : State) (old new : Standing) (b : Begun) (holds : Option (List NamedFile)) (i : Option (List ℕ)) (image : List ℕ) → RoomOnly old new
+    → BegunAt A s old b holds i image → BegunAt A s new b holds i image
+begun_again A s old new b holds i image o h =
+    room_kernel (λ m. BegunAt A s m b holds i image) old new o
+    (record { machine = record { at = h.machine.at; images = h.machine.images; blocks = h.machine.blocks }; told = h.told; begun = h.begun })
+
+module _ (old mid new : Standing) (b : Begun) (holds : Option (List NamedFile)) (i : Option (List ℕ)) (pid : ℕ) (is : pid ≡ pid_of b) (before : Regs) (o : RoomOnly old mid)
+    (same : before ≡ regs_of old.kernel pid) where
+  kernel : mid.kernel ≡ old.kernel
+  kernel = ap (λ (m : Standing). m.kernel) o.only
+
+  regs : before ≡ regs_of mid.kernel pid
+  regs = room_regs old mid pid before o same
+
+  module _ (number : ℤ) (after : Regs) (call : SystemCall) (made : MadeCall mid pid before number after) (names : call_of number ≡ Some call) where
+    pub answer_finishes : Answered mid new pid call (replied after (carry_of b) (r0_of b)) Keep → FinishesStep old new b holds i i
+    answer_finishes a A s image h =
+        subst (λ (k : Kernel). StepLeads A s k image 1 new.kernel i) kernel
+        (answer_leads mid b holds i pid is before regs A s image (begun_again A s old mid b holds i image o h) number after call made names new a)
+
+    pub answer_stops : (stop : Stop) → StopsBefore mid new stop → StopsStep old new b holds i i stop
+    answer_stops stop a A s image h =
+        subst (λ (k : Kernel). StopLeads A s k image stop new i) kernel
+        (answer_halts mid b holds i pid is before regs A s image (begun_again A s old mid b holds i image o h) number after call made names new stop a)
+
+  module _ (address : ℕ) (fell : run (own_answers mid pid) (instruction before) ≡ Err (Below address)) (j : Option (List ℕ)) where
+    pub end_finishes : (r : Result (Unit {0}) Stop) → OnOk r (HasEnded mid new pid 11 holds i j) → OnOk r (FinishesStep old new b holds i j)
+    end_finishes (Err stop) e = tt
+    end_finishes (Ok x) e = λ A s image h.
+        subst (λ (k : Kernel). StepLeads A s k image 1 new.kernel j) kernel
+        (end_leads mid b holds i pid is before regs A s image (begun_again A s old mid b holds i image o h) address fell new j e)
+
+    pub end_stopped : (r : Result (Unit {0}) Stop) → IfErr r (StopsAlive mid new pid holds i j) → IfErr r (StopsStep old new b holds i j)
+    end_stopped (Ok x) e = tt
+    end_stopped (Err stop) e = λ A s image h.
+        subst (λ (k : Kernel). StopLeads A s k image stop new j) kernel
+        (end_halts mid b holds i pid is before regs A s image (begun_again A s old mid b holds i image o h) address fell new j stop e)
+
+-- The machine goes on.
+
+counts_on : (old mid new : Standing) → RoomOnly old mid → IsSteady old → Continues mid new 1 → HoldersStand new.kernel
+    → CountsTo old new (instructions_of old.kernel.journal) (instructions_of old.kernel.journal + 1)
+counts_on old mid new o steady on holders =
+    let c : Continues old new 1 = room_goes_on old mid new 1 o steady on in
+    record { steady = steady_on old new 1 steady c holders; params = c.params; images = c.images; counts = c.counted; more = omega arith }
+
+module _ (old mid new : Standing) (pid : ℕ) (o : RoomOnly old mid) (steady : IsSteady old) (lends : CanLend old.kernel pid) (n : Numbered old.kernel) where
+  caller : IsCaller mid pid
+  caller = caller_of mid pid (room_steady old mid o steady) (room_lends old mid pid o lends)
+
+  numbered : Numbered mid.kernel
+  numbered = room_kernel (λ m. Numbered m.kernel) old mid o n
+
+  pub answer_counts : (call : SystemCall) (regs : Regs) → Answered mid new pid call regs Keep
+      → CountsTo old new (instructions_of old.kernel.journal) (instructions_of old.kernel.journal + 1)
+  answer_counts call regs a =
+      counts_on old mid new o steady (reply_continues mid new pid call regs (Does regs Keep) calls.Ready caller tt (refl, a))
+      (replied_keeps mid new pid call regs (Does regs Keep) calls.Ready (caller_holds mid pid caller) tt (refl, a) numbered (room_steady old mid o steady).holders)
+
+  pub end_counts : (holds : Option (List NamedFile)) (i j : Option (List ℕ)) (r : Result (Unit {0}) Stop) → OnOk r (HasEnded mid new pid 11 holds i j)
+      → OnOk r (CountsTo old new (instructions_of old.kernel.journal) (instructions_of old.kernel.journal + 1))
+  end_counts holds i j (Err stop) e = tt
+  end_counts holds i j (Ok x) e =
+      counts_on old mid new o steady (end_continues mid new pid 11 holds i j caller e)
+      (ended_keeps mid new pid 11 holds i j (caller_holds mid pid caller) e numbered (room_steady old mid o steady).holders)
