@@ -27,12 +27,12 @@ use Rattle.run_start.specs.Leading.{IsTold, machine_at_start}
 use Rattle.vm_core.specs.Cores.{Underway, GoesOn, InputsOf}
 use Rattle.vm_core.specs.Starting.{CoreStarted, StartsRun, StopsStartingRun}
 use Rattle.vm_core.specs.Schedules.{IsBeforeLines, StopsLines, FinishesLines}
-use Rattle.vm_core.specs.Full.{RunFull, RunOver, RunWhole, RunStopsAt}
+use Rattle.vm_core.specs.Full.{RunFull, RunOver, RunStopsAt}
 use Rattle.vm_core.specs.RunEnds.{IsAskedOf, NoneMade, RunStops, RunEnds}
 use Rattle.vm_core.specs.declared.schedule.Unfinished.{Unfinished}
 use Rattle.vm_core.specs.declared.schedule.Unfinished.TheVariants.{NoSpace, Stopped}
 use Rattle.vm_core.proofs.Standing.{leads_to_stop}
-use Rattle.vm_core.proofs.Journals.{finished_run, over_run, whole_run, halted_run, full_run, left_run, starved_run}
+use Rattle.vm_core.proofs.Journals.{finished_run, over_run, halted_run, full_run, left_run, starved_run}
 
 -- what is so of an answer that is this stop
 pub stopped_so : (r : Result (Unit {0}) Unfinished) (stop : Stop) (Q : Result (Unit {0}) Unfinished → Type 0) → IsErrAnd r (λ (e : Unfinished). e ≡ Stopped stop) → Q (Err (Stopped stop)) → Q r
@@ -105,20 +105,20 @@ module _ (A : Inputs) (old : Underway) (numbers : List ℕ) (lines : List Event)
 
   -- since its journal is full
   full_at : (new : Standing) (stop : Stop) (j : Option (List ℕ)) (hs : Holdings) (can : CanRun A hs) → stop ≡ stops.JournalFull
-      → (x : StopLeads A (start A hs) (machine_at_start A hs) image stop new j) → RunFull A new
+      → (x : StopLeads A (start A hs) (machine_at_start A hs) image stop new j) → RunFull A new image
   full_at new stops.JournalFull j hs can e x = full_run A hs can first_few image is.room new j stops.JournalFull x refl x.by
   full_at new _ j hs can e x = absurd cc
 
   pub start_full : (new : Underway) (stop : Stop) (j : Option (List ℕ)) → stop ≡ stops.JournalFull
-      → ((B : Inputs) (b : List ℕ) → IsTold B old.machine numbers holds b → Some image ≡ Some b → StopsStartingRun B new.machine b stop j) → RunFull A new.machine
+      → ((B : Inputs) (b : List ℕ) → IsTold B old.machine numbers holds b → Some image ≡ Some b → StopsStartingRun B new.machine b stop j) → RunFull A new.machine image
   start_full new stop j e f = go (f A image is_told refl)
     where
-      go : StopsStartingRun A new.machine image stop j → RunFull A new.machine
+      go : StopsStartingRun A new.machine image stop j → RunFull A new.machine image
       go (inl b) = absurd (let z : stops.JournalFull ≡ stops.NoMemory = sym e ∙ b.cause in cc)
       go (inr (hs, can, x)) = full_at new.machine stop j hs can e x.led
 
   -- where the machine is left
-  left_at : (new : Standing) (stop : Stop) (j : Option (List ℕ)) (hs : Holdings) (can : CanRun A hs) → (x : StopLeads A (start A hs) (machine_at_start A hs) image stop new j) → RunStopsAt A stop new
+  left_at : (new : Standing) (stop : Stop) (j : Option (List ℕ)) (hs : Holdings) (can : CanRun A hs) → (x : StopLeads A (start A hs) (machine_at_start A hs) image stop new j) → RunStopsAt A stop new image
   left_at new stops.NoMemory j hs can x = λ runs. left_run A hs can first_few image is.room new j stops.NoMemory x x.held (λ e. runs)
   left_at new stops.JournalFull j hs can x = left_run A hs can first_few image is.room new j stops.JournalFull x x.held (λ e. absurd cc)
   left_at new stops.FileFault j hs can x = left_run A hs can first_few image is.room new j stops.FileFault x x.held (λ e. absurd cc)
@@ -126,14 +126,14 @@ module _ (A : Inputs) (old : Underway) (numbers : List ℕ) (lines : List Event)
   left_at new stops.SwapWriteFault j hs can x = left_run A hs can first_few image is.room new j stops.SwapWriteFault x x.held (λ e. absurd cc)
 
   -- as the processes begin the machine stops for want of memory
-  never_runs : (new : Standing) (stop : Stop) → stop ≡ stops.NoMemory → new.kernel.stopped ≡ true → RunStopsAt A stop new
-  never_runs new stop e stopped = subst (λ (c : Stop). RunStopsAt A c new) (sym e) (λ runs. absurd (let z : true ≡ false = sym stopped ∙ runs in cc))
+  never_runs : (new : Standing) (stop : Stop) → stop ≡ stops.NoMemory → new.kernel.stopped ≡ true → RunStopsAt A stop new image
+  never_runs new stop e stopped = subst (λ (c : Stop). RunStopsAt A c new image) (sym e) (λ runs. absurd (let z : true ≡ false = sym stopped ∙ runs in cc))
 
   pub start_left : (new : Underway) (stop : Stop) (j : Option (List ℕ)) → ((B : Inputs) (b : List ℕ) → IsTold B old.machine numbers holds b → Some image ≡ Some b → StopsStartingRun B new.machine b stop j)
-      → RunStopsAt A stop new.machine
+      → RunStopsAt A stop new.machine image
   start_left new stop j f = go (f A image is_told refl)
     where
-      go : StopsStartingRun A new.machine image stop j → RunStopsAt A stop new.machine
+      go : StopsStartingRun A new.machine image stop j → RunStopsAt A stop new.machine image
       go (inl b) = never_runs new.machine stop b.cause b.stopped
       go (inr (hs, can, x)) = left_at new.machine stop j hs can x.led
 
@@ -155,13 +155,13 @@ module _ (A : Inputs) (old : Underway) (numbers : List ℕ) (lines : List Event)
         (leads_to_stop A (start A started.holdings) started.state (machine_at_start A started.holdings) mid.machine.kernel image started.behind started.units stop new.machine j start_told
         (f A started.state started.behind before_lines))
 
-    pub lines_full : (new : Underway) (stop : Stop) (j : Option (List ℕ)) → stop ≡ stops.JournalFull → StopsLines mid new lines holds h j stop → RunFull A new.machine
+    pub lines_full : (new : Underway) (stop : Stop) (j : Option (List ℕ)) → stop ≡ stops.JournalFull → StopsLines mid new lines holds h j stop → RunFull A new.machine image
     lines_full new stop j e f =
         full_at new.machine stop j started.holdings started.can e
         (leads_to_stop A (start A started.holdings) started.state (machine_at_start A started.holdings) mid.machine.kernel image started.behind started.units stop new.machine j start_told
         (f A started.state started.behind before_lines))
 
-    pub lines_left : (new : Underway) (stop : Stop) (j : Option (List ℕ)) → StopsLines mid new lines holds h j stop → RunStopsAt A stop new.machine
+    pub lines_left : (new : Underway) (stop : Stop) (j : Option (List ℕ)) → StopsLines mid new lines holds h j stop → RunStopsAt A stop new.machine image
     lines_left new stop j f =
         left_at new.machine stop j started.holdings started.can
         (leads_to_stop A (start A started.holdings) started.state (machine_at_start A started.holdings) mid.machine.kernel image started.behind started.units stop new.machine j start_told
@@ -176,18 +176,10 @@ module _ (A : Inputs) (old : Underway) (numbers : List ℕ) (lines : List Event)
         d.none
 
     -- since there is no next unit
-    pub lines_over : (new : Underway) (j : Option (List ℕ)) → FinishesLines mid new lines holds h j → GoesOn new → RunOver A new.machine
+    pub lines_over : (new : Underway) (j : Option (List ℕ)) → FinishesLines mid new lines holds h j → GoesOn new → RunOver A new.machine image
     lines_over new j f on =
         let d = f A started.state started.behind before_lines in
         over_run A started.holdings started.can first_few image is.room new j (started.units ++ d.units) d.state
         (both_lead A (start A started.holdings) started.state d.state (machine_at_start A started.holdings) mid.machine.kernel new.machine.kernel image (Some started.behind) j started.units d.units start_told
         (λ between same. subst (λ (y : List ℕ). Leads A started.state mid.machine.kernel y d.units d.state new.machine.kernel j) (same_Some started.behind between same) d.leads))
         d.none on
-
-    pub lines_whole : (new : Underway) (j : Option (List ℕ)) → FinishesLines mid new lines holds h j → RunWhole A new.machine image
-    lines_whole new j f =
-        let d = f A started.state started.behind before_lines in
-        whole_run A started.holdings started.can first_few image is.room new j (started.units ++ d.units) d.state
-        (both_lead A (start A started.holdings) started.state d.state (machine_at_start A started.holdings) mid.machine.kernel new.machine.kernel image (Some started.behind) j started.units d.units start_told
-        (λ between same. subst (λ (y : List ℕ). Leads A started.state mid.machine.kernel y d.units d.state new.machine.kernel j) (same_Some started.behind between same) d.leads))
-        d.none

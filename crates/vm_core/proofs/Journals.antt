@@ -15,12 +15,11 @@ use Rattle.page_model.specs.Placement.{Placement, Transfer, Part, Errand}
 use Rattle.page_model.specs.Ownership.{block_of}
 use Rattle.page_model.specs.Stored.{store_at}
 use Rattle.kernel_model.specs.Kernel.{Kernel}
-use Rattle.kernel_model.specs.ChangeStep.{pass_step}
 use Rattle.kernel_model.specs.Coupled.{memory_of}
 use Rattle.machine_state.specs.Done.{SpoilsAll, SpoilsBy as SpoilsTransfers}
 use Rattle.machine_state.specs.Machine.{Standing}
 use Rattle.machine_state.specs.Failing.{LosesOldest}
-use Rattle.journal_laws.specs.Stops.{CauseBy, SpoilsBy, StaysPut, StaysReturned, StopsLess, StopsPut, LeftBy}
+use Rattle.journal_laws.specs.Stops.{CauseBy, SpoilsBy, StaysPut, StaysStarved, StaysReturned, StopsLess, StopsPut, LeftBy}
 use Rattle.run_model.specs.State.{State, start}
 use Rattle.run_model.specs.After.{after}
 use Rattle.run_model.specs.Next.{next_unit}
@@ -41,7 +40,7 @@ use Rattle.journal_laws.proofs.Journals.{leads_follow, journal_lawful, journal_a
 use Rattle.vm_core.specs.Cores.{Underway, GoesOn}
 use Rattle.vm_core.specs.Halting.{HaltsFor, SpoilsParts, SpoilsOldest, LeavesImage}
 use Rattle.vm_core.specs.Lawful.{IsJournalOf, RunFinished, RunHalted, RunStarved}
-use Rattle.vm_core.specs.Full.{StandsThere, StoppedThere, LessThere, ReturnedThere, LeftThere, RunLeft, RunFull, RunOver, RunWhole}
+use Rattle.vm_core.specs.Full.{StandsThere, StarvedThere, StoppedThere, LessThere, ReturnedThere, LeftThere, RunLeft, RunFull, RunOver}
 
 module _ (A : Inputs) (hs : Holdings) (can : CanRun A hs) (few : length A.first ≤ 64) (image : List ℕ) (room : 512 * A.swap_blocks ≤ length image) where
   at_start : StandsAt A (start A hs) (machine_at_start A hs) image
@@ -96,31 +95,18 @@ finished_run A hs can few image room new j us t a none =
 
 -- where it is over the machine stands there
 pub over_run : (A : Inputs) (hs : Holdings) (can : CanRun A hs) (few : length A.first ≤ 64) (image : List ℕ) (room : 512 * A.swap_blocks ≤ length image) (new : Underway) (j : Option (List ℕ)) (us : List Entry) (t : State)
-    → Leads A (start A hs) (machine_at_start A hs) image us t new.machine.kernel j → next_unit A t ≡ None → GoesOn new → RunOver A new.machine
-over_run A hs can few image room new j us t a none on =
-    let at = stands A hs can few image room us t new.machine.kernel j a in
-    record {
-      state = t;
-      made = made A hs can few image room us t new.machine.kernel j a;
-      none = none;
-      stands = record {
-        running = on.steady.running;
-        place = at.place;
-        holdings = on.steady.whole ∙ at.holdings;
-        processes = at.keeps.coupled.tables.processes;
-      };
-    }
-
--- and it stands for the whole of the state
-pub whole_run : (A : Inputs) (hs : Holdings) (can : CanRun A hs) (few : length A.first ≤ 64) (image : List ℕ) (room : 512 * A.swap_blocks ≤ length image) (new : Underway) (j : Option (List ℕ)) (us : List Entry) (t : State)
-    → Leads A (start A hs) (machine_at_start A hs) image us t new.machine.kernel j → next_unit A t ≡ None → RunWhole A new.machine image
-whole_run A hs can few image room new j us t a none = record {
+    → Leads A (start A hs) (machine_at_start A hs) image us t new.machine.kernel j → next_unit A t ≡ None → GoesOn new → RunOver A new.machine image
+over_run A hs can few image room new j us t a none on = record {
   state = t;
   made = made A hs can few image room us t new.machine.kernel j a;
   none = none;
-  at = subst (StandsAt A t new.machine.kernel)
-      (same_Some a.behind (swapped A new.machine.kernel.journal image) (sym a.told ∙ image_told A hs can few image room us t new.machine.kernel j a))
-      (stands A hs can few image room us t new.machine.kernel j a);
+  stands = record {
+    running = on.steady.running;
+    whole = on.steady.whole;
+    at = subst (StandsAt A t new.machine.kernel)
+        (same_Some a.behind (swapped A new.machine.kernel.journal image) (sym a.told ∙ image_told A hs can few image room us t new.machine.kernel j a))
+        (stands A hs can few image room us t new.machine.kernel j a);
+  };
 }
 
 -- Why it halts.
@@ -236,53 +222,51 @@ module _ (A : Inputs) (hs : Holdings) (can : CanRun A hs) (few : length A.first 
         image_left = subst (λ (b : List ℕ). LeavesImage stop A x.state y.entry b i.left) behind_is i.is;
       }
 
+  run : x.kernel.stopped ≡ false
+  run = makes_run A x.units (start A hs) x.state (machine_at_start A hs) x.kernel image x.leads.behind x.leads.makes
+
+  -- the kernel stands for the state with the swap image of the journal
+  stands_with : StandsAt A x.state x.kernel (swapped A new.kernel.journal image)
+  stands_with = subst (StandsAt A x.state x.kernel) behind_is stands_so
+
+  stays : StaysPut x.kernel new → StandsThere A x.state new (swapped A new.kernel.journal image)
+  stays h = record {
+    running = ap (λ (k : Kernel). k.stopped) h.kernel ∙ run;
+    whole = h.whole;
+    at = subst (λ (k : Kernel). StandsAt A x.state k (swapped A new.kernel.journal image)) (sym h.kernel) stands_with;
+  }
+
   -- where the journal is full the machine stands there
-  pub full_run : stop ≡ stops.JournalFull → StopsNext A x.state x.kernel x.behind stop new j → RunFull A new
-  full_run e y =
-      let h : StaysPut x.kernel new = subst (λ (z : Stop). LeftBy z x.kernel new) e x.held in
-      record {
-        state = x.state;
-        made = made_so;
-        unit = y.entry;
-        next = y.next;
-        bound = subst (λ (es : List Entry). new.params.journal ≤ length es) (sym x.journal) (y.full e).0;
-        longer = subst (λ (es : List Entry). length es < length (append es y.entry)) (sym x.journal) (y.full e).1;
-        stands = record {
-          running = h.stopped ∙ makes_run A x.units (start A hs) x.state (machine_at_start A hs) x.kernel image x.leads.behind x.leads.makes;
-          place = h.place ∙ stands_so.place;
-          holdings = h.holdings ∙ stands_so.holdings;
-          processes = h.processes ∙ stands_so.keeps.coupled.tables.processes;
-        };
-      }
+  pub full_run : stop ≡ stops.JournalFull → StopsNext A x.state x.kernel x.behind stop new j → RunFull A new image
+  full_run e y = record {
+    state = x.state;
+    made = made_so;
+    unit = y.entry;
+    next = y.next;
+    bound = subst (λ (es : List Entry). new.params.journal ≤ length es) (sym x.journal) (y.full e).0;
+    longer = subst (λ (es : List Entry). length es < length (append es y.entry)) (sym x.journal) (y.full e).1;
+    stands = stays (subst (λ (z : Stop). LeftBy z x.kernel new) e x.held);
+  }
 
   -- where the machine is left
-  pub left_run : LeftBy stop x.kernel new → (stop ≡ stops.NoMemory → new.kernel.stopped ≡ false) → RunLeft A stop new
+  pub left_run : LeftBy stop x.kernel new → (stop ≡ stops.NoMemory → new.kernel.stopped ≡ false) → RunLeft A stop new image
   left_run h runs = record { state = x.state; made = made_so; left = by stop h runs }
     where
-      run : x.kernel.stopped ≡ false
-      run = makes_run A x.units (start A hs) x.state (machine_at_start A hs) x.kernel image x.leads.behind x.leads.makes
-
-      stays : StaysPut x.kernel new → StandsThere x.state new
-      stays h = record {
-        running = h.stopped ∙ run;
-        place = h.place ∙ stands_so.place;
-        holdings = h.holdings ∙ stands_so.holdings;
-        processes = h.processes ∙ stands_so.keeps.coupled.tables.processes;
+      starves : new.kernel.stopped ≡ false → StaysStarved x.kernel new → StarvedThere A x.state new (swapped A new.kernel.journal image)
+      starves running h = record {
+        running = running;
+        at = subst (λ (k : Kernel). StandsAt A x.state k (swapped A new.kernel.journal image)) (sym h) stands_with;
       }
 
-      gave : StaysReturned x.kernel new → ReturnedThere x.state new
-      gave g =
-          let h : StaysPut (pass_step x.kernel g.0 g.1) new = g.2 in
-          record {
-            running = h.stopped ∙ run;
-            place = h.place ∙ stands_so.place;
-            holdings = h.holdings ∙ stands_so.holdings;
-            kernel = x.kernel;
-            processes = stands_so.keeps.coupled.tables.processes;
-            borrower = g.0;
-            lender = g.1;
-            returned = h.processes;
-          }
+      gave : new.kernel.stopped ≡ false → StaysReturned x.kernel new → ReturnedThere A x.state new (swapped A new.kernel.journal image)
+      gave running g = record {
+        running = running;
+        kernel = x.kernel;
+        at = stands_with;
+        borrower = g.0;
+        lender = g.1;
+        returned = g.2;
+      }
 
       less : StopsLess x.kernel new → LessThere x.state new
       less h = record {
@@ -304,13 +288,14 @@ module _ (A : Inputs) (hs : Holdings) (can : CanRun A hs) (few : length A.first 
       failed (inl h) = inl (less h)
       failed (inr h) = inr (put h)
 
-      starved : StaysPut x.kernel new ⊎ StaysReturned x.kernel new → StandsThere x.state new ⊎ ReturnedThere x.state new
-      starved (inl h) = inl (stays h)
-      starved (inr h) = inr (gave h)
+      starved : new.kernel.stopped ≡ false → StaysStarved x.kernel new ⊎ StaysReturned x.kernel new
+          → StarvedThere A x.state new (swapped A new.kernel.journal image) ⊎ ReturnedThere A x.state new (swapped A new.kernel.journal image)
+      starved running (inl h) = inl (starves running h)
+      starved running (inr h) = inr (gave running h)
 
-      by : (c : Stop) → LeftBy c x.kernel new → (c ≡ stops.NoMemory → new.kernel.stopped ≡ false) → LeftThere c x.state new
+      by : (c : Stop) → LeftBy c x.kernel new → (c ≡ stops.NoMemory → new.kernel.stopped ≡ false) → LeftThere A c x.state new (swapped A new.kernel.journal image)
       by stops.JournalFull h runs = stays h
-      by stops.NoMemory h runs = starved (h (runs refl ∙ sym run))
+      by stops.NoMemory h runs = starved (runs refl) (h (runs refl ∙ sym run))
       by stops.FileFault h runs = less h
       by stops.SwapReadFault h runs = failed h
       by stops.SwapWriteFault h runs = failed h

@@ -1,5 +1,5 @@
 -- What stays of the machine where a line or a turn stops the run.
-use Rattle.std.proofs.Common.{◌≡◌, ◌⊎◌, ℕ, ◌<◌, ◌≤◌, Bool, List, length, Option, Result, Err, ap}
+use Rattle.std.proofs.Common.{◌≡◌, ℕ, ◌<◌, ◌≤◌, Bool, List, length, Option, Result, Err, ap}
 use Rattle.std.specs.Prelude.{◌↔◌}
 use Rattle.vm_facts.specs.declared.entry.Entry.TheVariants as entries
 use Rattle.vm_facts.specs.declared.stop.Stop.{Stop}

@@ -58,9 +58,9 @@ steps_hold k flat pid tables c =
     let outline = outline_at k.processes flat.processes tables.processes pid kept.0 w.process kept.1 found.1 in
     (w.space.sid, ap life_of_proc kept.1 ∙ ap (λ (o : Outline). o.life) outline ∙ ap life_of w.holds)
 
-pub held_in : (m : Standing) (pid counted : ℕ) (holds : Option (List NamedFile)) (i : Option (List ℕ)) → ((sid : ℕ) → life_in m.kernel pid ≡ HoldsSpace sid → is_out m.kernel.place pid ≡ false)
-    → (A : Inputs) (s : State) (image : List ℕ) → TurnAt A s m holds i image counted pid → is_out s.place pid ≡ false
-held_in m pid counted holds i f A s image at =
-    let steps = (and_parts (can_step s.point.flat pid) (nat_lt s.count A.limit && nat_lt s.count (counted + turn_instructions)) at.on).0 in
+pub held_in : (m : Standing) (pid counted since : ℕ) (holds : Option (List NamedFile)) (i : Option (List ℕ)) → ((sid : ℕ) → life_in m.kernel pid ≡ HoldsSpace sid → is_out m.kernel.place pid ≡ false)
+    → (A : Inputs) (s : State) (image : List ℕ) → TurnAt A s m holds i image counted since pid → is_out s.place pid ≡ false
+held_in m pid counted since holds i f A s image at =
+    let steps = (and_parts (can_step s.point.flat pid) (nat_lt s.count A.limit && nat_lt s.count (since + turn_instructions)) at.on).0 in
     let held = steps_hold m.kernel s.point.flat pid at.stands.machine.at.stands.keeps.coupled.tables steps in
     ap (λ (p : Placement). is_out p pid) (sym at.stands.machine.at.stands.place) ∙ f held.0 held.1

@@ -25,32 +25,36 @@ use Rattle.vm_core.specs.Cores.{Underway, StandsIn, CoreAt}
 
 -- A turn.
 
--- The machine stands at a state at which a process has its turn, after the last line, so many instructions being counted when it
--- began.
-pub record TurnAt (A : Inputs) (s : State) (m : Standing) (holds : Option (List NamedFile)) (i : Option (List ℕ)) (image : List ℕ) (counted pid : ℕ) : Type 0 where
+-- The machine stands at a state at which a process has its turn, after the last line, so many instructions being counted then, and
+-- since so many its turn.
+pub record TurnAt (A : Inputs) (s : State) (m : Standing) (holds : Option (List NamedFile)) (i : Option (List ℕ)) (image : List ℕ)
+    (counted since pid : ℕ) : Type 0 where
   pub stands : StandsIn A s m holds i image counted
   pub clear : IsClear s
-  pub mark : s.mark ≡ marks.Turn pid counted
-  pub on : goes_on A s pid (counted + turn_instructions) ≡ true
+  pub mark : s.mark ≡ marks.Turn pid since
+  pub on : goes_on A s pid (since + turn_instructions) ≡ true
   pub lines : length A.lines ≤ s.lines
 
 -- Next units lead to where the process is in, and has its turn yet.
-pub record InTurn (A : Inputs) (s : State) (old new : Standing) (holds : Option (List NamedFile)) (image : List ℕ) (j : Option (List ℕ)) (counted pid : ℕ) : Type 0 where
+pub record InTurn (A : Inputs) (s : State) (old new : Standing) (holds : Option (List NamedFile)) (image : List ℕ) (j : Option (List ℕ))
+    (counted since pid : ℕ) : Type 0 where
   pub units : List Entry
   pub state : State
   pub behind : List ℕ
   pub leads : Leads A s old.kernel image units state new.kernel j
-  pub at : TurnAt A state new holds j behind counted pid
+  pub at : TurnAt A state new holds j behind counted since pid
   pub resident : is_out state.place pid ≡ false
   pub lines : state.lines ≡ s.lines
 
-abbrev pub ComesIn : Standing → Standing → ℕ → ℕ → Option (List NamedFile) → Option (List ℕ) → Option (List ℕ) → Type 0
-ComesIn old new pid counted holds i j =
-    (A : Inputs) (s : State) (image : List ℕ) → TurnAt A s old holds i image counted pid → InTurn A s old new holds image j counted pid
+-- for every state at which it has its turn
+abbrev pub ComesIn : Standing → Standing → ℕ → ℕ → ℕ → Option (List NamedFile) → Option (List ℕ) → Option (List ℕ) → Type 0
+ComesIn old new pid counted since holds i j =
+    (A : Inputs) (s : State) (image : List ℕ) → TurnAt A s old holds i image counted since pid → InTurn A s old new holds image j counted since pid
 
-abbrev pub StopsComingIn : Standing → Standing → ℕ → ℕ → Option (List NamedFile) → Option (List ℕ) → Option (List ℕ) → Stop → Type 0
-StopsComingIn old new pid counted holds i j stop =
-    (A : Inputs) (s : State) (image : List ℕ) → TurnAt A s old holds i image counted pid → StopLeads A s old.kernel image stop new j
+-- or next units lead to where the run stopped before that
+abbrev pub StopsComingIn : Standing → Standing → ℕ → ℕ → ℕ → Option (List NamedFile) → Option (List ℕ) → Option (List ℕ) → Stop → Type 0
+StopsComingIn old new pid counted since holds i j stop =
+    (A : Inputs) (s : State) (image : List ℕ) → TurnAt A s old holds i image counted since pid → StopLeads A s old.kernel image stop new j
 
 -- Next units lead to where the turn is over, with so many instructions counted.
 pub record TurnDone (A : Inputs) (s : State) (old new : Standing) (image : List ℕ) (j : Option (List ℕ)) (pid count : ℕ) : Type 0 where
@@ -62,13 +66,16 @@ pub record TurnDone (A : Inputs) (s : State) (old new : Standing) (image : List 
   pub lines : state.lines ≡ s.lines
   pub turned : last_turned state.mark ≡ pid
 
-abbrev pub FinishesTurn : Standing → Standing → ℕ → ℕ → ℕ → Option (List NamedFile) → Option (List ℕ) → Option (List ℕ) → Type 0
-FinishesTurn old new pid counted count holds i j =
-    (A : Inputs) (s : State) (image : List ℕ) → TurnAt A s old holds i image counted pid → is_out s.place pid ≡ false → TurnDone A s old new image j pid count
+-- for every state at which it has its turn, and is in
+abbrev pub FinishesTurn : Standing → Standing → ℕ → ℕ → ℕ → ℕ → Option (List NamedFile) → Option (List ℕ) → Option (List ℕ) → Type 0
+FinishesTurn old new pid counted since count holds i j =
+    (A : Inputs) (s : State) (image : List ℕ) → TurnAt A s old holds i image counted since pid → is_out s.place pid ≡ false
+    → TurnDone A s old new image j pid count
 
-abbrev pub StopsFinishing : Standing → Standing → ℕ → ℕ → Option (List NamedFile) → Option (List ℕ) → Option (List ℕ) → Stop → Type 0
-StopsFinishing old new pid counted holds i j stop =
-    (A : Inputs) (s : State) (image : List ℕ) → TurnAt A s old holds i image counted pid → is_out s.place pid ≡ false → StopLeads A s old.kernel image stop new j
+-- or next units lead to where the run stopped in the turn
+abbrev pub StopsFinishing : Standing → Standing → ℕ → ℕ → ℕ → Option (List NamedFile) → Option (List ℕ) → Option (List ℕ) → Stop → Type 0
+StopsFinishing old new pid counted since holds i j stop =
+    (A : Inputs) (s : State) (image : List ℕ) → TurnAt A s old holds i image counted since pid → is_out s.place pid ≡ false → StopLeads A s old.kernel image stop new j
 
 -- the whole turn, from its entry on
 pub record TurnHad (A : Inputs) (s : State) (old new : Standing) (holds : Option (List NamedFile)) (image : List ℕ) (j : Option (List ℕ)) (pid count : ℕ) : Type 0 where
@@ -81,10 +88,12 @@ pub record TurnHad (A : Inputs) (s : State) (old new : Standing) (holds : Option
   pub lines : state.lines ≡ s.lines
   pub turned : last_turned state.mark ≡ pid
 
+-- for every state at which the turn is due
 abbrev pub HasTurn : Standing → Standing → ℕ → ℕ → ℕ → Option (List NamedFile) → Option (List ℕ) → Option (List ℕ) → Type 0
 HasTurn old new pid counted count holds i j =
     (A : Inputs) (s : State) (image : List ℕ) → StandsIn A s old holds i image counted → TurnDue A s pid → TurnHad A s old new holds image j pid count
 
+-- or next units lead to where the run stopped in the turn
 abbrev pub StopsTurn : Standing → Standing → ℕ → ℕ → Option (List NamedFile) → Option (List ℕ) → Option (List ℕ) → Stop → Type 0
 StopsTurn old new pid counted holds i j stop =
     (A : Inputs) (s : State) (image : List ℕ) → StandsIn A s old holds i image counted → TurnDue A s pid → StopLeads A s old.kernel image stop new j
@@ -121,6 +130,7 @@ pub record LinesAre (A : Inputs) (s : State) (m : Standing) (holds : Option (Lis
   pub lines : length A.lines ≡ s.lines
   pub unturned : last_turned s.mark ≡ 0
 
+-- for every state at which it stands so
 abbrev pub ClosesTo : Standing → Standing → ℕ → ℕ → ℕ → ℕ → Option (List NamedFile) → Option (List ℕ) → Option (List ℕ) → Type 0
 ClosesTo old new counted count last idle holds i j =
     (A : Inputs) (s : State) (image : List ℕ) → LinesAre A s old holds i image counted → Closing A s old new holds image j count last idle
@@ -138,10 +148,12 @@ pub record Closed (A : Inputs) (s : State) (old new : Standing) (holds : Option 
   pub economy : Economy A s units
   pub swapped : behind ≡ swapped_from A s units image
 
+-- for every state at which the machine stands after the last line
 abbrev pub Closes : Standing → Standing → ℕ → ℕ → Option (List NamedFile) → Option (List ℕ) → Option (List ℕ) → Type 0
 Closes old new counted count holds i j =
     (A : Inputs) (s : State) (image : List ℕ) → LinesAre A s old holds i image counted → Closed A s old new holds image j count
 
+-- or next units lead to where the run stopped in the phase
 abbrev pub StopsClosing : Standing → Standing → ℕ → Option (List NamedFile) → Option (List ℕ) → Option (List ℕ) → Stop → Type 0
 StopsClosing old new counted holds i j stop =
     (A : Inputs) (s : State) (image : List ℕ) → LinesAre A s old holds i image counted → StopLeads A s old.kernel image stop new j
@@ -151,6 +163,7 @@ abbrev pub ClosesRun : Underway → Underway → Option (List NamedFile) → Opt
 ClosesRun old new holds i j =
     (A : Inputs) (s : State) (image : List ℕ) → CoreAt A s old holds i image → length A.lines ≡ s.lines → Closed A s old.machine new.machine holds image j new.counted
 
+-- or next units that are accounted for lead to where the run stopped in the phase
 abbrev pub StopsClosingRun : Underway → Underway → Option (List NamedFile) → Option (List ℕ) → Option (List ℕ) → Stop → Type 0
 StopsClosingRun old new holds i j stop =
     (A : Inputs) (s : State) (image : List ℕ) → CoreAt A s old holds i image → length A.lines ≡ s.lines → StopsAccounted A s old.machine.kernel image stop new.machine j

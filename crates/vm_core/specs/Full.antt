@@ -9,6 +9,7 @@ use Rattle.kernel_model.specs.Kernel.{Kernel}
 use Rattle.kernel_model.specs.ChangeStep.{pass_step}
 use Rattle.kernel_model.specs.Coupled.{outline_of, outline_kept}
 use Rattle.machine_state.specs.Machine.{Standing}
+use Rattle.machine_state.specs.Conditions.{kernel_before}
 use Rattle.machine_state.specs.Failing.{LosesOldest}
 use Rattle.run_model.specs.State.{State}
 use Rattle.run_model.specs.Next.{next_unit}
@@ -16,13 +17,17 @@ use Rattle.run_model.specs.Swapped.{swapped}
 use Rattle.run_laws.specs.Machine.{StandsAt}
 use Rattle.vm_core.specs.Lawful.{IsJournalOf}
 
--- The machine runs on, with all pages and processes where a state has them, and with its holdings, but for pieces of swap that were
--- found for an entry that has no room.
-pub record StandsThere (s : State) (m : Standing) : Type 0 where
+-- The machine runs on, no pieces wait, and it stands for a state with this swap image: its frames, its records and that image have
+-- the bytes and registers of the flat machine.
+pub record StandsThere (A : Inputs) (s : State) (m : Standing) (image : List ℕ) : Type 0 where
   pub running : m.kernel.stopped ≡ false
-  pub place : m.kernel.place ≡ s.place
-  pub holdings : m.before ≡ s.holdings
-  pub processes : map outline_kept m.kernel.processes ≡ map outline_of s.point.flat.processes
+  pub whole : m.before ≡ m.kernel.holdings
+  pub at : StandsAt A s m.kernel image
+
+-- The machine runs on, and stands for a state, but for pieces of swap that were found for an entry for which there was no memory.
+pub record StarvedThere (A : Inputs) (s : State) (m : Standing) (image : List ℕ) : Type 0 where
+  pub running : m.kernel.stopped ≡ false
+  pub at : StandsAt A s (kernel_before m) image
 
 -- The machine has stopped there, with its pages and processes where the state has them.
 pub record StoppedThere (s : State) (m : Standing) : Type 0 where
@@ -38,58 +43,51 @@ pub record LessThere (s : State) (m : Standing) : Type 0 where
   pub holdings : m.before ≡ s.holdings
   pub processes : map outline_kept m.kernel.processes ≡ map outline_of s.point.flat.processes
 
--- The machine runs on, and is as the state, but for a space that went back to its lender before an entry for which no memory was found.
-pub record ReturnedThere (s : State) (m : Standing) : Type 0 where
+-- The machine runs on, and stands for a state, but for a space that went back to its lender before an entry for which there was no
+-- memory, and for pieces that were found for that.
+pub record ReturnedThere (A : Inputs) (s : State) (m : Standing) (image : List ℕ) : Type 0 where
   pub running : m.kernel.stopped ≡ false
-  pub place : m.kernel.place ≡ s.place
-  pub holdings : m.before ≡ s.holdings
   pub kernel : Kernel
-  pub processes : map outline_kept kernel.processes ≡ map outline_of s.point.flat.processes
+  pub at : StandsAt A s kernel image
   pub borrower : ℕ
   pub lender : ℕ
-  pub returned : map outline_kept m.kernel.processes ≡ map outline_kept (pass_step kernel borrower lender).processes
+  pub returned : kernel_before m ≡ pass_step kernel borrower lender
 
--- Where the machine is left, by the cause of a stop at a state. For want of memory that is said of a machine that runs on: it doesn't where
--- it broke off within an entry of a process.
-abbrev pub LeftThere : Stop → State → Standing → Type 0
-LeftThere stops.JournalFull s m = StandsThere s m
-LeftThere stops.NoMemory s m = StandsThere s m ⊎ ReturnedThere s m
-LeftThere stops.FileFault s m = LessThere s m
-LeftThere stops.SwapReadFault s m = LessThere s m ⊎ StoppedThere s m
-LeftThere stops.SwapWriteFault s m = LessThere s m ⊎ StoppedThere s m
+-- Where the machine is left, by the cause of a stop at a state with this swap image. For want of memory that is said of a machine that
+-- runs on: it doesn't where it broke off within an entry of a process.
+abbrev pub LeftThere : Inputs → Stop → State → Standing → List ℕ → Type 0
+LeftThere A stops.JournalFull s m image = StandsThere A s m image
+LeftThere A stops.NoMemory s m image = StarvedThere A s m image ⊎ ReturnedThere A s m image
+LeftThere A stops.FileFault s m image = LessThere s m
+LeftThere A stops.SwapReadFault s m image = LessThere s m ⊎ StoppedThere s m
+LeftThere A stops.SwapWriteFault s m image = LessThere s m ⊎ StoppedThere s m
 
--- The run stopped at the state to which its journal leads, and there the machine is left.
-pub record RunLeft (A : Inputs) (stop : Stop) (m : Standing) : Type 0 where
+-- The run stopped at the state to which its journal leads, and there the machine is left. The swap image before it is this one.
+pub record RunLeft (A : Inputs) (stop : Stop) (m : Standing) (image : List ℕ) : Type 0 where
   pub state : State
   pub made : IsJournalOf A m.kernel.journal state
-  pub left : LeftThere stop state m
+  pub left : LeftThere A stop state m (swapped A m.kernel.journal image)
 
 -- by the cause; for want of memory the run may also stop before its first unit, as its first processes begin, and then the machine has stopped
-abbrev pub RunStopsAt : Inputs → Stop → Standing → Type 0
-RunStopsAt A stops.NoMemory m = m.kernel.stopped ≡ false → RunLeft A stops.NoMemory m
-RunStopsAt A stop m = RunLeft A stop m
+abbrev pub RunStopsAt : Inputs → Stop → Standing → List ℕ → Type 0
+RunStopsAt A stops.NoMemory m image = m.kernel.stopped ≡ false → RunLeft A stops.NoMemory m image
+RunStopsAt A stop m image = RunLeft A stop m image
 
--- The journal is at its bound, the next unit isn't joined to the last entry, and the machine stands where its journal leads to.
-pub record RunFull (A : Inputs) (m : Standing) : Type 0 where
+-- The journal is at its bound, the next unit isn't joined to the last entry, and the machine stands for the state to which its journal
+-- leads, with the swap image that its journal makes of this one.
+pub record RunFull (A : Inputs) (m : Standing) (image : List ℕ) : Type 0 where
   pub state : State
   pub made : IsJournalOf A m.kernel.journal state
   pub unit : Entry
   pub next : next_unit A state ≡ Some unit
   pub bound : m.params.journal ≤ length m.kernel.journal
   pub longer : length m.kernel.journal < length (append m.kernel.journal unit)
-  pub stands : StandsThere state m
+  pub stands : StandsThere A state m (swapped A m.kernel.journal image)
 
--- There is no next unit, and the machine stands where its journal leads to.
-pub record RunOver (A : Inputs) (m : Standing) : Type 0 where
+-- There is no next unit, and the machine stands for the state to which its journal leads, with the swap image that its journal makes of
+-- this one.
+pub record RunOver (A : Inputs) (m : Standing) (image : List ℕ) : Type 0 where
   pub state : State
   pub made : IsJournalOf A m.kernel.journal state
   pub none : next_unit A state ≡ None
-  pub stands : StandsThere state m
-
--- There is no next unit, and the machine stands for the state to which its journal leads, with the swap image that its journal makes
--- of this one: its frames, its records and that image have the bytes and registers of the flat machine.
-pub record RunWhole (A : Inputs) (m : Standing) (image : List ℕ) : Type 0 where
-  pub state : State
-  pub made : IsJournalOf A m.kernel.journal state
-  pub none : next_unit A state ≡ None
-  pub at : StandsAt A state m.kernel (swapped A m.kernel.journal image)
+  pub stands : StandsThere A state m (swapped A m.kernel.journal image)

@@ -7,7 +7,7 @@ use Rattle.machine_state.specs.Machine.{Standing}
 
 -- The machine runs on, and its own frames and blocks of swap have one owner each, or are free. Its hands and transfers stand, spaces
 -- and processes have numbers of their own, what is due stands, and its journal is within its bound. The pieces of swap that were found
--- for an entry that has no room don't count.
+-- for an entry for which there was no memory don't count.
 pub record RunsSound (m : Standing) : Type 0 where
   pub running : m.kernel.stopped ≡ false
   pub sound : Sound m.params.swap_blocks (record m.kernel { holdings = m.before })

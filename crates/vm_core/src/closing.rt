@@ -42,8 +42,8 @@ fn is_out(m: &Machine, pid: u32) -> bool
     process.out
 }
 
-// A process that is out comes in.
-fn come_in<F: Files, D: SwapDev>(
+/// A process whose turn it is comes in where it is out.
+pub fn come_in<F: Files, D: SwapDev>(
     m: &mut Machine,
     files: &mut F,
     swap: &mut D,
@@ -52,8 +52,8 @@ fn come_in<F: Files, D: SwapDev>(
     requires steady { IsSteady m.old }
     requires area { m.old.params.swap_blocks ≤ D.blocks swap.old }
     requires files { AreFiles m.old.images (F.holds files.old) }
-    ensures comes { OnOk result ((counted : ℕ) → ComesIn m.old m.new pid counted (F.holds files.old) (D.image swap.old) (D.image swap.new)) }
-    ensures stops { IfErr result (λ stop. (counted : ℕ) → StopsComingIn m.old m.new pid counted (F.holds files.old) (D.image swap.old) (D.image swap.new) stop) }
+    ensures comes { OnOk result ((counted since : ℕ) → ComesIn m.old m.new pid counted since (F.holds files.old) (D.image swap.old) (D.image swap.new)) }
+    ensures stops { IfErr result (λ stop. (counted since : ℕ) → StopsComingIn m.old m.new pid counted since (F.holds files.old) (D.image swap.old) (D.image swap.new) stop) }
     ensures steady { OnOk result (StaysSteady m.old m.new 0) }
     ensures kept { IfErr result (KeptAtStop m.old m.new) }
     ensures outside { TransfersPages F.Files D.SwapDev (stop_of result) files.old files.new swap.old swap.new }
@@ -85,7 +85,7 @@ fn turn<F: Files, D: SwapDev>(
 {
     m.note(Entry::Turn { pid })?;
     come_in(m, files, swap, pid)?;
-    finish(alloc, m, files, swap, pid, counted)
+    finish(alloc, m, files, swap, pid, counted, counted)
 }
 
 // The process of the next turn: none where as many instructions are counted as may, too many turns in a row counted none, or no

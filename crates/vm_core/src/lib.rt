@@ -10,7 +10,10 @@ mod running;
 mod schedule;
 mod starting;
 
+pub use closing::come_in;
 pub use events::Went;
+pub use lines::{audit, interrupt};
 pub use run::Core;
 pub use run_start::Started;
+pub use running::{TURN, count_behind, finish};
 pub use schedule::{Unfinished, run_schedule};

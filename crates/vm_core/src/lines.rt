@@ -18,7 +18,7 @@ use run_start::swapper::turn;
 use vm_facts::{Event, Stop};
 
 /// The oldest transfer ends, where one is in flight.
-pub(crate) fn interrupt<F: Files, D: SwapDev>(
+pub fn interrupt<F: Files, D: SwapDev>(
     m: &mut Machine,
     files: &mut F,
     swap: &mut D,
@@ -78,7 +78,7 @@ pub(crate) fn swapper<F: Files, D: SwapDev>(
 }
 
 /// The numbers of frames and blocks are noted.
-pub(crate) fn audit(m: &mut Machine) -> Result<(), Stop>
+pub fn audit(m: &mut Machine) -> Result<(), Stop>
     requires steady { IsSteady m.old }
     ensures made { (holds : Option (List NamedFile)) (i : Option (List ℕ)) → OnOk result (MakesLine Event.Audit m.old m.new holds i i) }
     ensures stops { (holds : Option (List NamedFile)) (i : Option (List ℕ)) → IfErr result (StopsLine Event.Audit m.old m.new holds i i) }

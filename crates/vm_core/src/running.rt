@@ -16,13 +16,13 @@ use std::alloc::Global;
 use vm_facts::{Event, Stop};
 
 /// The instructions of one turn.
-const TURN: u32 = 1000;
+pub const TURN: u32 = 1000;
 
-// The count at which so many more instructions are counted, or as many as may.
-fn count_behind(m: &Machine, counted: u32, more: u32) -> u32
-    ensures { result ≡ min (counted + more) m.now.params.limit }
+/// The count at which so many more instructions are counted, or as many as may.
+pub fn count_behind(m: &Machine, since: u32, more: u32) -> u32
+    ensures { result ≡ min (since + more) m.now.params.limit }
 {
-    counted.saturating_add(more).min(m.params().limit)
+    since.saturating_add(more).min(m.params().limit)
 }
 
 /// A process that is in runs so many instructions at most, and waits for no page.
@@ -49,25 +49,26 @@ pub(crate) fn dispatch<F: Files, D: SwapDev>(
     run(alloc, m, files, swap, pid, counted, until, Patience::Stops)
 }
 
-/// A process that is in has its turn: so many instructions at most, and it waits for its pages.
-pub(crate) fn finish<F: Files, D: SwapDev>(
+/// A process that is in has its turn, or what is left of it: so many instructions at most since it began, and it waits for its pages.
+pub fn finish<F: Files, D: SwapDev>(
     alloc: Global,
     m: &mut Machine,
     files: &mut F,
     swap: &mut D,
     pid: u32,
     counted: u32,
+    since: u32,
 ) -> Result<u32, Stop>
     requires steady { IsSteady m.old }
     requires area { m.old.params.swap_blocks ≤ D.blocks swap.old }
     requires files { AreFiles m.old.images (F.holds files.old) }
     requires counted { instructions_of m.old.kernel.journal ≡ counted }
-    ensures done { IfOk result (λ more. FinishesTurn m.old m.new pid counted more (F.holds files.old) (D.image swap.old) (D.image swap.new)) }
-    ensures stops { IfErr result (StopsFinishing m.old m.new pid counted (F.holds files.old) (D.image swap.old) (D.image swap.new)) }
+    ensures done { IfOk result (λ more. FinishesTurn m.old m.new pid counted since more (F.holds files.old) (D.image swap.old) (D.image swap.new)) }
+    ensures stops { IfErr result (StopsFinishing m.old m.new pid counted since (F.holds files.old) (D.image swap.old) (D.image swap.new)) }
     ensures counts { IfOk result (λ more. CountsTo m.old m.new counted more) }
     ensures kept { IfErr result (KeptAtStop m.old m.new) }
     ensures outside { TransfersPages F.Files D.SwapDev (stop_of result) files.old files.new swap.old swap.new }
 {
-    let until = count_behind(m, counted, TURN);
+    let until = count_behind(m, since, TURN);
     run(alloc, m, files, swap, pid, counted, until, Patience::Waits)
 }

@@ -11,7 +11,7 @@ ghost use Rattle.vm_core.specs.Starting.{IsFresh};
 ghost use Rattle.vm_core.specs.Schedules.{HaveFewMoves, TakesLines, StopsLines, FinishesLines};
 ghost use Rattle.vm_core.specs.Sound.{RunsSound};
 ghost use Rattle.vm_facts.specs.declared.stop.Stop.{Stop as Halt};
-ghost use Rattle.vm_core.specs.Full.{RunFull, RunOver, RunWhole, RunStopsAt};
+ghost use Rattle.vm_core.specs.Full.{RunFull, RunOver, RunStopsAt};
 ghost use Rattle.vm_core.specs.RunEnds.{stopped_as, IsAskedOf, RunEnds};
 ghost use Rattle.vm_core.specs.declared.schedule.Unfinished.TheVariants.{Stopped};
 
@@ -117,13 +117,11 @@ fn run_through<F: Files, D: SwapDev>(
     ensures ends { (A : Inputs) (image : List ℕ) → IsAskedOf A core.old.machine first.now lines.now (F.holds files.old) image → D.image swap.old ≡ Some image
         → RunEnds A core.new.machine.kernel.journal image result (D.image swap.new) }
     ensures full { (A : Inputs) (image : List ℕ) → IsAskedOf A core.old.machine first.now lines.now (F.holds files.old) image → D.image swap.old ≡ Some image
-        → result ≡ Err (Unfinished.Stopped Stop.JournalFull) → RunFull A core.new.machine }
+        → result ≡ Err (Unfinished.Stopped Stop.JournalFull) → RunFull A core.new.machine image }
     ensures left { (A : Inputs) (image : List ℕ) → IsAskedOf A core.old.machine first.now lines.now (F.holds files.old) image → D.image swap.old ≡ Some image
-        → (stop : Halt) → result ≡ Err (Unfinished.Stopped stop) → RunStopsAt A stop core.new.machine }
+        → (stop : Halt) → result ≡ Err (Unfinished.Stopped stop) → RunStopsAt A stop core.new.machine image }
     ensures over { OnOk result ((A : Inputs) (image : List ℕ) → IsAskedOf A core.old.machine first.now lines.now (F.holds files.old) image → D.image swap.old ≡ Some image
-        → RunOver A core.new.machine) }
-    ensures whole { OnOk result ((A : Inputs) (image : List ℕ) → IsAskedOf A core.old.machine first.now lines.now (F.holds files.old) image → D.image swap.old ≡ Some image
-        → RunWhole A core.new.machine image) }
+        → RunOver A core.new.machine image) }
     ensures goes_on { OnOk result (GoesOn core.new) }
     ensures sound { OnOk result (RunsSound core.new.machine) }
     ensures unmade_sound { (pid : ℕ) → result ≡ Err (Unfinished.NoSpace pid) → RunsSound core.new.machine }
@@ -170,13 +168,11 @@ pub fn run_schedule<F: Files, D: SwapDev>(
     ensures ends { (A : Inputs) (image : List ℕ) → IsAskedOf A core.old.machine first.now lines.now (F.holds files.old) image → D.image swap.old ≡ Some image
         → RunEnds A core.new.machine.kernel.journal image result (D.image swap.new) }
     ensures full { (A : Inputs) (image : List ℕ) → IsAskedOf A core.old.machine first.now lines.now (F.holds files.old) image → D.image swap.old ≡ Some image
-        → result ≡ Err (Unfinished.Stopped Stop.JournalFull) → RunFull A core.new.machine }
+        → result ≡ Err (Unfinished.Stopped Stop.JournalFull) → RunFull A core.new.machine image }
     ensures left { (A : Inputs) (image : List ℕ) → IsAskedOf A core.old.machine first.now lines.now (F.holds files.old) image → D.image swap.old ≡ Some image
-        → (stop : Halt) → result ≡ Err (Unfinished.Stopped stop) → RunStopsAt A stop core.new.machine }
+        → (stop : Halt) → result ≡ Err (Unfinished.Stopped stop) → RunStopsAt A stop core.new.machine image }
     ensures over { OnOk result ((A : Inputs) (image : List ℕ) → IsAskedOf A core.old.machine first.now lines.now (F.holds files.old) image → D.image swap.old ≡ Some image
-        → RunOver A core.new.machine) }
-    ensures whole { OnOk result ((A : Inputs) (image : List ℕ) → IsAskedOf A core.old.machine first.now lines.now (F.holds files.old) image → D.image swap.old ≡ Some image
-        → RunWhole A core.new.machine image) }
+        → RunOver A core.new.machine image) }
     ensures goes_on { OnOk result (GoesOn core.new) }
     ensures sound { OnOk result (RunsSound core.new.machine) }
     ensures unmade_sound { (pid : ℕ) → result ≡ Err (Unfinished.NoSpace pid) → RunsSound core.new.machine }

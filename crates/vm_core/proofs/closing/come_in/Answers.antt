@@ -19,7 +19,7 @@ returns-then-not-is_out-clause-comes g c =
     let old = c.args.m.now in
     let holds = g.F.Files.holds c.args.files.now in
     let i = g.D.SwapDev.image c.args.swap.now in
-    λ (counted : ℕ). in_already old c.args.pid counted holds i (held_in old c.args.pid counted holds i (c.is_out.ensures.resident c.if-not-is_out.true))
+    λ (counted since : ℕ). in_already old c.args.pid counted since holds i (held_in old c.args.pid counted since holds i (c.is_out.ensures.resident c.if-not-is_out.true))
 
 pub returns-clause-comes : goal.returns-clause-comes
 returns-clause-comes g c =
@@ -28,8 +28,8 @@ returns-clause-comes g c =
     let i = g.D.SwapDev.image c.args.swap.now in
     let new : Standing = c.swap_in.new.m in
     let j = g.D.SwapDev.image c.swap_in.new.swap in
-    ok_both c.swap_in.result (IsIn old.kernel new.kernel c.args.pid i) (IsSameBeside old new) ((counted : ℕ) → ComesIn old new c.args.pid counted holds i j)
-    (λ h b counted. in_comes old new c.args.pid counted holds i j (c.is_out.ensures.out c.if-not-is_out.false) h b.params b.images c.swap_in.ensures.image) c.swap_in.ensures.step c.swap_in.ensures.beside
+    ok_both c.swap_in.result (IsIn old.kernel new.kernel c.args.pid i) (IsSameBeside old new) ((counted since : ℕ) → ComesIn old new c.args.pid counted since holds i j)
+    (λ h b counted since. in_comes old new c.args.pid counted since holds i j (c.is_out.ensures.out c.if-not-is_out.false) h b.params b.images c.swap_in.ensures.image) c.swap_in.ensures.step c.swap_in.ensures.beside
 
 pub returns-clause-stops : goal.returns-clause-stops
 returns-clause-stops g c =
@@ -38,8 +38,8 @@ returns-clause-stops g c =
     let i = g.D.SwapDev.image c.args.swap.now in
     let new : Standing = c.swap_in.new.m in
     let j = g.D.SwapDev.image c.swap_in.new.swap in
-    stops_weaker c.swap_in.result (λ stop. StopsAt (entries.SwapIn c.args.pid) old.kernel i stop new j) (λ stop. (counted : ℕ) → StopsComingIn old new c.args.pid counted holds i j stop)
-    (λ stop h counted. in_stops old new c.args.pid counted holds i j stop (c.is_out.ensures.out c.if-not-is_out.false) h) c.swap_in.ensures.stopped
+    stops_weaker c.swap_in.result (λ stop. StopsAt (entries.SwapIn c.args.pid) old.kernel i stop new j) (λ stop. (counted since : ℕ) → StopsComingIn old new c.args.pid counted since holds i j stop)
+    (λ stop h counted since. in_stops old new c.args.pid counted since holds i j stop (c.is_out.ensures.out c.if-not-is_out.false) h) c.swap_in.ensures.stopped
 
 pub returns-clause-steady : goal.returns-clause-steady
 returns-clause-steady g c =

@@ -14,9 +14,10 @@ returns-clause-done g c =
     let j = g.D.SwapDev.image c.run.new.swap in
     let pid = c.args.pid in
     let counted = c.args.counted in
+    let since = c.args.since in
     let until = c.count_behind-until.result in
-    ok_weaker c.run.result (λ count. Runs old new pid true counted until holds i j count) (λ count. FinishesTurn old new pid counted count holds i j)
-    (λ count f. finish_done old new holds i j pid counted until count c.count_behind-until.ensures f) c.run.ensures.runs
+    ok_weaker c.run.result (λ count. Runs old new pid true counted until holds i j count) (λ count. FinishesTurn old new pid counted since count holds i j)
+    (λ count f. finish_done old new holds i j pid counted since until count c.count_behind-until.ensures f) c.run.ensures.runs
 
 pub returns-clause-stops : goal.returns-clause-stops
 returns-clause-stops g c =
@@ -27,6 +28,7 @@ returns-clause-stops g c =
     let j = g.D.SwapDev.image c.run.new.swap in
     let pid = c.args.pid in
     let counted = c.args.counted in
+    let since = c.args.since in
     let until = c.count_behind-until.result in
-    stops_weaker c.run.result (λ stop. StopsRunning old new pid true counted until holds i j stop) (λ stop. StopsFinishing old new pid counted holds i j stop)
-    (λ stop f. finish_stops old new holds i j pid counted until stop c.count_behind-until.ensures f) c.run.ensures.stops
+    stops_weaker c.run.result (λ stop. StopsRunning old new pid true counted until holds i j stop) (λ stop. StopsFinishing old new pid counted since holds i j stop)
+    (λ stop f. finish_stops old new holds i j pid counted since until stop c.count_behind-until.ensures f) c.run.ensures.stops

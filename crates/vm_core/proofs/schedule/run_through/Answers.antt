@@ -7,7 +7,7 @@ use Rattle.run_start.proofs.StopsKeep.{kept_through}
 use Rattle.vm_core.specs.Full.{RunFull, RunStopsAt}
 use Rattle.vm_core.specs.RunEnds.{RunEnds}
 use Rattle.vm_core.specs.declared.schedule.Unfinished.TheVariants.{Stopped}
-use Rattle.vm_core.proofs.Ending.{stopped_so, same_stop, kept_bound, are_among, start_stops, start_full, start_left, lines_stop, lines_full, lines_left, lines_finish, lines_over, lines_whole}
+use Rattle.vm_core.proofs.Ending.{stopped_so, same_stop, kept_bound, are_among, start_stops, start_full, start_left, lines_stop, lines_full, lines_left, lines_finish, lines_over}
 use Rattle.vm_core.proofs.schedule.run_through.Goals as goal
 
 pub start-requires-clause-numbers : goal.start-requires-clause-numbers
@@ -25,7 +25,7 @@ pub returns-in_err-pid-clause-full : goal.returns-in_err-pid-clause-full
 returns-in_err-pid-clause-full g c A image is told =
     let stop = c.in_err-pid.field-0.0 in
     let new = c.start.new.self in
-    stopped_so c.from_residual.result stop (λ r. r ≡ Err (Stopped stops.JournalFull) → RunFull A new.machine) c.from_residual.ensures.1
+    stopped_so c.from_residual.result stop (λ r. r ≡ Err (Stopped stops.JournalFull) → RunFull A new.machine image) c.from_residual.ensures.1
     (λ full. start_full A c.args.core.now c.args.first.now c.args.lines.now (g.F.Files.holds c.args.files.now) image c.requires.few is new stop (g.D.SwapDev.image c.start.new.swap)
     (same_stop stop stops.JournalFull full) (λ B b t e. c.in_err-pid.ensures.stops B b t (told ∙ e)))
 
@@ -61,7 +61,7 @@ returns-in_err-finish-in-Ok-clause-full g c A image is told =
     let i = g.D.SwapDev.image c.args.swap.now in
     let h = g.D.SwapDev.image c.start.new.swap in
     let j = g.D.SwapDev.image c.finish.new.swap in
-    stopped_so c.from_residual-in_err-finish-in-Ok.result stop (λ r. r ≡ Err (Stopped stops.JournalFull) → RunFull A new.machine) c.from_residual-in_err-finish-in-Ok.ensures.1
+    stopped_so c.from_residual-in_err-finish-in-Ok.result stop (λ r. r ≡ Err (Stopped stops.JournalFull) → RunFull A new.machine image) c.from_residual-in_err-finish-in-Ok.ensures.1
     (λ full. lines_full A c.args.core.now c.args.first.now c.args.lines.now holds image c.requires.few is mid i h told (c.start.ensures.starts ok) new stop j (same_stop stop stops.JournalFull full)
     (subst (λ hs. StopsLines mid new c.args.lines.now hs h j stop) c.start.ensures.outside.files.holds c.in_err-finish-in-Ok.ensures.stops))
 
@@ -89,26 +89,14 @@ returns-in_ok-finish-in-Ok-clause-over g c A image is told =
     lines_over A c.args.core.now c.args.first.now c.args.lines.now holds image c.requires.few is mid i h told (c.start.ensures.starts ok) new j
     (subst (λ hs. FinishesLines mid new c.args.lines.now hs h j) c.start.ensures.outside.files.holds c.in_ok-finish-in-Ok.ensures.finishes) c.in_ok-finish-in-Ok.ensures.goes_on
 
-pub returns-in_ok-finish-in-Ok-clause-whole : goal.returns-in_ok-finish-in-Ok-clause-whole
-returns-in_ok-finish-in-Ok-clause-whole g c A image is told =
-    let ok = c.in_ok-pid.was ∙ ap (λ (s : Started). let r : Result Started Stop = Ok s in r) c.in-Ok.is in
-    let mid = c.start.new.self in
-    let new = c.finish.new.core in
-    let holds = g.F.Files.holds c.args.files.now in
-    let i = g.D.SwapDev.image c.args.swap.now in
-    let h = g.D.SwapDev.image c.start.new.swap in
-    let j = g.D.SwapDev.image c.finish.new.swap in
-    lines_whole A c.args.core.now c.args.first.now c.args.lines.now holds image c.requires.few is mid i h told (c.start.ensures.starts ok) new j
-    (subst (λ hs. FinishesLines mid new c.args.lines.now hs h j) c.start.ensures.outside.files.holds c.in_ok-finish-in-Ok.ensures.finishes)
-
 -- Where the machine is left.
 
 pub returns-in_err-pid-clause-left : goal.returns-in_err-pid-clause-left
 returns-in_err-pid-clause-left g c A image is told halt =
     let stop = c.in_err-pid.field-0.0 in
     let new = c.start.new.self in
-    stopped_so c.from_residual.result stop (λ r. r ≡ Err (Stopped halt) → RunStopsAt A halt new.machine) c.from_residual.ensures.1
-    (λ same. subst (λ (s : Stop). RunStopsAt A s new.machine) (same_stop stop halt same)
+    stopped_so c.from_residual.result stop (λ r. r ≡ Err (Stopped halt) → RunStopsAt A halt new.machine image) c.from_residual.ensures.1
+    (λ same. subst (λ (s : Stop). RunStopsAt A s new.machine image) (same_stop stop halt same)
     (start_left A c.args.core.now c.args.first.now c.args.lines.now (g.F.Files.holds c.args.files.now) image c.requires.few is new stop (g.D.SwapDev.image c.start.new.swap)
     (λ B b t e. c.in_err-pid.ensures.stops B b t (told ∙ e))))
 
@@ -122,8 +110,8 @@ returns-in_err-finish-in-Ok-clause-left g c A image is told halt =
     let i = g.D.SwapDev.image c.args.swap.now in
     let h = g.D.SwapDev.image c.start.new.swap in
     let j = g.D.SwapDev.image c.finish.new.swap in
-    stopped_so c.from_residual-in_err-finish-in-Ok.result stop (λ r. r ≡ Err (Stopped halt) → RunStopsAt A halt new.machine) c.from_residual-in_err-finish-in-Ok.ensures.1
-    (λ same. subst (λ (s : Stop). RunStopsAt A s new.machine) (same_stop stop halt same)
+    stopped_so c.from_residual-in_err-finish-in-Ok.result stop (λ r. r ≡ Err (Stopped halt) → RunStopsAt A halt new.machine image) c.from_residual-in_err-finish-in-Ok.ensures.1
+    (λ same. subst (λ (s : Stop). RunStopsAt A s new.machine image) (same_stop stop halt same)
     (lines_left A c.args.core.now c.args.first.now c.args.lines.now holds image c.requires.few is mid i h told (c.start.ensures.starts ok) new stop j
     (subst (λ hs. StopsLines mid new c.args.lines.now hs h j stop) c.start.ensures.outside.files.holds c.in_err-finish-in-Ok.ensures.stops)))
 
