@@ -1,0 +1,110 @@
+-- The rest of a step and of a mark, together, and the whole way.
+use Rattle.std.proofs.Common.{◌≡◌, ℕ, ◌+◌, ◌<◌, ◌≤◌, ◌^◌, List, ◌++◌, length, Option, sym, ap, ◌∙◌, subst, arith}
+use Rattle.vm_facts.specs.declared.event.Event.{Event}
+use Rattle.vm_facts.specs.declared.params.Params.{Params}
+use Rattle.vm_facts.specs.declared.stop.Stop.{Stop}
+use Rattle.io_edge.specs.FileHolding.{NamedFile}
+use Rattle.flat_state.specs.Flat.{Inputs}
+use Rattle.machine_state.specs.Machine.{Standing}
+use Rattle.run_model.specs.declared.mark.Mark.{Mark}
+use Rattle.run_model.specs.State.{State}
+use Rattle.run_model.specs.Next.{last_turned}
+use Rattle.run_start.specs.Holders.{HoldersStand}
+use Rattle.run_start.specs.Stepped.{StepLeads}
+use Rattle.proc_run.specs.Running.{CountsTo}
+use Rattle.film_core.specs.Films.{IsInOrder}
+use Rattle.film_core.specs.Ways.{WayAt, Settles, RestAt, IsUnder, Rests, StopsResting, StaysOn, OverAt, IsPast, PassesOver, StopsPassing, GoesAt, IsGoing, GetsOver, GoesOver, StopsGoing}
+use Rattle.film_core.proofs.Composing.{then_lead, then_stop, then_out, leads_reached, reached_below, stands_then, leads_longer}
+use Rattle.film_core.proofs.Holding.{holders_there}
+
+pub going_holders : (m : Standing) (last : Mark) (schedule : List Event) (taken counted : ℕ) (holds : Option (List NamedFile)) (i : Option (List ℕ)) → IsGoing m last schedule taken counted holds i → HoldersStand m.kernel
+going_holders m last schedule taken counted holds i (A, s, image, at) = holders_there A s m.kernel image at.stands.machine.at
+
+pub going_fits : (m : Standing) (last : Mark) (schedule : List Event) (taken counted : ℕ) (holds : Option (List NamedFile)) (i : Option (List ℕ)) → IsGoing m last schedule taken counted holds i → counted + 1 < 2 ^ 32
+going_fits m last schedule taken counted holds i (A, s, image, at) =
+    let few = at.stands.inputs.few in let below = reached_below A s at.reached in let same = at.stands.count in omega (arith, few, below, same)
+
+way_at : (A : Inputs) (s : State) (m : Standing) (last : Mark) (schedule : List Event) (taken counted : ℕ) (holds : Option (List NamedFile)) (i : Option (List ℕ)) (image : List ℕ) → GoesAt A s m last schedule taken counted holds i image
+    → WayAt A s m holds i image
+way_at A s m last schedule taken counted holds i image at = record { machine = at.stands.machine; told = at.stands.told; reached = at.reached }
+
+module _ (old mid : Standing) (last : Mark) (schedule : List Event) (taken counted count : ℕ) (holds : Option (List NamedFile)) (i h : Option (List ℕ)) (to : CountsTo old mid counted count) (f : Settles old mid counted count holds i h)
+    (A : Inputs) (s : State) (image : List ℕ) (at : GoesAt A s old last schedule taken counted holds i image) where
+  settled : (n : ℕ) × (count ≡ counted + n) × StepLeads A s old.kernel image n mid.kernel h
+  settled = f A s image (way_at A s old last schedule taken counted holds i image at)
+
+  led : StepLeads A s old.kernel image settled.0 mid.kernel h
+  led = settled.2
+
+  rest_at : RestAt A led.state mid last count holds h led.leads.behind
+  rest_at = record {
+    stands = stands_then A s led.state old mid holds i h image led.units counted count at.reached at.stands led.leads to.params to.images
+        (let c = led.count in let same = at.stands.count in let all = settled.1 in omega (arith, c, same, all));
+    reached = leads_reached A s led.state old.kernel mid.kernel image led.units h at.reached led.leads;
+    clear = record { clear = led.clear; between = led.between };
+    mark = led.mark ∙ at.mark;
+    order = subst (λ (es : List Event). IsInOrder es led.state.lines last) (sym at.are) (subst (λ (n : ℕ). IsInOrder schedule n last) (sym (led.lines ∙ at.lines)) at.order);
+  }
+
+pub going_under : (old mid : Standing) (last : Mark) (schedule : List Event) (taken counted count : ℕ) (holds : Option (List NamedFile)) (i h : Option (List ℕ)) → CountsTo old mid counted count
+    → Settles old mid counted count holds i h → IsGoing old last schedule taken counted holds i → IsUnder mid last count holds h
+going_under old mid last schedule taken counted count holds i h to f (A, s, image, at) =
+    let l = led old mid last schedule taken counted count holds i h to f A s image at in
+    (A, l.state, l.leads.behind, rest_at old mid last schedule taken counted count holds i h to f A s image at)
+
+pub gets_over : (old mid new : Standing) (last : Mark) (schedule : List Event) (taken counted count more : ℕ) (holds : Option (List NamedFile)) (i h j : Option (List ℕ)) → CountsTo old mid counted count
+    → Settles old mid counted count holds i h → Rests mid new last count more holds h j → GetsOver old new last schedule taken counted more holds i j
+gets_over old mid new last schedule taken counted count more holds i h j to f r A s image at =
+    let l = led old mid last schedule taken counted count holds i h to f A s image at in
+    let d = r A l.state l.leads.behind (rest_at old mid last schedule taken counted count holds i h to f A s image at) in
+    record {
+      units = l.units ++ d.units;
+      state = d.state;
+      leads = then_lead A s l.state d.state old.kernel mid.kernel new.kernel image h j l.units d.units l.leads d.leads;
+      over = d.over;
+      counts = d.counts;
+      lines = d.lines ∙ l.lines;
+      turned = d.turned;
+    }
+
+pub rest_stops_going : (old mid new : Standing) (last : Mark) (schedule : List Event) (taken counted count : ℕ) (holds : Option (List NamedFile)) (i h j : Option (List ℕ)) (stop : Stop) → CountsTo old mid counted count
+    → Settles old mid counted count holds i h → StopsResting mid new last count holds h j stop → StopsGoing old new last schedule taken counted holds i j stop
+rest_stops_going old mid new last schedule taken counted count holds i h j stop to f r A s image at =
+    let l = led old mid last schedule taken counted count holds i h to f A s image at in
+    then_stop A s l.state old.kernel mid.kernel image h j l.units stop new l.leads (r A l.state l.leads.behind (rest_at old mid last schedule taken counted count holds i h to f A s image at))
+
+-- The whole way.
+
+module _ (old mid : Standing) (last : Mark) (schedule : List Event) (taken counted count turn : ℕ) (holds : Option (List NamedFile)) (i h : Option (List ℕ)) (on : StaysOn old mid count)
+    (f : GetsOver old mid last schedule taken counted count holds i h) (e : turn ≡ last_turned last) where
+  past_at : (A : Inputs) (s : State) (image : List ℕ) (at : GoesAt A s old last schedule taken counted holds i image) → let d = f A s image at in OverAt A d.state mid schedule taken count turn holds h d.leads.behind
+  past_at A s image at =
+      let d = f A s image at in
+      record {
+        stands = stands_then A s d.state old mid holds i h image d.units counted count at.reached at.stands d.leads on.params on.images d.counts;
+        reached = leads_reached A s d.state old.kernel mid.kernel image d.units h at.reached d.leads;
+        over = d.over;
+        are = at.are;
+        lines = d.lines ∙ at.lines;
+        turned = d.turned ∙ sym e;
+      }
+
+  pub going_past : IsGoing old last schedule taken counted holds i → IsPast mid schedule taken count turn holds h
+  going_past (A, s, image, at) = let d = f A s image at in (A, d.state, d.leads.behind, past_at A s image at)
+
+  -- an entry more has room at most
+  pub going_wide : IsGoing old last schedule taken counted holds i → old.params.journal ≤ length old.kernel.journal + 1 → mid.params.journal ≤ length mid.kernel.journal + 1
+  going_wide (A, s, image, at) wide =
+      let d = f A s image at in
+      let o = past_at A s image at in
+      let long = leads_longer A s d.state old.kernel mid.kernel image d.leads.behind d.units h at.stands.machine.at.stands o.stands.machine.at.stands d.leads in
+      let same = ap (λ (p : Params). p.journal) on.params in
+      omega (arith, long, same, wide)
+
+  pub goes_over : (new : Standing) (j : Option (List ℕ)) → PassesOver mid new schedule taken count turn holds h j → GoesOver old new last schedule taken counted holds i j
+  goes_over new j p A s image at =
+      let d = f A s image at in then_out A s d.state old mid new image h j d.units d.leads (p A d.state d.leads.behind (past_at A s image at))
+
+  pub stops_going : (new : Standing) (j : Option (List ℕ)) (stop : Stop) → StopsPassing mid new schedule taken count turn holds h j stop → StopsGoing old new last schedule taken counted holds i j stop
+  stops_going new j stop p A s image at =
+      let d = f A s image at in then_stop A s d.state old.kernel mid.kernel image h j d.units stop new d.leads (p A d.state d.leads.behind (past_at A s image at))

@@ -1,0 +1,13 @@
+pub mod Begins
+pub mod Catching
+pub mod Composing
+pub mod Entered
+pub mod Getting
+pub mod Holding
+pub mod Longer
+pub mod Making
+pub mod Marking
+pub mod MayStep
+pub mod Passing
+pub mod RestsMade
+pub mod Settled

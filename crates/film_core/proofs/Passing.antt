@@ -1,0 +1,363 @@
+-- What comes after a mark, and the whole way, by what the parts say.
+use Rattle.std.proofs.Common.{◌≡◌, ◌⊎◌, inl, inr, ℕ, zero, suc, ◌+◌, ◌<◌, ◌≤◌, nat_lt, Bool, true, false, List, [], ◌∷◌, length, slice_get, Option, Some, None, refl, sym, ap, ◌∙◌, subst, arith}
+use Rattle.std.proofs.lemmas.Bool.Decides.{nat_tests}
+use Rattle.vm_facts.specs.declared.entry.Entry.{Entry}
+use Rattle.vm_facts.specs.declared.entry.Entry.TheVariants as entries
+use Rattle.vm_facts.specs.declared.event.Event.{Event}
+use Rattle.vm_facts.specs.declared.params.Params.{Params}
+use Rattle.vm_facts.specs.declared.stop.Stop.{Stop}
+use Rattle.vm_facts.specs.declared.stop.Stop.TheVariants as stops
+use Rattle.io_edge.specs.FileHolding.{NamedFile}
+use Rattle.flat_state.specs.Flat.{Inputs}
+use Rattle.flat_state.specs.Journal.{instructions_of, counted, IsPlain}
+use Rattle.page_model.specs.Placement.{Due}
+use Rattle.kernel_model.specs.Kernel.{Kernel, note_step}
+use Rattle.machine_state.specs.Machine.{Standing}
+use Rattle.run_model.specs.declared.mark.Mark.{Mark}
+use Rattle.run_model.specs.declared.mark.Mark.TheVariants as marks
+use Rattle.run_model.specs.State.{State, start}
+use Rattle.run_model.specs.Next.{or_else, when, due_unit, under, turn_of, line_or_turn, next_mark, next_unit, next_turned, last_turned}
+use Rattle.journal_laws.specs.Leads.{Leads}
+use Rattle.journal_laws.proofs.Journals.{leads_follow}
+use Rattle.run_start.specs.Holders.{HoldersStand}
+use Rattle.run_start.specs.Ready.{Continues}
+use Rattle.run_start.specs.Sizes.{KeptAtStop}
+use Rattle.run_start.specs.Stepped.{StopLeads}
+use Rattle.run_start.specs.Lines.{IsOver, LineBegun, TurnBegun, TurnDue, StopsNoting}
+use Rattle.run_start.proofs.Entries.{note_continues}
+use Rattle.run_start.proofs.SteadyLawsKernels.{note_keeps}
+use Rattle.run_start.proofs.StepUnitsBeginning.{line_begins, line_stops, turn_stops}
+use Rattle.run_start.proofs.Turning.{turn_begins}
+use Rattle.proc_run.specs.Choosing.{next_turned as chosen_next}
+use Rattle.proc_run.proofs.Ready.{turned_same}
+use Rattle.proc_run.specs.Runs.{IsSteady}
+use Rattle.vm_core.specs.Cores.{StandsIn}
+use Rattle.vm_core.specs.Schedules.{HaveFewMoves}
+use Rattle.vm_core.proofs.Going.{few_at}
+use Rattle.vm_core.proofs.Steadying.{noted_first}
+use Rattle.film_core.specs.Films.{IsInOrder}
+use Rattle.film_core.specs.Marks.{marked_by, marked_if}
+use Rattle.film_core.specs.Ways.{RestDone, Rests, StopsResting, MayNote, StaysOn, OverAt, IsPast, RunsOut, PassesOver, StopsPassing, RoundAt, IsRound, RoundsOff, StopsRound}
+use Rattle.film_core.proofs.Composing.{then_stop, then_out, here_leads, leads_reached, stands_then, leads_longer}
+use Rattle.film_core.proofs.Marking.{asked_order, few_lines, mark_follows}
+
+-- The run is over.
+
+none_after : (A : Inputs) (t : State) → IsOver A t → next_mark A t ≡ None → next_unit A t ≡ None
+unfolding next_unit
+none_after A t o e =
+    ap (λ (ds : List Due). or_else (due_unit t.place ds) (or_else (under A t t.mark) (next_mark A t))) o.clear
+    ∙ ap (λ (x : Option Entry). or_else x (next_mark A t)) o.over ∙ e
+
+limit_ends : (A : Inputs) (t : State) → A.limit ≤ t.count → next_mark A t ≡ None
+limit_ends A t l = ap (λ (more : Bool). when more (line_or_turn t (nat_lt t.lines (length A.lines)))) full
+  where
+    full : nat_lt t.count A.limit ≡ false
+    full = grind (arith, nat_tests)
+
+none_there : (lines : List Event) (n : ℕ) → slice_get lines n ≡ None → length lines ≤ n
+none_there [] n e = omega arith
+none_there (x ∷ xs) zero e = absurd cc
+none_there (x ∷ xs) (suc n) e = let more = none_there xs n e in omega (arith, more)
+
+pub some_there : (lines : List Event) (n : ℕ) (x : Event) → slice_get lines n ≡ Some x → n < length lines
+some_there [] n x e = absurd cc
+some_there (y ∷ ys) zero x e = omega arith
+some_there (y ∷ ys) (suc n) x e = let more = some_there ys n x e in omega (arith, more)
+
+idle_ends : (A : Inputs) (t : State) → length A.lines ≤ t.lines → next_turned t.point.flat (last_turned t.mark) ≡ None → next_mark A t ≡ None
+idle_ends A t l e = go (nat_lt t.count A.limit) (nat_lt t.lines (length A.lines)) refl
+  where
+    never : nat_lt t.lines (length A.lines) ≡ true → ⊥
+    never x = absurd (let less : t.lines < length A.lines = grind (arith, nat_tests) in omega (arith, less, l))
+
+    go : (a b : Bool) → nat_lt t.lines (length A.lines) ≡ b → when a (line_or_turn t b) ≡ None
+    go false b x = refl
+    go true true x = absurd (never x)
+    go true false x = ap turn_of e
+
+module _ (A : Inputs) (s : State) (m : Standing) (schedule : List Event) (taken count last : ℕ) (holds : Option (List NamedFile)) (i : Option (List ℕ)) (image : List ℕ)
+    (at : OverAt A s m schedule taken count last holds i image) where
+  turned : next_turned s.point.flat (last_turned s.mark) ≡ chosen_next m.kernel last
+  turned = ap (next_turned s.point.flat) at.turned ∙ sym (turned_same m.kernel s.point.flat last at.stands.machine.at.stands.keeps.coupled.tables)
+
+  all_taken : slice_get schedule taken ≡ None → length A.lines ≤ s.lines
+  all_taken e = let less = none_there schedule taken e in let a = ap (λ (es : List Event). length es) at.are in let b = at.lines in omega (arith, less, a, b)
+
+  pub over_none : (m.params.limit ≤ count) ⊎ ((slice_get schedule taken ≡ None) × (chosen_next m.kernel last ≡ None)) → next_unit A s ≡ None
+  over_none why = none_after A s at.over (elim why [
+    | inl l ↦ limit_ends A s (let a = at.stands.inputs.limit in let b = at.stands.count in omega (arith, l, a, b))
+    | inr e ↦ idle_ends A s (all_taken e.0) (turned ∙ e.1)
+  ])
+
+  below : count < m.params.limit → s.count < A.limit
+  below l = let a = at.stands.inputs.limit in let b = at.stands.count in omega (arith, l, a, b)
+
+  pub due_line : (e : Event) → slice_get schedule taken ≡ Some e → slice_get A.lines s.lines ≡ Some e
+  due_line e x = ap (λ (n : ℕ). slice_get A.lines n) at.lines ∙ ap (λ (es : List Event). slice_get es taken) at.are ∙ x
+
+  most_taken : s.lines ≤ length A.lines
+  most_taken = few_lines A at.reached.units (start A at.reached.holdings) s at.reached.follows (omega arith)
+
+  pub due_turn : (pid : ℕ) → count < m.params.limit → slice_get schedule taken ≡ None → chosen_next m.kernel last ≡ Some pid → TurnDue A s pid
+  due_turn pid l e x = record {
+    over = at.over;
+    below = below l;
+    lines = let all = all_taken e in let most = most_taken in omega (arith, all, most);
+    turned = turned ∙ x;
+  }
+
+-- An entry that goes into the journal alone.
+
+as_noted : (old new : Standing) (e : Entry) → new.kernel ≡ note_step old.kernel e → new ≡ record old { kernel = new.kernel; room = None }
+    → new ≡ record old { kernel = note_step old.kernel e; room = None }
+as_noted old new e k r = r ∙ ap (λ (x : Kernel). let m : Standing = record old { kernel = x; room = None } in m) k
+
+record Noted (old new : Standing) (n : ℕ) : Type 0 where
+  pub steady : IsSteady new
+  pub params : new.params ≡ old.params
+  pub images : new.images ≡ old.images
+  pub counted : instructions_of new.kernel.journal ≡ n
+
+noted : (old new : Standing) (e : Entry) (n : ℕ) → MayNote old → IsPlain e → counted e ≡ 0 → instructions_of old.kernel.journal ≡ n → new.kernel ≡ note_step old.kernel e
+    → new ≡ record old { kernel = new.kernel; room = None } → Noted old new n
+noted old new e n may plain none is k r =
+    let c : Continues old new (counted e) = note_continues old new e (record { running = may.running; whole = may.whole; clear = may.clear }) plain (as_noted old new e k r) in
+    record {
+      steady = record {
+        running = c.running;
+        whole = c.whole;
+        clear = c.clear;
+        holders = subst HoldersStand (sym k) (note_keeps old.kernel e may.holders);
+        frames = let f = c.frames in let many = may.frames in omega (arith, f, many);
+        low = let first = noted_first old new e plain k in omega (arith, first);
+      };
+      params = c.params;
+      images = c.images;
+      counted = let a = c.counted in omega (arith, a, is, none);
+    }
+
+-- A mark is over.
+
+pub over_at : (A : Inputs) (s : State) (old new : Standing) (last : Mark) (schedule : List Event) (taken counted count turn : ℕ) (holds : Option (List NamedFile)) (i j : Option (List ℕ)) (image : List ℕ)
+    → (at : RoundAt A s old last schedule taken counted holds i image) → (d : RestDone A s old new last count image j) → StaysOn old new count → turn ≡ last_turned last
+    → OverAt A d.state new schedule taken count turn holds j d.leads.behind
+over_at A s old new last schedule taken counted count turn holds i j image at d on e = record {
+  stands = stands_then A s d.state old new holds i j image d.units counted count at.rest.reached at.rest.stands d.leads on.params on.images d.counts;
+  reached = leads_reached A s d.state old.kernel new.kernel image d.units j at.rest.reached d.leads;
+  over = d.over;
+  are = at.are;
+  lines = d.lines ∙ at.lines;
+  turned = d.turned ∙ sym e;
+}
+
+pub over_rounds : (old new : Standing) (last : Mark) (schedule : List Event) (taken counted count turn : ℕ) (holds : Option (List NamedFile)) (i j : Option (List ℕ)) → Rests old new last counted count holds i j
+    → StaysOn old new count → turn ≡ last_turned last → (new.params.limit ≤ count) ⊎ ((slice_get schedule taken ≡ None) × (chosen_next new.kernel turn ≡ None))
+    → RoundsOff old new last schedule taken counted holds i j
+over_rounds old new last schedule taken counted count turn holds i j f on e why A s image at =
+    let d = f A s image at.rest in
+    record {
+      units = d.units;
+      state = d.state;
+      leads = d.leads;
+      none = over_none A d.state new schedule taken count turn holds j d.leads.behind (over_at A s old new last schedule taken counted count turn holds i j image at d on e) why;
+    }
+
+-- The journal has no room for the next mark.
+
+stops_full : (m : Standing) → MayNote m → m.params.journal ≤ length m.kernel.journal → StopsNoting m m stops.JournalFull
+stops_full m may full = record {
+  stopped = record { journal = refl; params = refl; images = refl; full = λ f. refl; held = λ r. refl };
+  whole = may.whole;
+  cause = inl refl;
+  full = λ e. full;
+}
+
+-- what comes after a mark is a line or a turn
+abbrev pub ComesNext : Standing → List Event → ℕ → ℕ → ℕ → Type 0
+ComesNext m schedule taken count turn =
+    ((e : Event) × (count < m.params.limit) × (slice_get schedule taken ≡ Some e))
+    ⊎ ((pid : ℕ) × (count < m.params.limit) × (slice_get schedule taken ≡ None) × (chosen_next m.kernel turn ≡ Some pid))
+
+module _ (A : Inputs) (s : State) (m : Standing) (schedule : List Event) (taken count last : ℕ) (holds : Option (List NamedFile)) (i : Option (List ℕ)) (image : List ℕ)
+    (at : OverAt A s m schedule taken count last holds i image) where
+  pub stop_line : (new : Standing) (e : Event) (stop : Stop) → count < m.params.limit → slice_get schedule taken ≡ Some e → StopsNoting m new stop → StopLeads A s m.kernel image stop new i
+  stop_line new e stop l x n =
+      subst (λ (o : Option (List ℕ)). StopLeads A s m.kernel image stop new o) (sym at.stands.told)
+      (line_stops A s m new holds image e stop at.stands.machine at.over (below A s m schedule taken count last holds i image at l) (due_line A s m schedule taken count last holds i image at e x) n)
+
+  pub stop_turn : (new : Standing) (pid : ℕ) (stop : Stop) → count < m.params.limit → slice_get schedule taken ≡ None → chosen_next m.kernel last ≡ Some pid → StopsNoting m new stop
+      → StopLeads A s m.kernel image stop new i
+  stop_turn new pid stop l x y n =
+      subst (λ (o : Option (List ℕ)). StopLeads A s m.kernel image stop new o) (sym at.stands.told)
+      (turn_stops A s m new holds image pid stop at.stands.machine (due_turn A s m schedule taken count last holds i image at pid l x y) n)
+
+  stop_full : MayNote m → m.params.journal ≤ length m.kernel.journal → ComesNext m schedule taken count last → StopLeads A s m.kernel image stops.JournalFull m i
+  stop_full may full (inl (e, l, x)) = stop_line m e stops.JournalFull l x (stops_full m may full)
+  stop_full may full (inr (pid, l, x, y)) = stop_turn m pid stops.JournalFull l x y (stops_full m may full)
+
+grown_full : (A : Inputs) (s t : State) (old new : Standing) (holds : Option (List NamedFile)) (i j : Option (List ℕ)) (image behind : List ℕ) (us : List Entry) (counted count room : ℕ)
+    → StandsIn A s old holds i image counted → StandsIn A t new holds j behind count → Leads A s old.kernel image us t new.kernel j → room ≤ length old.kernel.journal → room ≤ length new.kernel.journal
+grown_full A s t old new holds i j image behind us counted count room st there a full =
+    let long = leads_longer A s t old.kernel new.kernel image behind us j st.machine.at.stands there.machine.at.stands a in omega (arith, long, full)
+
+same_room : (old new : Standing) → new.params ≡ old.params → (n : ℕ) → old.params.journal ≤ n → new.params.journal ≤ n
+same_room old new e n l = subst (λ (p : Params). p.journal ≤ n) (sym e) l
+
+module _ (old new : Standing) (last : Mark) (schedule : List Event) (taken counted count turn : ℕ) (holds : Option (List NamedFile)) (i j : Option (List ℕ)) (f : Rests old new last counted count holds i j)
+    (on : StaysOn old new count) (e : turn ≡ last_turned last) (full : old.params.journal ≤ length old.kernel.journal) where
+  round_full : (A : Inputs) (s : State) (image : List ℕ) → RoundAt A s old last schedule taken counted holds i image → new.params.journal ≤ length new.kernel.journal
+  round_full A s image at =
+      let d = f A s image at.rest in
+      let o = over_at A s old new last schedule taken counted count turn holds i j image at d on e in
+      same_room old new on.params (length new.kernel.journal)
+      (grown_full A s d.state old new holds i j image d.leads.behind d.units counted count old.params.journal at.rest.stands o.stands d.leads full)
+
+  pub full_round : ComesNext new schedule taken count turn → StopsRound old new last schedule taken counted holds i j stops.JournalFull
+  full_round next A s image at =
+      let d = f A s image at.rest in
+      let o = over_at A s old new last schedule taken counted count turn holds i j image at d on e in
+      then_stop A s d.state old.kernel new.kernel image j j d.units stops.JournalFull new d.leads
+      (stop_full A d.state new schedule taken count turn holds j d.leads.behind o on.may (round_full A s image at) next)
+
+  pub full_kept : IsRound old last schedule taken counted holds i → KeptAtStop old new stops.JournalFull
+  full_kept (A, s, image, at) = record { sizes = record { params = on.params; images = on.images }; full = λ x. round_full A s image at }
+
+pub rest_round : (old new : Standing) (last : Mark) (schedule : List Event) (taken counted : ℕ) (holds : Option (List NamedFile)) (i j : Option (List ℕ)) (stop : Stop) → StopsResting old new last counted holds i j stop
+    → StopsRound old new last schedule taken counted holds i j stop
+rest_round old new last schedule taken counted holds i j stop f A s image at = f A s image at.rest
+
+-- The next line, or a turn, begins.
+
+pub record NextBegun (A : Inputs) (s : State) (old new : Standing) (mark : Mark) (schedule : List Event) (taken counted : ℕ) (holds : Option (List NamedFile)) (i : Option (List ℕ)) (image : List ℕ) : Type 0 where
+  pub units : List Entry
+  pub state : State
+  pub leads : Leads A s old.kernel image units state new.kernel i
+  pub at : RoundAt A state new mark schedule taken counted holds i leads.behind
+
+pub line_begun : (A : Inputs) (s : State) (old new : Standing) (mark : Mark) (schedule : List Event) (taken counted turn : ℕ) (holds : Option (List NamedFile)) (i : Option (List ℕ)) (image : List ℕ) (e : Event)
+    → OverAt A s old schedule taken counted turn holds i image → counted < old.params.limit → slice_get schedule taken ≡ Some e → HaveFewMoves schedule
+    → MayNote old → instructions_of old.kernel.journal ≡ counted → new.kernel ≡ note_step old.kernel (entries.Event (taken + 1)) → new ≡ record old { kernel = new.kernel; room = None }
+    → mark ≡ marked_by new.kernel counted e → NextBegun A s old new mark schedule (taken + 1) counted holds i image
+line_begun A s old new mark schedule taken counted turn holds i image e at l x few may is k r m =
+    let number : taken + 1 ≡ s.lines + 1 = ap (λ (n : ℕ). n + 1) (sym at.lines) in
+    let n = noted old new (entries.Event (taken + 1)) counted may tt refl is k r in
+    let b : LineBegun A s old.kernel image e new.kernel = line_begins A s old new.kernel holds image e at.stands.machine at.over (below A s old schedule taken counted turn holds i image at l)
+    (due_line A s old schedule taken counted turn holds i image at e x) (k ∙ ap (λ (n : ℕ). note_step old.kernel (entries.Event n)) number) in
+    let a : Leads A s old.kernel image (entries.Event (s.lines + 1) ∷ []) b.state new.kernel i =
+    subst (λ (o : Option (List ℕ)). Leads A s old.kernel image (entries.Event (s.lines + 1) ∷ []) b.state new.kernel o) (sym at.stands.told) b.leads in
+    let st = stands_then A s b.state old new holds i i image (entries.Event (s.lines + 1) ∷ []) counted counted at.reached at.stands a n.params n.images (b.count ∙ at.stands.count) in
+    let marked : b.state.mark ≡ mark =
+    mark_follows A s b.state new.kernel a.behind st.machine.at (entries.Event (s.lines + 1)) (leads_follow A s b.state old.kernel new.kernel image (entries.Event (s.lines + 1) ∷ []) i a)
+    ∙ ap (λ (o : Option Event). marked_if new.kernel b.state.count o) (due_line A s old schedule taken counted turn holds i image at e x)
+    ∙ ap (λ (n : ℕ). marked_by new.kernel n e) (b.count ∙ at.stands.count) ∙ sym m in
+    record {
+      units = entries.Event (s.lines + 1) ∷ [];
+      state = b.state;
+      leads = a;
+      at = record {
+        rest = record {
+          stands = st;
+          reached = leads_reached A s b.state old.kernel new.kernel image (entries.Event (s.lines + 1) ∷ []) i at.reached a;
+          clear = b.clear;
+          mark = marked;
+          order = subst (IsInOrder A.lines b.state.lines) (sym m) (asked_order new.kernel A.lines b.state.lines counted e (few_at schedule taken e few x));
+        };
+        are = at.are;
+        lines = b.lines ∙ sym number;
+      };
+    }
+
+pub turn_begun : (A : Inputs) (s : State) (old new : Standing) (schedule : List Event) (taken counted turn : ℕ) (holds : Option (List NamedFile)) (i : Option (List ℕ)) (image : List ℕ) (pid : ℕ)
+    → OverAt A s old schedule taken counted turn holds i image → counted < old.params.limit → slice_get schedule taken ≡ None → chosen_next old.kernel turn ≡ Some pid
+    → MayNote old → instructions_of old.kernel.journal ≡ counted → new.kernel ≡ note_step old.kernel (entries.Turn pid) → new ≡ record old { kernel = new.kernel; room = None }
+    → NextBegun A s old new (marks.Turn pid counted) schedule taken counted holds i image
+turn_begun A s old new schedule taken counted turn holds i image pid at l x y may is k r =
+    let n = noted old new (entries.Turn pid) counted may tt refl is k r in
+    let due = due_turn A s old schedule taken counted turn holds i image at pid l x y in
+    let b : TurnBegun A s old.kernel image pid new.kernel = turn_begins A s old new.kernel holds image pid at.stands.machine due k in
+    let a : Leads A s old.kernel image (entries.Turn pid ∷ []) b.state new.kernel i =
+    subst (λ (o : Option (List ℕ)). Leads A s old.kernel image (entries.Turn pid ∷ []) b.state new.kernel o) (sym at.stands.told) b.leads in
+    let st = stands_then A s b.state old new holds i i image (entries.Turn pid ∷ []) counted counted at.reached at.stands a n.params n.images (b.count ∙ at.stands.count) in
+    record {
+      units = entries.Turn pid ∷ [];
+      state = b.state;
+      leads = a;
+      at = record {
+        rest = record {
+          stands = st;
+          reached = leads_reached A s b.state old.kernel new.kernel image (entries.Turn pid ∷ []) i at.reached a;
+          clear = b.clear;
+          mark = b.mark ∙ ap (λ (n : ℕ). marks.Turn pid n) at.stands.count;
+          order = let d = due.lines in let e = b.lines in omega (arith, d, e);
+        };
+        are = at.are;
+        lines = b.lines ∙ at.lines;
+      };
+    }
+
+-- what is led to from there is led to from before
+begun_over : (A : Inputs) (s : State) (old mid new : Standing) (mark : Mark) (schedule : List Event) (taken counted : ℕ) (holds : Option (List NamedFile)) (i j : Option (List ℕ)) (image : List ℕ)
+    → (b : NextBegun A s old mid mark schedule taken counted holds i image) → RoundsOff mid new mark schedule taken counted holds i j → RunsOut A s old new image j
+begun_over A s old mid new mark schedule taken counted holds i j image b f =
+    then_out A s b.state old mid new image i j b.units b.leads (f A b.state b.leads.behind b.at)
+
+begun_stops : (A : Inputs) (s : State) (old mid new : Standing) (mark : Mark) (schedule : List Event) (taken counted : ℕ) (holds : Option (List NamedFile)) (i j : Option (List ℕ)) (image : List ℕ) (stop : Stop)
+    → (b : NextBegun A s old mid mark schedule taken counted holds i image) → StopsRound mid new mark schedule taken counted holds i j stop → StopLeads A s old.kernel image stop new j
+begun_stops A s old mid new mark schedule taken counted holds i j image stop b f =
+    then_stop A s b.state old.kernel mid.kernel image i j b.units stop new b.leads (f A b.state b.leads.behind b.at)
+
+-- A line.
+
+module _ (old mid new : Standing) (mark : Mark) (schedule : List Event) (taken counted turn : ℕ) (holds : Option (List NamedFile)) (i j : Option (List ℕ)) (e : Event)
+    (l : counted < old.params.limit) (x : slice_get schedule taken ≡ Some e) (few : HaveFewMoves schedule) (may : MayNote old) (is : instructions_of old.kernel.journal ≡ counted)
+    (k : mid.kernel ≡ note_step old.kernel (entries.Event (taken + 1))) (r : mid ≡ record old { kernel = mid.kernel; room = None }) (m : mark ≡ marked_by mid.kernel counted e) where
+  line_there : (A : Inputs) (s : State) (image : List ℕ) → OverAt A s old schedule taken counted turn holds i image → NextBegun A s old mid mark schedule (taken + 1) counted holds i image
+  line_there A s image at = line_begun A s old mid mark schedule taken counted turn holds i image e at l x few may is k r m
+
+  pub line_round : IsPast old schedule taken counted turn holds i → IsRound mid mark schedule (taken + 1) counted holds i
+  line_round (A, s, image, at) = let b = line_there A s image at in (A, b.state, b.leads.behind, b.at)
+
+  pub line_passes : RoundsOff mid new mark schedule (taken + 1) counted holds i j → PassesOver old new schedule taken counted turn holds i j
+  line_passes f A s image at = begun_over A s old mid new mark schedule (taken + 1) counted holds i j image (line_there A s image at) f
+
+  pub line_stops_passing : (stop : Stop) → StopsRound mid new mark schedule (taken + 1) counted holds i j stop → StopsPassing old new schedule taken counted turn holds i j stop
+  line_stops_passing stop f A s image at = begun_stops A s old mid new mark schedule (taken + 1) counted holds i j image stop (line_there A s image at) f
+
+-- A turn.
+
+module _ (old mid new : Standing) (schedule : List Event) (taken counted turn : ℕ) (holds : Option (List NamedFile)) (i j : Option (List ℕ)) (pid : ℕ)
+    (l : counted < old.params.limit) (x : slice_get schedule taken ≡ None) (y : chosen_next old.kernel turn ≡ Some pid) (may : MayNote old) (is : instructions_of old.kernel.journal ≡ counted)
+    (k : mid.kernel ≡ note_step old.kernel (entries.Turn pid)) (r : mid ≡ record old { kernel = mid.kernel; room = None }) where
+  turn_there : (A : Inputs) (s : State) (image : List ℕ) → OverAt A s old schedule taken counted turn holds i image → NextBegun A s old mid (marks.Turn pid counted) schedule taken counted holds i image
+  turn_there A s image at = turn_begun A s old mid schedule taken counted turn holds i image pid at l x y may is k r
+
+  pub turn_round : IsPast old schedule taken counted turn holds i → IsRound mid (marks.Turn pid counted) schedule taken counted holds i
+  turn_round (A, s, image, at) = let b = turn_there A s image at in (A, b.state, b.leads.behind, b.at)
+
+  pub turn_passes : RoundsOff mid new (marks.Turn pid counted) schedule taken counted holds i j → PassesOver old new schedule taken counted turn holds i j
+  turn_passes f A s image at = begun_over A s old mid new (marks.Turn pid counted) schedule taken counted holds i j image (turn_there A s image at) f
+
+  pub turn_stops_passing : (stop : Stop) → StopsRound mid new (marks.Turn pid counted) schedule taken counted holds i j stop → StopsPassing old new schedule taken counted turn holds i j stop
+  turn_stops_passing stop f A s image at = begun_stops A s old mid new (marks.Turn pid counted) schedule taken counted holds i j image stop (turn_there A s image at) f
+
+pub noted_so : (old new : Standing) (e : Entry) (n : ℕ) → MayNote old → IsPlain e → counted e ≡ 0 → instructions_of old.kernel.journal ≡ n → new.kernel ≡ note_step old.kernel e
+    → new ≡ record old { kernel = new.kernel; room = None } → IsSteady new × (instructions_of new.kernel.journal ≡ n)
+noted_so old new e n may plain none is k r = let x = noted old new e n may plain none is k r in (x.steady, x.counted)
+
+pub line_noting : (old new : Standing) (schedule : List Event) (taken counted turn : ℕ) (holds : Option (List NamedFile)) (i : Option (List ℕ)) (e : Event) (stop : Stop) → counted < old.params.limit
+    → slice_get schedule taken ≡ Some e → StopsNoting old new stop → StopsPassing old new schedule taken counted turn holds i i stop
+line_noting old new schedule taken counted turn holds i e stop l x n A s image at = stop_line A s old schedule taken counted turn holds i image at new e stop l x n
+
+pub turn_noting : (old new : Standing) (schedule : List Event) (taken counted turn : ℕ) (holds : Option (List NamedFile)) (i : Option (List ℕ)) (pid : ℕ) (stop : Stop) → counted < old.params.limit
+    → slice_get schedule taken ≡ None → chosen_next old.kernel turn ≡ Some pid → StopsNoting old new stop → StopsPassing old new schedule taken counted turn holds i i stop
+turn_noting old new schedule taken counted turn holds i pid stop l x y n A s image at = stop_turn A s old schedule taken counted turn holds i image at new pid stop l x y n
+
+pub none_passes : (m : Standing) (schedule : List Event) (taken counted turn : ℕ) (holds : Option (List NamedFile)) (i : Option (List ℕ))
+    → (m.params.limit ≤ counted) ⊎ ((slice_get schedule taken ≡ None) × (chosen_next m.kernel turn ≡ None)) → PassesOver m m schedule taken counted turn holds i i
+none_passes m schedule taken counted turn holds i why A s image at = record {
+  units = [];
+  state = s;
+  leads = here_leads A s m.kernel image i at.stands.told;
+  none = over_none A s m schedule taken counted turn holds i image at why;
+}

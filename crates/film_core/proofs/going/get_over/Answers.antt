@@ -1,0 +1,48 @@
+use Rattle.std.proofs.Common.{IfOk, IfErr, List, Option, sym, subst}
+use Rattle.io_edge.specs.FileHolding.{NamedFile}
+use Rattle.vm_core.proofs.Noting.{ok_weaker, stops_weaker}
+use Rattle.film_core.specs.Ways.{IsUnder, Rests, StopsResting, GetsOver, StopsGoing}
+use Rattle.film_core.proofs.Getting.{going_holders, going_fits, going_under, gets_over, rest_stops_going}
+use Rattle.film_core.proofs.going.get_over.Goals as goal
+
+pub settle-requires-clause-holders : goal.settle-requires-clause-holders
+settle-requires-clause-holders g c =
+    going_holders c.args.m.now c.args.mark c.args._lines.now c.args._taken c.args.counted (g.F.Files.holds c.args.files.now) (g.D.SwapDev.image c.args.swap.now) c.requires.going
+
+pub settle-requires-clause-more : goal.settle-requires-clause-more
+settle-requires-clause-more g c =
+    going_fits c.args.m.now c.args.mark c.args._lines.now c.args._taken c.args.counted (g.F.Files.holds c.args.files.now) (g.D.SwapDev.image c.args.swap.now) c.requires.going
+
+pub rest-requires-clause-under : goal.rest-requires-clause-under
+rest-requires-clause-under g c =
+    let holds = g.F.Files.holds c.args.files.now in
+    let i = g.D.SwapDev.image c.args.swap.now in
+    let h = g.D.SwapDev.image c.settle.new.swap in
+    subst (λ (hs : Option (List NamedFile)). IsUnder c.settle.new.m c.args.mark c.in_ok-count.count hs h) (sym c.in_ok-count.ensures.outside.files.holds)
+    (going_under c.args.m.now c.settle.new.m c.args.mark c.args._lines.now c.args._taken c.args.counted c.in_ok-count.count holds i h c.in_ok-count.ensures.counts c.in_ok-count.ensures.settles c.requires.going)
+
+pub returns-clause-over : goal.returns-clause-over
+returns-clause-over g c =
+    let old = c.args.m.now in
+    let mid = c.settle.new.m in
+    let new = c.rest.new.m in
+    let holds = g.F.Files.holds c.args.files.now in
+    let i = g.D.SwapDev.image c.args.swap.now in
+    let h = g.D.SwapDev.image c.settle.new.swap in
+    let j = g.D.SwapDev.image c.rest.new.swap in
+    ok_weaker c.rest.result (λ count. Rests mid new c.args.mark c.in_ok-count.count count holds h j) (λ count. GetsOver old new c.args.mark c.args._lines.now c.args._taken c.args.counted count holds i j)
+    (λ count f. gets_over old mid new c.args.mark c.args._lines.now c.args._taken c.args.counted c.in_ok-count.count count holds i h j c.in_ok-count.ensures.counts c.in_ok-count.ensures.settles f)
+    (subst (λ (hs : Option (List NamedFile)). IfOk c.rest.result (λ count. Rests mid new c.args.mark c.in_ok-count.count count hs h j)) c.in_ok-count.ensures.outside.files.holds c.rest.ensures.rests)
+
+pub returns-clause-stops : goal.returns-clause-stops
+returns-clause-stops g c =
+    let old = c.args.m.now in
+    let mid = c.settle.new.m in
+    let new = c.rest.new.m in
+    let holds = g.F.Files.holds c.args.files.now in
+    let i = g.D.SwapDev.image c.args.swap.now in
+    let h = g.D.SwapDev.image c.settle.new.swap in
+    let j = g.D.SwapDev.image c.rest.new.swap in
+    stops_weaker c.rest.result (λ stop. StopsResting mid new c.args.mark c.in_ok-count.count holds h j stop) (λ stop. StopsGoing old new c.args.mark c.args._lines.now c.args._taken c.args.counted holds i j stop)
+    (λ stop f. rest_stops_going old mid new c.args.mark c.args._lines.now c.args._taken c.args.counted c.in_ok-count.count holds i h j stop c.in_ok-count.ensures.counts c.in_ok-count.ensures.settles f)
+    (subst (λ (hs : Option (List NamedFile)). IfErr c.rest.result (λ stop. StopsResting mid new c.args.mark c.in_ok-count.count hs h j stop)) c.in_ok-count.ensures.outside.files.holds c.rest.ensures.stops)

@@ -1,0 +1,36 @@
+use Rattle.std.proofs.Common.{false}
+use Rattle.run_model.specs.declared.mark.Mark.TheVariants as marks
+use Rattle.proc_run.specs.Running.{Runs, StopsRunning, CountsTo}
+use Rattle.vm_core.proofs.Noting.{ok_weaker, stops_weaker}
+use Rattle.film_core.specs.Ways.{Rests, StopsResting, StaysOn}
+use Rattle.film_core.proofs.RestsMade.{dispatch_rests, dispatch_stops, counts_stay}
+use Rattle.film_core.proofs.resting.dispatch.Goals as goal
+
+pub returns-clause-rests : goal.returns-clause-rests
+returns-clause-rests g c =
+    let old = c.args.m.now in
+    let new = c.run.new.m in
+    let holds = g.F.Files.holds c.args.files.now in
+    let i = g.D.SwapDev.image c.args.swap.now in
+    let j = g.D.SwapDev.image c.run.new.swap in
+    let until = c.count_behind-until.result in
+    ok_weaker c.run.result (λ count. Runs old new c.args.pid false c.args.counted until holds i j count) (λ count. Rests old new (marks.Dispatch c.args.pid c.args.more c.args.since) c.args.counted count holds i j)
+    (λ count f. dispatch_rests old new c.args.pid c.args.more c.args.since c.args.counted until count holds i j c.count_behind-until.ensures f) c.run.ensures.runs
+
+pub returns-clause-stops : goal.returns-clause-stops
+returns-clause-stops g c =
+    let old = c.args.m.now in
+    let new = c.run.new.m in
+    let holds = g.F.Files.holds c.args.files.now in
+    let i = g.D.SwapDev.image c.args.swap.now in
+    let j = g.D.SwapDev.image c.run.new.swap in
+    let until = c.count_behind-until.result in
+    stops_weaker c.run.result (λ stop. StopsRunning old new c.args.pid false c.args.counted until holds i j stop)
+    (λ stop. StopsResting old new (marks.Dispatch c.args.pid c.args.more c.args.since) c.args.counted holds i j stop)
+    (λ stop f. dispatch_stops old new c.args.pid c.args.more c.args.since c.args.counted until holds i j stop c.count_behind-until.ensures f) c.run.ensures.stops
+
+pub returns-clause-on : goal.returns-clause-on
+returns-clause-on g c =
+    let old = c.args.m.now in
+    let new = c.run.new.m in
+    ok_weaker c.run.result (λ count. CountsTo old new c.args.counted count) (λ count. StaysOn old new count) (λ count t. counts_stay old new c.args.counted count t) c.run.ensures.counts

@@ -1,0 +1,28 @@
+use Rattle.run_model.specs.declared.mark.Mark.TheVariants as marks
+use Rattle.run_start.specs.Sizes.{KeptAtStop}
+use Rattle.vm_core.proofs.Noting.{stops_on}
+use Rattle.film_core.specs.Ways.{StopsResting}
+use Rattle.film_core.proofs.RestsMade.{wait_rests, wait_stops, steady_stays}
+use Rattle.film_core.proofs.resting.wait.Goals as goal
+
+pub returns-clause-rests : goal.returns-clause-rests
+returns-clause-rests g c =
+    wait_rests c.args.m.now c.interrupt.new.m c.args.counted (g.F.Files.holds c.args.files.now) (g.D.SwapDev.image c.args.swap.now) (g.D.SwapDev.image c.interrupt.new.swap) c.in_ok-interrupt.ensures.made
+
+pub returns-clause-on : goal.returns-clause-on
+returns-clause-on g c = steady_stays c.args.m.now c.interrupt.new.m c.args.counted c.requires.counted c.in_ok-interrupt.ensures.steady
+
+pub returns-in_err-interrupt-clause-stops : goal.returns-in_err-interrupt-clause-stops
+returns-in_err-interrupt-clause-stops g c =
+    let old = c.args.m.now in
+    let new = c.interrupt.new.m in
+    let holds = g.F.Files.holds c.args.files.now in
+    let i = g.D.SwapDev.image c.args.swap.now in
+    let j = g.D.SwapDev.image c.interrupt.new.swap in
+    let stop = c.in_err-interrupt.field-0.0 in
+    stops_on c.from_residual.result stop (StopsResting old new marks.Interrupt c.args.counted holds i j) c.from_residual.ensures.1
+    (wait_stops old new c.args.counted holds i j stop c.in_err-interrupt.ensures.stops)
+
+pub returns-in_err-interrupt-clause-kept : goal.returns-in_err-interrupt-clause-kept
+returns-in_err-interrupt-clause-kept g c =
+    stops_on c.from_residual.result c.in_err-interrupt.field-0.0 (KeptAtStop c.args.m.now c.interrupt.new.m) c.from_residual.ensures.1 c.in_err-interrupt.ensures.kept

@@ -1,0 +1,12 @@
+//! A run that goes on from entry to entry: after each it stands at a state of the run, and can be looked at.
+#![tactic(auto)]
+
+mod film;
+mod going;
+mod marks;
+mod resting;
+mod settling;
+mod starting;
+
+pub use film::Film;
+pub use run_start::Started;

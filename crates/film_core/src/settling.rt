@@ -1,0 +1,49 @@
+//! What is due is filled, and a step that is begun is completed.
+ghost use Rattle.std.specs.Prelude.{◌≡◌, ◌+◌, ◌<◌, ◌≤◌, ◌^◌, length, false, IfOk, IfErr};
+ghost use Rattle.flat_state.specs.Journal.{instructions_of};
+ghost use Rattle.machine_state.specs.Files.{AreFiles};
+ghost use Rattle.machine_state.specs.Outside.{stop_of, TransfersPages};
+ghost use Rattle.journal_laws.specs.LastMoves.{last_moves};
+ghost use Rattle.run_start.specs.Holders.{HoldersStand};
+ghost use Rattle.run_start.specs.Sizes.{KeptAtStop};
+ghost use Rattle.proc_run.specs.Running.{CountsTo};
+ghost use Rattle.film_core.specs.Ways.{IsOnWay, Settles, StopsSettling};
+
+use io_edge::{Files, SwapDev};
+use machine_state::Machine;
+use proc_run::{begun_step, finish_step};
+use run_start::fill_rest;
+use vm_facts::Stop;
+
+/// Fills what is due, and completes a step that is begun. The answer is how many instructions are counted then.
+pub(crate) fn settle<F: Files, D: SwapDev>(
+    m: &mut Machine,
+    files: &mut F,
+    swap: &mut D,
+    counted: u32,
+) -> Result<u32, Stop>
+    requires running { m.old.kernel.stopped ≡ false }
+    requires whole { m.old.before ≡ m.old.kernel.holdings }
+    requires holders { HoldersStand m.old.kernel }
+    requires frames { 64 ≤ length m.old.kernel.place.holds }
+    requires low { last_moves m.old.kernel.journal ≤ 1000000 }
+    requires counted { instructions_of m.old.kernel.journal ≡ counted }
+    requires more { counted + 1 < 2 ^ 32 }
+    requires way { IsOnWay m.old (F.holds files.old) (D.image swap.old) }
+    requires area { m.old.params.swap_blocks ≤ D.blocks swap.old }
+    requires files { AreFiles m.old.images (F.holds files.old) }
+    ensures settles { IfOk result (λ count. Settles m.old m.new counted count (F.holds files.old) (D.image swap.old) (D.image swap.new)) }
+    ensures stops { IfErr result (StopsSettling m.old m.new (F.holds files.old) (D.image swap.old) (D.image swap.new)) }
+    ensures counts { IfOk result (λ count. CountsTo m.old m.new counted count) }
+    ensures kept { IfErr result (KeptAtStop m.old m.new) }
+    ensures outside { TransfersPages F.Files D.SwapDev (stop_of result) files.old files.new swap.old swap.new }
+{
+    fill_rest(m, files, swap)?;
+    match begun_step(m.journal()) {
+        Some(begun) => {
+            finish_step(m, files, swap, begun)?;
+            Ok(counted + 1)
+        }
+        None => Ok(counted),
+    }
+}
