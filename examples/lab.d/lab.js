@@ -289,11 +289,10 @@ function changed() {
 
 // ---- A run, its transcript, and its film piece by piece. ----
 
-// How many steps are asked for at a time: as many as a film of so many frames may have, and fewer far into a run, since a step is
-// made anew from the start.
-function stepsAt(step, frames) {
+// How many steps are asked for at a time: as many as a film of so many frames may have.
+function stepsOf(frames) {
   const [, most] = lab.beginning.steps.find(([size]) => Number(frames) <= size);
-  return Math.max(8, Math.min(most, Math.floor(4000000 / (step + 1))));
+  return most;
 }
 
 async function run() {
@@ -325,7 +324,7 @@ async function run() {
 async function piece(step, by) {
   const { run } = lab;
   if (step >= run.from && step <= run.to) return true;
-  const many = stepsAt(step, run.given.frames);
+  const many = stepsOf(run.given.frames);
   const before = by < 0 ? many - 2 : Math.floor(many / 8);
   const first = Math.max(0, Math.min(step - before, run.lines.length - many));
   const last = Math.min(run.lines.length, first + many);
@@ -423,16 +422,14 @@ function drawStep() {
   at("lab-later").disabled = to === lines.length;
   at("lab-part").hidden = from === 0 && to === lines.length;
   at("lab-part-said").textContent = `Pictures ${number(from)} to ${number(to)} are here.`;
-  at("lab-registers").hidden = !film.now.registers;
-  at("lab-registers-text").textContent = (film.now.registers || []).join("\n");
+  at("lab-registers").hidden = film.now.registers.length === 0;
+  at("lab-registers-text").textContent = film.now.registers.join("\n");
 }
 
-// A place for the registers of each process and its next instruction: `owners` has no such lines yet. They are shown as they stand.
-for (const word of ["registers", "next"]) {
-  READERS[word] = (state, words) => {
-    state.registers = [...(state.registers || []), words.join(" ")];
-  };
-}
+// A place for the next instruction of each process: `owners` has no such lines yet. They are shown as they stand, with the registers.
+READERS.next = (state, words, line) => {
+  state.registers.push(line);
+};
 
 // ---- Counts and faults. ----
 

@@ -5,7 +5,7 @@ use Rattle.vm_facts.specs.declared.entry.Entry.{Entry}
 use Rattle.flat_state.specs.Flat.{Inputs}
 use Rattle.page_model.specs.Holdings.{Holdings}
 use Rattle.page_model.specs.Placement.{Due}
-use Rattle.kernel_model.specs.Coupled.{outline_of}
+use Rattle.kernel_model.specs.Start.{kept_of}
 use Rattle.kernel_model.specs.Sound.{Sound, lives}
 use Rattle.run_model.specs.declared.mark.Mark.{Mark}
 use Rattle.run_model.specs.declared.mark.Mark.TheVariants.{Audit}
@@ -23,7 +23,7 @@ pub told_there : (A : Inputs) (hs : Holdings) (journal : List Entry) (s : State)
 told_there A hs journal s entries over can reaches =
     let placed : Placed A s.point.flat s.place s.holdings = (reached_run A hs journal s can reaches).placed in
     let sound : Sound A.swap_blocks (machine_of s.point.flat s.place s.holdings) = placed.sound in
-    owners_told_so entries A.swap_blocks over (lives (machine_of s.point.flat s.place s.holdings).processes) s.place s.holdings (map outline_of s.point.flat.processes) sound.owner
+    owners_told_so entries A.swap_blocks over (lives (machine_of s.point.flat s.place s.holdings).processes) s.place s.holdings (map kept_of s.point.flat.processes) sound.owner
 
 pub audit_there : (A : Inputs) (hs : Holdings) (journal : List Entry) (s : State) → CanRun A hs → Reaches A journal s → s.mark ≡ Audit → next_unit A s ≡ Some (owners_of s.place s.holdings)
 unfolding next_unit

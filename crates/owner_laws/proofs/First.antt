@@ -109,7 +109,7 @@ unit_long journal (Ran q n) = joined_long journal (Ran q n)
 unit_long journal (Hands n) = joined_long journal (Hands n)
 unit_long journal u = plain_long journal u
 
-units_long : (us : List Entry) (journal : List Entry) → length journal ≤ length (appended journal us)
+pub units_long : (us : List Entry) (journal : List Entry) → length journal ≤ length (appended journal us)
 units_long [] journal = omega arith
 units_long (u ∷ us) journal =
     let one = unit_long journal u in

@@ -7,3 +7,4 @@ pub mod Area
 pub mod Auditing
 pub mod Noting
 pub mod First
+pub mod Registers

@@ -11,9 +11,9 @@ use Rattle.page_model.specs.Frames.{count_up, at_frame}
 use Rattle.page_model.specs.Pages.{frame_of}
 use Rattle.page_model.specs.Placement.{Moving, Placement, IsFrame, parts_of, flying}
 use Rattle.page_model.specs.Ownership.{OwnsFrames, OneOwner}
-use Rattle.kernel_model.specs.Coupled.{Outline}
+use Rattle.kernel_model.specs.Kernel.{Proc}
 use Rattle.run_model.specs.Next.{owners_of, blocks_held}
-use Rattle.owner_lines.specs.Owners.{entries_line, hands_line, frame_lines, transfers_from, process_line, due_line, swap_lines, owners_text}
+use Rattle.owner_lines.specs.Owners.{entries_line, hands_line, frame_lines, transfers_from, process_lines, due_line, swap_lines, owners_text}
 use Rattle.owner_laws.specs.Lines.{FrameLine, frame_text, counted, free_one, used_one, moving_one, blocks_told}
 use Rattle.owner_laws.specs.Told.{FramesTold}
 use Rattle.owner_laws.specs.Account.{OwnersTold}
@@ -74,7 +74,7 @@ numbered p hs free used moving held a b c d =
 
 -- The text.
 
-pub owners_told_so : (entries size : ℕ) (over : Bool) (lives : ℕ → Bool) (p : Placement) (hs : Holdings) (processes : List Outline) → OneOwner size lives p hs
+pub owners_told_so : (entries size : ℕ) (over : Bool) (lives : ℕ → Bool) (p : Placement) (hs : Holdings) (processes : List Proc) → OneOwner size lives p hs
     → OwnersTold entries over p hs size processes (owners_text entries over p hs size processes)
 unfolding owners_text
 owners_told_so entries size over lives p hs processes one =
@@ -90,9 +90,9 @@ owners_told_so entries size over lives p hs processes one =
       swap = swap;
       parts =
           ap (λ (t : List ℕ). entries_line entries over ++ hands_line p ++ t ++ transfers_from hs 1 p.transfers
-          ++ flat_map (process_line p) processes ++ flat_map due_line p.due ++ swap_lines size hs) all.text
+          ++ flat_map (process_lines p) processes ++ flat_map due_line p.due ++ swap_lines size hs) all.text
           ∙ ap (λ (t : List ℕ). entries_line entries over ++ hands_line p ++ flat_map frame_text all.lines ++ transfers_from hs 1 p.transfers
-          ++ flat_map (process_line p) processes ++ flat_map due_line p.due ++ t) (area_spelled size hs);
+          ++ flat_map (process_lines p) processes ++ flat_map due_line p.due ++ t) (area_spelled size hs);
       frames_so = all_told p owns all;
       swap_so = area_told size hs one.blocks.book;
       numbers = numbered p hs (counted free_one all.lines) (counted used_one all.lines) (counted moving_one all.lines) (blocks_told swap)

@@ -7,16 +7,17 @@ ghost use Rattle.page_model.specs.Book.{IsBook};
 ghost use Rattle.page_model.specs.Holdings.{Holdings};
 ghost use Rattle.page_model.specs.Placement.{Placement};
 ghost use Rattle.page_model.specs.Ownership.{OwnsFrames, OneOwner};
-ghost use Rattle.kernel_model.specs.Coupled.{Outline};
+ghost use Rattle.kernel_model.specs.Kernel.{Proc};
+ghost use Rattle.machine_state.specs.Machine.{Standing};
 ghost use Rattle.run_model.specs.State.{State};
 ghost use Rattle.run_model.specs.declared.mark.Mark.TheVariants.{Audit};
 ghost use Rattle.run_model.specs.Next.{owners_of, next_unit};
 ghost use Rattle.run_model.specs.Lawful.{Reaches};
 ghost use Rattle.run_laws.specs.Running.{CanRun};
-ghost use Rattle.owner_lines.specs.Owners.{frame_lines, swap_lines, owners_text};
+ghost use Rattle.owner_lines.specs.Owners.{frame_lines, swap_lines, owners_text, owners_of as machine_text};
 ghost use Rattle.owner_laws.specs.Lines.{FrameLine, frame_text, Extent, extent_text};
 ghost use Rattle.owner_laws.specs.Told.{FramesTold, SwapTold};
-ghost use Rattle.owner_laws.specs.Account.{OwnersTold, text_at, IsToldAt};
+ghost use Rattle.owner_laws.specs.Account.{OwnersTold, text_at, IsToldAt, IsMachineAt};
 ghost use Rattle.owner_laws.specs.First.{HasWholeEntries, ComeFirst};
 
 /// Where each frame has one owner, the lines of frames are one for each, in order, and what a line says is so: a free frame
@@ -38,7 +39,7 @@ pub fn swap_is_told()
 /// and of the swap area. What can be counted off these is what the journal's entry of owners says of the same placement and
 /// holdings: the frames that are free, used and in transfers, and the blocks that are held.
 pub fn owners_are_told()
-    ensures { (entries size : ℕ) (over : Bool) (lives : ℕ → Bool) (p : Placement) (hs : Holdings) (processes : List Outline)
+    ensures { (entries size : ℕ) (over : Bool) (lives : ℕ → Bool) (p : Placement) (hs : Holdings) (processes : List Proc)
         → OneOwner size lives p hs → OwnersTold entries over p hs size processes (owners_text entries over p hs size processes) }
 {}
 
@@ -51,6 +52,13 @@ pub fn runs_are_told()
         → next_unit A s ≡ Some (owners_of s.place s.holdings) }
     ensures noted { (A : Inputs) (s : State) (free used moving held : ℕ) → next_unit A s ≡ Some (Owners free used moving held)
         → Owners free used moving held ≡ owners_of s.place s.holdings }
+{}
+
+/// What is printed of a machine that stands at a state of a run is what is printed at that state: so the registers of each process that
+/// is in are those of the flat machine.
+pub fn machines_are_told()
+    ensures { (A : Inputs) (s : State) (m : Standing) (over : Bool) → IsMachineAt A s m
+        → machine_text m over ≡ text_at A (length m.kernel.journal) over s }
 {}
 
 /// Entries after which it is told who owns what are the first ones of the run: where the next unit isn't joined to the last of them, they

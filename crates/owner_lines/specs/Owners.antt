@@ -1,9 +1,10 @@
 -- Who owns what, line by line: frames, transfers in flight, processes, pages that are due, and the swap area.
-use Rattle.std.specs.Prelude.{ℕ, zero, suc, ◌+◌, ◌-◌, ◌==◌, nat_lt, Bool, true, false, if◌then◌else◌, List, [], ◌∷◌, ◌++◌, length, map, Option, Some, None, codes}
+use Rattle.std.specs.Prelude.{ℕ, zero, suc, ◌+◌, ◌-◌, ◌==◌, nat_lt, Bool, true, false, if◌then◌else◌, List, [], ◌∷◌, ◌++◌, length, Option, Some, None, codes}
 use Rattle.std.specs.List.{flat_map, list_any}
 use Rattle.vm_facts.specs.declared.page.Page.{Page}
 use Rattle.vm_facts.specs.declared.page.PageState.{PageState}
 use Rattle.vm_facts.specs.declared.page.PageState.TheVariants.{Unfilled, Valid, Invalid, Coming, Going, OnSwap}
+use Rattle.vm_facts.specs.declared.regs.Regs.{Regs}
 use Rattle.core_map.specs.Order.{place_from}
 use Rattle.swap_book.specs.declared.Owner.{Owner}
 use Rattle.swap_book.specs.declared.Owner.TheVariants as owners
@@ -13,8 +14,7 @@ use Rattle.page_model.specs.Frames.{count_up}
 use Rattle.page_model.specs.Swapper.{is_out}
 use Rattle.page_model.specs.Placement.{Source, FromSwap, FromFile, Errand, Writes, Reads, Part, Transfer, Due, Start, CopyOf, Placement, state_of, mark_of, page_of}
 use Rattle.page_model.specs.Ownership.{is_marked_dirty, block_of}
-use Rattle.kernel_model.specs.Kernel.{Life, New, HoldsSpace, LendsSpace, Ended}
-use Rattle.kernel_model.specs.Coupled.{Outline, outline_kept}
+use Rattle.kernel_model.specs.Kernel.{Life, New, HoldsSpace, LendsSpace, Ended, Proc}
 use Rattle.machine_state.specs.Machine.{Standing}
 use Rattle.run_text.specs.Text.{parts, rest_of_line, page_text}
 
@@ -159,8 +159,32 @@ life_text out asleep (LendsSpace sid child) = codes " lent" ++ parts (sid ∷ ch
 life_text out asleep (Ended status) = codes " ended" ++ parts (status ∷ [])
 
 -- the line of a process: its number, and what it has
-abbrev pub process_line : Placement → Outline → List ℕ
+abbrev pub process_line : Placement → Proc → List ℕ
 process_line p q = codes "process" ++ parts (q.pid ∷ []) ++ life_text (is_out p q.pid) q.asleep q.life ++ codes "\n"
+
+-- the letters of the condition codes that are set
+abbrev pub codes_text : Regs → List ℕ
+codes_text regs = word_if regs.n (codes " N") ++ word_if regs.z (codes " Z") ++ word_if regs.v (codes " V") ++ word_if regs.c (codes " C")
+
+-- the line of a process's registers: R0 to R11, AP, FP, SP and PC, and the condition codes that are set
+abbrev pub registers_line : ℕ → Regs → List ℕ
+registers_line pid regs = codes "registers" ++ parts (pid ∷ []) ++ parts regs.r ++ codes_text regs ++ codes "\n"
+
+-- a process that is out has its registers in its u page
+abbrev pub registers_in : Bool → ℕ → Regs → List ℕ
+registers_in true pid regs = []
+registers_in false pid regs = registers_line pid regs
+
+-- the line of the registers of a process that is in, by what it has; one that has ended has none
+abbrev pub registers_text : Bool → ℕ → Regs → Life → List ℕ
+registers_text out pid regs New = []
+registers_text out pid regs (HoldsSpace sid) = registers_in out pid regs
+registers_text out pid regs (LendsSpace sid child) = registers_in out pid regs
+registers_text out pid regs (Ended status) = []
+
+-- the lines of a process, its own and that of its registers
+abbrev pub process_lines : Placement → Proc → List ℕ
+process_lines p q = process_line p q ++ registers_text (is_out p q.pid) q.pid q.regs q.life
 
 -- What is due.
 
@@ -219,11 +243,11 @@ abbrev pub swap_lines : ℕ → Holdings → List ℕ
 swap_lines size hs = blocks_from size 0 (rising hs)
 
 -- All lines: how long the journal is and whether the run is over, where all pages are, who holds which blocks of an area of
--- this size, and the processes.
-unfoldable pub owners_text : ℕ → Bool → Placement → Holdings → ℕ → List Outline → List ℕ
+-- this size, and the processes with their registers.
+unfoldable pub owners_text : ℕ → Bool → Placement → Holdings → ℕ → List Proc → List ℕ
 owners_text entries over p hs size processes = entries_line entries over ++ hands_line p ++ frame_lines p ++ transfers_from hs 1 p.transfers
-    ++ flat_map (process_line p) processes ++ flat_map due_line p.due ++ swap_lines size hs
+    ++ flat_map (process_lines p) processes ++ flat_map due_line p.due ++ swap_lines size hs
 
 -- the lines of a machine, whose holdings are those before the pieces that were found for an entry to come
 abbrev pub owners_of : Standing → Bool → List ℕ
-owners_of m over = owners_text (length m.kernel.journal) over m.kernel.place m.before m.params.swap_blocks (map outline_kept m.kernel.processes)
+owners_of m over = owners_text (length m.kernel.journal) over m.kernel.place m.before m.params.swap_blocks m.kernel.processes

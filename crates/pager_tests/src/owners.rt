@@ -52,12 +52,25 @@ fn begun(rt: &impl Abort, alloc: Global) -> Machine
 }
 
 // The four frames are free, the stack page is due, and the pieces of text, data, stack and u page lie one behind the other.
-const LINES: &[u8] =
-    b"entries 0 end\nhands 2 1\nframe 1 free 1\nframe 2 free 2\nframe 3 free 3\nframe 4 free 4\nprocess 1 in 1\ndue s 1 0\nswap 0 2 x 1\nswap 2 32 d 1\nswap 34 32 s 1\nswap 66 2 u 1\nswap 68 2 free\n";
+const LINES: &[u8] = b"\
+    entries 0 end\n\
+    hands 2 1\n\
+    frame 1 free 1\n\
+    frame 2 free 2\n\
+    frame 3 free 3\n\
+    frame 4 free 4\n\
+    process 1 in 1\n\
+    registers 1 0 0 0 0 0 0 0 0 0 0 0 0 0 0 2147478500 2\n\
+    due s 1 0\n\
+    swap 0 2 x 1\n\
+    swap 2 32 d 1\n\
+    swap 34 32 s 1\n\
+    swap 66 2 u 1\n\
+    swap 68 2 free\n";
 
 #[test]
 fn the_lines_of_a_machine_with_a_process_that_began(rt: HostRuntime) -> Result<(), Fail> {
-    let Ok(mut sink) = MemSink::new(rt.alloc(), 400, Vec::new(rt.alloc())) else {
+    let Ok(mut sink) = MemSink::new(rt.alloc(), 500, Vec::new(rt.alloc())) else {
         return Err(Fail::from("no memory"));
     };
     let machine = begun(&rt, rt.alloc());
