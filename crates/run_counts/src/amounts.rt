@@ -258,7 +258,8 @@ fn process_of(entry: &Entry) -> u32
     }
 }
 
-fn owner_of(page: Page) -> Owner
+/// Whose a page is.
+pub fn owner_of(page: Page) -> Owner
     ensures { result ≡ owner_of page }
 {
     match page {
@@ -267,7 +268,8 @@ fn owner_of(page: Page) -> Owner
     }
 }
 
-fn is_same_owner(one: Owner, other: Owner) -> bool
+/// Whether two are one.
+pub fn is_same_owner(one: Owner, other: Owner) -> bool
     ensures { result ≡ is_same_owner one other }
 {
     match (one, other) {

@@ -5,6 +5,6 @@ mod amounts;
 mod texts;
 mod totals;
 
-pub use amounts::{Count, Owner, PageHead, ProcessHead};
+pub use amounts::{Count, Owner, PageHead, ProcessHead, is_same_owner, owner_of};
 pub use texts::counts_text;
 pub use totals::total;
