@@ -4,10 +4,11 @@ use Rattle.std.specs.List.{list_all, list_any}
 use Rattle.std.specs.Option.{option_map, option_and_then}
 use Rattle.run_files.specs.ImageWords.{starts}
 use Rattle.command_words.specs.declared.command.Numbers.{Numbers}
+use Rattle.command_words.specs.declared.command.FilmSteps.{FilmSteps}
 use Rattle.command_words.specs.declared.reasons.Argument.{Argument}
-use Rattle.command_words.specs.declared.reasons.Argument.TheVariants.{Frames, Swap, Limit, ShortLimit, Number, Size, Entries, Schedule, Transcript, Source, ReferenceFile, Listed, Image}
+use Rattle.command_words.specs.declared.reasons.Argument.TheVariants.{Frames, Swap, Limit, ShortLimit, Number, Size, Entries, From, To, Every, Schedule, Transcript, Source, ReferenceFile, Listed, Image}
 use Rattle.command_words.specs.Words.{is_plain, number_in, is_name, is_image_word, are_image_words, without_trace}
-use Rattle.command_words.specs.Asked.{Asked, Load, Replay, Assemble, Show, Optimum, Curve, Owners, References, Policies, all_numbers, run_numbers, asked_with_run, asked_load, asked_replay, asked_assemble, asked_show, asked_optimum, asked_owners, asked_policies, asked_run, asked_other, asked_of}
+use Rattle.command_words.specs.Asked.{Asked, Load, Replay, Assemble, Show, Optimum, Curve, Owners, Film, Stats, References, Policies, all_numbers, run_numbers, asked_with_run, asked_load, asked_replay, asked_assemble, asked_show, asked_optimum, asked_owners, all_steps, film_steps, asked_film, asked_policies, asked_run, asked_other, asked_of}
 use Rattle.command_words.specs.Reasons.{Why, Refused, NotPlain, takes, bad_image, or_else, why_images, why_rest, why_words, bad_plain, why_form, why_other, why_command, why_bad}
 
 -- Choices.
@@ -214,6 +215,47 @@ owners (n ∷ words) =
     next Entries (Frames ∷ Swap ∷ Limit ∷ Schedule ∷ []) true n words
     ∙ after_number (number_in 0 16777216 n) (λ k. asked_with_run 1000000 (Owners k) words) _ (λ k. run Limit 1000000 (Owners k) words long_limit)
 
+steps_by : (a b c : Option ℕ) → is_some (all_steps a b c) ≡ is_some a && (is_some b && is_some c)
+unfolding all_steps
+steps_by None b c = refl
+steps_by (Some x) None c = refl
+steps_by (Some x) (Some y) None = refl
+steps_by (Some x) (Some y) (Some z) = refl
+
+after_three : (a b c : Bool) (o : Option FilmSteps) (g : FilmSteps → Option Asked) (d : Bool) → is_some o ≡ a && (b && c) → ((s : FilmSteps) → d ≡ is_some (g s))
+    → a && (b && (c && d)) ≡ is_some (option_and_then g o)
+after_three true true true (Some s) g d is each = each s
+after_three true true true None g d is each = absurd cc
+after_three true true false None g d is each = refl
+after_three true true false (Some s) g d is each = absurd cc
+after_three true false c None g d is each = refl
+after_three true false c (Some s) g d is each = absurd cc
+after_three false b c None g d is each = refl
+after_three false b c (Some s) g d is each = absurd cc
+
+film_whole : (from to every : List ℕ) (words : List (List ℕ))
+    → is_none (why_words (From ∷ To ∷ Every ∷ Frames ∷ Swap ∷ Limit ∷ Schedule ∷ []) true (from ∷ to ∷ every ∷ words)) ≡ is_some (asked_film (from ∷ to ∷ every ∷ words))
+unfolding asked_film film_steps takes
+film_whole from to every words =
+    let one : is_none (why_words (Every ∷ Frames ∷ Swap ∷ Limit ∷ Schedule ∷ []) true (every ∷ words))
+    ≡ is_some (number_in 1 16777216 every) && is_none (why_words (Frames ∷ Swap ∷ Limit ∷ Schedule ∷ []) true words) =
+    next Every (Frames ∷ Swap ∷ Limit ∷ Schedule ∷ []) true every words in
+    let two : is_none (why_words (To ∷ Every ∷ Frames ∷ Swap ∷ Limit ∷ Schedule ∷ []) true (to ∷ every ∷ words))
+    ≡ is_some (number_in 0 16777216 to) && (is_some (number_in 1 16777216 every) && is_none (why_words (Frames ∷ Swap ∷ Limit ∷ Schedule ∷ []) true words)) =
+    next To (Every ∷ Frames ∷ Swap ∷ Limit ∷ Schedule ∷ []) true to (every ∷ words) ∙ ap (λ (b : Bool). is_some (number_in 0 16777216 to) && b) one in
+    next From (To ∷ Every ∷ Frames ∷ Swap ∷ Limit ∷ Schedule ∷ []) true from (to ∷ every ∷ words) ∙ ap (λ (b : Bool). is_some (number_in 0 16777216 from) && b) two
+    ∙ after_three (is_some (number_in 0 16777216 from)) (is_some (number_in 0 16777216 to)) (is_some (number_in 1 16777216 every)) _ (λ steps. asked_with_run 1000000 (Film steps) words) _
+    (steps_by (number_in 0 16777216 from) (number_in 0 16777216 to) (number_in 1 16777216 every)) (λ steps. run Limit 1000000 (Film steps) words long_limit)
+
+film : (words : List (List ℕ)) → is_none (why_words (From ∷ To ∷ Every ∷ Frames ∷ Swap ∷ Limit ∷ Schedule ∷ []) true words) ≡ is_some (asked_film words)
+unfolding asked_film
+film [] = missing From (To ∷ Every ∷ Frames ∷ Swap ∷ Limit ∷ Schedule ∷ []) true
+film (from ∷ []) = lacking From (To ∷ Every ∷ Frames ∷ Swap ∷ Limit ∷ Schedule ∷ []) true from [] (missing To (Every ∷ Frames ∷ Swap ∷ Limit ∷ Schedule ∷ []) true)
+film (from ∷ to ∷ []) =
+    lacking From (To ∷ Every ∷ Frames ∷ Swap ∷ Limit ∷ Schedule ∷ []) true from (to ∷ [])
+    (lacking To (Every ∷ Frames ∷ Swap ∷ Limit ∷ Schedule ∷ []) true to [] (missing Every (Frames ∷ Swap ∷ Limit ∷ Schedule ∷ []) true))
+film (from ∷ to ∷ every ∷ words) = film_whole from to every words
+
 policies : (words : List (List ℕ)) → is_none (why_words (Size ∷ ReferenceFile ∷ []) false words) ≡ is_some (asked_policies words)
 unfolding asked_policies takes
 policies [] = missing Size (ReferenceFile ∷ []) false
@@ -263,9 +305,11 @@ asked_plain name words =
     else (if bytes_eq name (codes "opt") then asked_optimum words
     else (if bytes_eq name (codes "curve") then asked_with_run 100000 Curve words
     else (if bytes_eq name (codes "owners") then asked_owners words
+    else (if bytes_eq name (codes "film") then asked_film words
+    else (if bytes_eq name (codes "stats") then asked_with_run 1000000 Stats words
     else (if bytes_eq name (codes "refs") then asked_with_run 100000 References words
     else (if bytes_eq name (codes "policies") then asked_policies words
-    else None))))))))
+    else None))))))))))
 
 other_by : (p : Bool) (name : List ℕ) (words : List (List ℕ)) → list_all is_plain words ≡ p
     → is_none (why_other name words) ≡ p && is_some (asked_plain name words)
@@ -278,8 +322,10 @@ other_by true name words are =
     (chosen (bytes_eq name (codes "opt")) _ _ _ _ (with_plain _ _ words _ are (optimum words))
     (chosen (bytes_eq name (codes "curve")) _ _ _ _ (with_plain _ _ words _ are (run ShortLimit 100000 Curve words short_limit))
     (chosen (bytes_eq name (codes "owners")) _ _ _ _ (with_plain _ _ words _ are (owners words))
+    (chosen (bytes_eq name (codes "film")) _ _ _ _ (with_plain _ _ words _ are (film words))
+    (chosen (bytes_eq name (codes "stats")) _ _ _ _ (with_plain _ _ words _ are (run Limit 1000000 Stats words long_limit))
     (chosen (bytes_eq name (codes "refs")) _ _ _ _ (with_plain _ _ words _ are (run ShortLimit 100000 References words short_limit))
-    (chosen (bytes_eq name (codes "policies")) _ _ _ _ (with_plain _ _ words _ are (policies words)) refl))))))))
+    (chosen (bytes_eq name (codes "policies")) _ _ _ _ (with_plain _ _ words _ are (policies words)) refl))))))))))
 other_by false name words are =
     refused (bytes_eq name (codes "load")) _ _ (with_option _ _ words are)
     (refused (bytes_eq name (codes "replay")) _ _ (with_option _ _ words are)
@@ -288,8 +334,10 @@ other_by false name words are =
     (refused (bytes_eq name (codes "opt")) _ _ (with_option _ _ words are)
     (refused (bytes_eq name (codes "curve")) _ _ (with_option _ _ words are)
     (refused (bytes_eq name (codes "owners")) _ _ (with_option _ _ words are)
+    (refused (bytes_eq name (codes "film")) _ _ (with_option _ _ words are)
+    (refused (bytes_eq name (codes "stats")) _ _ (with_option _ _ words are)
     (refused (bytes_eq name (codes "refs")) _ _ (with_option _ _ words are)
-    (refused (bytes_eq name (codes "policies")) _ _ (with_option _ _ words are) refl))))))))
+    (refused (bytes_eq name (codes "policies")) _ _ (with_option _ _ words are) refl))))))))))
 
 unless_plain : (p : Bool) (asked : Option Asked) → is_some (if not p then None else asked) ≡ p && is_some asked
 unless_plain true asked = refl

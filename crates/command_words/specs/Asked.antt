@@ -4,6 +4,7 @@ use Rattle.std.specs.List.{list_all, list_any}
 use Rattle.std.specs.Option.{option_map}
 use Rattle.run_files.specs.ImageWords.{starts}
 use Rattle.command_words.specs.declared.command.Numbers.{Numbers}
+use Rattle.command_words.specs.declared.command.FilmSteps.{FilmSteps}
 use Rattle.command_words.specs.Words.{is_plain, number_in, is_name, are_image_words, is_trace, without_trace}
 
 -- a command, with the numbers and the names that its words give
@@ -16,6 +17,8 @@ pub data Asked : Type 0 where
   Optimum : (size : ℕ) → Numbers → (schedule : List ℕ) → (images : List (List ℕ)) → Asked
   Curve : Numbers → (schedule : List ℕ) → (images : List (List ℕ)) → Asked
   Owners : (entries : ℕ) → Numbers → (schedule : List ℕ) → (images : List (List ℕ)) → Asked
+  Film : FilmSteps → Numbers → (schedule : List ℕ) → (images : List (List ℕ)) → Asked
+  Stats : Numbers → (schedule : List ℕ) → (images : List (List ℕ)) → Asked
   References : Numbers → (schedule : List ℕ) → (images : List (List ℕ)) → Asked
   Policies : (size : ℕ) → (references : List ℕ) → Asked
 
@@ -65,6 +68,20 @@ unfoldable pub asked_owners : List (List ℕ) → Option Asked
 asked_owners (entries ∷ words) = option_and_then (λ n. asked_with_run 1000000 (Owners n) words) (number_in 0 16777216 entries)
 asked_owners [] = None
 
+-- the three numbers, where each is one
+unfoldable pub all_steps : Option ℕ → Option ℕ → Option ℕ → Option FilmSteps
+all_steps (Some from) (Some to) (Some every) = Some (record { from = from; to = to; every = every })
+all_steps _ _ _ = None
+
+-- `FROM TO EVERY`
+unfoldable pub film_steps : List ℕ → List ℕ → List ℕ → Option FilmSteps
+film_steps from to every = all_steps (number_in 0 16777216 from) (number_in 0 16777216 to) (number_in 1 16777216 every)
+
+-- `FROM TO EVERY FRAMES SWAP LIMIT SCHED IMAGE..`
+unfoldable pub asked_film : List (List ℕ) → Option Asked
+asked_film (from ∷ to ∷ every ∷ words) = option_and_then (λ steps. asked_with_run 1000000 (Film steps) words) (film_steps from to every)
+asked_film _ = None
+
 -- `N FILE`
 unfoldable pub asked_policies : List (List ℕ) → Option Asked
 asked_policies (size ∷ references ∷ []) = if is_name references then option_map (λ n. Policies n references) (number_in 1 4096 size) else None
@@ -86,9 +103,11 @@ asked_other name words =
     else (if bytes_eq name (codes "opt") then asked_optimum words
     else (if bytes_eq name (codes "curve") then asked_with_run 100000 Curve words
     else (if bytes_eq name (codes "owners") then asked_owners words
+    else (if bytes_eq name (codes "film") then asked_film words
+    else (if bytes_eq name (codes "stats") then asked_with_run 1000000 Stats words
     else (if bytes_eq name (codes "refs") then asked_with_run 100000 References words
     else (if bytes_eq name (codes "policies") then asked_policies words
-    else None)))))))))
+    else None)))))))))))
 
 -- what the words after the program's name ask for, and `None` where they are no command's
 unfoldable pub asked_of : List (List ℕ) → Option Asked

@@ -3,10 +3,11 @@ use Rattle.std.specs.Prelude.{◌≤◌, ◌<◌, ℕ, IsTrue, List, ◌++◌, l
 use Rattle.std.specs.List.{list_any}
 use Rattle.run_files.specs.ImageWords.{IsShortName, starts, name_in}
 use Rattle.command_words.specs.declared.command.Numbers.{Numbers}
+use Rattle.command_words.specs.declared.command.FilmSteps.{FilmSteps}
 use Rattle.command_words.specs.declared.command.Command.{Command}
 use Rattle.command_words.specs.declared.command.Command.TheVariants as commands
 use Rattle.command_words.specs.declared.image_words.ImageWords.{ImageWords}
-use Rattle.command_words.specs.Asked.{Asked, Run, Load, Replay, Assemble, Show, Optimum, Curve, Owners, References, Policies}
+use Rattle.command_words.specs.Asked.{Asked, Run, Load, Replay, Assemble, Show, Optimum, Curve, Owners, Film, Stats, References, Policies}
 use denote.Ref.{Bor}
 
 -- the words, as one list
@@ -23,6 +24,8 @@ asked_by (commands.Show image) = Show image.now
 asked_by (commands.Optimum size numbers schedule images) = Optimum size numbers schedule.now (map (λ word. word.now) images.now)
 asked_by (commands.Curve numbers schedule images) = Curve numbers schedule.now (map (λ word. word.now) images.now)
 asked_by (commands.Owners entries numbers schedule images) = Owners entries numbers schedule.now (map (λ word. word.now) images.now)
+asked_by (commands.Film steps numbers schedule images) = Film steps numbers schedule.now (map (λ word. word.now) images.now)
+asked_by (commands.Stats numbers schedule images) = Stats numbers schedule.now (map (λ word. word.now) images.now)
 asked_by (commands.References numbers schedule images) = References numbers schedule.now (map (λ word. word.now) images.now)
 asked_by (commands.Policies size references) = Policies size references.now
 
@@ -34,6 +37,13 @@ pub record AreAllowed (numbers : Numbers) : Type 0 where
   pub most_swap : numbers.swap ≤ 131072
   pub least_limit : 1 ≤ numbers.limit
   pub most_limit : numbers.limit ≤ 1000000
+
+-- so is each number of a film's steps
+pub record AreSteps (steps : FilmSteps) : Type 0 where
+  pub from : steps.from ≤ 16777216
+  pub to : steps.to ≤ 16777216
+  pub least_every : 1 ≤ steps.every
+  pub most_every : steps.every ≤ 16777216
 
 -- 1 to 16 words of images, each with a name of 1 to 63 bytes, and at least one of them starts a process
 pub record AreImageWords (words : List (Bor (List ℕ))) : Type 0 where
@@ -60,5 +70,7 @@ IsFitting (commands.Show image) = IsShortName image.now × IsTrue (starts image.
 IsFitting (commands.Optimum size numbers schedule images) = ((1 ≤ size) × (size ≤ 4096)) × IsFittingRun 100000 numbers schedule images.now
 IsFitting (commands.Curve numbers schedule images) = IsFittingRun 100000 numbers schedule images.now
 IsFitting (commands.Owners entries numbers schedule images) = (entries ≤ 16777216) × IsFittingRun 1000000 numbers schedule images.now
+IsFitting (commands.Film steps numbers schedule images) = AreSteps steps × IsFittingRun 1000000 numbers schedule images.now
+IsFitting (commands.Stats numbers schedule images) = IsFittingRun 1000000 numbers schedule images.now
 IsFitting (commands.References numbers schedule images) = IsFittingRun 100000 numbers schedule images.now
 IsFitting (commands.Policies size references) = ((1 ≤ size) × (size ≤ 4096)) × IsShortName references.now

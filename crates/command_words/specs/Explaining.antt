@@ -2,7 +2,7 @@
 use Rattle.std.specs.Prelude.{ℕ, List, [], ◌∷◌, ◌++◌, codes, decimal, Option}
 use Rattle.std.specs.Option.{option_map}
 use Rattle.command_words.specs.declared.reasons.Argument.{Argument}
-use Rattle.command_words.specs.declared.reasons.Argument.TheVariants.{Frames, Swap, Limit, ShortLimit, Number, Size, Entries, Schedule, Transcript, Source, ReferenceFile, Listed, Image}
+use Rattle.command_words.specs.declared.reasons.Argument.TheVariants.{Frames, Swap, Limit, ShortLimit, Number, Size, Entries, From, To, Every, Schedule, Transcript, Source, ReferenceFile, Listed, Image}
 use Rattle.command_words.specs.Reasons.{Why, NoCommand, Unknown, NotPlain, Missing, Refused, TooMany, TooManyImages, NoneStarts, least_of, most_of, why_bad}
 
 -- an argument as `--help` calls it
@@ -14,6 +14,9 @@ argument_name ShortLimit = codes "LIMIT"
 argument_name Number = codes "NUMBER"
 argument_name Size = codes "N"
 argument_name Entries = codes "N"
+argument_name From = codes "FROM"
+argument_name To = codes "TO"
+argument_name Every = codes "EVERY"
 argument_name Schedule = codes "SCHED"
 argument_name Transcript = codes "TRANSCRIPT"
 argument_name Source = codes "SOURCE"
@@ -37,7 +40,7 @@ kind_text argument = range_text argument
 
 -- the commands that there are
 abbrev pub commands_text : List ℕ
-commands_text = codes "run, load, opt, curve, owners, refs, policies, replay, as or dis"
+commands_text = codes "run, load, opt, curve, owners, film, stats, refs, policies, replay, as or dis"
 
 -- a reason in words
 abbrev pub why_text : Why → List ℕ

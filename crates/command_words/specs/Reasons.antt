@@ -6,7 +6,7 @@ use Rattle.run_files.specs.ImageWords.{starts}
 use Rattle.command_words.specs.Words.{is_plain, number_in, is_name, is_image_word, without_trace}
 use Rattle.command_words.specs.Asked.{asked_of}
 use Rattle.command_words.specs.declared.reasons.Argument.{Argument}
-use Rattle.command_words.specs.declared.reasons.Argument.TheVariants.{Frames, Swap, Limit, ShortLimit, Number, Size, Entries, Schedule, Transcript, Source, ReferenceFile, Listed, Image}
+use Rattle.command_words.specs.declared.reasons.Argument.TheVariants.{Frames, Swap, Limit, ShortLimit, Number, Size, Entries, From, To, Every, Schedule, Transcript, Source, ReferenceFile, Listed, Image}
 use Rattle.command_words.specs.declared.reasons.BadWord.{BadWord}
 use Rattle.command_words.specs.declared.reasons.BadWord.TheVariants as bad
 
@@ -39,6 +39,7 @@ least_of Swap = 256
 least_of Limit = 1
 least_of ShortLimit = 1
 least_of Size = 1
+least_of Every = 1
 least_of _ = 0
 
 -- the most that an argument may be, where it is a number
@@ -50,6 +51,9 @@ most_of ShortLimit = 100000
 most_of Number = 9999
 most_of Size = 4096
 most_of Entries = 16777216
+most_of From = 16777216
+most_of To = 16777216
+most_of Every = 16777216
 most_of _ = 0
 
 -- whether a word may stand for an argument
@@ -113,9 +117,11 @@ why_other name words =
     else (if bytes_eq name (codes "opt") then why_form (Size ∷ Frames ∷ Swap ∷ ShortLimit ∷ Schedule ∷ []) true words
     else (if bytes_eq name (codes "curve") then why_form (Frames ∷ Swap ∷ ShortLimit ∷ Schedule ∷ []) true words
     else (if bytes_eq name (codes "owners") then why_form (Entries ∷ Frames ∷ Swap ∷ Limit ∷ Schedule ∷ []) true words
+    else (if bytes_eq name (codes "film") then why_form (From ∷ To ∷ Every ∷ Frames ∷ Swap ∷ Limit ∷ Schedule ∷ []) true words
+    else (if bytes_eq name (codes "stats") then why_form (Frames ∷ Swap ∷ Limit ∷ Schedule ∷ []) true words
     else (if bytes_eq name (codes "refs") then why_form (Frames ∷ Swap ∷ ShortLimit ∷ Schedule ∷ []) true words
     else (if bytes_eq name (codes "policies") then why_form (Size ∷ ReferenceFile ∷ []) false words
-    else Some (Unknown name)))))))))
+    else Some (Unknown name)))))))))))
 
 -- the words after the name of a command
 unfoldable pub why_command : List ℕ → List (List ℕ) → Option Why

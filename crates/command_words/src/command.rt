@@ -2,8 +2,8 @@
 ghost use Rattle.std.specs.Prelude.{◌≡◌, ◌≤◌, ℕ, List, drop, map, IsSome, IfSome};
 ghost use Rattle.std.specs.Option.{option_map};
 ghost use Rattle.run_files.specs.ImageWords.{IsShortName};
-ghost use Rattle.command_words.specs.Asked.{Asked, asked_of, asked_run, asked_other, asked_load, asked_replay, asked_assemble, asked_show, asked_optimum, asked_owners, asked_policies, asked_with_run, run_numbers, Curve, References};
-ghost use Rattle.command_words.specs.Command.{word_list, asked_by, AreAllowed, AreImageWords, IsFitting};
+ghost use Rattle.command_words.specs.Asked.{Asked, asked_of, asked_run, asked_other, asked_load, asked_replay, asked_assemble, asked_show, asked_optimum, asked_owners, asked_film, film_steps, asked_policies, asked_with_run, run_numbers, Curve, Stats, References};
+ghost use Rattle.command_words.specs.Command.{word_list, asked_by, AreAllowed, AreImageWords, AreSteps, IsFitting};
 
 use crate::image_words::{ImageWords, from_place, has_trace};
 use crate::word::{is_name, read_number, starts};
@@ -18,6 +18,17 @@ pub struct Numbers {
     /// The most instructions that may run in all: 1 to 1,000,000, but at most 100,000 for `opt`, `curve` and
     /// `refs`.
     pub limit: u32,
+}
+
+/// The steps of a film (this project's profile): after how many entries of a journal each is.
+#[derive(Clone, Copy, Debug, PartialEq, Eq, Drop)]
+pub struct FilmSteps {
+    /// The first: 0 to 16,777,216.
+    pub from: u32,
+    /// None is behind this: 0 to 16,777,216.
+    pub to: u32,
+    /// How many entries lie between one and the next: 1 to 16,777,216.
+    pub every: u32,
 }
 
 /// What the words after the program's name ask for, with the numbers and the names in them (this project's
@@ -73,6 +84,19 @@ pub enum Command<'a> {
         schedule: &'a str,
         images: &'a [&'a str],
     },
+    /// `film FROM TO EVERY FRAMES SWAP LIMIT SCHED IMAGE..`: the same after each of several numbers of entries, in one run.
+    Film {
+        steps: FilmSteps,
+        numbers: Numbers,
+        schedule: &'a str,
+        images: &'a [&'a str],
+    },
+    /// `stats FRAMES SWAP LIMIT SCHED IMAGE..`: the counts of a run.
+    Stats {
+        numbers: Numbers,
+        schedule: &'a str,
+        images: &'a [&'a str],
+    },
     /// `refs FRAMES SWAP LIMIT SCHED IMAGE..`: the references of a run.
     References {
         numbers: Numbers,
@@ -92,13 +116,13 @@ pub enum Command<'a> {
 /// - `run [--trace] FRAMES SWAP LIMIT SCHED IMAGE..`, where `--trace` may stand at any place after `run`
 /// - `load NUMBER`, `replay TRANSCRIPT IMAGE..`, `as SOURCE`, `dis IMAGE`
 /// - `opt N FRAMES SWAP LIMIT SCHED IMAGE..`, `curve FRAMES SWAP LIMIT SCHED IMAGE..`
-/// - `owners N FRAMES SWAP LIMIT SCHED IMAGE..`, `refs FRAMES SWAP LIMIT SCHED IMAGE..`
-/// - `policies N FILE`
+/// - `owners N FRAMES SWAP LIMIT SCHED IMAGE..`, `film FROM TO EVERY FRAMES SWAP LIMIT SCHED IMAGE..`
+/// - `stats FRAMES SWAP LIMIT SCHED IMAGE..`, `refs FRAMES SWAP LIMIT SCHED IMAGE..`, `policies N FILE`
 ///
 /// and it is `None` where they are any others. No other word begins with `-` or is empty. A number has 1 to 8 ASCII
 /// digits, leading zeros among them: FRAMES is 64 to 4,096, SWAP 256 to 131,072, LIMIT 1 to 1,000,000 but at most
-/// 100,000 for `opt`, `curve` and `refs`, NUMBER 0 to 9,999, and N 1 to 4,096 for `opt` and `policies` and 0 to
-/// 16,777,216 for `owners`. A name has 1 to 63 bytes. There are 1 to 16 words of images: a name starts a process, and one after a `=` only makes the
+/// 100,000 for `opt`, `curve` and `refs`, NUMBER 0 to 9,999, N 1 to 4,096 for `opt` and `policies` and 0 to
+/// 16,777,216 for `owners`, FROM and TO 0 to 16,777,216, and EVERY 1 to 16,777,216. A name has 1 to 63 bytes. There are 1 to 16 words of images: a name starts a process, and one after a `=` only makes the
 /// image known; at least one starts. The image of `dis` has no `=`. It takes no memory. Source: this project's profile.
 #[tactic(auto, unfolding(crate::specs::Asked::asked_of))]
 pub fn read_words<'a>(words: &'a [&'a str]) -> Option<Command<'a>>
@@ -151,6 +175,8 @@ fn read_other<'a>(name: &str, words: &'a [&'a str]) -> Option<Command<'a>>
         "opt" => read_optimum(words),
         "curve" => read_curve(words),
         "owners" => read_owners(words),
+        "film" => read_film(words),
+        "stats" => read_stats(words),
         "refs" => read_references(words),
         "policies" => read_policies(words),
         _ => None,
@@ -257,6 +283,48 @@ fn read_owners<'a>(words: &'a [&'a str]) -> Option<Command<'a>>
     let head = RunHead::of(ImageWords::all(words), 1_000_000)?;
     Some(Command::Owners {
         entries,
+        numbers: head.numbers,
+        schedule: head.schedule,
+        images: from_place(words, 4),
+    })
+}
+
+#[tactic(auto, unfolding(crate::specs::Asked::film_steps, crate::specs::Asked::all_steps))]
+fn read_steps(from: &str, to: &str, every: &str) -> Option<FilmSteps>
+    ensures exact { result ≡ film_steps from.now to.now every.now }
+    ensures allowed { IfSome result AreSteps }
+{
+    Some(FilmSteps {
+        from: read_number(from, 0, 16_777_216)?,
+        to: read_number(to, 0, 16_777_216)?,
+        every: read_number(every, 1, 16_777_216)?,
+    })
+}
+
+#[tactic(auto, unfolding(crate::specs::Asked::asked_film))]
+fn read_film<'a>(words: &'a [&'a str]) -> Option<Command<'a>>
+    ensures exact { option_map asked_by result ≡ asked_film (map (λ word. word.now) words.now) }
+    ensures fits { IfSome result IsFitting }
+{
+    let [from, to, every, words @ ..] = words else {
+        return None;
+    };
+    let steps = read_steps(from, to, every)?;
+    let head = RunHead::of(ImageWords::all(words), 1_000_000)?;
+    Some(Command::Film {
+        steps,
+        numbers: head.numbers,
+        schedule: head.schedule,
+        images: from_place(words, 4),
+    })
+}
+
+fn read_stats<'a>(words: &'a [&'a str]) -> Option<Command<'a>>
+    ensures exact { option_map asked_by result ≡ asked_with_run 1000000 Stats (map (λ word. word.now) words.now) }
+    ensures fits { IfSome result IsFitting }
+{
+    let head = RunHead::of(ImageWords::all(words), 1_000_000)?;
+    Some(Command::Stats {
         numbers: head.numbers,
         schedule: head.schedule,
         images: from_place(words, 4),

@@ -8,7 +8,8 @@ use command_ending::put_number;
 use std::alloc::{AllocError, Global};
 
 /// The commands that there are.
-const COMMANDS: &[u8] = b"run, load, opt, curve, owners, refs, policies, replay, as or dis";
+const COMMANDS: &[u8] =
+    b"run, load, opt, curve, owners, film, stats, refs, policies, replay, as or dis";
 
 fn argument_name(argument: Argument) -> &'static [u8]
     ensures { result.now ≡ argument_name argument }
@@ -19,6 +20,9 @@ fn argument_name(argument: Argument) -> &'static [u8]
         Argument::Limit | Argument::ShortLimit => b"LIMIT",
         Argument::Number => b"NUMBER",
         Argument::Size | Argument::Entries => b"N",
+        Argument::From => b"FROM",
+        Argument::To => b"TO",
+        Argument::Every => b"EVERY",
         Argument::Schedule => b"SCHED",
         Argument::Transcript => b"TRANSCRIPT",
         Argument::Source => b"SOURCE",

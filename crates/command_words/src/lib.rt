@@ -7,7 +7,7 @@ mod image_words;
 mod reasons;
 mod word;
 
-pub use command::{Command, Numbers, read_words};
+pub use command::{Command, FilmSteps, Numbers, read_words};
 pub use explaining::explain_words;
 pub use image_words::ImageWords;
 pub use reasons::{Argument, BadWord, bad_word, refused_words_have_reasons};

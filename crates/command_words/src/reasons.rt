@@ -27,6 +27,12 @@ pub enum Argument {
     Size,
     /// How many entries of a journal are made.
     Entries,
+    /// The first step of a film.
+    From,
+    /// Behind which there is no step of a film.
+    To,
+    /// How many entries lie between one step of a film and the next.
+    Every,
     /// The name of a schedule.
     Schedule,
     /// The name of a transcript.
@@ -71,7 +77,7 @@ impl Argument {
         match self {
             Argument::Frames => 64,
             Argument::Swap => 256,
-            Argument::Limit | Argument::ShortLimit | Argument::Size => 1,
+            Argument::Limit | Argument::ShortLimit | Argument::Size | Argument::Every => 1,
             _ => 0,
         }
     }
@@ -86,7 +92,7 @@ impl Argument {
             Argument::Limit => 1_000_000,
             Argument::ShortLimit => 100_000,
             Argument::Number => 9_999,
-            Argument::Entries => 16_777_216,
+            Argument::Entries | Argument::From | Argument::To | Argument::Every => 16_777_216,
             _ => 0,
         }
     }
@@ -236,6 +242,29 @@ fn why_other<'a>(name: &'a str, words: &[&'a str]) -> Option<BadWord<'a>>
         "owners" => why_form(
             &[
                 Argument::Entries,
+                Argument::Frames,
+                Argument::Swap,
+                Argument::Limit,
+                Argument::Schedule,
+            ],
+            true,
+            words,
+        ),
+        "film" => why_form(
+            &[
+                Argument::From,
+                Argument::To,
+                Argument::Every,
+                Argument::Frames,
+                Argument::Swap,
+                Argument::Limit,
+                Argument::Schedule,
+            ],
+            true,
+            words,
+        ),
+        "stats" => why_form(
+            &[
                 Argument::Frames,
                 Argument::Swap,
                 Argument::Limit,

@@ -128,6 +128,9 @@ halts_filled (questions.Optimum frames) subject lines images read has x =
 halts_filled questions.Curve subject lines images read has x =
     record { inputs = over subject images lines; are = are_inputs subject lines images read has; journal = x.journal; left = x.left; halted = x.halted; full = x.full }
 halts_filled (questions.Owners entries) subject lines images read has x = absurd x
+halts_filled (questions.Film steps) subject lines images read has x = absurd x
+halts_filled questions.Stats subject lines images read has x =
+    record { inputs = over subject images lines; are = are_inputs subject lines images read has; journal = x.journal; left = x.left; halted = x.halted; full = x.full }
 halts_filled questions.References subject lines images read has x =
     record { inputs = over subject images lines; are = are_inputs subject lines images read has; journal = x.journal; left = x.left; halted = x.halted; full = x.full }
 

@@ -140,3 +140,7 @@ module _ (entries : ℕ) (numbers : Numbers) (images : List FlatFile) (opened : 
 pub on_ok_so : {T E : Type 0} (r : Result T E) (P Q : Type 0) → (P → Q) → OnOk r P → OnOk r Q
 on_ok_so (Ok x) P Q f h = f h
 on_ok_so (Err e) P Q f h = tt
+
+pub on_ok_always : {T E : Type 0} (r : Result T E) (P : Type 0) → P → OnOk r P
+on_ok_always (Ok x) P p = p
+on_ok_always (Err e) P p = tt

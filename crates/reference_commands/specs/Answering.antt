@@ -1,19 +1,28 @@
 -- The answer to a question about a run.
-use Rattle.std.specs.Prelude.{◌≡◌, ◌*◌, ◌<◌, ◌≤◌, ℕ, Bool, true, false, List, length, map, replicate, Option, Some, None}
+use Rattle.std.specs.Prelude.{◌≡◌, ◌+◌, ◌-◌, ◌*◌, ◌%◌, ◌==◌, ◌<◌, ◌≤◌, ◌&&◌, nat_le, ℕ, Bool, true, false, List, [], ◌∷◌, ◌++◌, length, map, replicate, slice_get, codes, decimal, Option, Some, None}
+use Rattle.std.specs.List.{filter, concat, range_with_len}
 use Rattle.vm_facts.specs.declared.entry.Entry.{Entry}
 use Rattle.vm_facts.specs.declared.page.Page.{Page}
 use Rattle.flat_state.specs.Flat.{Inputs}
 use Rattle.flat_state.specs.Journal.{append}
-use Rattle.kernel_model.specs.Coupled.{outline_of}
-use Rattle.run_model.specs.State.{State}
+use Rattle.kernel_model.specs.Start.{kept_of}
+use Rattle.run_model.specs.State.{State, start}
 use Rattle.run_model.specs.Next.{next_unit}
+use Rattle.page_model.specs.Holdings.{Holdings}
+use Rattle.run_laws.specs.Running.{CanRun}
+use Rattle.run_stats.specs.declared.noting.Note.{Note}
+use Rattle.run_stats.specs.Looks.{look_at}
+use Rattle.run_stats.specs.Story.{AreNoted}
+use Rattle.run_stats.specs.Table.{stats_text}
 use Rattle.run_command.specs.Lawful.{IsJournalOf, RunFinished}
 use Rattle.replay_check.specs.Verdicts.{references_of}
 use Rattle.reference_answers.specs.Texts.{curve_text, references_text}
 use Rattle.reference_answers.specs.Answers.{IsOptimumText}
+use Rattle.run_text.specs.Text.{line_of}
 use Rattle.owner_lines.specs.Owners.{owners_text}
+use Rattle.command_words.specs.declared.command.FilmSteps.{FilmSteps}
 use Rattle.reference_commands.specs.declared.question.Question.{Question}
-use Rattle.reference_commands.specs.declared.question.Question.TheVariants.{Optimum, Curve, Owners, References}
+use Rattle.reference_commands.specs.declared.question.Question.TheVariants.{Optimum, Curve, Owners, Film, Stats, References}
 
 -- a swap of so many blocks to which nothing was written
 abbrev pub blank_swap : ℕ → List ℕ
@@ -40,12 +49,73 @@ pub record SaysOwners (entries : ℕ) (A : Inputs) (text : List ℕ) : Type 0 wh
   pub made : IsJournalOf A journal state
   pub over : Bool
   pub ends : IsEnd over entries A journal state
-  pub told : text ≡ owners_text (length journal) over state.place state.holdings A.swap_blocks (map outline_of state.point.flat.processes)
+  pub told : text ≡ owners_text (length journal) over state.place state.holdings A.swap_blocks (map kept_of state.point.flat.processes)
+
+-- Films.
+
+-- a film has a step after so many entries: after FROM, FROM + EVERY, ..
+abbrev pub has_step : FilmSteps → ℕ → Bool
+has_step steps n = nat_le steps.from n && (n - steps.from) % steps.every == 0
+
+-- the numbers of its steps, among those from 0 to the last one that the run has
+abbrev pub step_numbers : FilmSteps → ℕ → List ℕ
+step_numbers steps last = filter (has_step steps) (range_with_len 0 (last + 1))
+
+-- an entry as the transcript has it, after a space; where there is none, the end of the line
+abbrev pub entry_if : Option Entry → List ℕ
+entry_if None = codes "\n"
+entry_if (Some e) = codes " " ++ line_of e
+
+-- the line of a step: its number, and the last entry so far
+abbrev pub step_line : List Entry → List ℕ
+step_line journal = codes "step " ++ decimal (length journal) ++ entry_if (slice_get journal (length journal - 1))
+
+-- The text is a step of a film: after just so many entries the run is there, and who owns what then is told as it is where it is asked alone.
+pub record TellsStep (A : Inputs) (entries : ℕ) (text : List ℕ) : Type 0 where
+  pub owners : List ℕ
+  pub says : SaysOwners entries A owners
+  pub reached : length says.journal ≡ entries
+  pub told : text ≡ step_line says.journal ++ owners
+
+-- these texts are the steps of these numbers
+abbrev pub TellSteps : Inputs → List ℕ → List (List ℕ) → Type 0
+TellSteps A [] [] = Unit {0}
+TellSteps A (n ∷ ns) (text ∷ texts) = TellsStep A n text × TellSteps A ns texts
+TellSteps A _ _ = ⊥
+
+-- The text has the steps of a film: of each of its numbers up to TO that the run has, in their order.
+pub record SaysFilm (steps : FilmSteps) (A : Inputs) (text : List ℕ) : Type 0 where
+  pub journal : List Entry
+  pub state : State
+  pub made : IsJournalOf A journal state
+  pub over : Bool
+  pub ends : IsEnd over steps.to A journal state
+  pub texts : List (List ℕ)
+  pub tell : TellSteps A (step_numbers steps (length journal)) texts
+  pub told : text ≡ concat texts
+
+-- Counts.
+
+-- The run is finished, and the text is the table of its counts: by its journal, by what is looked at at its start, and by what is noted of
+-- each of its entries, at the states to which they lead.
+pub record SaysStats (A : Inputs) (text : List ℕ) : Type 0 where
+  pub journal : List Entry
+  pub state : State
+  pub made : IsJournalOf A journal state
+  pub none : next_unit A state ≡ None
+  pub holdings : Holdings
+  pub can : CanRun A holdings
+  pub notes : List Note
+  pub noted : AreNoted A (start A holdings) notes state
+  pub told : text ≡ stats_text journal (look_at (start A holdings)) notes (state.point.flat.next_pid - 1) (state.point.flat.next_sid - 1) (length A.images)
 
 -- The answer to a question: the fewest faults that any replacement in so many frames has, with the victims by which it has them; the faults
--- of least-recently-used replacement in each number of frames; who owns what after so many entries; or the references themselves.
+-- of least-recently-used replacement in each number of frames; who owns what after so many entries, or after each of several numbers of
+-- them; what it did, counted; or the references themselves.
 abbrev pub IsAnswer : Question → Inputs → List ℕ → Type 0
 IsAnswer (Optimum frames) A text = SaysOfReferences (λ refs. IsOptimumText refs frames text) A
 IsAnswer Curve A text = SaysOfReferences (λ refs. text ≡ curve_text refs) A
 IsAnswer (Owners entries) A text = SaysOwners entries A text
+IsAnswer (Film steps) A text = SaysFilm steps A text
+IsAnswer Stats A text = SaysStats A text
 IsAnswer References A text = SaysOfReferences (λ refs. text ≡ references_text refs) A

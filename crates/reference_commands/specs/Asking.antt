@@ -4,9 +4,10 @@ use Rattle.flat_state.specs.Flat.{Inputs}
 use Rattle.run_files.specs.ImageWords.{image_names, first_images}
 use Rattle.replay_check.specs.Images.{FlatFile, images_of}
 use Rattle.command_words.specs.declared.command.Numbers.{Numbers}
+use Rattle.command_words.specs.Command.{AreSteps}
 use Rattle.run_opening.specs.Schedules.{HasEvents}
 use Rattle.reference_commands.specs.declared.question.Question.{Question}
-use Rattle.reference_commands.specs.declared.question.Question.TheVariants.{Optimum, Curve, Owners, References}
+use Rattle.reference_commands.specs.declared.question.Question.TheVariants.{Optimum, Curve, Owners, Film, Stats, References}
 use Rattle.reference_commands.specs.Reading.{Read}
 
 -- the run that is asked about: its numbers, the name of its schedule, and the words of its images
@@ -26,11 +27,13 @@ pub record AreInputsOf (A : Inputs) (subject : Subject) (read : Read) : Type 0 w
   pub blocks : A.swap_blocks ≡ subject.numbers.swap
   pub limit : A.limit ≡ subject.numbers.limit
 
--- the frames that are asked about are in their range
+-- the frames that are asked about are in their range, and so are the numbers of a film's steps
 abbrev pub IsQuestion : Question → Type 0
 IsQuestion (Optimum frames) = (1 ≤ frames) × (frames ≤ 4096)
 IsQuestion Curve = Unit {0}
 IsQuestion (Owners entries) = Unit {0}
+IsQuestion (Film steps) = AreSteps steps
+IsQuestion Stats = Unit {0}
 IsQuestion References = Unit {0}
 
 -- the most instructions of a run that may be asked about
@@ -38,4 +41,6 @@ abbrev pub limit_of : Question → ℕ
 limit_of (Optimum frames) = 100000
 limit_of Curve = 100000
 limit_of (Owners entries) = 1000000
+limit_of (Film steps) = 1000000
+limit_of Stats = 1000000
 limit_of References = 100000

@@ -13,7 +13,7 @@ use Rattle.command_ending.specs.Command.{Faults, NoFaults, FailedBehind, Complet
 use Rattle.run_opening.specs.Schedules.{HasBadEvent}
 use Rattle.run_command.specs.Machines.{journal_entries}
 use Rattle.reference_commands.specs.declared.question.Question.{Question}
-use Rattle.reference_commands.specs.declared.question.Question.TheVariants.{Optimum, Curve, Owners, References}
+use Rattle.reference_commands.specs.declared.question.Question.TheVariants.{Optimum, Curve, Owners, Film, Stats, References}
 use Rattle.reference_commands.specs.Reading.{Read, read_told, HasSchedule, LacksImage}
 use Rattle.reference_commands.specs.Asking.{Subject, AreInputsOf}
 use Rattle.reference_commands.specs.Answering.{blank_swap, IsAnswer}
@@ -33,11 +33,13 @@ pub record HasFilled (subject : Subject) (read : Read) : Type 0 where
   pub halted : RunHalted inputs journal stops.JournalFull (blank_swap inputs.swap_blocks) left
   pub full : journal_entries ≤ length journal
 
--- so a run ends that is to be finished for the question; one that is asked about so many entries isn't
+-- so a run ends that is to be finished for the question; one that is asked about so many entries isn't, and one that is filmed
 abbrev pub IsFilled : Question → Subject → Read → Type 0
 IsFilled (Optimum frames) subject read = HasFilled subject read
 IsFilled Curve subject read = HasFilled subject read
 IsFilled (Owners entries) subject read = ⊥
+IsFilled (Film steps) subject read = ⊥
+IsFilled Stats subject read = HasFilled subject read
 IsFilled References subject read = HasFilled subject read
 
 -- this is the first of the first processes whose pieces of swap find no place

@@ -27,7 +27,7 @@ use Rattle.run_opening.specs.Images.{images_in, IsIn}
 use Rattle.run_command.specs.Machines.{journal_entries}
 use Rattle.command_ending.specs.Ending.{Ending}
 use Rattle.reference_commands.specs.declared.question.Question.{Question}
-use Rattle.reference_commands.specs.declared.question.Question.TheVariants.{Optimum, Curve, Owners, References}
+use Rattle.reference_commands.specs.declared.question.Question.TheVariants.{Optimum, Curve, Owners, Film, Stats, References}
 use Rattle.reference_commands.specs.Answering.{blank_swap, IsAnswer}
 
 -- the files of images
@@ -70,8 +70,8 @@ pub record HasRun (A : Inputs) (entries : ℕ) (m : Standing) (ran : Result (Uni
   pub blocks : m.params.swap_blocks ≡ A.swap_blocks
   pub left : Option (List ℕ)
   pub ends : RunEnds A m.kernel.journal (blank_swap A.swap_blocks) ran left
-  pub full : ran ≡ Err (Stopped stops.JournalFull) → RunFull A m
-  pub over : OnOk ran (RunOver A m)
+  pub full : ran ≡ Err (Stopped stops.JournalFull) → RunFull A m (blank_swap A.swap_blocks)
+  pub over : OnOk ran (RunOver A m (blank_swap A.swap_blocks))
 
 -- there the machine runs on
 abbrev pub RunsOn : Standing → Result (Unit {0}) Unfinished → Type 0
@@ -107,6 +107,8 @@ abbrev pub HaltsAnswer : Question → Inputs → Type 0
 HaltsAnswer (Optimum frames) A = HasHalted A
 HaltsAnswer Curve A = HasHalted A
 HaltsAnswer (Owners entries) A = ⊥
+HaltsAnswer (Film steps) A = ⊥
+HaltsAnswer Stats A = HasHalted A
 HaltsAnswer References A = HasHalted A
 
 -- how answering the question about it ends

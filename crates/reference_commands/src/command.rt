@@ -12,6 +12,8 @@ ghost use Rattle.reference_commands.specs.Ends.{EndsQuestion, Answers};
 ghost use Rattle.reference_commands.specs.declared.question.Question.TheVariants as questions;
 ghost use Rattle.reference_commands.specs.InMemory.{inputs_with, IsRunnable, EndsAnswer, AllDiffer};
 
+use crate::counting::run_stats;
+use crate::filming::run_film;
 use crate::question::Question;
 use crate::running::{run_owners, run_references};
 use command_ending::{Fault, write_ending};
@@ -130,6 +132,8 @@ fn answer_over<'a>(
         Question::Owners(entries) => {
             run_owners(alloc, entries, numbers, images, names, first, lines)
         }
+        Question::Film(steps) => run_film(alloc, steps, numbers, images, names, first, lines),
+        Question::Stats => run_stats(alloc, numbers, images, names, first, lines),
         Question::References => references_over(alloc, numbers, images, names, first, lines),
     }
 }
@@ -169,8 +173,8 @@ fn answer_from<'a, F: Files>(
 /// file fault, before the run; 8 a fault of the output; 9 want of memory; 10 a journal with no room for a further entry, of 16,777,216,
 /// where the run is to be finished; 11 no swap for a first process. At any other status than 0 and 8 the line of the fault is written
 /// instead. The first thing met decides, in the order schedule, images, run; but an output that fails gives 8 whatever came before. The
-/// run is to be finished for a question about its references, but for one about so many entries it goes up to these (this project's
-/// profile).
+/// run is to be finished for a question about its references, but for one about so many entries it goes up to these, and for a film up to
+/// the last of its steps (this project's profile).
 pub fn ask_command<F: Files, S: Sink>(
     alloc: Global,
     files: &mut F,

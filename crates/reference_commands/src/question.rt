@@ -1,3 +1,5 @@
+use command_words::FilmSteps;
+
 /// What is asked about a run (this project's profile).
 #[derive(Clone, Copy, Debug, PartialEq, Eq, Drop)]
 pub enum Question {
@@ -7,6 +9,10 @@ pub enum Question {
     Curve,
     /// Who owns what after so many entries of the journal, or where the run is over before.
     Owners(u32),
+    /// The same after each of several numbers of entries, from 0 to 16,777,216, at least one apart.
+    Film(FilmSteps),
+    /// What it did, counted.
+    Stats,
     /// Its references themselves.
     References,
 }

@@ -54,7 +54,7 @@ fn references_at_end<'a>(
 }
 
 // The lines of a machine that runs.
-fn lines_of(alloc: Global, machine: &Machine, over: bool) -> Result<Vec<u8>, NoMemory>
+pub(crate) fn lines_of(alloc: Global, machine: &Machine, over: bool) -> Result<Vec<u8>, NoMemory>
     requires running { machine.now.kernel.stopped ≡ false }
     ensures { IfOk result (λ text. text.items ≡ owners_of machine.now over) }
 {
@@ -69,7 +69,7 @@ fn lines_of(alloc: Global, machine: &Machine, over: bool) -> Result<Vec<u8>, NoM
 fn lines_over<'a>(alloc: Global, machine: &Machine) -> Result<Vec<u8>, Fault<'a>>
     requires running { machine.now.kernel.stopped ≡ false }
     ensures { (A : Inputs) (entries : ℕ) → machine.now.params.journal ≡ entries → machine.now.params.swap_blocks ≡ A.swap_blocks
-        → RunOver A machine.now → EndsAnswer (questions.Owners entries) A (ending_of result) }
+        → RunOver A machine.now (blank_swap A.swap_blocks) → EndsAnswer (questions.Owners entries) A (ending_of result) }
 {
     machine.sound();
     match lines_of(alloc, machine, true) {
@@ -82,7 +82,7 @@ fn lines_over<'a>(alloc: Global, machine: &Machine) -> Result<Vec<u8>, Fault<'a>
 fn lines_full<'a>(alloc: Global, machine: &Machine) -> Result<Vec<u8>, Fault<'a>>
     requires running { machine.now.kernel.stopped ≡ false }
     ensures { (A : Inputs) (entries : ℕ) → machine.now.params.journal ≡ entries → machine.now.params.swap_blocks ≡ A.swap_blocks
-        → RunFull A machine.now → EndsAnswer (questions.Owners entries) A (ending_of result) }
+        → RunFull A machine.now (blank_swap A.swap_blocks) → EndsAnswer (questions.Owners entries) A (ending_of result) }
 {
     machine.sound();
     match lines_of(alloc, machine, false) {
@@ -138,6 +138,40 @@ fn run_opened(
     Ok(Ran { core, end })
 }
 
+/// Files in memory, and images that were opened from them.
+pub(crate) struct OpenedInMemory<'a> {
+    pub(crate) files: SureFiles,
+    pub(crate) images: Vec<OpenedImage<'a>>,
+}
+
+/// Images of these names, held in memory and opened there.
+pub(crate) fn open_in_memory<'a>(
+    alloc: Global,
+    images: &[Flat],
+    names: &[&'a str],
+) -> Result<OpenedInMemory<'a>, NoMemory>
+    requires images { AreImageFiles images.now }
+    requires few { length names.now ≤ 16 }
+    requires named { map (λ image. image.name) images.now ≡ map (λ name. name.now) names.now }
+    requires short { All (λ name. IsShortName name.now) names.now }
+    requires differ { AllDiffer (map (λ name. name.now) names.now) }
+    ensures held { IfOk result (λ opening. ⟦<SureFiles as Files>⟧.holds opening.files ≡ Some (map file_of images.now)) }
+    ensures octets { IfOk result (λ opening. AreOctetFiles (map file_of images.now)) }
+    ensures opened { IfOk result (λ opening. AreOpened images.now opening.images.items) }
+{
+    let Ok(held) = files_of(alloc, images) else {
+        return Err(NoMemory);
+    };
+    let mut files = SureFiles::new(held);
+    let Ok(opened) = open_images(alloc, &mut files, names) else {
+        return Err(NoMemory);
+    };
+    Ok(OpenedInMemory {
+        files,
+        images: opened,
+    })
+}
+
 // Runs a schedule over images of these names, begun with first processes in images of these numbers, over files in memory and a blank
 // swap, with a journal of at most so many entries.
 fn run_images(
@@ -157,13 +191,10 @@ fn run_images(
     requires runnable { IsRunnable numbers (length images.now) first.now lines.now }
     ensures { IfOk result (λ ran. HasRun (inputs_with numbers images.now first.now lines.now) entries ran.core.machine ran.end) }
 {
-    let Ok(held) = files_of(alloc, images) else {
-        return Err(NoMemory);
-    };
-    let mut files = SureFiles::new(held);
-    let Ok(opened) = open_images(alloc, &mut files, names) else {
-        return Err(NoMemory);
-    };
+    let OpenedInMemory {
+        mut files,
+        images: opened,
+    } = open_in_memory(alloc, images, names)?;
     run_opened(
         alloc,
         &mut files,

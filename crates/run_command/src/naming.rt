@@ -8,10 +8,7 @@ use run_opening::OpenedImage;
 use std::alloc::{AllocError, Global};
 
 /// The images that were opened, each with its name of its own.
-pub(crate) fn name_images(
-    alloc: Global,
-    images: &[OpenedImage<'_>],
-) -> Result<Vec<Named>, AllocError>
+pub fn name_images(alloc: Global, images: &[OpenedImage<'_>]) -> Result<Vec<Named>, AllocError>
     ensures shown { IfOk result (λ named. map image_shown named.items ≡ map shown_as images.now) }
     ensures count { IfOk result (λ named. length named.items ≡ length images.now) }
     ensures facts { IfOk result (λ named. map (λ image. image.facts) named.items ≡ map (λ image. image.facts) images.now) }

@@ -5,8 +5,9 @@ use Rattle.std.specs.Option.{option_map, option_and_then}
 use Rattle.std.proofs.lemmas.Bool.{and_parts}
 use Rattle.run_files.specs.ImageWords.{starts}
 use Rattle.command_words.specs.declared.command.Numbers.{Numbers}
+use Rattle.command_words.specs.declared.command.FilmSteps.{FilmSteps}
 use Rattle.command_words.specs.Words.{is_plain, number_in, is_name, are_image_words, is_trace, without_trace}
-use Rattle.command_words.specs.Asked.{Asked, Run, Load, Replay, Assemble, Show, Optimum, Curve, Owners, References, Policies, run_numbers, asked_with_run, asked_load, asked_replay, asked_assemble, asked_show, asked_optimum, asked_owners, asked_policies, asked_run, asked_other, asked_of}
+use Rattle.command_words.specs.Asked.{Asked, Run, Load, Replay, Assemble, Show, Optimum, Curve, Owners, Film, Stats, References, Policies, run_numbers, asked_with_run, asked_load, asked_replay, asked_assemble, asked_show, asked_optimum, asked_owners, film_steps, asked_film, asked_policies, asked_run, asked_other, asked_of}
 
 -- Words that ask for no run.
 
@@ -22,9 +23,9 @@ mapped : {A : Type 0} (f : A → Asked) (o : Option A) → ((a : A) → is_run (
 mapped f None none = refl
 mapped f (Some a) none = none a
 
-chained : (f : ℕ → Option Asked) (o : Option ℕ) → ((n : ℕ) → is_run (f n) ≡ false) → is_run (option_and_then f o) ≡ false
+chained : {X : Type 0} (f : X → Option Asked) (o : Option X) → ((x : X) → is_run (f x) ≡ false) → is_run (option_and_then f o) ≡ false
 chained f None none = refl
-chained f (Some n) none = none n
+chained f (Some x) none = none x
 
 about_run : (most : ℕ) (command : Numbers → List ℕ → List (List ℕ) → Asked) (words : List (List ℕ))
     → ((numbers : Numbers) (schedule : List ℕ) (images : List (List ℕ)) → is_run (Some (command numbers schedule images)) ≡ false)
@@ -72,6 +73,14 @@ owners [] = refl
 owners (entries ∷ words) =
     chained (λ (n : ℕ). asked_with_run 1000000 (Owners n) words) (number_in 0 16777216 entries) (λ n. about_run 1000000 (Owners n) words (λ numbers schedule images. refl))
 
+film : (words : List (List ℕ)) → is_run (asked_film words) ≡ false
+unfolding asked_film
+film [] = refl
+film (_ ∷ []) = refl
+film (_ ∷ _ ∷ []) = refl
+film (from ∷ to ∷ every ∷ words) =
+    chained (λ (steps : FilmSteps). asked_with_run 1000000 (Film steps) words) (film_steps from to every) (λ steps. about_run 1000000 (Film steps) words (λ numbers schedule images. refl))
+
 policies : (words : List (List ℕ)) → is_run (asked_policies words) ≡ false
 unfolding asked_policies
 policies [] = refl
@@ -91,8 +100,10 @@ other name words =
     (either (bytes_eq name (codes "opt")) _ _ (optimum words)
     (either (bytes_eq name (codes "curve")) _ _ (about_run 100000 Curve words (λ numbers schedule images. refl))
     (either (bytes_eq name (codes "owners")) _ _ (owners words)
+    (either (bytes_eq name (codes "film")) _ _ (film words)
+    (either (bytes_eq name (codes "stats")) _ _ (about_run 1000000 Stats words (λ numbers schedule images. refl))
     (either (bytes_eq name (codes "refs")) _ _ (about_run 100000 References words (λ numbers schedule images. refl))
-    (either (bytes_eq name (codes "policies")) _ _ (policies words) refl)))))))))
+    (either (bytes_eq name (codes "policies")) _ _ (policies words) refl)))))))))))
 
 -- The words of images with which a run is asked for.
 

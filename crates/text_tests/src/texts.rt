@@ -73,7 +73,9 @@ fn each_entry_has_its_line(rt: HostRuntime) -> Result<(), Fail> {
         (
             true,
             b"vmrun: file fault\n",
-            b"e 65536\nt 10\nZ s 3 0\nr 1 4294967295\nH 7\nr 1 1\nr 2 5\no 1 68690aaf\ng 1 3\nG x 0 9 8 2\nc 1 4 1 14 0\nC d 1 2\nf 1\nR d 1 2\ns 2\nP d 1 2 2\nD\nO 2\nI 2\nM 60 3 0 28\nx 1 256\nvmrun: file fault\n",
+            b"\
+                e 65536\nt 10\nZ s 3 0\nr 1 4294967295\nH 7\nr 1 1\nr 2 5\no 1 68690aaf\ng 1 3\nG x 0 9 8 2\nc 1 4 1 14 0\n\
+                C d 1 2\nf 1\nR d 1 2\ns 2\nP d 1 2 2\nD\nO 2\nI 2\nM 60 3 0 28\nx 1 256\nvmrun: file fault\n",
         ),
         (
             false,
@@ -165,8 +167,9 @@ fn a_schedule_is_read_or_its_first_bad_line_told(rt: HostRuntime) -> Result<(), 
 }
 
 // A transcript with a line for each entry, neighbours that could be joined among them.
-const LINES: &[u8] =
-    b"e 65536\nt 1\nr 1 4294967295\nr 1 1\no 1 68690aaf\ng 1 3\nc 1 4 1 14 0\nc 0 2 0 0 1\nf 1\ns 2\nx 1 256\nZ s 3 0\nG x 0 9 8 2\nC d 1 2\nR d 1 2\nH 7\nP d 1 2 2\nD\nO 2\nI 2\nM 60 3 0 28\n";
+const LINES: &[u8] = b"\
+    e 65536\nt 1\nr 1 4294967295\nr 1 1\no 1 68690aaf\ng 1 3\nc 1 4 1 14 0\nc 0 2 0 0 1\nf 1\ns 2\nx 1 256\nZ s 3 0\n\
+    G x 0 9 8 2\nC d 1 2\nR d 1 2\nH 7\nP d 1 2 2\nD\nO 2\nI 2\nM 60 3 0 28\n";
 
 #[test]
 fn a_transcript_is_read_or_its_first_bad_line_told(rt: HostRuntime) -> Result<(), Fail> {

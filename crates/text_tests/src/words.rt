@@ -38,7 +38,7 @@ fn a_run_has_its_option_its_numbers_and_its_names(rt: HostRuntime) -> Result<(),
 }
 
 // Command lines that are good; one space parts two words.
-const GOOD: [&'static str; 15] = [
+const GOOD: [&'static str; 16] = [
     // The option stands at any place after the first word, but once.
     "run --trace 64 256 100 s hi",
     "run 64 256 100 s a --trace b",
@@ -49,6 +49,7 @@ const GOOD: [&'static str; 15] = [
     "opt 4096 64 256 100000 s hi",
     "owners 0 64 256 1000000 s hi",
     "owners 16777216 64 256 100 s hi",
+    "film 16777216 0 1 64 256 1000000 s hi",
     // Names of files.
     "as xxxxxxxxxxxxxxxxxxxxxxxxxxxxxxxxxxxxxxxxxxxxxxxxxxxxxxxxxxxxxxx",
     "dis hi",
@@ -60,7 +61,7 @@ const GOOD: [&'static str; 15] = [
     "curve 64 256 100 s hi",
 ];
 
-const BAD: [&'static str; 27] = [
+const BAD: [&'static str; 30] = [
     "",
     "--trace run 64 256 100 s hi",
     "run --trace 64 --trace 256 100 s hi",
@@ -75,6 +76,9 @@ const BAD: [&'static str; 27] = [
     "opt 1 64 256 100001 s hi",
     "owners 16777217 64 256 100 s hi",
     "owners 64 256 100 s hi",
+    "film 0 9 0 64 256 100 s hi",
+    "film 0 16777217 1 64 256 100 s hi",
+    "film 0 9 64 256 100 s hi",
     "load 10000",
     "load",
     "as xxxxxxxxxxxxxxxxxxxxxxxxxxxxxxxxxxxxxxxxxxxxxxxxxxxxxxxxxxxxxxxx",

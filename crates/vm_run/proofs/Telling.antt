@@ -1,7 +1,7 @@
 -- What words do where files and a swap image are told.
 use Rattle.std.proofs.Common.{◌≡◌, ◌∙◌, ℕ, List, [], Option, Some, None, ap, subst}
 use Rattle.io_edge.specs.FileHolding.{NamedFile}
-use Rattle.command_words.specs.Asked.{Asked, Run, Load, Replay, Assemble, Show, Optimum, Curve, Owners, References, Policies}
+use Rattle.command_words.specs.Asked.{Asked, Run, Load, Replay, Assemble, Show, Optimum, Curve, Owners, Film, Stats, References, Policies}
 use Rattle.command_ending.specs.Ending.{Ending as CommandEnding}
 use Rattle.command_ending.specs.Command.{Faults, Completes}
 use Rattle.io_edge.specs.Octets.{AreOctetFiles}
@@ -31,6 +31,8 @@ obeys_told (Some (Show name)) seen files image status is octets swap x = complet
 obeys_told (Some (Optimum size numbers schedule images)) seen files image status is octets swap x = completes_told _ _ seen files status is x
 obeys_told (Some (Curve numbers schedule images)) seen files image status is octets swap x = completes_told _ _ seen files status is x
 obeys_told (Some (Owners entries numbers schedule images)) seen files image status is octets swap x = completes_told _ _ seen files status is x
+obeys_told (Some (Film steps numbers schedule images)) seen files image status is octets swap x = completes_told _ _ seen files status is x
+obeys_told (Some (Stats numbers schedule images)) seen files image status is octets swap x = completes_told _ _ seen files status is x
 obeys_told (Some (References numbers schedule images)) seen files image status is octets swap x = completes_told _ _ seen files status is x
 obeys_told (Some (Policies size references)) seen files image status is octets swap x = completes_told _ _ seen files status is x
 

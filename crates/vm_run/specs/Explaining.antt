@@ -7,7 +7,7 @@ use Rattle.command_ending.specs.declared.fault.Fault.{Fault}
 use Rattle.command_ending.specs.declared.fault.Fault.TheVariants.{NoMemory}
 use Rattle.command_ending.specs.Ending.{fault_of}
 use Rattle.command_ending.specs.Command.{Faults}
-use Rattle.command_words.specs.Asked.{Asked, Run, Assemble, Replay, Optimum, Curve, Owners, References, Policies, asked_of}
+use Rattle.command_words.specs.Asked.{Asked, Run, Assemble, Replay, Optimum, Curve, Owners, Film, Stats, References, Policies, asked_of}
 use Rattle.command_words.specs.Explaining.{words_explained}
 use Rattle.source_commands.specs.Explaining.{ExplainsSource, LacksSource}
 use Rattle.replay_command.specs.Explaining.{ExplainsTranscript, LacksTranscript}
@@ -30,6 +30,8 @@ ExplainsAsked (Run traced numbers schedule images) status holds text = ExplainsR
 ExplainsAsked (Optimum size numbers schedule images) status holds text = ExplainsRun schedule status holds text
 ExplainsAsked (Curve numbers schedule images) status holds text = ExplainsRun schedule status holds text
 ExplainsAsked (Owners entries numbers schedule images) status holds text = ExplainsRun schedule status holds text
+ExplainsAsked (Film steps numbers schedule images) status holds text = ExplainsRun schedule status holds text
+ExplainsAsked (Stats numbers schedule images) status holds text = ExplainsRun schedule status holds text
 ExplainsAsked (References numbers schedule images) status holds text = ExplainsRun schedule status holds text
 ExplainsAsked (Assemble source) status holds text = ToldWhere (status == 17) (ExplainsSource source holds text) text
 ExplainsAsked (Replay transcript images) status holds text = ToldWhere (status == 14) (ExplainsTranscript transcript images holds text) text
@@ -64,6 +66,8 @@ LacksAsked (Run traced numbers schedule images) status holds f fault = LacksRun 
 LacksAsked (Optimum size numbers schedule images) status holds f fault = LacksRun schedule status holds fault
 LacksAsked (Curve numbers schedule images) status holds f fault = LacksRun schedule status holds fault
 LacksAsked (Owners entries numbers schedule images) status holds f fault = LacksRun schedule status holds fault
+LacksAsked (Film steps numbers schedule images) status holds f fault = LacksRun schedule status holds fault
+LacksAsked (Stats numbers schedule images) status holds f fault = LacksRun schedule status holds fault
 LacksAsked (References numbers schedule images) status holds f fault = LacksRun schedule status holds fault
 LacksAsked (Assemble source) status holds f fault = LacksWhere (status == 17) (LacksFile (LacksSource source holds) source fault)
 LacksAsked (Replay transcript images) status holds f fault = LacksWhere (status == 14) (LacksTranscript transcript images holds f fault)

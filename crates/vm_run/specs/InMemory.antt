@@ -5,7 +5,7 @@ use Rattle.io_edge.specs.Striping.{pair_blocks, first_blocks}
 use Rattle.io_edge.specs.Written.{Appends}
 use Rattle.vm_facts.specs.declared.entry.Entry.{Entry}
 use Rattle.run_files.specs.Told.{bytes_told, image_told}
-use Rattle.command_words.specs.Asked.{Asked, Run, Load, Replay, Assemble, Show, Optimum, Curve, Owners, References, Policies}
+use Rattle.command_words.specs.Asked.{Asked, Run, Load, Replay, Assemble, Show, Optimum, Curve, Owners, Film, Stats, References, Policies}
 use Rattle.command_ending.specs.Ending.{Ending as CommandEnding}
 use Rattle.command_ending.specs.Command.{Faults, Writes, WritesEnding}
 use Rattle.source_commands.specs.Command.{source_bytes, EndsAssembly, EndsListing}
@@ -95,6 +95,10 @@ ObeysTold (Some (Curve numbers schedule images)) seen files image status =
     AnswersTold questions.Curve (record { numbers = numbers; schedule = schedule; words = images }) seen files status
 ObeysTold (Some (Owners entries numbers schedule images)) seen files image status =
     AnswersTold (questions.Owners entries) (record { numbers = numbers; schedule = schedule; words = images }) seen files status
+ObeysTold (Some (Film steps numbers schedule images)) seen files image status =
+    AnswersTold (questions.Film steps) (record { numbers = numbers; schedule = schedule; words = images }) seen files status
+ObeysTold (Some (Stats numbers schedule images)) seen files image status =
+    AnswersTold questions.Stats (record { numbers = numbers; schedule = schedule; words = images }) seen files status
 ObeysTold (Some (References numbers schedule images)) seen files image status =
     AnswersTold questions.References (record { numbers = numbers; schedule = schedule; words = images }) seen files status
 ObeysTold (Some (Policies size references)) seen files image status = CompletesTold (EndsPolicies size references) (references_told references files) seen status

@@ -1,6 +1,6 @@
 -- What the words of a command line ask for is done.
 use Rattle.std.specs.Prelude.{ℕ, Option, Some, None, Err}
-use Rattle.command_words.specs.Asked.{Asked, Run, Load, Replay, Assemble, Show, Optimum, Curve, Owners, References, Policies}
+use Rattle.command_words.specs.Asked.{Asked, Run, Load, Replay, Assemble, Show, Optimum, Curve, Owners, Film, Stats, References, Policies}
 use Rattle.command_ending.specs.declared.fault.Fault.TheVariants.{BadWords}
 use Rattle.command_ending.specs.Command.{WritesEnding}
 use Rattle.source_commands.specs.Command.{Assembles, Lists}
@@ -29,6 +29,12 @@ Obeys (Some (Curve numbers schedule images)) seen status =
     seen.files seen.faults seen.written_before seen.written_after seen.sink_faults_before seen.sink_faults_after status
 Obeys (Some (Owners entries numbers schedule images)) seen status =
     Answers (questions.Owners entries) (record { numbers = numbers; schedule = schedule; words = images })
+    seen.files seen.faults seen.written_before seen.written_after seen.sink_faults_before seen.sink_faults_after status
+Obeys (Some (Film steps numbers schedule images)) seen status =
+    Answers (questions.Film steps) (record { numbers = numbers; schedule = schedule; words = images })
+    seen.files seen.faults seen.written_before seen.written_after seen.sink_faults_before seen.sink_faults_after status
+Obeys (Some (Stats numbers schedule images)) seen status =
+    Answers questions.Stats (record { numbers = numbers; schedule = schedule; words = images })
     seen.files seen.faults seen.written_before seen.written_after seen.sink_faults_before seen.sink_faults_after status
 Obeys (Some (References numbers schedule images)) seen status =
     Answers questions.References (record { numbers = numbers; schedule = schedule; words = images })

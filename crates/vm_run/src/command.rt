@@ -22,7 +22,7 @@ use std::alloc::Global;
 /// whatever came before (this project's profile).
 ///
 /// A run reads its pages from the files, and a load from files of its own in memory; both write to the swap devices and read from
-/// them. Other commands leave the devices as they are: the runs of `opt`, `curve`, `owners` and `refs` have a swap of their own in memory.
+/// them. Other commands leave the devices as they are: the runs of `opt`, `curve`, `owners`, `film`, `stats` and `refs` have a swap of their own in memory.
 pub fn vmrun<F: Files, D: SwapDev, E: SwapDev, S: Sink>(
     alloc: Global,
     words: &[&str],
@@ -110,6 +110,37 @@ pub fn vmrun<F: Files, D: SwapDev, E: SwapDev, S: Sink>(
             files,
             sink,
             Question::Owners(entries),
+            numbers,
+            schedule,
+            images,
+        ),
+        Some(
+            Command::Film {
+                steps,
+                numbers,
+                schedule,
+                images,
+            },
+        ) => ask_command(
+            alloc,
+            files,
+            sink,
+            Question::Film(steps),
+            numbers,
+            schedule,
+            images,
+        ),
+        Some(
+            Command::Stats {
+                numbers,
+                schedule,
+                images,
+            },
+        ) => ask_command(
+            alloc,
+            files,
+            sink,
+            Question::Stats,
             numbers,
             schedule,
             images,

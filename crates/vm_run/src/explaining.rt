@@ -126,6 +126,8 @@ pub fn explain<'a, F: Files>(
             | Command::Optimum { schedule, .. }
             | Command::Curve { schedule, .. }
             | Command::Owners { schedule, .. }
+            | Command::Film { schedule, .. }
+            | Command::Stats { schedule, .. }
             | Command::References { schedule, .. },
         ) if status == BAD_SCHEDULE => explain_bad_schedule(alloc, files, schedule),
         None if status == BAD_WORDS => explain_bad_words(alloc, words),

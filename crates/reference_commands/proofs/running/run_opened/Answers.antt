@@ -43,7 +43,7 @@ returns c =
       full = c.run_schedule-end.ensures.full A (blank_swap c.args.numbers.swap) is_asked c.in_ok-swap.ensures.zeros;
       over = on_ok_so c.run_schedule-end.result
           ((B : Inputs) (image : List ℕ) → IsAskedOf B c.in_ok-core.core.machine c.args.first.now c.args.lines.now (Some (map named_file c.args.files.now.files.items)) image → Some (with_zeros (512 * c.in_ok-swap.swap.blocks) c.in_ok-swap.swap.written.items) ≡ Some image
-          → RunOver B c.run_schedule-end.new.core.machine)
-          (RunOver A c.run_schedule-end.new.core.machine)
+          → RunOver B c.run_schedule-end.new.core.machine image)
+          (RunOver A c.run_schedule-end.new.core.machine (blank_swap c.args.numbers.swap))
           (λ told. told A (blank_swap c.args.numbers.swap) is_asked c.in_ok-swap.ensures.zeros) c.run_schedule-end.ensures.over;
     }
