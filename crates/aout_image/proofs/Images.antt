@@ -88,7 +88,8 @@ page_byte o n z v k d bytes size within low fits =
       | inl given ↦
           get_or_append_left xs zs d (1024 * v + k) (omega (arith, size, given)) ∙ get_or-take n (drop o bytes) (1024 * v + k) d given ∙ get_or-drop o bytes (1024 * v + k) d
           ∙ ap (λ (j : ℕ). get_or bytes j d) (let e : o + (1024 * v + k) ≡ o + min (1024 * v) n + k = omega (arith, given) in e)
-          ∙ sym (get_or_append_left ys (replicate (1024 - m) 0) d k (omega (arith, count, given)) ∙ get_or-take m (drop (o + min (1024 * v) n) bytes) k d (omega (arith, given)) ∙ get_or-drop (o + min (1024 * v) n) bytes k d)
+          ∙ sym (get_or_append_left ys (replicate (1024 - m) 0) d k (omega (arith, count, given)) ∙ get_or-take m (drop (o + min (1024 * v) n) bytes) k d (omega (arith, given))
+          ∙ get_or-drop (o + min (1024 * v) n) bytes k d)
       | inr past ↦
           get_or-append_right xs zs n (1024 * v + k) d size past ∙ get_or-replicate z (1024 * v + k - n) 0 d (omega (arith, fits, past))
           ∙ sym (get_or-append_right ys (replicate (1024 - m) 0) m k d count (omega (arith, past)) ∙ get_or-replicate (1024 - m) (k - m) 0 d (omega (arith, low, past)))
@@ -208,7 +209,8 @@ given_all false text «data» = omega arith
 
 -- a page of an image's segment comes from its file
 segment_page : (bytes : List ℕ) (image : Loaded) (text : Bool) (v : ℕ) → image_of bytes ≡ Ok image → v < pages_of text image.facts
-    → page_at v (segment_of text image) ≡ page_from bytes (offset_of text image.facts + min (1024 * v) (given_of text image.facts)) (min 1024 (given_of text image.facts - 1024 * v))
+    → page_at v (segment_of text image)
+    ≡ page_from bytes (offset_of text image.facts + min (1024 * v) (given_of text image.facts)) (min 1024 (given_of text image.facts - 1024 * v))
 unfolding loaded
 segment_page bytes image true v e below =
     let file = image_of-is bytes image e in
@@ -221,7 +223,8 @@ segment_page bytes image false v e below =
     let i = image.facts in
     let given = given_all (has_text_segment i.kind) i.text_len i.data_len in
     subst (λ (m : Loaded). page_at v m.data ≡ page_from bytes (text_offset i + text_given i + min (1024 * v) (data_given i)) (min 1024 (data_given i - 1024 * v))) (sym file.is)
-    (page_at-in_pages (text_offset i + text_given i) (data_given i) (data_pages_of i) v bytes (omega (arith, given, file.whole)) (le_pages (data_given i + i.bss_len) (data_given i) (omega arith)) below)
+    (page_at-in_pages (text_offset i + text_given i) (data_given i) (data_pages_of i) v bytes (omega (arith, given, file.whole))
+    (le_pages (data_given i + i.bss_len) (data_given i) (omega arith)) below)
 
 pub fills_page : (facts : Image) (text : Bool) (v offset count : ℕ) → v < pages_of text facts
     → offset_of text facts + min (1024 * v) (given_of text facts) ≡ offset → min 1024 (given_of text facts - 1024 * v) ≡ count
@@ -350,8 +353,10 @@ unfolding loaded
 loaded-take image bytes n enough =
     let given = given_all (has_text_segment image.kind) image.text_len image.data_len in
     let text : List ℕ → List ℕ → Loaded = λ t d. record { facts = image; text = in_pages (text_pages_of image) t; «data» = in_pages (data_pages_of image) d } in
-    ap (λ (t : List ℕ). text t (take (data_given image) (drop (text_offset image + text_given image) (take n bytes)))) (take-drop-take (text_offset image) (text_given image) n bytes (omega (arith, given, enough)))
-    ∙ ap (λ (d : List ℕ). text (take (text_given image) (drop (text_offset image) bytes)) d) (take-drop-take (text_offset image + text_given image) (data_given image) n bytes (omega (arith, given, enough)))
+    ap (λ (t : List ℕ). text t (take (data_given image) (drop (text_offset image + text_given image) (take n bytes))))
+    (take-drop-take (text_offset image) (text_given image) n bytes (omega (arith, given, enough)))
+    ∙ ap (λ (d : List ℕ). text (take (text_given image) (drop (text_offset image) bytes)) d)
+    (take-drop-take (text_offset image + text_given image) (data_given image) n bytes (omega (arith, given, enough)))
 
 loaded_if-Is : (j : Judged) (bytes : List ℕ) (image : Loaded) → loaded_if j bytes ≡ Ok image → j ≡ Is image.facts
 unfolding loaded

@@ -121,10 +121,12 @@ minus_4 m h = grind (arith, nat_tests)
 -- the bits of a displacement are its number in two's complement
 signed_by : (half whole bits : ℕ) (w : (ℕ → ℤ)) (number : Number) → half ≤ whole → ((n : ℕ) → n < half → w n ≡ pos n)
     → ((m : ℕ) → m ≤ half → w ((whole - m) % whole) ≡ neg_ℤ (pos m)) → (negative : Bool) → number.negative ≡ negative
-    → (if negative || nat_lt number.magnitude half then (if negative then (if nat_le number.magnitude half then Some ((whole - number.magnitude) % whole) else None) else (if nat_lt number.magnitude whole then Some number.magnitude else None)) else None) ≡ Some bits
+    → (if negative || nat_lt number.magnitude half then (if negative then (if nat_le number.magnitude half then Some ((whole - number.magnitude) % whole)
+    else None) else (if nat_lt number.magnitude whole then Some number.magnitude else None)) else None) ≡ Some bits
     → (if negative then neg_ℤ (pos number.magnitude) else pos number.magnitude) ≡ w bits
 signed_by half whole bits w number below plus minus true e h =
-    let p : (nat_le number.magnitude half ≡ true) × (Some ((whole - number.magnitude) % whole) ≡ Some bits) = some_if (nat_le number.magnitude half) (Some ((whole - number.magnitude) % whole)) bits h in
+    let p : (nat_le number.magnitude half ≡ true) × (Some ((whole - number.magnitude) % whole) ≡ Some bits) =
+    some_if (nat_le number.magnitude half) (Some ((whole - number.magnitude) % whole)) bits h in
     let q : (whole - number.magnitude) % whole ≡ bits = some_same _ _ p.1 in
     sym (minus number.magnitude (le_of number.magnitude half p.0)) ∙ ap w q
 signed_by half whole bits w number below plus minus false e h =
@@ -202,7 +204,8 @@ size_is size n e = grind (arith, nat_tests)
 
 displaced_spelled : (size reg : ℕ) (by : Number) (deferred one two : Bool) (bytes : List ℕ) → (size == 1) ≡ one → (size == 2) ≡ two → reg < 16
     → displaced_bytes size reg by deferred ≡ Some bytes
-    → SpellsDisplaced (displacement_mode 1 deferred) 1 reg (as_signed by) bytes ⊎ SpellsDisplaced (displacement_mode 2 deferred) 2 reg (as_signed by) bytes ⊎ SpellsDisplaced (displacement_mode 4 deferred) 4 reg (as_signed by) bytes
+    → SpellsDisplaced (displacement_mode 1 deferred) 1 reg (as_signed by) bytes ⊎ SpellsDisplaced (displacement_mode 2 deferred) 2 reg (as_signed by) bytes
+    ⊎ SpellsDisplaced (displacement_mode 4 deferred) 4 reg (as_signed by) bytes
 displaced_spelled size reg by deferred true two bytes a b r e =
     inl (displaced_1 reg by deferred bytes r (subst (λ (s : ℕ). displaced_bytes s reg by deferred ≡ Some bytes) (size_is size 1 a) e))
 displaced_spelled size reg by deferred false true bytes a b r e =
@@ -211,7 +214,8 @@ displaced_spelled size reg by deferred false false bytes a b r e =
     inr (inr (displaced_4 reg by deferred bytes r (sym (displaced_other size reg by deferred a b) ∙ e)))
 
 spells_base_displaced : (reg : ℕ) (by : ℤ) (deferred : Bool) (bytes : List ℕ)
-    → SpellsDisplaced (displacement_mode 1 deferred) 1 reg by bytes ⊎ SpellsDisplaced (displacement_mode 2 deferred) 2 reg by bytes ⊎ SpellsDisplaced (displacement_mode 4 deferred) 4 reg by bytes
+    → SpellsDisplaced (displacement_mode 1 deferred) 1 reg by bytes ⊎ SpellsDisplaced (displacement_mode 2 deferred) 2 reg by bytes
+    ⊎ SpellsDisplaced (displacement_mode 4 deferred) 4 reg by bytes
     → SpellsBase (bases.Disp reg by deferred) bytes
 spells_base_displaced reg by false bytes h = h
 spells_base_displaced reg by true bytes h = h
@@ -405,7 +409,8 @@ spells_operand labels from slot false written bytes sized e = spells_specifier l
 
 spells_by : (labels : List Definition) (from : ℕ) (slot : Slot) (here : Bool) (written : Written) (bytes : List ℕ)
     → (slot.size ≡ 1) ⊎ (slot.size ≡ 2) ⊎ (slot.size ≡ 4)
-    → (if here then (if is_branch slot.access then branch_bytes labels from slot written else specifier_bytes labels slot written) else absent_bytes written) ≡ Some bytes
+    → (if here then (if is_branch slot.access then branch_bytes labels from slot written else specifier_bytes labels slot written) else absent_bytes written)
+    ≡ Some bytes
     → SpellsPlace here slot (named_operand labels from slot written) bytes
 spells_by labels from slot true written bytes sized e = spells_operand labels from slot (is_branch slot.access) written bytes sized e
 spells_by labels from slot false written bytes sized e = spells_absent labels from slot written bytes e
@@ -428,15 +433,18 @@ pub sentence_encodes : (labels : List Definition) (at : ℕ) (sentence : Sentenc
     → (instr : Instr) × (sentence_instruction labels at sentence ≡ Some instr) × IsInstruction bytes instr
 unfolding sentence_bytes sentence_instruction
 sentence_encodes labels at s bytes listed e =
-    let a = bind_some (operand_bytes labels (at + 1) s.row 0 s.a) (λ a. operand_bytes labels (at + 1 + length a) s.row 1 s.b >>= λ b. operand_bytes labels (at + 1 + length a + length b) s.row 2 s.c >>= λ c. Some (s.row.op ∷ (a ++ (b ++ c)))) bytes e in
-    let b = bind_some (operand_bytes labels (at + 1 + length a.0) s.row 1 s.b) (λ b. operand_bytes labels (at + 1 + length a.0 + length b) s.row 2 s.c >>= λ c. Some (s.row.op ∷ (a.0 ++ (b ++ c)))) bytes a.2 in
+    let a = bind_some (operand_bytes labels (at + 1) s.row 0 s.a)
+    (λ a. operand_bytes labels (at + 1 + length a) s.row 1 s.b >>= λ b. operand_bytes labels (at + 1 + length a + length b) s.row 2 s.c >>= λ c. Some (s.row.op ∷ (a ++ (b ++ c)))) bytes e in
+    let b = bind_some (operand_bytes labels (at + 1 + length a.0) s.row 1 s.b)
+    (λ b. operand_bytes labels (at + 1 + length a.0 + length b) s.row 2 s.c >>= λ c. Some (s.row.op ∷ (a.0 ++ (b ++ c)))) bytes a.2 in
     let c = bind_some (operand_bytes labels (at + 1 + length a.0 + length b.0) s.row 2 s.c) (λ c. Some (s.row.op ∷ (a.0 ++ (b.0 ++ c)))) bytes b.2 in
     let split : s.row.op ∷ (a.0 ++ (b.0 ++ c.0)) ≡ bytes = some_same _ _ c.2 in
     let one : Operand = named_operand labels (at + 1) (slot_in s.row 0) s.a in
     let two : Operand = named_operand labels (at + 1 + length a.0) (slot_in s.row 1) s.b in
     let three : Operand = named_operand labels (at + 1 + length a.0 + length b.0) (slot_in s.row 2) s.c in (
       assembled s.row.op s.row (spelled one a.0) (spelled two b.0) (spelled three c.0),
-      three_binds (operand_bytes labels (at + 1) s.row 0 s.a) (λ a. operand_bytes labels (at + 1 + length a) s.row 1 s.b) (λ a b. operand_bytes labels (at + 1 + length a + length b) s.row 2 s.c) (λ a b c. assembled s.row.op s.row
+      three_binds (operand_bytes labels (at + 1) s.row 0 s.a) (λ a. operand_bytes labels (at + 1 + length a) s.row 1 s.b) (λ a b. operand_bytes labels (at + 1 + length a + length b) s.row 2 s.c)
+          (λ a b c. assembled s.row.op s.row
           (spelled (named_operand labels (at + 1) (slot_in s.row 0) s.a) a)
           (spelled (named_operand labels (at + 1 + length a) (slot_in s.row 1) s.b) b)
           (spelled (named_operand labels (at + 1 + length a + length b) (slot_in s.row 2) s.c) c)) a.0 b.0 c.0 a.1 b.1 c.1,

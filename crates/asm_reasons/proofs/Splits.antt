@@ -20,7 +20,8 @@ found byte text at e = found_by (position_or_len (λ x. x == byte) text) at (nat
 
 missed : (byte : ℕ) (text : List ℕ) → position (λ x. x == byte) text ≡ None → length text ≤ position_or_len (λ x. x == byte) text
 missed byte text e =
-    let none : nat_lt (position_or_len (λ x. x == byte) text) (length text) ≡ false = missed_by (position_or_len (λ x. x == byte) text) (nat_lt (position_or_len (λ x. x == byte) text) (length text)) e in
+    let none : nat_lt (position_or_len (λ x. x == byte) text) (length text) ≡ false =
+    missed_by (position_or_len (λ x. x == byte) text) (nat_lt (position_or_len (λ x. x == byte) text) (length text)) e in
     grind (arith, nat_tests)
 
 pub before_found : (byte : ℕ) (text : List ℕ) (at : ℕ) → position (λ x. x == byte) text ≡ Some at → take at text ≡ up_to byte text
@@ -41,7 +42,8 @@ line_reached n line lines all e few =
     let one : nat_le n 1 ≡ true = grind (arith, nat_tests) in
     ap (λ (x : List (Option (List ℕ))). text_of_line n x) e ∙ ap (λ (t : Bool). cond t (unwrap_or line []) (text_of_line (n - 1) lines)) one
 
-pub line_further : (n : ℕ) (line : Option (List ℕ)) (lines all : List (Option (List ℕ))) → all ≡ line ∷ lines → 1 < n → text_of_line n all ≡ text_of_line (n - 1) lines
+pub line_further : (n : ℕ) (line : Option (List ℕ)) (lines all : List (Option (List ℕ))) → all ≡ line ∷ lines → 1 < n
+    → text_of_line n all ≡ text_of_line (n - 1) lines
 unfolding text_of_line
 line_further n line lines all e more =
     let one : nat_le n 1 ≡ false = grind (arith, nat_tests) in

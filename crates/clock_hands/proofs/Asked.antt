@@ -20,7 +20,8 @@ some_left n l = grind (arith, nat_tests)
 none_locked : (A : Inputs) (s : State) (n : ℕ) → s.mark ≡ marks.Hands n → s.place.due ≡ [] → locked A s ≡ []
 none_locked A s n m d = ap (locked_by A s) d ∙ ap (λ (x : Mark). before_absent s.place (touched_by A s.point.flat (running x))) m
 
-asked_under : (A : Inputs) (s : State) (n : ℕ) (e : Entry) (us : List Entry) (r : Placement) → s.mark ≡ marks.Hands n → s.place.due ≡ [] → Moves (e ∷ us) n s.place r → under A s s.mark ≡ Some e
+asked_under : (A : Inputs) (s : State) (n : ℕ) (e : Entry) (us : List Entry) (r : Placement) → s.mark ≡ marks.Hands n → s.place.due ≡ []
+    → Moves (e ∷ us) n s.place r → under A s s.mark ≡ Some e
 asked_under A s n e us r m d f =
     ap (under A s) m
     ∙ ap (λ (pages : List Page). when (nat_lt 0 n && wants_moves s.place) (Some (move_unit s.place pages))) (none_locked A s n m d)
@@ -28,7 +29,8 @@ asked_under A s n e us r m d f =
     ∙ ap (λ (b : Bool). when b (Some (move_unit s.place []))) f.1
     ∙ ap (λ (u : Entry). Some u) (sym f.2)
 
-pub moves_next : (A : Inputs) (s : State) (n : ℕ) (e : Entry) (us : List Entry) (r : Placement) → s.mark ≡ marks.Hands n → s.place.due ≡ [] → Moves (e ∷ us) n s.place r → next_unit A s ≡ Some e
+pub moves_next : (A : Inputs) (s : State) (n : ℕ) (e : Entry) (us : List Entry) (r : Placement) → s.mark ≡ marks.Hands n → s.place.due ≡ []
+    → Moves (e ∷ us) n s.place r → next_unit A s ≡ Some e
 unfolding next_unit
 moves_next A s n e us r m d f =
     ap (λ (due : List Due). or_else (due_unit s.place due) (or_else (under A s s.mark) (next_mark A s))) d

@@ -39,14 +39,16 @@ most_parts p Writes [] more = omega arith
 most_parts p Writes (x ∷ xs) more = omega arith
 most_parts p (Reads source demanded) xs more = omega arith
 
-most_flying : (p : Placement) (locked : List Page) (free : List ℕ) (t : Transfer) (ts : List Transfer) → p.free ≡ free → p.transfers ≡ t ∷ ts → far p locked ≤ length p.holds + 4 + length ts
+most_flying : (p : Placement) (locked : List Page) (free : List ℕ) (t : Transfer) (ts : List Transfer) → p.free ≡ free → p.transfers ≡ t ∷ ts
+    → far p locked ≤ length p.holds + 4 + length ts
 most_flying p locked [] t ts e f =
     let same : far p locked ≡ far_parts p t.errand t.parts (length ts) = ap (far_by p locked) e ∙ ap (far_transfers p locked) f in
     let most = most_parts p t.errand t.parts (length ts) in
     omega arith
 most_flying p locked (x ∷ xs) t ts e f = let same : far p locked ≡ 0 = ap (far_by p locked) e in omega arith
 
-pub far_most : (p : Placement) (locked : List Page) → OwnsFrames p → HandsStand p → HasRoom p locked → length p.transfers ≤ 16 → far p locked ≤ length p.holds + 20
+pub far_most : (p : Placement) (locked : List Page) → OwnsFrames p → HandsStand p → HasRoom p locked → length p.transfers ≤ 16
+    → far p locked ≤ length p.holds + 20
 far_most p locked o h r l = go p.transfers refl
   where
     go : (ts : List Transfer) → p.transfers ≡ ts → far p locked ≤ length p.holds + 20
@@ -66,7 +68,8 @@ one_move : (ts : List Transfer) → moves (force_entry ts) ≤ 1
 one_move [] = omega arith
 one_move (t ∷ ts) = omega arith
 
-pub units_last : (locked : List Page) (us : List Entry) (p r : Placement) (journal : List Entry) → Forces us p locked r → last_moves (appended journal us) ≤ last_moves journal + moves_of us
+pub units_last : (locked : List Page) (us : List Entry) (p r : Placement) (journal : List Entry) → Forces us p locked r
+    → last_moves (appended journal us) ≤ last_moves journal + moves_of us
 units_last locked [] p r journal f = omega arith
 units_last locked (e ∷ us) p r journal f =
     let rest = units_last locked us (force p locked) r (append journal e) f.2 in
@@ -76,17 +79,20 @@ units_last locked (e ∷ us) p r journal f =
 
 -- One unit, and then the others.
 
-pub falls_on : (locked : List Page) (old next : Standing) (holds : Option (List NamedFile)) (i h : Option (List ℕ)) → OwnsFrames old.kernel.place → HandsStand old.kernel.place → HasRoom old.kernel.place locked → old.kernel.place.free ≡ []
+pub falls_on : (locked : List Page) (old next : Standing) (holds : Option (List NamedFile)) (i h : Option (List ℕ)) → OwnsFrames old.kernel.place
+    → HandsStand old.kernel.place → HasRoom old.kernel.place locked → old.kernel.place.free ≡ []
     → MakesUnit (ground old holds locked) (force_entry old.kernel.place.transfers) old next i h → far next.kernel.place locked < far old.kernel.place locked
 falls_on locked old next holds i h o s r n m =
     subst (λ (p : Placement). far p locked < far old.kernel.place locked) (sym (forced_place (ground old holds locked) old.kernel next.kernel i m.made)) (force_falls old.kernel.place locked o s r n)
 
-pub room_on : (locked : List Page) (old next : Standing) (holds : Option (List NamedFile)) (i h : Option (List ℕ)) → OwnsFrames old.kernel.place → HasRoom old.kernel.place locked
+pub room_on : (locked : List Page) (old next : Standing) (holds : Option (List NamedFile)) (i h : Option (List ℕ)) → OwnsFrames old.kernel.place
+    → HasRoom old.kernel.place locked
     → MakesUnit (ground old holds locked) (force_entry old.kernel.place.transfers) old next i h → HasRoom next.kernel.place locked
 room_on locked old next holds i h o r m =
     subst (λ (p : Placement). HasRoom p locked) (sym (forced_place (ground old holds locked) old.kernel next.kernel i m.made)) (force_room old.kernel.place locked o r)
 
-pub fits_on : (locked : List Page) (old next : Standing) (holds : Option (List NamedFile)) (i h : Option (List ℕ)) → far next.kernel.place locked < far old.kernel.place locked
+pub fits_on : (locked : List Page) (old next : Standing) (holds : Option (List NamedFile)) (i h : Option (List ℕ))
+    → far next.kernel.place locked < far old.kernel.place locked
     → MakesUnit (ground old holds locked) (force_entry old.kernel.place.transfers) old next i h
     → last_moves old.kernel.journal + far old.kernel.place locked < 2 ^ 32 → last_moves next.kernel.journal + far next.kernel.place locked < 2 ^ 32
 fits_on locked old next holds i h f m l =
@@ -96,12 +102,14 @@ fits_on locked old next holds i h f m l =
     let one = one_move old.kernel.place.transfers in
     omega arith
 
-pub forced_none : (locked : List Page) (s : Standing) (holds : Option (List NamedFile)) (i : Option (List ℕ)) → 0 < length s.kernel.place.free → Forced locked s s holds i i
+pub forced_none : (locked : List Page) (s : Standing) (holds : Option (List NamedFile)) (i : Option (List ℕ)) → 0 < length s.kernel.place.free
+    → Forced locked s s holds i i
 forced_none locked s holds i l = record { units = []; forces = refl; makes = makes_none (ground s holds locked) s s i i refl refl; free = l; moves = omega arith }
 
 pub forced_first : (locked : List Page) (old next new : Standing) (holds later : Option (List NamedFile)) (i h j : Option (List ℕ)) → later ≡ holds
     → OwnsFrames old.kernel.place → HandsStand old.kernel.place → HasRoom old.kernel.place locked → old.kernel.place.free ≡ []
-    → MakesUnit (ground old holds locked) (force_entry old.kernel.place.transfers) old next i h → Forced locked next new later h j → Forced locked old new holds i j
+    → MakesUnit (ground old holds locked) (force_entry old.kernel.place.transfers) old next i h → Forced locked next new later h j
+    → Forced locked old new holds i j
 forced_first locked old next new holds later i h j e o s r n m f =
     let forces : Forces (force_entry old.kernel.place.transfers ∷ f.units) old.kernel.place locked new.kernel.place =
     (n, refl, subst (λ (p : Placement). Forces f.units p locked new.kernel.place) (forced_place (ground old holds locked) old.kernel next.kernel i m.made) f.forces) in
@@ -114,13 +122,16 @@ forced_first locked old next new holds later i h j e o s r n m f =
       moves = forced_moves (force_entry old.kernel.place.transfers ∷ f.units) old.kernel.place new.kernel.place locked o s r forces;
     }
 
-pub stops_here : (locked : List Page) (old : Standing) (stop : Stop) (new : Standing) (holds : Option (List NamedFile)) (i j : Option (List ℕ)) → old.kernel.place.free ≡ [] → new.params ≡ old.params → new.images ≡ old.images
+pub stops_here : (locked : List Page) (old : Standing) (stop : Stop) (new : Standing) (holds : Option (List NamedFile)) (i j : Option (List ℕ))
+    → old.kernel.place.free ≡ [] → new.params ≡ old.params → new.images ≡ old.images
     → StopsAt (force_entry old.kernel.place.transfers) old.kernel i stop new j → StopsForcing locked old stop new holds i j
 stops_here locked old stop new holds i j n a b s =
     record { units = []; at = old.kernel; image = i; forces = refl; made = (refl, refl); none = n; stops = s; params = a; images = b }
 
-pub stops_first : (locked : List Page) (old next : Standing) (stop : Stop) (new : Standing) (holds later : Option (List NamedFile)) (i h j : Option (List ℕ)) → later ≡ holds → old.kernel.place.free ≡ []
-    → MakesUnit (ground old holds locked) (force_entry old.kernel.place.transfers) old next i h → StopsForcing locked next stop new later h j → StopsForcing locked old stop new holds i j
+pub stops_first : (locked : List Page) (old next : Standing) (stop : Stop) (new : Standing) (holds later : Option (List NamedFile)) (i h j : Option (List ℕ))
+    → later ≡ holds → old.kernel.place.free ≡ []
+    → MakesUnit (ground old holds locked) (force_entry old.kernel.place.transfers) old next i h → StopsForcing locked next stop new later h j
+    → StopsForcing locked old stop new holds i j
 stops_first locked old next stop new holds later i h j e n m f = record {
   units = force_entry old.kernel.place.transfers ∷ f.units;
   at = f.at;
@@ -135,28 +146,32 @@ stops_first locked old next stop new holds later i h j e n m f = record {
 
 -- The whole.
 
-few_units : (p r : Placement) (locked : List Page) (journal us : List Entry) → OwnsFrames p → Forces us p locked r → length (appended journal us) + length r.transfers ≤ length journal + length p.transfers + 2
+few_units : (p r : Placement) (locked : List Page) (journal us : List Entry) → OwnsFrames p → Forces us p locked r
+    → length (appended journal us) + length r.transfers ≤ length journal + length p.transfers + 2
 few_units p r locked journal us o f =
     let k : Short false us r (length p.transfers + 2) (length p.transfers) (length us) = forced_short false us p r locked o f in
     let a = k.few in
     let b = units_added_false journal us in
     omega arith
 
-pub forced_few : (locked : List Page) (old new : Standing) (holds : Option (List NamedFile)) (i j : Option (List ℕ)) → OwnsFrames old.kernel.place → Forced locked old new holds i j
+pub forced_few : (locked : List Page) (old new : Standing) (holds : Option (List NamedFile)) (i j : Option (List ℕ)) → OwnsFrames old.kernel.place
+    → Forced locked old new holds i j
     → length new.kernel.journal + length new.kernel.place.transfers ≤ length old.kernel.journal + length old.kernel.place.transfers + 2
 forced_few locked old new holds i j o f =
     let few = few_units old.kernel.place new.kernel.place locked old.kernel.journal f.units o f.forces in
     let same = ap (λ (js : List Entry). length js) (made_journal (ground old holds locked) f.units old.kernel new.kernel i j f.makes.made) in
     omega arith
 
-pub stopped_few : (locked : List Page) (old : Standing) (stop : Stop) (new : Standing) (holds : Option (List NamedFile)) (i j : Option (List ℕ)) → OwnsFrames old.kernel.place → StopsForcing locked old stop new holds i j
+pub stopped_few : (locked : List Page) (old : Standing) (stop : Stop) (new : Standing) (holds : Option (List NamedFile)) (i j : Option (List ℕ))
+    → OwnsFrames old.kernel.place → StopsForcing locked old stop new holds i j
     → length new.kernel.journal ≤ length old.kernel.journal + length old.kernel.place.transfers + 2
 stopped_few locked old stop new holds i j o f =
     let few = few_units old.kernel.place f.at.place locked old.kernel.journal f.units o f.forces in
     let same = ap (λ (js : List Entry). length js) (f.stops.journal ∙ made_journal (ground old holds locked) f.units old.kernel f.at i f.image f.made) in
     omega arith
 
-pub forced_flights : (locked : List Page) (old new : Standing) (holds : Option (List NamedFile)) (i j : Option (List ℕ)) → OwnsFrames old.kernel.place → Forced locked old new holds i j
+pub forced_flights : (locked : List Page) (old new : Standing) (holds : Option (List NamedFile)) (i j : Option (List ℕ)) → OwnsFrames old.kernel.place
+    → Forced locked old new holds i j
     → length new.kernel.place.transfers ≤ length old.kernel.place.transfers
 forced_flights locked old new holds i j o f =
     let p = old.kernel.place in
@@ -175,7 +190,8 @@ units_spare : (us : List Entry) (p r : Placement) (locked : List Page) → OwnsF
 units_spare [] p r locked o f = subst (λ (x : Placement). Spares p x locked) f (λ w a v. v)
 units_spare (e ∷ us) p r locked o f = spares_both p (force p locked) r locked (force_spares p locked o) (units_spare us (force p locked) r locked (force_owner p locked o) f.2)
 
-pub forced_spares : (locked : List Page) (old new : Standing) (holds : Option (List NamedFile)) (i j : Option (List ℕ)) → OwnsFrames old.kernel.place → Forced locked old new holds i j → Spares old.kernel.place new.kernel.place locked
+pub forced_spares : (locked : List Page) (old new : Standing) (holds : Option (List NamedFile)) (i j : Option (List ℕ)) → OwnsFrames old.kernel.place
+    → Forced locked old new holds i j → Spares old.kernel.place new.kernel.place locked
 forced_spares locked old new holds i j o f = units_spare f.units old.kernel.place new.kernel.place locked o f.forces
 
 -- What is forced so far and what is left make the whole.

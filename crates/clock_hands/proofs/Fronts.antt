@@ -43,7 +43,8 @@ pub expire_locked : (p : Placement) (locked : List Page) (q : Page) → page_of 
 expire_locked p locked q e l = ap (expire_of p locked) e ∙ ap (expire_if p q) l
 
 -- and where it isn't locked and is valid, it is invalid
-pub expire_turns : (p : Placement) (locked : List Page) (q : Page) (f : ℕ) → page_of p p.front ≡ Some q → is_among q locked ≡ false → state_of p q ≡ Valid f → state_of (expire p locked) q ≡ Invalid f
+pub expire_turns : (p : Placement) (locked : List Page) (q : Page) (f : ℕ) → page_of p p.front ≡ Some q → is_among q locked ≡ false → state_of p q ≡ Valid f
+    → state_of (expire p locked) q ≡ Invalid f
 expire_turns p locked q f e l s =
     ap (λ (r : Placement). state_of r q) (ap (expire_of p locked) e ∙ ap (expire_if p q) l ∙ ap (expire_to p q) s)
     ∙ put_state p q (Invalid f) (mark_of p q) (page_in p q f (ap frame_of s))
@@ -52,7 +53,8 @@ not_both : (b : Bool) → b ≡ true → b ≡ false → true ≡ false
 not_both b x y = sym x ∙ y
 
 -- a page that is valid no more was at the front hand, and isn't locked
-pub expired_here : (p : Placement) (locked : List Page) (q : Page) → is_valid (state_of p q) ≡ true → is_valid (state_of (expire p locked) q) ≡ false → (page_of p p.front ≡ Some q) × (is_among q locked ≡ false)
+pub expired_here : (p : Placement) (locked : List Page) (q : Page) → is_valid (state_of p q) ≡ true → is_valid (state_of (expire p locked) q) ≡ false
+    → (page_of p p.front ≡ Some q) × (is_among q locked ≡ false)
 expired_here p locked q v w = at (page_of p p.front) refl
   where
     same : slot_of (expire p locked) q ≡ slot_of p q → true ≡ false
@@ -99,7 +101,8 @@ front_none p locked o h q = (
       absurd (let y = not_both (is_among q locked) (h q (valid_seat p q p.front o e.0 x.0)) e.1 in cc)),
 )
 
-pub front_still : (p : Placement) (locked : List Page) (w : Page) → OwnsFrames p → IsUnlocked p locked p.front (Some w) → is_valid (state_of p w) ≡ false → Expires p locked None
+pub front_still : (p : Placement) (locked : List Page) (w : Page) → OwnsFrames p → IsUnlocked p locked p.front (Some w)
+    → is_valid (state_of p w) ≡ false → Expires p locked None
 front_still p locked w o h v q = (
   (λ e. none_some q e),
   (λ x.
@@ -108,7 +111,8 @@ front_still p locked w o h v q = (
       absurd (let y = not_both (is_valid (state_of p q)) x.0 (ap (λ (r : Page). is_valid (state_of p r)) (sym same) ∙ v) in cc)),
 )
 
-pub front_expires : (p : Placement) (locked : List Page) (w : Page) → OwnsFrames p → IsUnlocked p locked p.front (Some w) → is_valid (state_of p w) ≡ true → Expires p locked (Some w)
+pub front_expires : (p : Placement) (locked : List Page) (w : Page) → OwnsFrames p → IsUnlocked p locked p.front (Some w) → is_valid (state_of p w) ≡ true
+    → Expires p locked (Some w)
 front_expires p locked w o h v q = (
   (λ e.
       let held : page_of p p.front ≡ Some w = o.names w p.front (seat_frame p w p.front h.0) in

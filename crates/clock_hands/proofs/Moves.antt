@@ -77,7 +77,8 @@ moves_now p lo n r o = go (hand_run p []) refl r
     ]
 
 -- the call that makes a move
-pub hand_makes : (locked : List Page) (e : Entry) (old new : Standing) (holds : Option (List NamedFile)) (i : Option (List ℕ)) → e ≡ entries.Hands 1 → new.kernel ≡ hand_step old.kernel locked
+pub hand_makes : (locked : List Page) (e : Entry) (old new : Standing) (holds : Option (List NamedFile)) (i : Option (List ℕ)) → e ≡ entries.Hands 1
+    → new.kernel ≡ hand_step old.kernel locked
     → new ≡ record old { kernel = new.kernel; room = None } → MakesUnit (ground old holds locked) e old new i i
 hand_makes locked e old new holds i h k r = subst (λ (u : Entry). MakesUnit (ground old holds locked) u old new i i) (sym h) (record {
   made = (refl, k);
@@ -91,14 +92,17 @@ at_any : (p : Placement) (e : Entry) (at : ℕ) (moved : Bool) → IsMoveOf e mo
 at_any p e at true h = ap (place_entry [] at p) h ∙ sym (ap (place_entry [] 0 p) h)
 at_any p e at false h = ap (place_entry [] at p) h ∙ sym (ap (place_entry [] 0 p) h)
 
-moved_place : (e : Entry) (moved : Bool) (old next : Standing) (holds : Option (List NamedFile)) (i h : Option (List ℕ)) → IsMoveOf e moved → MakesUnit (ground old holds []) e old next i h
+moved_place : (e : Entry) (moved : Bool) (old next : Standing) (holds : Option (List NamedFile)) (i h : Option (List ℕ)) → IsMoveOf e moved
+    → MakesUnit (ground old holds []) e old next i h
     → next.kernel.place ≡ place_entry [] 0 old.kernel.place e
 moved_place e moved old next holds i h k m =
     unit_place (ground old holds []) e old.kernel next.kernel i m.made ∙ at_any old.kernel.place e (length (append old.kernel.journal e)) moved k
 
-moves_first : (e : Entry) (moved : Bool) (n left : ℕ) (us : List Entry) (old next : Standing) (r : Placement) (holds : Option (List NamedFile)) (i h : Option (List ℕ)) → IsMoveOf e moved
+moves_first : (e : Entry) (moved : Bool) (n left : ℕ) (us : List Entry) (old next : Standing) (r : Placement) (holds : Option (List NamedFile))
+    (i h : Option (List ℕ)) → IsMoveOf e moved
     → e ≡ move_unit old.kernel.place [] → n - moves e ≡ left
-    → 0 < n → wants_moves old.kernel.place ≡ true → MakesUnit (ground old holds []) e old next i h → Moves us left next.kernel.place r → Moves (e ∷ us) n old.kernel.place r
+    → 0 < n → wants_moves old.kernel.place ≡ true → MakesUnit (ground old holds []) e old next i h → Moves us left next.kernel.place r
+    → Moves (e ∷ us) n old.kernel.place r
 moves_first e moved n left us old next r holds i h k u l s w m f =
     (s, w, u, subst (λ (a : ℕ). Moves us a (place_entry [] 0 old.kernel.place e) r) (sym l) (subst (λ (p : Placement). Moves us left p r) (moved_place e moved old next holds i h k m) f))
 
@@ -175,15 +179,18 @@ stops_moving n old stop new holds i j l w a b s =
 
 -- What a unit leaves for the next.
 
-pub move_flies : (old next : Standing) (holds : Option (List NamedFile)) (i h : Option (List ℕ)) → IsMoveOf (move_unit old.kernel.place []) true → MakesUnit (ground old holds []) (move_unit old.kernel.place []) old next i h
+pub move_flies : (old next : Standing) (holds : Option (List NamedFile)) (i h : Option (List ℕ)) → IsMoveOf (move_unit old.kernel.place []) true
+    → MakesUnit (ground old holds []) (move_unit old.kernel.place []) old next i h
     → length next.kernel.place.transfers ≤ length old.kernel.place.transfers + 1
 move_flies old next holds i h k m =
-    let place : next.kernel.place ≡ place_entry [] 0 old.kernel.place (entries.Hands 1) = moved_place (move_unit old.kernel.place []) true old next holds i h k m ∙ ap (place_entry [] 0 old.kernel.place) k in
+    let place : next.kernel.place ≡ place_entry [] 0 old.kernel.place (entries.Hands 1) =
+    moved_place (move_unit old.kernel.place []) true old next holds i h k m ∙ ap (place_entry [] 0 old.kernel.place) k in
     let e = ap (λ (p : Placement). length p.transfers) place in
     let l = entry_count [] 0 old.kernel.place (entries.Hands 1) in
     omega arith
 
-pub done_flies : (old next : Standing) (holds : Option (List NamedFile)) (i h : Option (List ℕ)) → IsMoveOf (move_unit old.kernel.place []) false → MakesUnit (ground old holds []) (move_unit old.kernel.place []) old next i h
+pub done_flies : (old next : Standing) (holds : Option (List NamedFile)) (i h : Option (List ℕ)) → IsMoveOf (move_unit old.kernel.place []) false
+    → MakesUnit (ground old holds []) (move_unit old.kernel.place []) old next i h
     → length next.kernel.place.transfers < length old.kernel.place.transfers
 done_flies old next holds i h k m =
     let place : next.kernel.place ≡ done old.kernel.place = moved_place (move_unit old.kernel.place []) false old next holds i h k m ∙ ap (place_entry [] 0 old.kernel.place) k in
@@ -193,14 +200,16 @@ done_flies old next holds i h k m =
     let l = done_less old.kernel.place (λ z. absurd (let n = ap (λ (ts : List Transfer). length ts) z in omega arith)) in
     omega arith
 
-pub move_last : (n : ℕ) (old next : Standing) (holds : Option (List NamedFile)) (i h : Option (List ℕ)) → 0 < n → IsMoveOf (move_unit old.kernel.place []) true → MakesUnit (ground old holds []) (move_unit old.kernel.place []) old next i h
+pub move_last : (n : ℕ) (old next : Standing) (holds : Option (List NamedFile)) (i h : Option (List ℕ)) → 0 < n → IsMoveOf (move_unit old.kernel.place []) true
+    → MakesUnit (ground old holds []) (move_unit old.kernel.place []) old next i h
     → last_moves old.kernel.journal + n < 2 ^ 32 → last_moves next.kernel.journal + (n - 1) < 2 ^ 32
 move_last n old next holds i h s k m l =
     let e = ap last_moves (unit_journal (ground old holds []) (move_unit old.kernel.place []) old.kernel next.kernel i m.made ∙ ap (append old.kernel.journal) k) in
     let more = last_more old.kernel.journal in
     omega arith
 
-pub done_last : (n : ℕ) (old next : Standing) (holds : Option (List NamedFile)) (i h : Option (List ℕ)) → IsMoveOf (move_unit old.kernel.place []) false → MakesUnit (ground old holds []) (move_unit old.kernel.place []) old next i h
+pub done_last : (n : ℕ) (old next : Standing) (holds : Option (List NamedFile)) (i h : Option (List ℕ)) → IsMoveOf (move_unit old.kernel.place []) false
+    → MakesUnit (ground old holds []) (move_unit old.kernel.place []) old next i h
     → last_moves old.kernel.journal + n < 2 ^ 32 → last_moves next.kernel.journal + n < 2 ^ 32
 done_last n old next holds i h k m l =
     let e = ap last_moves (unit_journal (ground old holds []) (move_unit old.kernel.place []) old.kernel next.kernel i m.made ∙ ap (append old.kernel.journal) k) in
@@ -227,8 +236,10 @@ moves_none n old holds i = record {
 one_moved : (n left made : ℕ) → left ≤ n → 0 < left → n - left + (1 + made) ≡ n - (left - 1) + made
 one_moved n left made l s = omega (arith, l, s)
 
-pub moves_one : (n left : ℕ) (old now next : Standing) (holds later latest : Option (List NamedFile)) (i h k : Option (List ℕ)) → latest ≡ later → left ≤ n → 0 < left
-    → wants_moves now.kernel.place ≡ true → MakesUnit (ground now later []) (move_unit now.kernel.place []) now next h k → IsMoveOf (move_unit now.kernel.place []) true
+pub moves_one : (n left : ℕ) (old now next : Standing) (holds later latest : Option (List NamedFile)) (i h k : Option (List ℕ))
+    → latest ≡ later → left ≤ n → 0 < left
+    → wants_moves now.kernel.place ≡ true → MakesUnit (ground now later []) (move_unit now.kernel.place []) now next h k
+    → IsMoveOf (move_unit now.kernel.place []) true
     → KeepsThrough now next later h k → MovesSoFar n left old now holds later i h → MovesSoFar n (left - 1) old next holds latest i k
 moves_one n left old now next holds later latest i h k e l s w m u t so = record {
   more = λ new j made f. subst (λ (a : ℕ). Moved n old new a holds i j) (one_moved n left made l s)
@@ -238,7 +249,8 @@ moves_one n left old now next holds later latest i h k e l s w m u t so = record
 }
 
 pub moves_done : (n left : ℕ) (old now next : Standing) (holds later latest : Option (List NamedFile)) (i h k : Option (List ℕ)) → latest ≡ later → 0 < left
-    → wants_moves now.kernel.place ≡ true → MakesUnit (ground now later []) (move_unit now.kernel.place []) now next h k → IsMoveOf (move_unit now.kernel.place []) false
+    → wants_moves now.kernel.place ≡ true → MakesUnit (ground now later []) (move_unit now.kernel.place []) now next h k
+    → IsMoveOf (move_unit now.kernel.place []) false
     → KeepsThrough now next later h k → MovesSoFar n left old now holds later i h → MovesSoFar n left old next holds latest i k
 moves_done n left old now next holds later latest i h k e s w m u t so = record {
   more = λ new j made f. so.more new j made (moved_by_done left now next new later latest h k j e s w m made u f);
@@ -246,8 +258,10 @@ moves_done n left old now next holds later latest i h k e s w m u t so = record 
   keeps = λ new j f. so.keeps new j (keeps_on (ground now later []) (move_unit now.kernel.place []) now next new h later latest k j m e t f);
 }
 
-pub moves_all : (n left : ℕ) (old now : Standing) (holds later : Option (List NamedFile)) (i h : Option (List ℕ)) → (0 < left → wants_moves now.kernel.place ≡ false)
+pub moves_all : (n left : ℕ) (old now : Standing) (holds later : Option (List NamedFile)) (i h : Option (List ℕ))
+    → (0 < left → wants_moves now.kernel.place ≡ false)
     → MovesSoFar n left old now holds later i h → Moved n old now (n - left) holds i h
 moves_all n left old now holds later i h f so =
     let none : n - left + 0 ≡ n - left = omega arith in
-    subst (λ (k : ℕ). Moved n old now k holds i h) none (so.more now h 0 (record { units = []; moves = refl; makes = makes_none (ground now later []) now now h h refl refl; counted = refl; most = omega arith; fewer = f }))
+    subst (λ (k : ℕ). Moved n old now k holds i h) none
+    (so.more now h 0 (record { units = []; moves = refl; makes = makes_none (ground now later []) now now h h refl refl; counted = refl; most = omega arith; fewer = f }))

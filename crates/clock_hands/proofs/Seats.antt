@@ -39,7 +39,8 @@ no_moves n e = grind (arith, nat_tests)
 some_moves : (n : ℕ) → true ≡ ltb 0 n → 0 < n
 some_moves n e = grind (arith, nat_tests)
 
-pub resident_token : (core : Frames) (f : ℕ) (q : Page) → IsTrue (is_resident (slot_at core.slots f)) → token_page (slot_at core.slots f) ≡ Some q → HasToken core f q
+pub resident_token : (core : Frames) (f : ℕ) (q : Page) → IsTrue (is_resident (slot_at core.slots f))
+    → token_page (slot_at core.slots f) ≡ Some q → HasToken core f q
 resident_token core f q r e = go (slot_at core.slots f) refl
   where
     go : (s : Token) → slot_at core.slots f ≡ s → HasToken core f q

@@ -23,7 +23,8 @@ pub record Forced (locked : List Page) (old new : Standing) (holds : Option (Lis
 
 -- The call stops: these units force a frame and lead to a kernel in which none is free; there it stops at the unit that
 -- comes next.
-pub record StopsForcing (locked : List Page) (old : Standing) (stop : Stop) (new : Standing) (holds : Option (List NamedFile)) (i j : Option (List ℕ)) : Type 0 where
+pub record StopsForcing (locked : List Page) (old : Standing) (stop : Stop) (new : Standing) (holds : Option (List NamedFile))
+    (i j : Option (List ℕ)) : Type 0 where
   pub units : List Entry
   pub at : Kernel
   pub image : Option (List ℕ)

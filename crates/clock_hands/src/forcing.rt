@@ -31,7 +31,8 @@ fn force_once<F: Files, D: SwapDev>(
     requires none { m.old.kernel.place.free ≡ [] }
     requires room { HasRoom m.old.kernel.place locked.now }
     requires fits { last_moves m.old.kernel.journal + 1 < 2 ^ 32 }
-    ensures made { OnOk result (MakesUnit (ground m.old (F.holds files.old) locked.now) (force_entry m.old.kernel.place.transfers) m.old m.new (D.image swap.old) (D.image swap.new)) }
+    ensures made { OnOk result
+        (MakesUnit (ground m.old (F.holds files.old) locked.now) (force_entry m.old.kernel.place.transfers) m.old m.new (D.image swap.old) (D.image swap.new)) }
     ensures keeps { OnOk result (KeepsThrough m.old m.new (F.holds files.old) (D.image swap.old) (D.image swap.new)) }
     ensures stopped { IfErr result (λ stop. StopsAt (force_entry m.old.kernel.place.transfers) m.old.kernel (D.image swap.old) stop m.new (D.image swap.new)) }
     ensures params { m.new.params ≡ m.old.params }
@@ -87,7 +88,8 @@ pub fn make_room<F: Files, D: SwapDev>(
     ensures forced { OnOk result (Forced locked.now m.old m.new (F.holds files.old) (D.image swap.old) (D.image swap.new)) }
     ensures keeps { OnOk result (KeepsThrough m.old m.new (F.holds files.old) (D.image swap.old) (D.image swap.new)) }
     ensures stopped { IfErr result (λ stop. StopsForcing locked.now m.old stop m.new (F.holds files.old) (D.image swap.old) (D.image swap.new)) }
-    ensures few { OnOk result (length m.new.kernel.journal + length m.new.kernel.place.transfers ≤ length m.old.kernel.journal + length m.old.kernel.place.transfers + 2) }
+    ensures few { OnOk result
+        (length m.new.kernel.journal + length m.new.kernel.place.transfers ≤ length m.old.kernel.journal + length m.old.kernel.place.transfers + 2) }
     ensures few_at_stop { OnErr result (length m.new.kernel.journal ≤ length m.old.kernel.journal + length m.old.kernel.place.transfers + 2) }
     ensures flights { OnOk result (length m.new.kernel.place.transfers ≤ length m.old.kernel.place.transfers) }
     ensures counted { OnOk result (last_moves m.new.kernel.journal ≤ last_moves m.old.kernel.journal + length m.old.kernel.place.holds) }

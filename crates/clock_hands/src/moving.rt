@@ -40,7 +40,8 @@ fn move_once<F: Files, D: SwapDev>(
     requires files { AreFiles m.old.images (F.holds files.old) }
     requires wants { wants_moves m.old.kernel.place ≡ true }
     requires fits { last_moves m.old.kernel.journal + 1 < 2 ^ 32 }
-    ensures made { OnOk result (MakesUnit (ground m.old (F.holds files.old) []) (move_unit m.old.kernel.place []) m.old m.new (D.image swap.old) (D.image swap.new)) }
+    ensures made { OnOk result
+        (MakesUnit (ground m.old (F.holds files.old) []) (move_unit m.old.kernel.place []) m.old m.new (D.image swap.old) (D.image swap.new)) }
     ensures moved { IfOk result (λ moved. IsMoveOf (move_unit m.old.kernel.place []) moved) }
     ensures keeps { OnOk result (KeepsThrough m.old m.new (F.holds files.old) (D.image swap.old) (D.image swap.new)) }
     ensures stopped { IfErr result (λ stop. StopsAt (move_unit m.old.kernel.place []) m.old.kernel (D.image swap.old) stop m.new (D.image swap.new)) }

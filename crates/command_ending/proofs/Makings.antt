@@ -23,14 +23,16 @@ reading P any told None fits tells = record { read = any; fits = fits; is_told =
 reading P any told (Some list) fits tells = record { read = told list; fits = tells list refl; is_told = λ files same. ap told (some_is list files same) }
 
 -- an end that each reading of some kind leads to, of which what is told is one
-pub made_where : {R E : Type 0} (P : R → Type 0) (Ends : R → Faults → E → Type 0) (any : R) (told : List NamedFile → R) (holds : Option (List NamedFile)) (f : Faults) (ending : E)
+pub made_where : {R E : Type 0} (P : R → Type 0) (Ends : R → Faults → E → Type 0) (any : R) (told : List NamedFile → R) (holds : Option (List NamedFile))
+    (f : Faults) (ending : E)
     → P any → Tells P told holds → ((read : R) → P read → Ends read f ending) → Made Ends told holds f ending
 made_where P Ends any told holds f ending fits tells ends =
     let r = reading P any told holds fits tells in
     record { read = r.read; is_told = r.is_told; ends = ends r.read r.fits }
 
 -- an end that each reading leads to
-pub made_nothing : {R E : Type 0} (Ends : R → Faults → E → Type 0) (any : R) (told : List NamedFile → R) (holds : Option (List NamedFile)) (f : Faults) (ending : E)
+pub made_nothing : {R E : Type 0} (Ends : R → Faults → E → Type 0) (any : R) (told : List NamedFile → R) (holds : Option (List NamedFile))
+    (f : Faults) (ending : E)
     → ((read : R) → Ends read f ending) → Made Ends told holds f ending
 made_nothing {R} Ends any told holds f ending ends = made_where (λ (read : R). Unit {0}) Ends any told holds f ending tt (λ files same. tt) (λ read fits. ends read)
 

@@ -35,7 +35,8 @@ abbrev pub FailedBehind : Type 0 → Faults → Type 0
 FailedBehind Good f = OpenFailed f ⊎ (PageFailed f × Good)
 
 -- an end by what was read, which is what is told where the files are told
-pub record Made {R E : Type 0} (Ends : R → Faults → E → Type 0) (told : List NamedFile → R) (holds : Option (List NamedFile)) (f : Faults) (ending : E) : Type 0 where
+pub record Made {R E : Type 0} (Ends : R → Faults → E → Type 0) (told : List NamedFile → R) (holds : Option (List NamedFile)) (f : Faults)
+    (ending : E) : Type 0 where
   pub read : R
   pub is_told : (files : List NamedFile) → holds ≡ Some files → read ≡ told files
   pub ends : Ends read f ending

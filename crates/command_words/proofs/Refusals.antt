@@ -222,7 +222,8 @@ steps_by (Some x) None c = refl
 steps_by (Some x) (Some y) None = refl
 steps_by (Some x) (Some y) (Some z) = refl
 
-after_three : (a b c : Bool) (o : Option FilmSteps) (g : FilmSteps → Option Asked) (d : Bool) → is_some o ≡ a && (b && c) → ((s : FilmSteps) → d ≡ is_some (g s))
+after_three : (a b c : Bool) (o : Option FilmSteps) (g : FilmSteps → Option Asked) (d : Bool) → is_some o ≡ a && (b && c)
+    → ((s : FilmSteps) → d ≡ is_some (g s))
     → a && (b && (c && d)) ≡ is_some (option_and_then g o)
 after_three true true true (Some s) g d is each = each s
 after_three true true true None g d is each = absurd cc
@@ -234,7 +235,8 @@ after_three false b c None g d is each = refl
 after_three false b c (Some s) g d is each = absurd cc
 
 film_whole : (from to every : List ℕ) (words : List (List ℕ))
-    → is_none (why_words (From ∷ To ∷ Every ∷ Frames ∷ Swap ∷ Limit ∷ Schedule ∷ []) true (from ∷ to ∷ every ∷ words)) ≡ is_some (asked_film (from ∷ to ∷ every ∷ words))
+    → is_none (why_words (From ∷ To ∷ Every ∷ Frames ∷ Swap ∷ Limit ∷ Schedule ∷ []) true (from ∷ to ∷ every ∷ words))
+    ≡ is_some (asked_film (from ∷ to ∷ every ∷ words))
 unfolding asked_film film_steps takes
 film_whole from to every words =
     let one : is_none (why_words (Every ∷ Frames ∷ Swap ∷ Limit ∷ Schedule ∷ []) true (every ∷ words))

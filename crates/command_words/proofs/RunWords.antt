@@ -11,7 +11,8 @@ use Rattle.command_words.specs.Asked.{Asked, Run, run_numbers, asked_with_run, a
 run_by_places : (most : ℕ) (command : Numbers → List ℕ → List (List ℕ) → Asked) (words : List (List ℕ))
     → asked_with_run most command words
     ≡ (if is_name (word_at words 3) && are_image_words (drop 4 words)
-    then option_map (λ (n : Numbers). command n (word_at words 3) (drop 4 words)) (run_numbers most (word_at words 0) (word_at words 1) (word_at words 2)) else None)
+    then option_map (λ (n : Numbers). command n (word_at words 3) (drop 4 words))
+    (run_numbers most (word_at words 0) (word_at words 1) (word_at words 2)) else None)
 unfolding asked_with_run is_name has_up_to
 run_by_places most command [] = refl
 run_by_places most command (_ ∷ []) = refl
@@ -20,7 +21,8 @@ run_by_places most command (_ ∷ _ ∷ _ ∷ []) = refl
 run_by_places most command (_ ∷ _ ∷ _ ∷ _ ∷ _) = refl
 
 -- with a schedule and images, their numbers decide
-pub run_read : (most : ℕ) (command : Numbers → List ℕ → List (List ℕ) → Asked) (words : List (List ℕ)) (frames swap limit schedule : List ℕ) (numbers : Option Numbers)
+pub run_read : (most : ℕ) (command : Numbers → List ℕ → List (List ℕ) → Asked) (words : List (List ℕ)) (frames swap limit schedule : List ℕ)
+    (numbers : Option Numbers)
     → frames ≡ word_at words 0 → swap ≡ word_at words 1 → limit ≡ word_at words 2 → schedule ≡ word_at words 3
     → is_name schedule ≡ true → are_image_words (drop 4 words) ≡ true → numbers ≡ run_numbers most frames swap limit
     → option_map (λ (n : Numbers). command n schedule (drop 4 words)) numbers ≡ asked_with_run most command words
@@ -55,7 +57,8 @@ images_there words images good exact is = rw (drop-map, ← is) (sym exact)
 pub traced_run : (words : List (List ℕ)) (kept images : List (Bor (List ℕ))) (traced : Bool) (numbers : Numbers) (schedule : List ℕ)
     → map (λ (word : Bor (List ℕ)). word.now) kept ≡ without_trace words → list_all is_plain (map (λ (word : Bor (List ℕ)). word.now) kept) ≡ true
     → traced ≡ list_any is_trace words → images ≡ drop 4 kept
-    → Some (Run traced numbers schedule (drop 4 (map (λ (word : Bor (List ℕ)). word.now) kept))) ≡ asked_with_run 1000000 (Run traced) (map (λ (word : Bor (List ℕ)). word.now) kept)
+    → Some (Run traced numbers schedule (drop 4 (map (λ (word : Bor (List ℕ)). word.now) kept)))
+    ≡ asked_with_run 1000000 (Run traced) (map (λ (word : Bor (List ℕ)). word.now) kept)
     → Some (Run traced numbers schedule (map (λ (word : Bor (List ℕ)). word.now) images)) ≡ asked_run words
 unfolding asked_run
 traced_run words kept images traced numbers schedule kept_is plain traced_is images_are asked =

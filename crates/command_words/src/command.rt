@@ -122,7 +122,8 @@ pub enum Command<'a> {
 /// and it is `None` where they are any others. No other word begins with `-` or is empty. A number has 1 to 8 ASCII
 /// digits, leading zeros among them: FRAMES is 64 to 4,096, SWAP 256 to 131,072, LIMIT 1 to 1,000,000 but at most
 /// 100,000 for `opt`, `curve` and `refs`, NUMBER 0 to 9,999, N 1 to 4,096 for `opt` and `policies` and 0 to
-/// 16,777,216 for `owners`, FROM and TO 0 to 16,777,216, and EVERY 1 to 16,777,216. A name has 1 to 63 bytes. There are 1 to 16 words of images: a name starts a process, and one after a `=` only makes the
+/// 16,777,216 for `owners`, FROM and TO 0 to 16,777,216, and EVERY 1 to 16,777,216. A name has 1 to 63 bytes. There are 1 to 16
+/// words of images: a name starts a process, and one after a `=` only makes the
 /// image known; at least one starts. The image of `dis` has no `=`. It takes no memory. Source: this project's profile.
 #[tactic(auto, unfolding(crate::specs::Asked::asked_of))]
 pub fn read_words<'a>(words: &'a [&'a str]) -> Option<Command<'a>>

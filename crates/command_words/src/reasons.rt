@@ -148,7 +148,8 @@ fn bad_plain<'a>(words: &[&'a str]) -> Option<BadWord<'a>>
 
 // Why no word starts a process, where none does.
 fn none_starts<'a>(words: &[&'a str]) -> Option<BadWord<'a>>
-    ensures { option_map why_of result ≡ (if list_any starts (map (λ word. word.now) words.now) then None else Some (none_starts (map (λ word. word.now) words.now))) }
+    ensures { option_map why_of result
+        ≡ (if list_any starts (map (λ word. word.now) words.now) then None else Some (none_starts (map (λ word. word.now) words.now))) }
 {
     if ImageWords::all(words).starts_some() {
         None
@@ -290,7 +291,8 @@ fn why_other<'a>(name: &'a str, words: &[&'a str]) -> Option<BadWord<'a>>
 
 // What is wrong with the words after `run`.
 fn why_run<'a>(alloc: Global, words: &'a [&'a str]) -> Result<Option<BadWord<'a>>, AllocError>
-    ensures { IfOk result (λ bad. option_map why_of bad ≡ why_form (Frames ∷ Swap ∷ Limit ∷ Schedule ∷ []) true (without_trace (map (λ word. word.now) words.now))) }
+    ensures { IfOk result
+        (λ bad. option_map why_of bad ≡ why_form (Frames ∷ Swap ∷ Limit ∷ Schedule ∷ []) true (without_trace (map (λ word. word.now) words.now))) }
 {
     let plain = ImageWords::without_trace(words).to_vec(alloc)?;
     let arguments = [

@@ -198,9 +198,11 @@ pub unlink : (links : List ℕ) (a : ℕ) (passed : List ℕ) (p f : ℕ) (zs : 
     → ((k : ℕ) → times k (a ∷ passed) + times k zs ≤ 1) → p < length links
     → Way (set links p (slice_index links f)) a (passed ++ zs)
 unlink links a [] p f zs l w apart low =
-    let here : slice_index (set links p (slice_index links f)) a ≡ slice_index links f = subst (λ (k : ℕ). slice_index (set links p (slice_index links f)) k ≡ slice_index links f) (sym l) (get_or-set_same links p (slice_index links f) 0 low) in
+    let here : slice_index (set links p (slice_index links f)) a ≡ slice_index links f =
+    subst (λ (k : ℕ). slice_index (set links p (slice_index links f)) k ≡ slice_index links f) (sym l) (get_or-set_same links p (slice_index links f) 0 low) in
     way_agree links (set links p (slice_index links f)) f a zs here
-    (λ k h. let ne : k ≢ p = λ e. omega (arith, apart k, subst (λ (j : ℕ). 0 < times j (a ∷ [])) (l ∙ sym e) (omega (arith, times_head a []))) in get_or-set_other links p k (slice_index links f) 0 ne) w
+    (λ k h. let ne : k ≢ p = λ e. omega (arith, apart k, subst (λ (j : ℕ). 0 < times j (a ∷ [])) (l ∙ sym e) (omega (arith, times_head a []))) in get_or-set_other links p k (slice_index links f) 0 ne)
+    w
 unlink links a (x ∷ xs) p f zs l w apart low =
     let later = leads_end links x xs p l.1 in
     let ne : a ≢ p = λ e. omega (arith, apart p, later, subst (λ (k : ℕ). times k (a ∷ x ∷ xs) ≡ 1 + times k (x ∷ xs)) e (times_head a (x ∷ xs))) in (
@@ -215,7 +217,8 @@ key_other keys f g o ne = get_or-set_other keys f g o None ne
 -- chain b after frame f came to the front of the chain of its key
 add_chain : (n : ℕ) (links : List ℕ) (keys : Keys) (f first start : ℕ) (key : TextKey) → IsIndexed n links keys → 0 < f → f < length keys
     → key_at keys f ≡ None → bucket_of n key < n
-    → start ≡ length keys + bucket_of n key → first ≡ slice_index links start → (b : ℕ) → b < n → IsChain n (set (set links f first) start f) (set keys f (Some key)) b
+    → start ≡ length keys + bucket_of n key → first ≡ slice_index links start → (b : ℕ) → b < n
+    → IsChain n (set (set links f first) start f) (set keys f (Some key)) b
 add_chain n links keys f first start key i positive low free bucket_low es ef b b_low =
     let old = i.chains b b_low in
     let new = set (set links f first) start f in
@@ -301,7 +304,8 @@ chain_at n links keys f p start key i positive low es w =
 -- chain b after frame f left the chain of its key
 remove_chain : (n : ℕ) (links : List ℕ) (keys : Keys) (f p after start : ℕ) (key : TextKey) → IsIndexed n links keys → key_at keys f ≡ Some key
     → (low : bucket_of n key < n)
-    → start ≡ length keys + bucket_of n key → IsBefore links start f p → p < length links → after ≡ slice_index links f → f < length keys → f ≢ 0 → (b : ℕ) → b < n → IsChain n (set links p after) (set keys f None) b
+    → start ≡ length keys + bucket_of n key → IsBefore links start f p → p < length links → after ≡ slice_index links f → f < length keys → f ≢ 0 → (b : ℕ)
+    → b < n → IsChain n (set links p after) (set keys f None) b
 remove_chain n links keys f p after start key i e low es w p_low ea f_low f_ne b b_low =
     let own = i.chains (bucket_of n key) low in
     let old = i.chains b b_low in
@@ -364,7 +368,8 @@ keyed_below keys f key e = elim (cases_lt f (length keys)) [
 
 pub remove_indexed : (n : ℕ) (links : List ℕ) (keys : Keys) (f p after start : ℕ) (key : TextKey) → IsIndexed n links keys → key_at keys f ≡ Some key
     → bucket_of n key < n
-    → start ≡ length keys + bucket_of n key → IsBefore links start f p → p < length links → after ≡ slice_index links f → IsIndexed n (set links p after) (set keys f None)
+    → start ≡ length keys + bucket_of n key → IsBefore links start f p → p < length links → after ≡ slice_index links f
+    → IsIndexed n (set links p after) (set keys f None)
 remove_indexed n links keys f p after start key i e low es w p_low ea =
     let f_low = keyed_below keys f key e in
     let f_ne : f ≢ 0 = λ z. none-some key (sym i.none ∙ ap (key_at keys) (sym z) ∙ e) in

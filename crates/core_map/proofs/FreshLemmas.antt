@@ -79,7 +79,8 @@ none_fresh (suc n) = get_or_append_left (fresh_slots n) (Free (zero_frame (suc n
 times-first : (n g : ℕ) → 0 < g → g ≤ n → times g (first_frames n) ≡ 1
 times-first zero g positive low = absurd (omega arith)
 times-first (suc n) g positive low = elim (cases_eq g (suc n)) [
-  | inl e ↦ times-append g (first_frames n) (suc n ∷ []) ∙ subst (λ (k : ℕ). times k (first_frames n) + times k (suc n ∷ []) ≡ 1) (sym e) (omega (arith, times-first_past n (suc n) (omega arith), times_head (suc n) []))
+  | inl e ↦ times-append g (first_frames n) (suc n ∷ [])
+      ∙ subst (λ (k : ℕ). times k (first_frames n) + times k (suc n ∷ []) ≡ 1) (sym e) (omega (arith, times-first_past n (suc n) (omega arith), times_head (suc n) []))
   | inr ne ↦ times-append g (first_frames n) (suc n ∷ []) ∙ omega (arith, times-first n g positive (omega arith), times_other g (suc n) [] (λ e. ne (sym e)))
 ]
 
@@ -96,7 +97,8 @@ no_page_fresh (suc n) g = slots_more (λ s k. page_of s ≡ None) (fresh_slots n
 
 pub text_fresh : (n : ℕ) → replicate (n + 1) None ≡ map text_of (fresh_slots n)
 text_fresh zero = refl
-text_fresh (suc n) = let one : suc n + 1 ≡ n + 1 + 1 = omega arith in ap (λ (k : ℕ). replicate {A = Option TextKey} k None) one ∙ sym (replicate_more (n + 1) None) ∙ ap (λ (k : List (Option TextKey)). k ++ None ∷ []) (text_fresh n) ∙ sym (map_push text_of (fresh_slots n) (Free (zero_frame (suc n)) None))
+text_fresh (suc n) = let one : suc n + 1 ≡ n + 1 + 1 = omega arith in ap (λ (k : ℕ). replicate {A = Option TextKey} k None) one ∙ sym (replicate_more (n + 1) None)
+    ∙ ap (λ (k : List (Option TextKey)). k ++ None ∷ []) (text_fresh n) ∙ sym (map_push text_of (fresh_slots n) (Free (zero_frame (suc n)) None))
 
 pub fresh_sound : (n : ℕ) → n < 2 ^ 32 → IsSound (first_frames n) (fresh_slots n)
 fresh_sound n small = record {

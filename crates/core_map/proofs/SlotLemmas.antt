@@ -64,7 +64,8 @@ slot_read slots f x low e = get_or_read slots f x low e Away
 
 -- a change of one slot, and of how often its frame stands in the free list
 pub sound_change : (free new : List ℕ) (slots : List Slot) (f : ℕ) (s : Slot) → IsSound free slots → 0 < f → f < length slots → number_of s f ≡ f → IsWhole s
-    → ((g : ℕ) → g ≢ f → times g new ≡ times g free) → times f new ≡ listings s → ((p : Page) → page_of s ≡ Some p → (g : ℕ) → g ≢ f → page_of (slot_at slots g) ≢ Some p) → IsSound new (set slots f s)
+    → ((g : ℕ) → g ≢ f → times g new ≡ times g free) → times f new ≡ listings s
+    → ((p : Page) → page_of s ≡ Some p → (g : ℕ) → g ≢ f → page_of (slot_at slots g) ≢ Some p) → IsSound new (set slots f s)
 sound_change free new slots f s sound positive low number whole others here fresh = record {
   has_none = omega (arith, sound.has_none, length-set slots f s);
   small = omega (arith, sound.small, length-set slots f s);

@@ -55,7 +55,8 @@ length_shown (x ∷ xs) = ap suc (length_shown xs)
 -- A core that is fresh, of images that fit, may start where its sizes are in their ranges.
 pub may_start : (c : Underway) (images : List Named) (params : Params) (first : List ℕ) (holds : Option (List NamedFile)) (blocks : ℕ)
     → IsFresh c → c.machine.params ≡ params → c.machine.images ≡ map image_shown images → AreFit images holds
-    → 64 ≤ params.frames → length first ≤ 16 → params.swap_blocks ≤ blocks → All (λ (n : ℕ). (1 ≤ n) × (n ≤ length images)) first → MayStart c first holds blocks
+    → 64 ≤ params.frames → length first ≤ 16 → params.swap_blocks ≤ blocks → All (λ (n : ℕ). (1 ≤ n) × (n ≤ length images)) first
+    → MayStart c first holds blocks
 may_start c images params first holds blocks fresh sizes same fit frames few area numbers =
     let count : length c.machine.images ≡ length images = ap length same ∙ length_shown images in
     record {

@@ -72,7 +72,8 @@ covers memory slots h = record { reads = λ x. inr (empty_read memory slots x h)
 
 missed_at : (memory : Answers) (slots : List Slot) (p : Program Effect) (address : ℕ) (write : Bool) → AllEmpty slots
     → run (over memory slots) p ≡ Err (Miss address write)
-    → (front : List Access) × (last : Access) × (rest : List Access) × (accesses memory p ≡ front ++ last ∷ rest) × (refusal (over memory slots) last ≡ Some (Miss address write))
+    → (front : List Access) × (last : Access) × (rest : List Access) × (accesses memory p ≡ front ++ last ∷ rest)
+    × (refusal (over memory slots) last ≡ Some (Miss address write))
 missed_at memory slots p address write h e =
     let ends = (keeps_order (over memory slots) p).misses address write e in
     elim (same_or_misses (over memory slots) memory p (covers memory slots h)) [
@@ -107,7 +108,8 @@ some_none o refused e f = absurd cc
 -- it is one that is read, and misses in the memory too; or one that is tested
 what_missed : (memory : Answers) (slots : List Slot) (last : Access) (address : ℕ) (write : Bool) → AllEmpty slots
     → refusal (over memory slots) last ≡ Some (Miss address write)
-    → ((write ≡ false) × (refusal memory last ≢ None)) ⊎ ((write ≡ true) × (last ≡ TestOf address) × (may_where (has_slot slots address) (memory.may_write address) ≡ tests.Miss))
+    → ((write ≡ false) × (refusal memory last ≢ None))
+    ⊎ ((write ≡ true) × (last ≡ TestOf address) × (may_where (has_slot slots address) (memory.may_write address) ≡ tests.Miss))
 what_missed memory slots (ReadOf x) address write h e = inl (
   read_miss ((over memory slots).read x) x address write e,
   some_none (refusal memory (ReadOf x)) (Miss address write) (ap (λ (a : ByteRead). read_refusal a x) (sym (empty_read memory slots x h)) ∙ e),
@@ -265,7 +267,8 @@ wanted_kept memory below slots after p s address e some w =
 -- So it is granted, and the loop goes on.
 pub granted : (memory below above : Answers) (slots after more : List Slot) (p : Program Effect) (s : Stepped) (o : Option ℕ) (address : ℕ)
     → below ≡ memory → AllEmpty slots → s ≡ answer_of (run (over below slots) p)
-    → o ≡ wanted memory s → o ≡ Some address → WroteSlots below slots (writes_of (run (over below slots) p)) above after → more ≡ after ++ record { address = address; byte = None } ∷ []
+    → o ≡ wanted memory s → o ≡ Some address → WroteSlots below slots (writes_of (run (over below slots) p)) above after
+    → more ≡ after ++ record { address = address; byte = None } ∷ []
     → (left more (accesses memory p) < left slots (accesses memory p)) × (above ≡ memory) × AllEmpty more
 granted memory below above slots after more p s o address same h e is found w pushed =
     let some : wanted memory s ≡ Some address = sym is ∙ found in

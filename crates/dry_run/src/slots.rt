@@ -90,7 +90,8 @@ impl<M: Memory> Memory for DryMemory<'_, M> {
 
     ghost wrote_none = { λ m. slots_none (M.answers m.memory.now) m.slots.items };
 
-    ghost wrote_more = { λ a b c xs ys. slots_more (M.answers a.memory.now) (M.answers b.memory.now) (M.answers c.memory.now) a.slots.items b.slots.items c.slots.items xs ys };
+    ghost wrote_more = { λ a b c xs ys. slots_more (M.answers a.memory.now) (M.answers b.memory.now)
+        (M.answers c.memory.now) a.slots.items b.slots.items c.slots.items xs ys };
 
     ghost wrote_answers = { λ a b ws. slots_after (M.answers a.memory.now) (M.answers b.memory.now) a.slots.items b.slots.items ws };
 }

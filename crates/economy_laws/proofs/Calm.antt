@@ -154,7 +154,8 @@ launch_run_calm p qs w d c = subst (CalmSlot w) (sym (launch_all_other qs (begin
 run_out_dirty : (p : Placement) (locked : List Page) (q : Page) → is_dirty p q ≡ true → AllDirty p (pages_of_run q (run_out p locked q))
 run_out_dirty p locked q d = run_each (λ r. is_dirty p r ≡ true) (λ w. goes_along p locked (beside q w) && is_near q w) q (run_out p locked q)
     (run_both_in (λ w. goes_along p locked (beside q w) && is_near q w) (number_of q) most_written) d
-    (λ w e. (and_parts (is_dirty p (beside q w)) (not (is_among (beside q w) locked)) (and_parts (is_idle p (beside q w)) (is_dirty p (beside q w) && not (is_among (beside q w) locked)) (and_parts (goes_along p locked (beside q w)) (is_near q w) e).0).1).0)
+    (λ w e. (and_parts (is_dirty p (beside q w)) (not (is_among (beside q w) locked))
+    (and_parts (is_idle p (beside q w)) (is_dirty p (beside q w) && not (is_among (beside q w) locked)) (and_parts (goes_along p locked (beside q w)) (is_near q w) e).0).1).0)
 
 sweep_calm : (p : Placement) (locked : List Page) (w : Page) → Calm p w → Calm (sweep p locked) w
 sweep_calm p locked w c = go (page_of p p.back)
@@ -207,8 +208,10 @@ arrived_clean FromSwap demanded v m e h c = c
 arrived_clean FromFile demanded (Text image n) m e h c = c
 arrived_clean FromFile demanded (Data sid n) m e (inl h) c = absurd cc
 arrived_clean FromFile demanded (Stack sid n) m e (inl h) c = absurd cc
-arrived_clean FromFile demanded (Data sid n) m e (inr h) c = absurd (let k : Data sid n ≡ demanded = same_page_is (Data sid n) demanded e in let z : true ≡ false = sym (same_page_self (Data sid n)) ∙ ap (λ (x : Page). same_page x (Data sid n)) k ∙ h in cc)
-arrived_clean FromFile demanded (Stack sid n) m e (inr h) c = absurd (let k : Stack sid n ≡ demanded = same_page_is (Stack sid n) demanded e in let z : true ≡ false = sym (same_page_self (Stack sid n)) ∙ ap (λ (x : Page). same_page x (Stack sid n)) k ∙ h in cc)
+arrived_clean FromFile demanded (Data sid n) m e (inr h) c =
+    absurd (let k : Data sid n ≡ demanded = same_page_is (Data sid n) demanded e in let z : true ≡ false = sym (same_page_self (Data sid n)) ∙ ap (λ (x : Page). same_page x (Data sid n)) k ∙ h in cc)
+arrived_clean FromFile demanded (Stack sid n) m e (inr h) c = absurd
+    (let k : Stack sid n ≡ demanded = same_page_is (Stack sid n) demanded e in let z : true ≡ false = sym (same_page_self (Stack sid n)) ∙ ap (λ (x : Page). same_page x (Stack sid n)) k ∙ h in cc)
 
 land_calm : (p : Placement) (e : Errand) (x : Part) (rest : List Transfer) (w : Page) → Stands (arrives_by e w) w → Calm p w → Calm (land p e x rest) w
 land_calm p Writes x rest w h c = put_calm p x.page (Invalid x.frame) (written_mark x.page) w (λ i. (written_clean x.page, refl)) c
@@ -276,13 +279,15 @@ stored_going p entries.Done q o h = first_going p q p.transfers o.moves h
 stored_going p _ q o h = absurd cc
 
 landed_calm : (p : Placement) (x : Part) (rest : List Transfer) (q : Page) → IsThere p q → q ≡ x.page → Calm (land p Writes x rest) q
-landed_calm p x rest q there e = subst (λ (y : Page). Calm (land p Writes x rest) y) (sym e) (subst (CalmSlot x.page) (sym (put_same p x.page (Invalid x.frame) (written_mark x.page) (subst (IsThere p) e there))) (written_clean x.page, refl))
+landed_calm p x rest q there e = subst (λ (y : Page). Calm (land p Writes x rest) y) (sym e)
+    (subst (CalmSlot x.page) (sym (put_same p x.page (Invalid x.frame) (written_mark x.page) (subst (IsThere p) e there))) (written_clean x.page, refl))
 
 all_landed_calm : (xs : List Part) (p : Placement) (ts : List Transfer) (q : Page) → IsThere p q → is_among q (stored_by Writes xs) ≡ true
     → Calm (land_all p Writes xs ts) q
 all_landed_calm [] p ts q there h = absurd cc
 all_landed_calm (x ∷ xs) p ts q there h = elim (or_cases (same_page q x.page) (is_among q (stored_by Writes xs)) h) [
-  | inl e ↦ land_all_calm xs (land p Writes x (record { errand = Writes; parts = xs } ∷ ts)) Writes ts q (inr refl) (landed_calm p x (record { errand = Writes; parts = xs } ∷ ts) q there (same_page_is q x.page e))
+  | inl e ↦ land_all_calm xs (land p Writes x (record { errand = Writes; parts = xs } ∷ ts)) Writes ts q (inr refl)
+      (landed_calm p x (record { errand = Writes; parts = xs } ∷ ts) q there (same_page_is q x.page e))
   | inr k ↦ all_landed_calm xs (land p Writes x (record { errand = Writes; parts = xs } ∷ ts)) ts q (let a = put_length p x.page (Invalid x.frame) (written_mark x.page) q in omega (arith, there)) k
 ]
 

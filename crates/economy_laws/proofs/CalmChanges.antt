@@ -111,13 +111,17 @@ cut_stack v d s w (Some x) k c = sized_calm v s w x.stack_pages k c
 
 cut_calm : (p : Placement) (sid d s : ℕ) (w : Page) → Calm p w → Calm (cut_space p sid d s) w
 cut_calm p sid d s (Data t w) c = elim (cases_eq t sid) [
-  | inl e ↦ subst (λ (x : ℕ). CalmSlot (Data t w) (get_or (data_in (numbered space_number x p.spaces)) w no_slot) → CalmSlot (Data t w) (get_or (data_in (numbered space_number x (changed space_number sid (cut d s) p.spaces))) w no_slot)) (sym e)
-      (λ k. subst (λ (y : Option SpacePages). CalmSlot (Data t w) (get_or (data_in y) w no_slot)) (sym (changed_same space_number sid (cut d s) (λ x. refl) p.spaces)) (cut_data (Data t w) d s w (numbered space_number sid p.spaces) refl k)) c
+  | inl e ↦ subst (λ (x : ℕ). CalmSlot (Data t w) (get_or (data_in (numbered space_number x p.spaces)) w no_slot)
+      → CalmSlot (Data t w) (get_or (data_in (numbered space_number x (changed space_number sid (cut d s) p.spaces))) w no_slot)) (sym e)
+      (λ k. subst (λ (y : Option SpacePages). CalmSlot (Data t w) (get_or (data_in y) w no_slot)) (sym (changed_same space_number sid (cut d s) (λ x. refl) p.spaces))
+      (cut_data (Data t w) d s w (numbered space_number sid p.spaces) refl k)) c
   | inr n ↦ subst (λ (y : Option SpacePages). CalmSlot (Data t w) (get_or (data_in y) w no_slot)) (sym (changed_other space_number sid t (cut d s) (λ x. refl) n p.spaces)) c
 ]
 cut_calm p sid d s (Stack t w) c = elim (cases_eq t sid) [
-  | inl e ↦ subst (λ (x : ℕ). CalmSlot (Stack t w) (get_or (stack_in (numbered space_number x p.spaces)) w no_slot) → CalmSlot (Stack t w) (get_or (stack_in (numbered space_number x (changed space_number sid (cut d s) p.spaces))) w no_slot)) (sym e)
-      (λ k. subst (λ (y : Option SpacePages). CalmSlot (Stack t w) (get_or (stack_in y) w no_slot)) (sym (changed_same space_number sid (cut d s) (λ x. refl) p.spaces)) (cut_stack (Stack t w) d s w (numbered space_number sid p.spaces) refl k)) c
+  | inl e ↦ subst (λ (x : ℕ). CalmSlot (Stack t w) (get_or (stack_in (numbered space_number x p.spaces)) w no_slot)
+      → CalmSlot (Stack t w) (get_or (stack_in (numbered space_number x (changed space_number sid (cut d s) p.spaces))) w no_slot)) (sym e)
+      (λ k. subst (λ (y : Option SpacePages). CalmSlot (Stack t w) (get_or (stack_in y) w no_slot)) (sym (changed_same space_number sid (cut d s) (λ x. refl) p.spaces))
+      (cut_stack (Stack t w) d s w (numbered space_number sid p.spaces) refl k)) c
   | inr n ↦ subst (λ (y : Option SpacePages). CalmSlot (Stack t w) (get_or (stack_in y) w no_slot)) (sym (changed_other space_number sid t (cut d s) (λ x. refl) n p.spaces)) c
 ]
 cut_calm p sid d s (Text i w) c = c
@@ -150,7 +154,8 @@ add_calm p x due (Data t w) bd bs c = elim (added_either t p.spaces x) [
 ]
 add_calm p x due (Stack t w) bd bs c = elim (added_either t p.spaces x) [
   | inl e ↦ subst (λ (y : Option SpacePages). CalmSlot (Stack t w) (get_or (stack_in y) w no_slot)) (sym e) c
-  | inr e ↦ subst (λ (y : Option SpacePages). CalmSlot (Stack t w) (get_or (stack_in y) w no_slot)) (sym e) (blank_calm (Stack t w) (get_or x.stack_pages w no_slot) refl (blank_slot_at x.stack_pages w bs))
+  | inr e ↦ subst (λ (y : Option SpacePages). CalmSlot (Stack t w) (get_or (stack_in y) w no_slot)) (sym e)
+      (blank_calm (Stack t w) (get_or x.stack_pages w no_slot) refl (blank_slot_at x.stack_pages w bs))
 ]
 add_calm p x due (Text i w) bd bs c = c
 

@@ -26,7 +26,8 @@ use Rattle.economy_laws.specs.Stretch.{begins_stretch, IsClosing}
 pub data Closes (A : Inputs) (s : State) (u : Entry) (pid : ℕ) : Type 0 where
   Fill : (q : Page) (ds : List Due) → s.place.due ≡ Start q ∷ ds → u ≡ fill_unit s.place (entries.Zero q) → Closes A s u pid
   Bring : (q parent : Page) (ds : List Due) → s.place.due ≡ CopyOf q parent ∷ ds → serve_unit s.place parent true ≡ Some u → Closes A s u pid
-  CopyIt : (q parent : Page) (ds : List Due) → s.place.due ≡ CopyOf q parent ∷ ds → serve_unit s.place parent true ≡ None → u ≡ fill_unit s.place (entries.Copy q) → Closes A s u pid
+  CopyIt : (q parent : Page) (ds : List Due) → s.place.due ≡ CopyOf q parent ∷ ds → serve_unit s.place parent true ≡ None
+      → u ≡ fill_unit s.place (entries.Copy q) → Closes A s u pid
   Serve : (q : Page) → Runs A s pid true → wanted A s ≡ Some q → serve_unit s.place q true ≡ Some u → Closes A s u pid
   Act : Runs A s pid true → wanted A s ≡ None → act A s pid ≡ Some u → Closes A s u pid
   In : s.place.due ≡ [] → is_out s.place pid ≡ true → u ≡ entries.SwapIn pid → Closes A s u pid

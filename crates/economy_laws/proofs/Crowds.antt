@@ -42,8 +42,10 @@ many_changed : (images : List NamedImage) (F : FlatState) (p : Process) (s : Spa
     → length (changed images F p s change).processes ≤ 64
 many_changed images F p s Keep r l = let k = length-replaced F.processes p in omega arith
 many_changed images F p s (Resize d t) r l = let k = length-replaced F.processes (record p { holding = Holds (Rattle.flat_state.specs.Change.resized s d t) }) in omega arith
-many_changed images F p s (Fork child) r l = let k = length-replaced F.processes p in let a = length-append (replaced F.processes p) (Rattle.flat_state.specs.Change.child_of p child (record s { sid = F.next_sid }) ∷ []) in omega arith
-many_changed images F p s (Lend child) r l = let k = length-replaced F.processes (record p { holding = Lends s.sid child }) in let a = length-append (replaced F.processes (record p { holding = Lends s.sid child })) (Rattle.flat_state.specs.Change.child_of p child s ∷ []) in omega arith
+many_changed images F p s (Fork child) r l =
+    let k = length-replaced F.processes p in let a = length-append (replaced F.processes p) (Rattle.flat_state.specs.Change.child_of p child (record s { sid = F.next_sid }) ∷ []) in omega arith
+many_changed images F p s (Lend child) r l = let k = length-replaced F.processes (record p { holding = Lends s.sid child }) in
+    let a = length-append (replaced F.processes (record p { holding = Lends s.sid child })) (Rattle.flat_state.specs.Change.child_of p child s ∷ []) in omega arith
 many_changed images F p s (Exec image top) r l = go (image_numbered images image)
   where
     go : (o : Option NamedImage) → length (entered F p s image o top).processes ≤ 64
@@ -204,8 +206,10 @@ behind_room images F p s refused effect (Some number) = go (call_of number)
     go : (o : Option SystemCall) → RoomFor (apply_writes F p.pid (called_step images F p s refused effect o).writes) (called_step images F p s refused effect o).change
     go None = tt
     go (Some call) = replied_room images F p call effect (reply_behind images F p s refused call effect)
-        (refused_room (apply_writes F p.pid effect.writes) refused (or_fault (run (answers_of (puts s effect.writes)) (reply_of images (apply_writes F p.pid effect.writes) (written_process p s effect.writes) (puts s effect.writes) call effect.regs)))
-        (run_room (apply_writes F p.pid effect.writes) (answers_of (puts s effect.writes)) (reply_of images (apply_writes F p.pid effect.writes) (written_process p s effect.writes) (puts s effect.writes) call effect.regs)
+        (refused_room (apply_writes F p.pid effect.writes) refused
+        (or_fault (run (answers_of (puts s effect.writes)) (reply_of images (apply_writes F p.pid effect.writes) (written_process p s effect.writes) (puts s effect.writes) call effect.regs)))
+        (run_room (apply_writes F p.pid effect.writes) (answers_of (puts s effect.writes))
+        (reply_of images (apply_writes F p.pid effect.writes) (written_process p s effect.writes) (puts s effect.writes) call effect.regs)
         (all_room images (apply_writes F p.pid effect.writes) (written_process p s effect.writes) (puts s effect.writes) call effect.regs)))
 
 pub of_room : (images : List NamedImage) (F : FlatState) (p : Process) (s : Space) (refused : Bool) (r : Result Effect Refused)

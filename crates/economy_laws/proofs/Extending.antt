@@ -29,7 +29,8 @@ pub filter_both : (test : Page → Bool) (xs ys : List Page) → filter test (xs
 filter_both test [] ys = refl
 filter_both test (x ∷ xs) ys = go (test x) (filter_both test xs ys)
   where
-    go : (b : Bool) → filter test (xs ++ ys) ≡ filter test xs ++ filter test ys → cond b (x ∷ filter test (xs ++ ys)) (filter test (xs ++ ys)) ≡ cond b (x ∷ filter test xs) (filter test xs) ++ filter test ys
+    go : (b : Bool) → filter test (xs ++ ys) ≡ filter test xs ++ filter test ys
+        → cond b (x ∷ filter test (xs ++ ys)) (filter test (xs ++ ys)) ≡ cond b (x ∷ filter test xs) (filter test xs) ++ filter test ys
     go true e = ap (λ (l : List Page). x ∷ l) e
     go false e = e
 
@@ -46,7 +47,8 @@ distinct_more (x ∷ xs) zs n h =
       filter (λ other. not (same_page x other)) k.0,
       ap (λ (l : List Page). x ∷ filter (λ other. not (same_page x other)) l) k.1
           ∙ ap (λ (l : List Page). x ∷ l) (filter_both (λ other. not (same_page x other)) (distinct xs) (n ∷ k.0))
-          ∙ ap (λ (b : Bool). x ∷ (filter (λ other. not (same_page x other)) (distinct xs) ++ cond (not b) (n ∷ filter (λ other. not (same_page x other)) k.0) (filter (λ other. not (same_page x other)) k.0))) h.0,
+          ∙ ap (λ (b : Bool).
+          x ∷ (filter (λ other. not (same_page x other)) (distinct xs) ++ cond (not b) (n ∷ filter (λ other. not (same_page x other)) k.0) (filter (λ other. not (same_page x other)) k.0))) h.0,
     )
 
 -- A space that has grown.
@@ -80,7 +82,8 @@ spot_more a b l m x spot le e f = go (nat_lt x a) (nat_lt x (a + b)) (nat_le (st
 spot_kept : (s : Space) (d t a x : ℕ) (spot : Spot) → Bigger s d t a → address_in s x ≡ spot → Found spot → address_in (resized s d t) x ≡ spot
 spot_kept s d t a x spot b e f =
     ap (λ (n : ℕ). spot_at (length s.text_bytes) n (length (resized_bytes t s.stack_bytes)) x) (length-resized_bytes d s.data_bytes ∙ sym b.data_pages)
-    ∙ spot_more (length s.text_bytes) (length s.data_bytes) (length s.stack_bytes) (length (resized_bytes t s.stack_bytes)) x spot (let k = length-resized_bytes t s.stack_bytes in let l = b.stack_pages in omega arith) e f
+    ∙ spot_more (length s.text_bytes) (length s.data_bytes) (length s.stack_bytes) (length (resized_bytes t s.stack_bytes)) x spot
+    (let k = length-resized_bytes t s.stack_bytes in let l = b.stack_pages in omega arith) e f
 
 bytes_kept : (m i : ℕ) (xs : List ℕ) → length xs ≤ 1024 * m → i < length xs → slice_index (resized_bytes m xs) i ≡ slice_index xs i
 bytes_kept m i xs l k =
@@ -101,7 +104,8 @@ spot_grown : (s : Space) (d t a : ℕ) → Bigger s d t a → address_in s a ≡
 unfolding spot_at
 spot_grown s d t a b e =
     ap (λ (n : ℕ). spot_at (length s.text_bytes) n (length (resized_bytes t s.stack_bytes)) a) (length-resized_bytes d s.data_bytes ∙ sym b.data_pages)
-    ∙ go (nat_lt a (length s.text_bytes)) (nat_lt a (length s.text_bytes + length s.data_bytes)) (nat_le (stack_top - length s.stack_bytes) a && nat_lt a stack_top) (nat_le (stack_top - stack_reach) a && nat_lt a stack_top) e
+    ∙ go (nat_lt a (length s.text_bytes)) (nat_lt a (length s.text_bytes + length s.data_bytes)) (nat_le (stack_top - length s.stack_bytes) a && nat_lt a stack_top)
+    (nat_le (stack_top - stack_reach) a && nat_lt a stack_top) e
   where
     in_stack : (n : ℕ) → n ≡ 1024 * t → stack_top ≤ a + 1024 * t → a + length s.stack_bytes + 1 ≤ stack_top → (nat_le (stack_top - n) a && nat_lt a stack_top) ≡ true
     in_stack n h k l = grind (arith, nat_tests)
@@ -109,7 +113,8 @@ spot_grown s d t a b e =
     now : (nat_le (stack_top - length (resized_bytes t s.stack_bytes)) a && nat_lt a stack_top) ≡ true
     now = in_stack (length (resized_bytes t s.stack_bytes)) (length-resized_bytes t s.stack_bytes) b.reach b.room
 
-    go : (p q z w : Bool) → spot_by p q z w (length s.text_bytes) a ≡ spots.Below → spot_by p q (nat_le (stack_top - length (resized_bytes t s.stack_bytes)) a && nat_lt a stack_top) w (length s.text_bytes) a ≡ spots.Stack (stack_index a)
+    go : (p q z w : Bool) → spot_by p q z w (length s.text_bytes) a ≡ spots.Below
+        → spot_by p q (nat_le (stack_top - length (resized_bytes t s.stack_bytes)) a && nat_lt a stack_top) w (length s.text_bytes) a ≡ spots.Stack (stack_index a)
     go true q z w k = absurd cc
     go false true z w k = absurd cc
     go false false true w k = absurd cc
@@ -188,7 +193,8 @@ test_on X s d t a b next spot g e f w k = record {
   last = k.last;
   rest = k.rest;
   old = ap (λ (r : MayWrite). TestOf b ∷ rest_of_test r (accesses (answers_of s) next)) (ap may_write_at e ∙ w) ∙ ap (λ (l : List Access). TestOf b ∷ l) k.old;
-  new = ap (λ (r : MayWrite). TestOf b ∷ rest_of_test r (accesses (answers_of (resized s d t)) next)) (ap may_write_at (spot_kept s d t a b spot g e f) ∙ w) ∙ ap (λ (l : List Access). TestOf b ∷ l) k.new;
+  new = ap (λ (r : MayWrite). TestOf b ∷ rest_of_test r (accesses (answers_of (resized s d t)) next)) (ap may_write_at (spot_kept s d t a b spot g e f) ∙ w)
+      ∙ ap (λ (l : List Access). TestOf b ∷ l) k.new;
   kept = (test_kept s d t a b spot g e f, k.kept);
   none = k.none;
   some = k.some;
@@ -223,7 +229,8 @@ test_ends X s d t a next g e = record {
 pub reached : (X : Type 0) (s : Space) (d t a : ℕ) (p : Program X) → Bigger s d t a → run (answers_of s) p ≡ Err (Below a) → Reached X s d t a p
 reached X s d t a (Reads b next) g h = go (address_in s b) refl (λ v k. reached X s d t a (next v) g k) h
   where
-    go : (spot : Spot) → address_in s b ≡ spot → ((v : ℕ) → run (answers_of s) (next v) ≡ Err (Below a) → Reached X s d t a (next v)) → after_read (byte_at s spot) b (λ byte. run (answers_of s) (next byte)) ≡ Err (Below a) → Reached X s d t a (Reads b next)
+    go : (spot : Spot) → address_in s b ≡ spot → ((v : ℕ) → run (answers_of s) (next v) ≡ Err (Below a) → Reached X s d t a (next v))
+        → after_read (byte_at s spot) b (λ byte. run (answers_of s) (next byte)) ≡ Err (Below a) → Reached X s d t a (Reads b next)
     go (spots.Text i) e more k = read_on X s d t a b next (spots.Text i) (slice_index s.text_bytes i) g e tt refl (more (slice_index s.text_bytes i) k)
     go (spots.Data i) e more k = read_on X s d t a b next (spots.Data i) (slice_index s.data_bytes i) g e tt refl (more (slice_index s.data_bytes i) k)
     go (spots.Stack i) e more k = read_on X s d t a b next (spots.Stack i) (slice_index s.stack_bytes i) g e tt refl (more (slice_index s.stack_bytes i) k)
@@ -231,7 +238,8 @@ reached X s d t a (Reads b next) g h = go (address_in s b) refl (λ v k. reached
     go spots.Outside e more k = absurd cc
 reached X s d t a (Tests b next) g h = go (address_in s b) refl (λ k. reached X s d t a next g k) h
   where
-    go : (spot : Spot) → address_in s b ≡ spot → (run (answers_of s) next ≡ Err (Below a) → Reached X s d t a next) → after_test (may_write_at spot) b (run (answers_of s) next) ≡ Err (Below a) → Reached X s d t a (Tests b next)
+    go : (spot : Spot) → address_in s b ≡ spot → (run (answers_of s) next ≡ Err (Below a) → Reached X s d t a next) → after_test (may_write_at spot) b (run (answers_of s) next) ≡ Err (Below a)
+        → Reached X s d t a (Tests b next)
     go (spots.Text i) e more k = absurd cc
     go (spots.Data i) e more k = test_on X s d t a b next (spots.Data i) g e tt refl (more k)
     go (spots.Stack i) e more k = test_on X s d t a b next (spots.Stack i) g e tt refl (more k)
@@ -263,12 +271,15 @@ kept_unseen s d t a (y ∷ ys) k = go (page_of_access s y) refl (kept_unseen s d
 
 -- the pages of these accesses, before and after growth
 pub pages_extend : (X : Type 0) (s : Space) (d t a : ℕ) (p : Program X) (more : List Access) → Reached X s d t a p
-    → Extends (distinct (filter_map (page_of_access s) (accesses (answers_of s) p))) (distinct (filter_map (page_of_access (resized s d t)) (accesses (answers_of (resized s d t)) p ++ more)))
+    → Extends (distinct (filter_map (page_of_access s) (accesses (answers_of s) p)))
+    (distinct (filter_map (page_of_access (resized s d t)) (accesses (answers_of (resized s d t)) p ++ more)))
 pages_extend X s d t a p more r =
     let xs : List Page = filter_map (page_of_access s) r.before in
     let old : filter_map (page_of_access s) (accesses (answers_of s) p) ≡ filter_map (page_of_access s) r.before =
-    ap (filter_map (page_of_access s)) r.old ∙ map_both (page_of_access s) r.before (r.last ∷ []) ∙ ap (λ (o : Option Page). filter_map (page_of_access s) r.before ++ cons_option o []) r.none ∙ append-nil (filter_map (page_of_access s) r.before) in
-    let new : filter_map (page_of_access (resized s d t)) (accesses (answers_of (resized s d t)) p ++ more) ≡ filter_map (page_of_access s) r.before ++ grown_page s a ∷ filter_map (page_of_access (resized s d t)) (r.rest ++ more) =
+    ap (filter_map (page_of_access s)) r.old ∙ map_both (page_of_access s) r.before (r.last ∷ []) ∙ ap (λ (o : Option Page). filter_map (page_of_access s) r.before ++ cons_option o []) r.none
+    ∙ append-nil (filter_map (page_of_access s) r.before) in
+    let new : filter_map (page_of_access (resized s d t)) (accesses (answers_of (resized s d t)) p ++ more)
+    ≡ filter_map (page_of_access s) r.before ++ grown_page s a ∷ filter_map (page_of_access (resized s d t)) (r.rest ++ more) =
     ap (λ (l : List Access). filter_map (page_of_access (resized s d t)) (l ++ more)) r.new
     ∙ ap (filter_map (page_of_access (resized s d t))) (append_assoc r.before (r.last ∷ r.rest) more)
     ∙ map_both (page_of_access (resized s d t)) r.before (r.last ∷ r.rest ++ more)

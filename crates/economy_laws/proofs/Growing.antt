@@ -66,13 +66,17 @@ cut_stack_valid d s v (Some x) l h = sized_valid s v x.stack_pages l h
 cut_valid : (p : Placement) (sid d s : ℕ) (w : Page) → data_count p sid ≤ d → stack_count p sid ≤ s → is_valid (state_of p w) ≡ true
     → is_valid (state_of (cut_space p sid d s) w) ≡ true
 cut_valid p sid d s (Data t v) ld ls h = elim (cases_eq t sid) [
-  | inl e ↦ subst (λ (x : ℕ). is_valid (get_or (data_in (numbered space_number x p.spaces)) v no_slot).state ≡ true → is_valid (get_or (data_in (numbered space_number x (changed space_number sid (cut d s) p.spaces))) v no_slot).state ≡ true) (sym e)
-      (λ k. subst (λ (y : Option SpacePages). is_valid (get_or (data_in y) v no_slot).state ≡ true) (sym (changed_same space_number sid (cut d s) (λ x. refl) p.spaces)) (cut_data_valid d s v (numbered space_number sid p.spaces) ld k)) h
+  | inl e ↦ subst (λ (x : ℕ). is_valid (get_or (data_in (numbered space_number x p.spaces)) v no_slot).state ≡ true
+      → is_valid (get_or (data_in (numbered space_number x (changed space_number sid (cut d s) p.spaces))) v no_slot).state ≡ true) (sym e)
+      (λ k. subst (λ (y : Option SpacePages). is_valid (get_or (data_in y) v no_slot).state ≡ true) (sym (changed_same space_number sid (cut d s) (λ x. refl) p.spaces))
+      (cut_data_valid d s v (numbered space_number sid p.spaces) ld k)) h
   | inr n ↦ subst (λ (y : Option SpacePages). is_valid (get_or (data_in y) v no_slot).state ≡ true) (sym (changed_other space_number sid t (cut d s) (λ x. refl) n p.spaces)) h
 ]
 cut_valid p sid d s (Stack t v) ld ls h = elim (cases_eq t sid) [
-  | inl e ↦ subst (λ (x : ℕ). is_valid (get_or (stack_in (numbered space_number x p.spaces)) v no_slot).state ≡ true → is_valid (get_or (stack_in (numbered space_number x (changed space_number sid (cut d s) p.spaces))) v no_slot).state ≡ true) (sym e)
-      (λ k. subst (λ (y : Option SpacePages). is_valid (get_or (stack_in y) v no_slot).state ≡ true) (sym (changed_same space_number sid (cut d s) (λ x. refl) p.spaces)) (cut_stack_valid d s v (numbered space_number sid p.spaces) ls k)) h
+  | inl e ↦ subst (λ (x : ℕ). is_valid (get_or (stack_in (numbered space_number x p.spaces)) v no_slot).state ≡ true
+      → is_valid (get_or (stack_in (numbered space_number x (changed space_number sid (cut d s) p.spaces))) v no_slot).state ≡ true) (sym e)
+      (λ k. subst (λ (y : Option SpacePages). is_valid (get_or (stack_in y) v no_slot).state ≡ true) (sym (changed_same space_number sid (cut d s) (λ x. refl) p.spaces))
+      (cut_stack_valid d s v (numbered space_number sid p.spaces) ls k)) h
   | inr n ↦ subst (λ (y : Option SpacePages). is_valid (get_or (stack_in y) v no_slot).state ≡ true) (sym (changed_other space_number sid t (cut d s) (λ x. refl) n p.spaces)) h
 ]
 cut_valid p sid d s (Text i v) ld ls h = h
@@ -91,7 +95,8 @@ below_spot s (Reads b next) a h =
     let same : (let r : Result ℕ Refused = Err (Below b) in r) ≡ Err (Below a) → b ≡ a = λ e. cc in
     go (address_in s b) refl (λ byte k. below_spot s (next byte) a k) h
   where
-    go : (spot : Spot) → address_in s b ≡ spot → ((byte : ℕ) → run (answers_of s) (next byte) ≡ Err (Below a) → address_in s a ≡ spots.Below) → after_read (byte_at s spot) b (λ byte. run (answers_of s) (next byte)) ≡ Err (Below a) → address_in s a ≡ spots.Below
+    go : (spot : Spot) → address_in s b ≡ spot → ((byte : ℕ) → run (answers_of s) (next byte) ≡ Err (Below a) → address_in s a ≡ spots.Below)
+        → after_read (byte_at s spot) b (λ byte. run (answers_of s) (next byte)) ≡ Err (Below a) → address_in s a ≡ spots.Below
     go (spots.Text i) e more k = more (Rattle.std.specs.Prelude.slice_index s.text_bytes i) k
     go (spots.Data i) e more k = more (Rattle.std.specs.Prelude.slice_index s.data_bytes i) k
     go (spots.Stack i) e more k = more (Rattle.std.specs.Prelude.slice_index s.stack_bytes i) k
@@ -99,7 +104,8 @@ below_spot s (Reads b next) a h =
     go spots.Outside e more k = absurd cc
 below_spot s (Tests b next) a h = go (address_in s b) refl (λ k. below_spot s next a k) h
   where
-    go : (spot : Spot) → address_in s b ≡ spot → (run (answers_of s) next ≡ Err (Below a) → address_in s a ≡ spots.Below) → after_test (may_write_at spot) b (run (answers_of s) next) ≡ Err (Below a) → address_in s a ≡ spots.Below
+    go : (spot : Spot) → address_in s b ≡ spot → (run (answers_of s) next ≡ Err (Below a) → address_in s a ≡ spots.Below) → after_test (may_write_at spot) b (run (answers_of s) next) ≡ Err (Below a)
+        → address_in s a ≡ spots.Below
     go (spots.Text i) e more k = absurd cc
     go (spots.Data i) e more k = more k
     go (spots.Stack i) e more k = more k
@@ -110,7 +116,8 @@ below_spot s _ a h = absurd cc
 -- an address below the stack lies under all its bytes
 pub spot_below : (a b len address : ℕ) → spot_at a b len address ≡ spots.Below → address + len + 1 ≤ stack_top
 unfolding spot_at
-spot_below a b len address h = go (nat_lt address a) (nat_lt address (a + b)) (nat_le (stack_top - len) address && nat_lt address stack_top) (nat_le (stack_top - stack_reach) address && nat_lt address stack_top) refl refl h
+spot_below a b len address h =
+    go (nat_lt address a) (nat_lt address (a + b)) (nat_le (stack_top - len) address && nat_lt address stack_top) (nat_le (stack_top - stack_reach) address && nat_lt address stack_top) refl refl h
   where
     both : (x y : Bool) → (x && y) ≡ true → (x ≡ true) × (y ≡ true)
     both true true e = (refl, refl)
@@ -124,11 +131,13 @@ spot_below a b len address h = go (nat_lt address a) (nat_lt address (a + b)) (n
     under : (x y : ℕ) → nat_le x y ≡ false → y < x
     under x y e = grind (arith, nat_tests)
 
-    go : (x y z w : Bool) → (nat_le (stack_top - len) address && nat_lt address stack_top) ≡ z → (nat_le (stack_top - stack_reach) address && nat_lt address stack_top) ≡ w → spot_by x y z w a address ≡ spots.Below → address + len + 1 ≤ stack_top
+    go : (x y z w : Bool) → (nat_le (stack_top - len) address && nat_lt address stack_top) ≡ z → (nat_le (stack_top - stack_reach) address && nat_lt address stack_top) ≡ w
+        → spot_by x y z w a address ≡ spots.Below → address + len + 1 ≤ stack_top
     go true y z w e f k = absurd cc
     go false true z w e f k = absurd cc
     go false false true w e f k = absurd cc
-    go false false false true e f k = let m = under (stack_top - len) address (not_first (nat_le (stack_top - len) address) (nat_lt address stack_top) e (both (nat_le (stack_top - stack_reach) address) (nat_lt address stack_top) f).1) in omega arith
+    go false false false true e f k = let m = under (stack_top - len) address
+        (not_first (nat_le (stack_top - len) address) (nat_lt address stack_top) e (both (nat_le (stack_top - stack_reach) address) (nat_lt address stack_top) f).1) in omega arith
     go false false false false e f k = absurd cc
 
 -- All of it.
@@ -153,7 +162,8 @@ grew_place : (A : Inputs) (s : State) (pid pages sid d t : ℕ) → pages_writte
     → (after A s (entries.Grew pid pages)).place ≡ resize s.place sid d t
 unfolding after
 grew_place A s pid pages sid d t w h e =
-    ap (place_change (facts_of A.images) (touch_all s.place (pages_written s.point.flat pid (step_at A s.point pid))) pid (space_of_process (process_of s.point.flat pid)) (is_borrower s.point.flat.processes pid) s.point.flat.next_sid (place_at s (entries.Grew pid pages))) e
+    ap (place_change (facts_of A.images) (touch_all s.place (pages_written s.point.flat pid (step_at A s.point pid))) pid (space_of_process (process_of s.point.flat pid))
+    (is_borrower s.point.flat.processes pid) s.point.flat.next_sid (place_at s (entries.Grew pid pages))) e
     ∙ ap (λ (x : ℕ). resize (touch_all s.place (pages_written s.point.flat pid (step_at A s.point pid))) x d t) h
     ∙ ap (λ (ws : List Page). resize (touch_all s.place ws) sid d t) w
 
@@ -173,7 +183,8 @@ all_grown A touches s pid pages r h = by (acted A s pid (entries.Grew pid pages)
         let q : Process = w.process in
         let sp : Space = w.space in
         let c : Completes A s.point pid (entries.Grew pid pages) = completes A s.point pid (entries.Grew pid pages) tt i in
-        let es : (step_at A s.point pid).entries ≡ entries.Grew pid pages ∷ [] = sym (open_due s.point.last pid (step_at A s.point pid).entries (open_last A s (entries.Grew pid pages) pid r h refl refl)) ∙ c.due in
+        let es : (step_at A s.point pid).entries ≡ entries.Grew pid pages ∷ [] =
+        sym (open_due s.point.last pid (step_at A s.point pid).entries (open_last A s (entries.Grew pid pages) pid r h refl refl)) ∙ c.due in
         let st = step_is A s.point.flat pid (is_refused s.point.last pid) w.process w.space w.here w.holds in
         let gr : Grows A.images s.point.flat w.process w.space (is_refused s.point.last pid) (instruction_in w.space q.regs) =
         grows_of A.images s.point.flat w.process w.space (is_refused s.point.last pid) (instruction_in w.space q.regs) pid pages (sym (ap (λ (S : Step). S.entries) st) ∙ es) in
@@ -195,7 +206,8 @@ all_grown A touches s pid pages r h = by (acted A s pid (entries.Grew pid pages)
           more = t.more;
           touches = t.is;
           valid = λ v. subst (λ (p : Placement). AllValid p (touched A s.point.flat pid)) (sym pl)
-              (each_page_imp (λ x. is_valid (state_of s.place x) ≡ true) (λ x. is_valid (state_of (cut_space s.place sp.sid (data_pages_of w.space) (pages_down_to gr.address)) x) ≡ true) (touched A s.point.flat pid) v
+              (each_page_imp (λ x. is_valid (state_of s.place x) ≡ true) (λ x. is_valid (state_of (cut_space s.place sp.sid (data_pages_of w.space) (pages_down_to gr.address)) x) ≡ true)
+              (touched A s.point.flat pid) v
               (λ x k. cut_valid s.place sp.sid (data_pages_of w.space) (pages_down_to gr.address) x room.0 room.1 k));
           flights = let z = ap (λ (p : Placement). length p.transfers) pl in omega arith;
           clear = ap (λ (p : Placement). p.due) pl ∙ run.clear;

@@ -56,7 +56,8 @@ still_ready false h e = refl
 refused_accesses : (images : List NamedImage) (F : FlatState) (p : Process) (s : Space) (a : ℕ) → instruction_in s p.regs ≡ Err (Below a)
     → step_accesses images F p s ≡ accesses (answers_of s) (instruction p.regs)
 unfolding step_accesses
-refused_accesses images F p s a e = ap (λ (r : Result Effect Refused). accesses (answers_of s) (instruction p.regs) ++ accesses_after images F p s r) e ∙ Rattle.std.proofs.lemmas.List.append-nil (accesses (answers_of s) (instruction p.regs))
+refused_accesses images F p s a e = ap (λ (r : Result Effect Refused). accesses (answers_of s) (instruction p.regs) ++ accesses_after images F p s r) e
+    ∙ Rattle.std.proofs.lemmas.List.append-nil (accesses (answers_of s) (instruction p.regs))
 
 all_accesses : (images : List NamedImage) (F : FlatState) (p : Process) (s : Space)
     → step_accesses images F p s ≡ accesses (answers_of s) (instruction p.regs) ++ accesses_after images F p s (instruction_in s p.regs)
@@ -94,7 +95,8 @@ growth_touches A s pid pages r h = by (acted A s pid (entries.Grew pid pages) d.
         let sp : Space = w.space in
         let full : Stepped A s (entries.Grew pid pages) = record { pid = pid; now = d.now; runs = d.runs; ends = tt; unrefused = f; unsettling = g; next = i } in
         let c : Completes A s.point pid (entries.Grew pid pages) = completes A s.point pid (entries.Grew pid pages) tt i in
-        let es : (step_at A s.point pid).entries ≡ entries.Grew pid pages ∷ [] = sym (open_due s.point.last pid (step_at A s.point pid).entries (open_last A s (entries.Grew pid pages) pid r h refl refl)) ∙ c.due in
+        let es : (step_at A s.point pid).entries ≡ entries.Grew pid pages ∷ [] =
+        sym (open_due s.point.last pid (step_at A s.point pid).entries (open_last A s (entries.Grew pid pages) pid r h refl refl)) ∙ c.due in
         let st = step_is A s.point.flat pid (is_refused s.point.last pid) w.process w.space w.here w.holds in
         let gr : Grows A.images s.point.flat w.process w.space (is_refused s.point.last pid) (instruction_in w.space q.regs) =
         grows_of A.images s.point.flat w.process w.space (is_refused s.point.last pid) (instruction_in w.space q.regs) pid pages (sym (ap (λ (S : Step). S.entries) st) ∙ es) in
@@ -112,19 +114,28 @@ growth_touches A s pid pages r h = by (acted A s pid (entries.Grew pid pages) d.
         ∙ ap (λ (ws : List Rattle.vm_facts.specs.Answers.ByteWrite). apply_change A.images (apply_writes s.point.flat pid ws) pid (step_at A s.point pid).regs (step_at A s.point pid).change) writes
         ∙ ap (λ (x : Regs). apply_change A.images (apply_writes s.point.flat pid []) pid x (step_at A s.point pid).change) regs
         ∙ ap (apply_change A.images (apply_writes s.point.flat pid []) pid q.regs) change in
-        let found : process_of (after A s (entries.Grew pid pages)).point.flat pid ≡ Some (record w.process { regs = q.regs; holding = Holds (resized w.space (data_pages_of w.space) (pages_down_to gr.address)) }) =
+        let found : process_of (after A s (entries.Grew pid pages)).point.flat pid
+        ≡ Some (record w.process { regs = q.regs; holding = Holds (resized w.space (data_pages_of w.space) (pages_down_to gr.address)) }) =
         ap (λ (F : FlatState). process_of F pid) flat ∙ grown_process A.images s.point.flat pid w.process w.space q.regs (data_pages_of w.space) (pages_down_to gr.address) w.here w.holds in
-        let reach : Reached Effect w.space (data_pages_of w.space) (pages_down_to gr.address) gr.address (instruction q.regs) = reached Effect w.space (data_pages_of w.space) (pages_down_to gr.address) gr.address (instruction q.regs) bigger gr.below in
+        let reach : Reached Effect w.space (data_pages_of w.space) (pages_down_to gr.address) gr.address (instruction q.regs) =
+        reached Effect w.space (data_pages_of w.space) (pages_down_to gr.address) gr.address (instruction q.regs) bigger gr.below in
         let old : touched A s.point.flat pid ≡ distinct (filter_map (page_of_access w.space) (accesses (answers_of w.space) (instruction q.regs))) =
-        is_touched A s.point.flat pid w.process w.space w.here ready w.holds ∙ ap (λ (l : List Access). distinct (filter_map (page_of_access w.space) l)) (refused_accesses A.images s.point.flat w.process w.space gr.address gr.below) in
+        is_touched A s.point.flat pid w.process w.space w.here ready w.holds
+        ∙ ap (λ (l : List Access). distinct (filter_map (page_of_access w.space) l)) (refused_accesses A.images s.point.flat w.process w.space gr.address gr.below) in
         behind (after A s (entries.Grew pid pages)).point.flat w.process (resized w.space (data_pages_of w.space) (pages_down_to gr.address)) found (still_ready q.asleep q.holding ready)
-        (λ more. extends_as (distinct (filter_map (page_of_access w.space) (accesses (answers_of w.space) (instruction q.regs)))) (distinct (filter_map (page_of_access (resized w.space (data_pages_of w.space) (pages_down_to gr.address))) (accesses (answers_of (resized w.space (data_pages_of w.space) (pages_down_to gr.address))) (instruction q.regs) ++ more)))
-        (touched A s.point.flat pid) (distinct (filter_map (page_of_access (resized w.space (data_pages_of w.space) (pages_down_to gr.address))) (accesses (answers_of (resized w.space (data_pages_of w.space) (pages_down_to gr.address))) (instruction q.regs) ++ more))) old refl
+        (λ more. extends_as (distinct (filter_map (page_of_access w.space) (accesses (answers_of w.space) (instruction q.regs)))) (distinct (filter_map (page_of_access (resized w.space
+        (data_pages_of w.space) (pages_down_to gr.address))) (accesses (answers_of (resized w.space (data_pages_of w.space) (pages_down_to gr.address))) (instruction q.regs) ++ more)))
+        (touched A s.point.flat pid) (distinct (filter_map (page_of_access (resized w.space (data_pages_of w.space) (pages_down_to gr.address)))
+        (accesses (answers_of (resized w.space (data_pages_of w.space) (pages_down_to gr.address))) (instruction q.regs) ++ more))) old refl
         (pages_extend Effect w.space (data_pages_of w.space) (pages_down_to gr.address) gr.address (instruction q.regs) more reach))
       where
         behind : (G : FlatState) (p : Process) (z : Space) → process_of G pid ≡ Some (record p { regs = p.regs; holding = Holds z }) → (if p.asleep then false else true) ≡ true
-            → ((more : List Access) → Extends (touched A s.point.flat pid) (distinct (filter_map (page_of_access z) (accesses (answers_of z) (instruction p.regs) ++ more)))) → Extends (touched A s.point.flat pid) (touched A G pid)
+            → ((more : List Access) → Extends (touched A s.point.flat pid) (distinct (filter_map (page_of_access z) (accesses (answers_of z) (instruction p.regs) ++ more))))
+            → Extends (touched A s.point.flat pid) (touched A G pid)
         behind G p z e k more =
             let x = more (accesses_after A.images G (record p { regs = p.regs; holding = Holds z }) z (instruction_in z p.regs)) in
-            extends_as (touched A s.point.flat pid) (distinct (filter_map (page_of_access z) (accesses (answers_of z) (instruction p.regs) ++ accesses_after A.images G (record p { regs = p.regs; holding = Holds z }) z (instruction_in z p.regs)))) (touched A s.point.flat pid) (touched A G pid) refl
-            (is_touched A G pid (record p { regs = p.regs; holding = Holds z }) z e k refl ∙ ap (λ (l : List Access). distinct (filter_map (page_of_access z) l)) (all_accesses A.images G (record p { regs = p.regs; holding = Holds z }) z)) x
+            extends_as (touched A s.point.flat pid) (distinct
+            (filter_map (page_of_access z) (accesses (answers_of z) (instruction p.regs) ++ accesses_after A.images G (record p { regs = p.regs; holding = Holds z }) z (instruction_in z p.regs))))
+            (touched A s.point.flat pid) (touched A G pid) refl
+            (is_touched A G pid (record p { regs = p.regs; holding = Holds z }) z e k refl
+            ∙ ap (λ (l : List Access). distinct (filter_map (page_of_access z) l)) (all_accesses A.images G (record p { regs = p.regs; holding = Holds z }) z)) x

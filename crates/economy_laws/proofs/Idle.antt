@@ -117,7 +117,8 @@ unfolding apply_change
 resize_ready images F pid regs d t = go (process_of F pid) refl
   where
     holding : (p : Process) → process_of F pid ≡ Some p → (h : Holding) → p.holding ≡ h → SameReady F (changed_by images F (record p { regs = regs }) (Resize d t) h) pid
-    holding p e (Holds s) k = holds_ready F pid p (record p { regs = regs; holding = Holds (resized s d t) }) e (number_of_found F.processes pid p e) (held_ready p.asleep p.holding s (resized s d t) k)
+    holding p e (Holds s) k =
+        holds_ready F pid p (record p { regs = regs; holding = Holds (resized s d t) }) e (number_of_found F.processes pid p e) (held_ready p.asleep p.holding s (resized s d t) k)
     holding p e (Lends sid child) k = same_ready F F pid refl
     holding p e (Zombie status) k = same_ready F F pid refl
 
@@ -134,8 +135,11 @@ sleep_counts images F pid regs c = go (process_of F pid) refl c
     idle true h e = absurd cc
     idle false h e = e
 
-    holding : (p : Process) → process_of F pid ≡ Some p → is_ready p ≡ true → (h : Holding) → p.holding ≡ h → ready_count (changed_by images F (record p { regs = regs }) Sleep h).processes + 1 ≡ ready_count F.processes
-    holding p e z (Holds s) k = let a = count_replaced F pid p (record p { regs = regs; asleep = true }) e (number_of_found F.processes pid p e) in let b : ready_one p ≡ 1 = ap (λ (x : Bool). cond x 1 0) z in let y : ready_one (record p { regs = regs; asleep = true }) ≡ 0 = refl in let w : (changed_by images F (record p { regs = regs }) Sleep (Holds s)) ≡ with_process F (record p { regs = regs; asleep = true }) = refl in omega arith
+    holding : (p : Process) → process_of F pid ≡ Some p → is_ready p ≡ true → (h : Holding) → p.holding ≡ h
+        → ready_count (changed_by images F (record p { regs = regs }) Sleep h).processes + 1 ≡ ready_count F.processes
+    holding p e z (Holds s) k = let a = count_replaced F pid p (record p { regs = regs; asleep = true }) e (number_of_found F.processes pid p e) in
+        let b : ready_one p ≡ 1 = ap (λ (x : Bool). cond x 1 0) z in let y : ready_one (record p { regs = regs; asleep = true }) ≡ 0 =
+        refl in let w : (changed_by images F (record p { regs = regs }) Sleep (Holds s)) ≡ with_process F (record p { regs = regs; asleep = true }) = refl in omega arith
     holding p e z (Lends sid child) k = absurd (let y : false ≡ true = sym (ap holds_space k) ∙ idle p.asleep p.holding z in cc)
     holding p e z (Zombie status) k = absurd (let y : false ≡ true = sym (ap holds_space k) ∙ idle p.asleep p.holding z in cc)
 
@@ -150,14 +154,16 @@ pub data Leaves (F G : FlatState) (pid : ℕ) : Type 0 where
 
 -- where a process's step leaves the flat machine, with its change
 pub stepped_by : (A : Inputs) (s : State) (u : Entry) (h : Stepped A s u) → IsRun A s
-    → (after A s u).point.flat ≡ apply_change A.images (apply_writes s.point.flat h.pid (step_at A s.point h.pid).writes) h.pid (step_at A s.point h.pid).regs (step_at A s.point h.pid).change
+    → (after A s u).point.flat ≡ apply_change A.images (apply_writes s.point.flat h.pid (step_at A s.point h.pid).writes) h.pid (step_at A s.point h.pid).regs
+    (step_at A s.point h.pid).change
 stepped_by A s u h r =
     let run : Runs A s h.pid h.now = h.runs in
     let w : Stepper s.point.flat h.pid = stepper s.point.flat h.pid (on_steps A s s.mark h.pid h.now run.on) in
     let form = stepped_form A s u h w r.numbers in
     let p : Process = w.process in
     let m : p.pid ≡ h.pid = number_of_found s.point.flat.processes h.pid w.process w.here in
-    stepped_flat A s u h ∙ form.after ∙ ap (λ (y : ℕ). apply_change A.images (apply_writes s.point.flat y (step_at A s.point h.pid).writes) y (step_at A s.point h.pid).regs (step_at A s.point h.pid).change) m
+    stepped_flat A s u h ∙ form.after
+    ∙ ap (λ (y : ℕ). apply_change A.images (apply_writes s.point.flat y (step_at A s.point h.pid).writes) y (step_at A s.point h.pid).regs (step_at A s.point h.pid).change) m
 
 sleeps_leave : (A : Inputs) (s : State) (pid : ℕ) (h : Stepped A s (entries.Sleeps pid)) → h.pid ≡ pid → IsRun A s
     → Leaves s.point.flat (after A s (entries.Sleeps pid)).point.flat h.pid
@@ -195,7 +201,8 @@ grew_leaves A s p n h o r =
     let is = stepped_by A s (entries.Grew p n) h r ∙ ap (apply_change A.images (apply_writes s.point.flat h.pid (step_at A s.point h.pid).writes) h.pid (step_at A s.point h.pid).regs) e in
     let wrote = writes_ready s.point.flat h.pid (step_at A s.point h.pid).writes in
     let sized = resize_ready A.images (apply_writes s.point.flat h.pid (step_at A s.point h.pid).writes) h.pid (step_at A s.point h.pid).regs (data_pages_of w.space) (pages_down_to g.address) in
-    let all = both_ready s.point.flat (apply_writes s.point.flat h.pid (step_at A s.point h.pid).writes) (apply_change A.images (apply_writes s.point.flat h.pid (step_at A s.point h.pid).writes) h.pid (step_at A s.point h.pid).regs (Resize (data_pages_of w.space) (pages_down_to g.address))) h.pid wrote sized in
+    let all = both_ready s.point.flat (apply_writes s.point.flat h.pid (step_at A s.point h.pid).writes) (apply_change A.images (apply_writes s.point.flat h.pid (step_at A s.point h.pid).writes) h.pid
+    (step_at A s.point h.pid).regs (Resize (data_pages_of w.space) (pages_down_to g.address))) h.pid wrote sized in
     Same (record { count = ap (λ (F : FlatState). ready_count F.processes) is ∙ all.count; steps = ap (λ (F : FlatState). can_step F h.pid) is ∙ all.steps })
 
 flat_leaves : (A : Inputs) (s : State) (u : Entry) (pid : ℕ) → IsRun A s → next_unit A s ≡ Some u → process_of_entry u ≡ Some pid → counts u ≡ false
@@ -211,8 +218,10 @@ flat_leaves A s u pid r h e n = by (acted A s pid u d.act)
     quiet : after A s u ≡ noted s u → Leaves s.point.flat (after A s u).point.flat pid
     quiet k = Same (same_ready s.point.flat (after A s u).point.flat pid (ap (λ (t : State). t.point.flat) k))
 
-    step : (x : Entry) → u ≡ x → next_of_step A s.point pid ≡ Some u → must_refuse A s pid ≡ false → must_settle A s pid ≡ false → process_of_entry x ≡ Some pid → counts x ≡ false → Leaves s.point.flat (after A s u).point.flat pid
-    step (entries.Out p bytes) i k f g px cx = quiet (subst (λ (y : Entry). after A s y ≡ noted s y) (sym i) (out_after A s pid p bytes (out_of A s.point pid p bytes (k ∙ ap (λ (y : Entry). Some y) i))))
+    step : (x : Entry) → u ≡ x → next_of_step A s.point pid ≡ Some u → must_refuse A s pid ≡ false → must_settle A s pid ≡ false → process_of_entry x ≡ Some pid → counts x ≡ false
+        → Leaves s.point.flat (after A s u).point.flat pid
+    step (entries.Out p bytes) i k f g px cx =
+        quiet (subst (λ (y : Entry). after A s y ≡ noted s y) (sym i) (out_after A s pid p bytes (out_of A s.point pid p bytes (k ∙ ap (λ (y : Entry). Some y) i))))
     step (entries.Refused p) i k f g px cx = quiet (subst (λ (y : Entry). after A s y ≡ noted s y) (sym i) (refused_after A s p))
     step (entries.Sleeps p) i k f g px cx = subst (λ (y : Entry). Leaves s.point.flat (after A s y).point.flat pid) (sym i)
         (sleeps_leave A s p (record { pid = pid; now = d.now; runs = d.runs; ends = tt; unrefused = f; unsettling = g; next = k ∙ ap (λ (y : Entry). Some y) i }) (sym (own p px)) r)
@@ -247,7 +256,8 @@ turn_begins A s p (Acts pid now r w a) = by (acted A s pid (entries.Turn p) a)
 turn_begins A s p (ComesIn pid e c i) = absurd cc
 turn_begins A s p (Interrupts e k i) = absurd cc
 turn_begins A s p (Moves count e k l w i) = absurd (subst IsPaging (sym i) (move_paging s.place (locked A s)))
-turn_begins A s p (PutsOut pid e k i) = absurd (unit_case (λ (x : Entry). entries.Turn p ≡ x → ⊥) s.place pid (space_of_process (process_of s.point.flat pid)) (λ t ts h z. absurd cc) (λ v a h k z. absurd cc) (λ a h z. absurd cc) i)
+turn_begins A s p (PutsOut pid e k i) =
+    absurd (unit_case (λ (x : Entry). entries.Turn p ≡ x → ⊥) s.place pid (space_of_process (process_of s.point.flat pid)) (λ t ts h z. absurd cc) (λ v a h k z. absurd cc) (λ a h z. absurd cc) i)
 turn_begins A s p (Notes e k i) = absurd cc
 turn_begins A s p (Begins e k i) = record { clear = e; over = k; next = i }
 
@@ -262,7 +272,8 @@ turn_next A s p l h = go (nat_lt s.count A.limit) (nat_lt s.lines (length A.line
     turn None e = absurd cc
     turn (Some q) e = cc
 
-    go : (a b : Bool) → nat_lt s.count A.limit ≡ a → nat_lt s.lines (length A.lines) ≡ b → when a (line_or_turn s b) ≡ Some (entries.Turn p) → (s.count < A.limit) × (next_turned s.point.flat (last_turned s.mark) ≡ Some p)
+    go : (a b : Bool) → nat_lt s.count A.limit ≡ a → nat_lt s.lines (length A.lines) ≡ b → when a (line_or_turn s b) ≡ Some (entries.Turn p)
+        → (s.count < A.limit) × (next_turned s.point.flat (last_turned s.mark) ≡ Some p)
     go false b x y e = absurd cc
     go true true x y e = absurd (let z = less s.lines (length A.lines) y in omega arith)
     go true false x y e = (less s.count A.limit x, turn (next_turned s.point.flat (last_turned s.mark)) e)
@@ -277,7 +288,8 @@ ready_found F above p distinct h = go (find (λ (q : Process). is_ready q && nat
     go : (o : Option Process) → find (λ (q : Process). is_ready q && nat_lt above q.pid) F.processes ≡ o → pid_if o ≡ Some p → can_step F p ≡ true
     go None e k = absurd cc
     go (Some z) e k = subst (λ (n : ℕ). can_step F n ≡ true) (number z k)
-        (ap ready_if (found_by_number (λ (q : Process). is_ready q && nat_lt above q.pid) F.processes z distinct e) ∙ (and_parts (is_ready z) (nat_lt above z.pid) (found_passes (λ (q : Process). is_ready q && nat_lt above q.pid) F.processes z e)).0)
+        (ap ready_if (found_by_number (λ (q : Process). is_ready q && nat_lt above q.pid) F.processes z distinct e)
+        ∙ (and_parts (is_ready z) (nat_lt above z.pid) (found_passes (λ (q : Process). is_ready q && nat_lt above q.pid) F.processes z e)).0)
 
 turned_ready : (F : FlatState) (last p : ℕ) → Rattle.flat_state.specs.Numbers.AllDistinct (Rattle.flat_state.specs.Numbers.pids_of F)
     → next_turned F last ≡ Some p → can_step F p ≡ true
@@ -302,7 +314,8 @@ turn_goes A s pid since r m c steps l d h = by (is_out s.place pid) refl (sym (a
     all true true false a b c = absurd cc
 
     goes : goes_on A s pid (since + turn_instructions) ≡ true
-    goes = all (can_step s.point.flat pid) (nat_lt s.count A.limit) (nat_lt s.count (since + turn_instructions)) steps (below s.count A.limit l) (below s.count (since + turn_instructions) (omega (arith, c)))
+    goes = all (can_step s.point.flat pid) (nat_lt s.count A.limit) (nat_lt s.count (since + turn_instructions)) steps (below s.count A.limit l)
+        (below s.count (since + turn_instructions) (omega (arith, c)))
 
     runs : is_out s.place pid ≡ false → Runs A s pid true
     runs o = record { clear = d; on = subst (λ (x : Mark). GoesOn A s x pid true) (sym m) (refl, goes); resident = o }
@@ -387,7 +400,8 @@ idle_turns A (u ∷ us) s t k images r l f n i = elim (unit_kind u n.0) [
     count : (after A s u).count ≡ s.count
     count = omega (arith, after_count A s u, none_counted u n.0)
 
-    turned : ((j : ℕ) → Idle A (after A s u) j → turns_of us + j ≤ ready_count (after A s u).point.flat.processes) → (p : ℕ) → u ≡ entries.Turn p → Idle A s k → turns_of (u ∷ us) + k ≤ ready_count s.point.flat.processes
+    turned : ((j : ℕ) → Idle A (after A s u) j → turns_of us + j ≤ ready_count (after A s u).point.flat.processes) → (p : ℕ) → u ≡ entries.Turn p → Idle A s k
+        → turns_of (u ∷ us) + k ≤ ready_count s.point.flat.processes
     turned on p e x =
         let b : Turns A s p = turn_begins A s p (subst (Kind A s) e (kind_of A s u f.0)) in
         let m = turn_next A s p l b.next in
@@ -404,7 +418,8 @@ idle_turns A (u ∷ us) s t k images r l f n i = elim (unit_kind u n.0) [
         by (Free j) y b c = omega (arith, j)
         by (Held pid since j mk sc st) y b c = absurd (turn_goes A s pid since r mk sc st c b.clear b.over)
 
-    other : ((j : ℕ) → Idle A (after A s u) j → turns_of us + j ≤ ready_count (after A s u).point.flat.processes) → (o : Option ℕ) → process_of_entry u ≡ o → begins_stretch u ≡ false → turns u ≡ 0 → Idle A s k → turns_of (u ∷ us) + k ≤ ready_count s.point.flat.processes
+    other : ((j : ℕ) → Idle A (after A s u) j → turns_of us + j ≤ ready_count (after A s u).point.flat.processes) → (o : Option ℕ) → process_of_entry u ≡ o → begins_stretch u ≡ false → turns u ≡ 0
+        → Idle A s k → turns_of (u ∷ us) + k ≤ ready_count s.point.flat.processes
     other on None e b z (Free j) =
         let point : (after A s u).point ≡ s.point = plain_point A s u e in
         let y = on 0 (Free refl) in
@@ -464,7 +479,8 @@ many_behind A s u r l h = go (process_of_entry u) refl
         let k = step_is A s.point.flat st.pid (is_refused s.point.last st.pid) w.process w.space w.here w.holds in
         let room : RoomFor (apply_writes s.point.flat st.pid (step_at A s.point st.pid).writes) (step_at A s.point st.pid).change =
         subst (λ (S : Step). RoomFor (apply_writes s.point.flat st.pid S.writes) S.change) (sym k)
-        (subst (λ (x : ℕ). RoomFor (apply_writes s.point.flat x (step_of A.images s.point.flat w.process w.space (is_refused s.point.last st.pid) (instruction_in w.space q.regs)).writes) (step_of A.images s.point.flat w.process w.space (is_refused s.point.last st.pid) (instruction_in w.space q.regs)).change) n
+        (subst (λ (x : ℕ). RoomFor (apply_writes s.point.flat x (step_of A.images s.point.flat w.process w.space (is_refused s.point.last st.pid) (instruction_in w.space q.regs)).writes)
+        (step_of A.images s.point.flat w.process w.space (is_refused s.point.last st.pid) (instruction_in w.space q.regs)).change) n
         (of_room A.images s.point.flat w.process w.space (is_refused s.point.last st.pid) (instruction_in w.space q.regs))) in
         let m = many_written s.point.flat st.pid (step_at A s.point st.pid).writes in
         subst (λ (F : FlatState). length F.processes ≤ 64) (sym (stepped_by A s u st r))
@@ -472,7 +488,8 @@ many_behind A s u r l h = go (process_of_entry u) refl
 
     by : (pid : ℕ) (now : Bool) → Runs A s pid now → Acted A s pid u → length (after A s u).point.flat.processes ≤ 64
     by pid now run (Settles i) = same (after A s u).point.flat (ap (λ (x : Point). x.flat) (plain_point A s u (ap process_of_entry i)))
-    by pid now run (Refuses i) = subst (λ (y : Entry). length (after A s y).point.flat.processes ≤ 64) (sym i) (subst (λ (t : State). length t.point.flat.processes ≤ 64) (sym (refused_after A s pid)) l)
+    by pid now run (Refuses i) =
+        subst (λ (y : Entry). length (after A s y).point.flat.processes ≤ 64) (sym i) (subst (λ (t : State). length t.point.flat.processes ≤ 64) (sym (refused_after A s pid)) l)
     by pid now run (Steps f g i) = elim (Rattle.run_laws.proofs.Flows.steps_shape A s.point pid u i) [
       | inl e ↦ stepped pid (record { pid = pid; now = now; runs = run; ends = e; unrefused = f; unsettling = g; next = i })
       | inr e ↦ subst (λ (y : Entry). length (after A s y).point.flat.processes ≤ 64) (sym e.1)

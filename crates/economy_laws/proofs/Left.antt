@@ -186,7 +186,8 @@ locked_is A s pid c d = locked_on A s pid (ap running c.mark) d
 pub split_there : (A : Inputs) (s : State) (pid : ℕ) (before : List Page) (q : Page) → IsRun A s
     → Splits s.place (touched A s.point.flat pid) before q → IsThere s.place q
 split_there A s pid before q r k =
-    let here : Present s.place q = each_split (Present s.place) before q k.behind (subst (EachPage (Present s.place)) k.whole (touched_present A s.point.flat s.place s.holdings pid r.numbers r.texts r.placed)) in
+    let here : Present s.place q =
+    each_split (Present s.place) before q k.behind (subst (EachPage (Present s.place)) k.whole (touched_present A s.point.flat s.place s.holdings pid r.numbers r.texts r.placed)) in
     here.there
 
 pub split_short : (p : Placement) (pages before : List Page) (q : Page) → Splits p pages before q → length before + 1 ≤ length pages
@@ -254,7 +255,8 @@ pub record ActLeft (A : Inputs) (s : State) (pid : ℕ) (n m : ℕ) : Type 0 whe
 pub record Left (A : Inputs) (s : State) (pid : ℕ) (b : Bool) (n m : ℕ) : Type 0 where
   pub start : (q : Page) (ds : List Due) → s.place.due ≡ Start q ∷ ds → (ds ≡ []) × StartLeft b s.place n m
   pub copied : (q parent : Page) (ds : List Due) → s.place.due ≡ CopyOf q parent ∷ ds
-      → AllCopies ds × (is_valid (state_of s.place parent) ≡ false → BringLeft b s.place parent n m) × (is_valid (state_of s.place parent) ≡ true → CopyLeft b s.place parent n m)
+      → AllCopies ds × (is_valid (state_of s.place parent) ≡ false → BringLeft b s.place parent n m)
+      × (is_valid (state_of s.place parent) ≡ true → CopyLeft b s.place parent n m)
   pub comes : s.place.due ≡ [] → is_out s.place pid ≡ true → (length s.place.transfers + 194 ≤ n) × (32 ≤ m)
   pub page : (q : Page) → s.place.due ≡ [] → is_out s.place pid ≡ false → can_step s.point.flat pid ≡ true → wanted A s ≡ Some q → PageLeft A s pid b q n m
   pub acts : s.place.due ≡ [] → is_out s.place pid ≡ false → can_step s.point.flat pid ≡ true → wanted A s ≡ None → ActLeft A s pid n m
@@ -270,12 +272,14 @@ pub record Next (A : Inputs) (s : State) (pid : ℕ) (b : Bool) (u : Entry) (n m
 -- where nothing is due
 pub ready : (A : Inputs) (s : State) (pid : ℕ) (b : Bool) (n m : ℕ) → FewTouched A → IsRun A s → IsClosing A s pid → s.place.due ≡ []
     → (is_out s.place pid ≡ true → (length s.place.transfers + 194 ≤ n) × (32 ≤ m))
-    → (is_out s.place pid ≡ false → (length s.place.transfers + 5 * (32 - length (before_absent s.place (touched A s.point.flat pid))) + (32 - length (touched A s.point.flat pid)) + 1 ≤ n) × (32 - length (before_absent s.place (touched A s.point.flat pid)) ≤ m))
+    → (is_out s.place pid ≡ false → (length s.place.transfers + 5 * (32 - length (before_absent s.place (touched A s.point.flat pid)))
+    + (32 - length (touched A s.point.flat pid)) + 1 ≤ n) × (32 - length (before_absent s.place (touched A s.point.flat pid)) ≤ m))
     → Left A s pid b n m
 ready A s pid b n m few r c d out room =
     let pages : List Page = touched A s.point.flat pid in
     let wants : (q : Page) → is_out s.place pid ≡ false → wanted A s ≡ Some q → PageLeft A s pid b q n m = λ q o e.
-    let k : Splits s.place (touched A s.point.flat pid) (before_absent s.place (touched A s.point.flat pid)) q = split_absent s.place (touched A s.point.flat pid) q (sym (wanted_is A s pid c d) ∙ e) in
+    let k : Splits s.place (touched A s.point.flat pid) (before_absent s.place (touched A s.point.flat pid)) q =
+    split_absent s.place (touched A s.point.flat pid) q (sym (wanted_is A s pid c d) ∙ e) in
     let l = split_short s.place (touched A s.point.flat pid) (before_absent s.place (touched A s.point.flat pid)) q k in
     let f = few s pid r in
     let g = room o in
@@ -289,7 +293,8 @@ ready A s pid b n m few r c d out room =
       takers = omega (arith, g.1);
     } in
     let does : is_out s.place pid ≡ false → wanted A s ≡ None → ActLeft A s pid n m = λ o e.
-    let k : before_absent s.place (touched A s.point.flat pid) ≡ touched A s.point.flat pid = all_before s.place (touched A s.point.flat pid) (none_absent s.place (touched A s.point.flat pid) (sym (wanted_is A s pid c d) ∙ e)) in
+    let k : before_absent s.place (touched A s.point.flat pid) ≡ touched A s.point.flat pid =
+    all_before s.place (touched A s.point.flat pid) (none_absent s.place (touched A s.point.flat pid) (sym (wanted_is A s pid c d) ∙ e)) in
     let l = ap length k in
     let g = room o in
     record {

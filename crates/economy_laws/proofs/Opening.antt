@@ -63,7 +63,8 @@ one_copy child parent _ = tt
 
 from_copies : (child parent : ℕ → Page) (v : ℕ) (xs : List Slot) → AllCopies (copies_from child parent v xs)
 from_copies child parent v [] = tt
-from_copies child parent v (x ∷ xs) = all_both (copy_due (child v) (parent v) x.state) (copies_from child parent (v + 1) xs) (one_copy (child v) (parent v) x.state) (from_copies child parent (v + 1) xs)
+from_copies child parent v (x ∷ xs) =
+    all_both (copy_due (child v) (parent v) x.state) (copies_from child parent (v + 1) xs) (one_copy (child v) (parent v) x.state) (from_copies child parent (v + 1) xs)
 
 exec_opens : (borrowed : Bool) (p : Placement) (next image sid : ℕ) (facts : Option Image) → p.due ≡ []
     → Opens (give_up_unless borrowed (enter_image p next image facts) sid).due
@@ -73,8 +74,10 @@ exec_opens borrowed p next image sid (Some facts) e = NewStack (Stack next 0) (u
 change_opens : (images : List Image) (p : Placement) (pid sid : ℕ) (borrowed : Bool) (next at : ℕ) (change : Change) → p.due ≡ []
     → Opens (place_change images p pid sid borrowed next at change).due
 change_opens images p pid sid borrowed next at (Resize d s) e = Nothing ((drop_all_rest (dropped_pages p sid d s) p).1 ∙ e)
-change_opens images p pid sid borrowed next at (Fork child) e = copies_open (copies_from (Data next) (Data sid) 0 (slots_of p (Data sid 0)) ++ copies_from (Stack next) (Stack sid) 0 (slots_of p (Stack sid 0)))
-    (all_both (copies_from (Data next) (Data sid) 0 (slots_of p (Data sid 0))) (copies_from (Stack next) (Stack sid) 0 (slots_of p (Stack sid 0))) (from_copies (Data next) (Data sid) 0 (slots_of p (Data sid 0))) (from_copies (Stack next) (Stack sid) 0 (slots_of p (Stack sid 0))))
+change_opens images p pid sid borrowed next at (Fork child) e =
+    copies_open (copies_from (Data next) (Data sid) 0 (slots_of p (Data sid 0)) ++ copies_from (Stack next) (Stack sid) 0 (slots_of p (Stack sid 0)))
+    (all_both (copies_from (Data next) (Data sid) 0 (slots_of p (Data sid 0))) (copies_from (Stack next) (Stack sid) 0 (slots_of p (Stack sid 0)))
+    (from_copies (Data next) (Data sid) 0 (slots_of p (Data sid 0))) (from_copies (Stack next) (Stack sid) 0 (slots_of p (Stack sid 0))))
 change_opens images p pid sid borrowed next at (Exec image top) e = exec_opens borrowed p next image sid (facts_numbered images image) e
 change_opens images p pid sid borrowed next at (End status) e = Nothing (unless_due borrowed p sid ∙ e)
 change_opens images p pid sid borrowed next at _ e = Nothing e
@@ -94,8 +97,10 @@ turn_clear A s p (Notes e k i) = e
 turn_clear A s p (Begins e k i) = e
 
 step_opens : (A : Inputs) (s : State) (pid : ℕ) (u : Entry) → s.place.due ≡ []
-    → Opens (place_change (facts_of A.images) (touch_all s.place (pages_written s.point.flat pid (step_at A s.point pid))) pid (space_of_process (process_of s.point.flat pid)) (is_borrower s.point.flat.processes pid) s.point.flat.next_sid (place_at s u) (step_at A s.point pid).change).due
-step_opens A s pid u e = change_opens (facts_of A.images) (touch_all s.place (pages_written s.point.flat pid (step_at A s.point pid))) pid (space_of_process (process_of s.point.flat pid)) (is_borrower s.point.flat.processes pid) s.point.flat.next_sid (place_at s u) (step_at A s.point pid).change
+    → Opens (place_change (facts_of A.images) (touch_all s.place (pages_written s.point.flat pid (step_at A s.point pid))) pid (space_of_process
+    (process_of s.point.flat pid)) (is_borrower s.point.flat.processes pid) s.point.flat.next_sid (place_at s u) (step_at A s.point pid).change).due
+step_opens A s pid u e = change_opens (facts_of A.images) (touch_all s.place (pages_written s.point.flat pid (step_at A s.point pid))) pid (space_of_process (process_of s.point.flat pid))
+    (is_borrower s.point.flat.processes pid) s.point.flat.next_sid (place_at s u) (step_at A s.point pid).change
     (touched_due (pages_written s.point.flat pid (step_at A s.point pid)) s.place ∙ e)
 
 pub opens : (A : Inputs) (s : State) (u : Entry) → next_unit A s ≡ Some u → begins_stretch u ≡ true → Opens (after A s u).place.due
@@ -109,12 +114,19 @@ opens A s _ h b = absurd cc
 -- what is left of a stretch at its beginning
 first_left : (A : Inputs) (t : State) (pid : ℕ) (b : Bool) → FewTouched A → IsRun A t → IsClosing A t pid → Opens t.place.due → Left A t pid b 218 33
 first_left A t pid b few r c (Nothing e) = let l = sixteen A t r.placed in ready A t pid b 218 33 few r c e (λ o. (omega arith, omega arith)) (λ o. (omega arith, omega arith))
-first_left A t pid b few r c (NewStack q e) = let l = sixteen A t r.placed in starting_left A t pid b 218 33 q e (record { x = length t.place.transfers + 2; left = force_new b t.place [] (owns A t r.placed); some = omega arith; takers = omega arith })
+first_left A t pid b few r c (NewStack q e) = let l = sixteen A t r.placed in
+    starting_left A t pid b 218 33 q e (record { x = length t.place.transfers + 2; left = force_new b t.place [] (owns A t r.placed); some = omega arith; takers = omega arith })
 first_left A t pid b few r c (Children q parent es e a) =
     let l = sixteen A t r.placed in
     let du : IsDue t.place q (CopyOf q parent) = source_of A t q parent es r e in
     copying_left A t pid b 218 33 q parent es e a
-    (λ z. record { x = length t.place.transfers + 5; y = 1; left = serve_new b t.place (parent ∷ []) parent (owns A t r.placed) (state_there t.place parent (du.source).1); some = omega arith; takers = omega arith })
+    (λ z. record {
+      x = length t.place.transfers + 5;
+      y = 1;
+      left = serve_new b t.place (parent ∷ []) parent (owns A t r.placed) (state_there t.place parent (du.source).1);
+      some = omega arith;
+      takers = omega arith;
+    })
     (λ z. record { x = length t.place.transfers + 2; left = force_new b t.place (parent ∷ []) (owns A t r.placed); some = omega arith; takers = omega arith })
 
 pub few_touched : (A : Inputs) → FewTouched A

@@ -41,7 +41,8 @@ sleeps_idle images G pid regs = go (process_of G pid) refl
     found : (p q : Process) → process_of G pid ≡ Some p → q.pid ≡ p.pid → is_ready q ≡ false → can_step (with_process G q) pid ≡ false
     found p q e k z =
         let n : q.pid ≡ pid = k ∙ same_pid p e in
-        subst (λ (x : ℕ). can_step (with_process G q) x ≡ false) n (ap ready_if (found_is (replaced G.processes q) q.pid ∙ replaced_at G.processes p q (sym (found_is G.processes q.pid) ∙ ap (process_of G) n ∙ e)) ∙ z)
+        subst (λ (x : ℕ). can_step (with_process G q) x ≡ false) n
+        (ap ready_if (found_is (replaced G.processes q) q.pid ∙ replaced_at G.processes p q (sym (found_is G.processes q.pid) ∙ ap (process_of G) n ∙ e)) ∙ z)
 
     held : (p : Process) → process_of G pid ≡ Some p → (h : Holding) → p.holding ≡ h → can_step (changed_by images G (record p { regs = regs }) Sleep h) pid ≡ false
     held p e (Holds s) k = found p (record p { regs = regs; asleep = true }) e refl refl
@@ -88,7 +89,8 @@ does A s u pid h e = go (kind_of A s u h)
 slept_place : (A : Inputs) (s : State) (pid : ℕ) → (step_at A s.point pid).change ≡ Sleep
     → (after A s (entries.Sleeps pid)).place ≡ touch_all s.place (pages_written s.point.flat pid (step_at A s.point pid))
 unfolding after
-slept_place A s pid e = ap (place_change (facts_of A.images) (touch_all s.place (pages_written s.point.flat pid (step_at A s.point pid))) pid (space_of_process (process_of s.point.flat pid)) (is_borrower s.point.flat.processes pid) s.point.flat.next_sid (place_at s (entries.Sleeps pid))) e
+slept_place A s pid e = ap (place_change (facts_of A.images) (touch_all s.place (pages_written s.point.flat pid (step_at A s.point pid))) pid (space_of_process (process_of s.point.flat pid))
+    (is_borrower s.point.flat.processes pid) s.point.flat.next_sid (place_at s (entries.Sleeps pid))) e
 
 pub sleep_stops : (A : Inputs) → SleepStops A
 sleep_stops A s pid r h = by (acted A s pid (entries.Sleeps pid) d.act)
@@ -109,9 +111,11 @@ sleep_stops A s pid r h = by (acted A s pid (entries.Sleeps pid) d.act)
         let pl = slept_place A s pid e in
         let p : Process = x.process in
         let n : p.pid ≡ pid = number_of_found s.point.flat.processes pid x.process x.here in
-        let is = stepped_flat A s (entries.Sleeps pid) st ∙ form.after ∙ ap (apply_change A.images (apply_writes s.point.flat p.pid (step_at A s.point pid).writes) p.pid (step_at A s.point pid).regs) e in
+        let is =
+        stepped_flat A s (entries.Sleeps pid) st ∙ form.after ∙ ap (apply_change A.images (apply_writes s.point.flat p.pid (step_at A s.point pid).writes) p.pid (step_at A s.point pid).regs) e in
         record {
-          idle = ap (λ (F : FlatState). can_step F pid) is ∙ subst (λ (y : ℕ). can_step (apply_change A.images (apply_writes s.point.flat p.pid (step_at A s.point pid).writes) p.pid (step_at A s.point pid).regs Sleep) y ≡ false) n
+          idle = ap (λ (F : FlatState). can_step F pid) is
+              ∙ subst (λ (y : ℕ). can_step (apply_change A.images (apply_writes s.point.flat p.pid (step_at A s.point pid).writes) p.pid (step_at A s.point pid).regs Sleep) y ≡ false) n
               (sleeps_idle A.images (apply_writes s.point.flat p.pid (step_at A s.point pid).writes) p.pid (step_at A s.point pid).regs);
           clear = ap (λ (p : Placement). p.due) pl ∙ touched_due (pages_written s.point.flat pid (step_at A s.point pid)) s.place ∙ run.clear;
           resident = λ o. ap (λ (p : Placement). is_out p pid) pl ∙ touched_out (pages_written s.point.flat pid (step_at A s.point pid)) s.place pid ∙ o;

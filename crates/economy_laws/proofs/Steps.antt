@@ -60,7 +60,8 @@ entries_some : (A : Inputs) (F : FlatState) (pid : ℕ) (refused : Bool) → can
 entries_some A F pid refused c h =
     let x : Stepper F pid = stepper F pid c in
     let q : Process = x.process in
-    of_some A.images F x.process x.space refused (instruction_in x.space q.regs) (λ a w e. never_misses x.space (instruction q.regs) a w e) (sym (ap (λ (S : Step). S.entries) (step_is A F pid refused x.process x.space x.here x.holds)) ∙ h)
+    of_some A.images F x.process x.space refused (instruction_in x.space q.regs) (λ a w e. never_misses x.space (instruction q.regs) a w e)
+    (sym (ap (λ (S : Step). S.entries) (step_is A F pid refused x.process x.space x.here x.holds)) ∙ h)
 
 -- A process that runs acts.
 pub act_some : (A : Inputs) (s : State) (pid : ℕ) (now : Bool) → IsRun A s → Runs A s pid now → act A s pid ≡ None → ⊥

@@ -62,13 +62,18 @@ parent_of _ = Data 0 0
 
 -- a state at which a child's page is due
 pub copying_left : (A : Inputs) (s : State) (pid : ℕ) (b : Bool) (n m : ℕ) (q parent : Page) (ds : List Due) → s.place.due ≡ CopyOf q parent ∷ ds → AllCopies ds
-    → (is_valid (state_of s.place parent) ≡ false → BringLeft b s.place parent n m) → (is_valid (state_of s.place parent) ≡ true → CopyLeft b s.place parent n m) → Left A s pid b n m
+    → (is_valid (state_of s.place parent) ≡ false → BringLeft b s.place parent n m)
+    → (is_valid (state_of s.place parent) ≡ true → CopyLeft b s.place parent n m) → Left A s pid b n m
 unfolding rest_of parent_of
 copying_left A s pid b n m q parent ds d k br cp = record {
   start = λ q2 ds2 e. absurd (let z : Start q2 ∷ ds2 ≡ CopyOf q parent ∷ ds = sym e ∙ d in cc);
   copied = λ q2 parent2 ds2 e.
-      let same : parent ≡ parent2 = ap parent_of (sym d ∙ e) in
-      (subst AllCopies (ap rest_of (sym d ∙ e)) k, subst (λ (x : Page). is_valid (state_of s.place x) ≡ false → BringLeft b s.place x n m) same br, subst (λ (x : Page). is_valid (state_of s.place x) ≡ true → CopyLeft b s.place x n m) same cp);
+      let same : parent ≡ parent2 = ap parent_of (sym d ∙ e) in (
+        subst AllCopies (ap rest_of (sym d ∙ e)) k,
+        subst (λ (x : Page). is_valid (state_of s.place x) ≡ false
+            → BringLeft b s.place x n m) same br,
+        subst (λ (x : Page). is_valid (state_of s.place x) ≡ true → CopyLeft b s.place x n m) same cp,
+      );
   comes = λ e o. absurd (let z : CopyOf q parent ∷ ds ≡ [] = sym d ∙ e in cc);
   page = λ x e o w h. absurd (let z : CopyOf q parent ∷ ds ≡ [] = sym d ∙ e in cc);
   acts = λ e o w h. absurd (let z : CopyOf q parent ∷ ds ≡ [] = sym d ∙ e in cc);
@@ -160,9 +165,15 @@ bring_next A s u pid b n m q parent ds r r2 l d i =
     record {
       x = n - adds b u;
       y = m - takes u;
-      left = copying_left A (after A s u) pid (is_hands u) (n - adds b u) (m - takes u) q parent ds (ap (λ (p : Placement). p.due) pl ∙ serve_due_same s.place (parent ∷ []) parent (owns A s r.placed) ∙ d) cp.0
+      left = copying_left A (after A s u) pid (is_hands u) (n - adds b u) (m - takes u) q parent ds
+          (ap (λ (p : Placement). p.due) pl ∙ serve_due_same s.place (parent ∷ []) parent (owns A s r.placed) ∙ d) cp.0
           (λ v. record { x = nx.x; y = nx.y; left = on; some = omega (arith, nx.entries_left, k.some); takers = omega (arith, nx.takings_left, k.takers) })
-          (λ v. record { x = length (after A s u).place.transfers + 2; left = force_new (is_hands u) (after A s u).place (parent ∷ []) (owns A (after A s u) r2.placed); some = omega (arith, nx.entries_left, k.some); takers = omega (arith, nx.takings_left, k.takers) });
+          (λ v. record {
+            x = length (after A s u).place.transfers + 2;
+            left = force_new (is_hands u) (after A s u).place (parent ∷ []) (owns A (after A s u) r2.placed);
+            some = omega (arith, nx.entries_left, k.some);
+            takers = omega (arith, nx.takings_left, k.takers);
+          });
       some = omega (arith, nx.entries_left, k.some);
       takers = omega (arith, nx.takings_left, k.takers);
     }
@@ -187,8 +198,19 @@ copy_next A s u pid b n m q parent ds few r r2 c2 l d v i = go s.place.free refl
     behind (CopyOf x y ∷ xs) e a t o =
         let du : IsDue (after A s u).place x (CopyOf x y) = source_of A (after A s u) x y xs r2 e in
         copying_left A (after A s u) pid (is_hands u) (n + 7) (m + 1) x y xs e a
-        (λ z. record { x = length (after A s u).place.transfers + 5; y = 1; left = serve_new (is_hands u) (after A s u).place (y ∷ []) y (owns A (after A s u) r2.placed) (state_there (after A s u).place y (du.source).1); some = omega arith; takers = omega arith })
-        (λ z. record { x = length (after A s u).place.transfers + 2; left = force_new (is_hands u) (after A s u).place (y ∷ []) (owns A (after A s u) r2.placed); some = omega arith; takers = omega arith })
+        (λ z. record {
+          x = length (after A s u).place.transfers + 5;
+          y = 1;
+          left = serve_new (is_hands u) (after A s u).place (y ∷ []) y (owns A (after A s u) r2.placed) (state_there (after A s u).place y (du.source).1);
+          some = omega arith;
+          takers = omega arith;
+        })
+        (λ z. record {
+          x = length (after A s u).place.transfers + 2;
+          left = force_new (is_hands u) (after A s u).place (y ∷ []) (owns A (after A s u) r2.placed);
+          some = omega arith;
+          takers = omega arith;
+        })
 
     go : (fr : List ℕ) → s.place.free ≡ fr → u ≡ fill_by s.place (entries.Copy q) fr → Next A s pid b u n m
     go [] f i =
@@ -196,13 +218,19 @@ copy_next A s u pid b n m q parent ds few r r2 c2 l d v i = go s.place.free refl
         let st : Stays s.place (force s.place (parent ∷ [])) = force_stays s.place (parent ∷ []) (owns A s r.placed) in
         let nx : ForceNext b s.place (parent ∷ []) u k.x = force_next b s.place (parent ∷ []) u k.x k.left f i in
         let z = ap takes i ∙ force_takes s.place.transfers in
-        let still : is_valid (state_of (after A s u).place parent) ≡ true = subst (λ (p : Placement). is_valid (state_of p parent) ≡ true) (sym pl) (force_spares s.place (parent ∷ []) (owns A s r.placed) parent (among_first parent []) valid) in
+        let still : is_valid (state_of (after A s u).place parent) ≡ true =
+        subst (λ (p : Placement). is_valid (state_of p parent) ≡ true) (sym pl) (force_spares s.place (parent ∷ []) (owns A s r.placed) parent (among_first parent []) valid) in
         record {
           x = n - adds b u;
           y = m;
           left = copying_left A (after A s u) pid (is_hands u) (n - adds b u) m q parent ds (ap (λ (p : Placement). p.due) pl ∙ st.due ∙ d) cp.0
               (λ w. absurd (let z : true ≡ false = sym still ∙ w in cc))
-              (λ w. record { x = nx.x; left = subst (λ (p : Placement). ForceLeft (is_hands u) p (parent ∷ []) nx.x) (sym pl) nx.left; some = omega (arith, nx.entries_left, k.some); takers = k.takers });
+              (λ w. record {
+                x = nx.x;
+                left = subst (λ (p : Placement). ForceLeft (is_hands u) p (parent ∷ []) nx.x) (sym pl) nx.left;
+                some = omega (arith, nx.entries_left, k.some);
+                takers = k.takers;
+              });
           some = omega (arith, nx.entries_left, k.some);
           takers = omega (arith, z);
         }
@@ -241,11 +269,13 @@ in_next A s u pid b n m few r2 c2 l d o i =
     let t = ap (λ (p : Placement). length p.transfers) pl in
     let z = ap takes i in
     let am = adds_most b u in
-    let out : is_out (after A s u).place pid ≡ false = ap (λ (p : Placement). is_out p pid) pl ∙ ap (λ (x : Residence). x.out) (moved_own s.place pid false (place_at s u) (resident_out s.place.residents pid o)) in
+    let out : is_out (after A s u).place pid ≡ false =
+    ap (λ (p : Placement). is_out p pid) pl ∙ ap (λ (x : Residence). x.out) (moved_own s.place pid false (place_at s u) (resident_out s.place.residents pid o)) in
     record {
       x = n - 1;
       y = m;
-      left = ready A (after A s u) pid (is_hands u) (n - 1) m few r2 c2 (ap (λ (p : Placement). p.due) pl ∙ d) (λ x. absurd (let y : true ≡ false = sym x ∙ out in cc)) (λ x. (omega (arith, k.0), omega (arith, k.1)));
+      left = ready A (after A s u) pid (is_hands u) (n - 1) m few r2 c2 (ap (λ (p : Placement). p.due) pl ∙ d) (λ x. absurd (let y : true ≡ false = sym x ∙ out in cc))
+          (λ x. (omega (arith, k.0), omega (arith, k.1)));
       some = omega (arith, k.0);
       takers = omega (arith, z);
     }
@@ -285,7 +315,8 @@ page_next A s u pid b n m q few r c r2 c2 l run w i =
     there = split_there A s pid k.before q r k.splits
 
     kept : AllValid (serve_step s.place k.before q) k.before
-    kept = let x : Splits s.place (touched A s.point.flat pid) k.before q = k.splits in spared s.place (serve_step s.place k.before q) k.before x.valid (serve_spares s.place k.before q (owns A s r.placed) there) k.before (λ y e. e)
+    kept = let x : Splits s.place (touched A s.point.flat pid) k.before q =
+        k.splits in spared s.place (serve_step s.place k.before q) k.before x.valid (serve_spares s.place k.before q (owns A s r.placed) there) k.before (λ y e. e)
 
     inside : is_out (after A s u).place pid ≡ true → ⊥
     inside = stays_in A s u pid plain (λ x. paging_stays (serve_entry s.place q) pid (serve_paging s.place q) (subst (λ (y : Entry). Leaver y pid) unit x)) run.resident
@@ -309,7 +340,8 @@ page_next A s u pid b n m q few r c r2 c2 l run w i =
         record {
           x = n - adds b u;
           y = m - takes u;
-          left = ready A (after A s u) pid (is_hands u) (n - adds b u) (m - takes u) few r2 c2 due (λ o. absurd (inside o)) (λ o. (omega (arith, nx.entries_left, k.some, now), omega (arith, nx.takings_left, k.takers)));
+          left = ready A (after A s u) pid (is_hands u) (n - adds b u) (m - takes u) few r2 c2 due (λ o. absurd (inside o))
+              (λ o. (omega (arith, nx.entries_left, k.some, now), omega (arith, nx.takings_left, k.takers)));
           some = omega (arith, nx.entries_left, k.some);
           takers = omega (arith, nx.takings_left, k.takers);
         }
@@ -426,7 +458,8 @@ act_next A s u pid b n m few grows stops r c r2 c2 h nb l run w a = by (acted A 
         let point = plain_point A s u plain in
         let same : touched A (after A s u).point.flat pid ≡ touched A s.point.flat pid = ap (λ (x : Point). touched A x.flat pid) point in
         let kept = spared s.place (done s.place) (touched A s.point.flat pid) valid (done_spares s.place (touched A s.point.flat pid) (owns A s r.placed)) (touched A s.point.flat pid) (λ y e. e) in
-        let none : wanted A (after A s u) ≡ None = wanted_is A (after A s u) pid c2 due ∙ ap (first_absent (after A s u).place) same ∙ ap (λ (p : Placement). first_absent p (touched A s.point.flat pid)) pl ∙ all_present (done s.place) (touched A s.point.flat pid) kept in
+        let none : wanted A (after A s u) ≡ None = wanted_is A (after A s u) pid c2 due ∙ ap (first_absent (after A s u).place) same
+        ∙ ap (λ (p : Placement). first_absent p (touched A s.point.flat pid)) pl ∙ all_present (done s.place) (touched A s.point.flat pid) kept in
         let z = ap takes i in
         let am = adds_most b u in
         let len = ap length same in
@@ -471,7 +504,8 @@ act_next A s u pid b n m few grows stops r c r2 c2 h nb l run w a = by (acted A 
         record {
           x = n - 1;
           y = m;
-          left = ready A (after A s u) pid (is_hands u) (n - 1) m few r2 c2 g.clear (λ e. absurd (let q : true ≡ false = sym e ∙ g.resident run.resident in cc)) (λ e. (omega (arith, g.flights), omega arith));
+          left = ready A (after A s u) pid (is_hands u) (n - 1) m few r2 c2 g.clear (λ e. absurd (let q : true ≡ false = sym e ∙ g.resident run.resident in cc))
+              (λ e. (omega (arith, g.flights), omega arith));
           some = omega arith;
           takers = omega arith;
         }
@@ -496,7 +530,8 @@ act_next A s u pid b n m few grows stops r c r2 c2 h nb l run w a = by (acted A 
           takers = omega arith;
         }
 
-    stepped : (x : Entry) → u ≡ x → Rattle.flat_model.specs.Run.act A s.point pid ≡ Some u → process_of_entry x ≡ Some pid → begins_stretch x ≡ false → is_closed s.point.last ≡ false → Next A s pid b u n m
+    stepped : (x : Entry) → u ≡ x → Rattle.flat_model.specs.Run.act A s.point pid ≡ Some u → process_of_entry x ≡ Some pid → begins_stretch x ≡ false
+        → is_closed s.point.last ≡ false → Next A s pid b u n m
     stepped (entries.Out p bytes) i f e z o = waits o (ap (λ (y : Entry). is_closed (Some y)) i) (ap takes i)
         (subst (λ (y : Entry). after A s y ≡ noted s y) (sym i) (out_after A s pid p bytes (out_of A s.point pid p bytes (f ∙ ap (λ (y : Entry). Some y) i))))
     stepped (entries.Grew p pages) i f e z o = grown pages (i ∙ ap (λ (y : ℕ). entries.Grew y pages) (same_Some p pid e)) o
@@ -506,7 +541,9 @@ act_next A s u pid b n m few grows stops r c r2 c2 h nb l run w a = by (acted A 
 
     by : Acted A s pid u → Next A s pid b u n m
     by (Settles i) = settled i
-    by (Refuses i) = waits (open_last A s u pid r h (ap process_of_entry i) nb) (ap (λ (y : Entry). is_closed (Some y)) i) (ap takes i) (subst (λ (y : Entry). after A s y ≡ noted s y) (sym i) (refused_after A s pid))
+    by (Refuses i) =
+        waits (open_last A s u pid r h (ap process_of_entry i) nb) (ap (λ (y : Entry). is_closed (Some y)) i) (ap takes i)
+        (subst (λ (y : Entry). after A s y ≡ noted s y) (sym i) (refused_after A s pid))
     by (Steps f g i) = let e = steps_own A s.point pid u i in stepped u refl i e nb (open_last A s u pid r h e nb)
 
 -- Each unit.

@@ -180,7 +180,8 @@ flat_calm : (A : Inputs) (s : State) (u : Entry) (q : Page) (pid : ℕ) → proc
 unfolding after
 flat_calm A s (entries.Ran p n) q pid e m t c = place_step_calm (facts_of A.images) s.point.flat p (place_at s (entries.Ran p n)) (step_writes A s p) (step_at A s.point p).change s.place q m t c
 flat_calm A s (entries.Grew p n) q pid e m t c = place_step_calm (facts_of A.images) s.point.flat p (place_at s (entries.Grew p n)) (step_writes A s p) (step_at A s.point p).change s.place q m t c
-flat_calm A s (entries.Call p n b r0 r1) q pid e m t c = place_step_calm (facts_of A.images) s.point.flat p (place_at s (entries.Call p n b r0 r1)) (step_writes A s p) (step_at A s.point p).change s.place q m t c
+flat_calm A s (entries.Call p n b r0 r1) q pid e m t c =
+    place_step_calm (facts_of A.images) s.point.flat p (place_at s (entries.Call p n b r0 r1)) (step_writes A s p) (step_at A s.point p).change s.place q m t c
 flat_calm A s (entries.Sleeps p) q pid e m t c = place_step_calm (facts_of A.images) s.point.flat p (place_at s (entries.Sleeps p)) (step_writes A s p) (step_at A s.point p).change s.place q m t c
 flat_calm A s (entries.Ended p n) q pid e m t c = place_step_calm (facts_of A.images) s.point.flat p (place_at s (entries.Ended p n)) (step_writes A s p) (step_at A s.point p).change s.place q m t c
 flat_calm A s (entries.Out p bytes) q pid e m t c = c

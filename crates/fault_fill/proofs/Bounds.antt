@@ -66,7 +66,8 @@ serves_takings now locked q old new holds i j o there s =
 
 pub stops_short : (now : Bool) (locked : List Page) (q : Page) (old new : Standing) (holds : Option (List NamedFile)) (i j : Option (List ℕ)) (stop : Stop)
     → OwnsFrames old.kernel.place
-    → IsThere old.kernel.place q → StopsServing now locked q old new holds i j stop → length new.kernel.journal ≤ length old.kernel.journal + length old.kernel.place.transfers + 5
+    → IsThere old.kernel.place q → StopsServing now locked q old new holds i j stop
+    → length new.kernel.journal ≤ length old.kernel.journal + length old.kernel.place.transfers + 5
 stops_short now locked q old new holds i j stop o there s =
     let k : short.Served false s.units s.kernel.place q (length old.kernel.place.transfers + 5) 0 (length old.kernel.place.transfers) 1 (length s.units) =
     served_short false s.units old.kernel.place s.kernel.place locked q now o there s.leads in

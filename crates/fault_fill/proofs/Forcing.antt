@@ -27,7 +27,8 @@ still_frameless (e ∷ us) p r locked q o n h =
 
 pub room_further : (locked : List Page) (q : Page) (old next new : Standing) (holds later : Option (List NamedFile)) (i h j : Option (List ℕ))
     → NoneMade old next i h → later ≡ holds
-    → OwnsFrames old.kernel.place → NeedsFrame old.kernel.place q → Forced locked next new later h j → KeepsThrough next new later h j → Further locked q old new holds i j
+    → OwnsFrames old.kernel.place → NeedsFrame old.kernel.place q → Forced locked next new later h j → KeepsThrough next new later h j
+    → Further locked q old new holds i j
 room_further locked q old next new holds later i h j n e o needs f keeps = record {
   serves = record {
     units = d.units;
@@ -51,7 +52,8 @@ room_further locked q old next new holds later i h j n e o needs f keeps = recor
 
 pub room_stops : (locked : List Page) (q : Page) (old next new : Standing) (holds later : Option (List NamedFile)) (i h j : Option (List ℕ)) (stop : Stop)
     → NoneMade old next i h → later ≡ holds
-    → OwnsFrames old.kernel.place → NeedsFrame old.kernel.place q → StopsForcing locked next stop new later h j → StopsServing true locked q old new holds i j stop
+    → OwnsFrames old.kernel.place → NeedsFrame old.kernel.place q → StopsForcing locked next stop new later h j
+    → StopsServing true locked q old new holds i j stop
 room_stops locked q old next new holds later i h j stop n e o needs f = record {
   units = d.units;
   kernel = d.at;

@@ -56,7 +56,8 @@ wants_found m pid sid pages whole sound g =
 pub refused_growth : (m n : Standing) (pid sid pages : ℕ) → m.before ≡ m.kernel.holdings → Sound m.params.swap_blocks (record m.kernel { holdings = m.before })
     → IsGrowth m.kernel.place (space_held m.kernel pid) sid pages
     → false ≡ fits_for m.params.swap_blocks m.kernel.holdings (stack_want sid pages)
-    → n ≡ record m { kernel = note_step m.kernel (Refused pid); room = None } → KeepsFlat m.kernel n.kernel → SameEverywhere m.kernel n.kernel → GrowthRefused m n pid pages
+    → n ≡ record m { kernel = note_step m.kernel (Refused pid); room = None } → KeepsFlat m.kernel n.kernel → SameEverywhere m.kernel n.kernel
+    → GrowthRefused m n pid pages
 refused_growth m n pid sid pages whole sound g none machine keeps same = record {
   none = ap is_ok (wants_found m pid sid pages whole sound g) ∙ sym none;
   machine = machine;

@@ -197,7 +197,8 @@ both_serve now locked q old next new holds later a b c e s t = record {
   keeps = keeps_both old next new holds later a b c s.makes.beside.images (made_shaped (ground old holds locked) s.units old.kernel next.kernel a b s.makes.made) e s.keeps t.keeps;
 }
 
-pub stops_here : (now : Bool) (locked : List Page) (q : Page) (old new : Standing) (holds : Option (List NamedFile)) (before after : Option (List ℕ)) (stop : Stop)
+pub stops_here : (now : Bool) (locked : List Page) (q : Page) (old new : Standing) (holds : Option (List NamedFile))
+    (before after : Option (List ℕ)) (stop : Stop)
     → UnitStops now q old new before after stop → StopsServing now locked q old new holds before after stop
 stops_here now locked q old new holds before after stop u = record {
   units = [];
@@ -212,7 +213,8 @@ stops_here now locked q old new holds before after stop u = record {
   images = u.images;
 }
 
-pub stops_later : (now : Bool) (locked : List Page) (q : Page) (old next new : Standing) (holds later : Option (List NamedFile)) (a b c : Option (List ℕ)) (stop : Stop)
+pub stops_later : (now : Bool) (locked : List Page) (q : Page) (old next new : Standing) (holds later : Option (List NamedFile))
+    (a b c : Option (List ℕ)) (stop : Stop)
     → later ≡ holds
     → ServesTo now locked q old next holds a b → StopsServing now locked q next new later b c stop → StopsServing now locked q old new holds a c stop
 stops_later now locked q old next new holds later a b c stop e s t = record {
@@ -232,15 +234,18 @@ stops_later now locked q old next new holds later a b c stop e s t = record {
 -- After a unit.
 
 pub unit_behind : (now : Bool) (locked : List Page) (q : Page) (old new : Standing) (holds : Option (List NamedFile)) (before after : Option (List ℕ))
-    → OwnsFrames old.kernel.place → CanServe old.kernel.place q → UnitMade now locked q old new holds before after → Behind old.kernel.place new.kernel.place locked q
+    → OwnsFrames old.kernel.place → CanServe old.kernel.place q → UnitMade now locked q old new holds before after
+    → Behind old.kernel.place new.kernel.place locked q
 unit_behind now locked q old new holds before after o c u =
     let s : ServesTo now locked q old new holds before after = one_serves now locked q old new holds before after c u in
     served_behind s.units old.kernel.place new.kernel.place locked q now o c s.leads
 
 pub unit_nearer : (q : Page) (old new : Standing) (holds : Option (List NamedFile)) (before after : Option (List ℕ))
-    → OwnsFrames old.kernel.place → CanServe old.kernel.place q → UnitMade false [] q old new holds before after → near new.kernel.place q < near old.kernel.place q
+    → OwnsFrames old.kernel.place → CanServe old.kernel.place q → UnitMade false [] q old new holds before after
+    → near new.kernel.place q < near old.kernel.place q
 unit_nearer q old new holds before after o c u =
-    subst (λ (p : Placement). near p q < near old.kernel.place q) (sym (served_place (ground old holds []) q false u.entry old.kernel new.kernel before u.next (due_same old.kernel.place.due q c.fresh) u.made))
+    subst (λ (p : Placement). near p q < near old.kernel.place q)
+    (sym (served_place (ground old holds []) q false u.entry old.kernel new.kernel before u.next (due_same old.kernel.place.due q c.fresh) u.made))
     (near_falls old.kernel.place q u.entry o c.there u.next)
 
 pub served_later : (answer : Served) (q : Page) (old next new : Standing) (holds later : Option (List NamedFile)) (a b c : Option (List ℕ)) → later ≡ holds

@@ -83,7 +83,8 @@ module _ (p : Placement) (core : Frames) (s : Places) (shows : ShowsSpace p core
   access_shown sid address write named image =
       ap (λ (n : ℕ). access_at s.sid s.image address (spot_at (1024 * n) (1024 * length s.«data») (1024 * length s.stack) address) write) text_size
       ∙ ap (λ (n : ℕ). access_at s.sid s.image address (spot_at (1024 * length (slots_of p (pages.Text s.image 0))) (1024 * n) (1024 * length s.stack) address) write) data_size
-      ∙ ap (λ (n : ℕ). access_at s.sid s.image address (spot_at (1024 * length (slots_of p (pages.Text s.image 0))) (1024 * length (slots_of p (pages.Data s.sid 0))) (1024 * n) address) write) stack_size
+      ∙ ap (λ (n : ℕ). access_at s.sid s.image address (spot_at (1024 * length (slots_of p (pages.Text s.image 0))) (1024 * length (slots_of p (pages.Data s.sid 0))) (1024 * n) address) write)
+      stack_size
       ∙ ap (λ (i : ℕ). access_at s.sid i address (spot_at (1024 * length (slots_of p (pages.Text i 0))) (1024 * length (slots_of p (pages.Data s.sid 0)))
       (1024 * length (slots_of p (pages.Stack s.sid 0))) address) write) image
       ∙ ap (λ (n : ℕ). access_at n (image_of p sid) address (spot_at (1024 * length (slots_of p (pages.Text (image_of p sid) 0))) (1024 * length (slots_of p (pages.Data n 0)))

@@ -18,7 +18,8 @@ IsAnswer (served.Asleep r) p q = (r ≡ q) × (is_flying (state_of p q) ≡ true
 IsAnswer served.NoFrame p q = NeedsFrame p q
 
 -- served so, and at most one unit takes frames for the page: a fill with zeros or a read
-pub record TakesOnce (now : Bool) (locked : List Page) (q : Page) (old new : Standing) (holds : Option (List NamedFile)) (before after : Option (List ℕ)) : Type 0 where
+pub record TakesOnce (now : Bool) (locked : List Page) (q : Page) (old new : Standing) (holds : Option (List NamedFile))
+    (before after : Option (List ℕ)) : Type 0 where
   pub serves : ServesTo now locked q old new holds before after
   pub takes : takings serves.units ≤ 1
 

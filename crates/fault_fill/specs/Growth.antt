@@ -73,7 +73,8 @@ pub record Grown (old new : Standing) (pid pages : ℕ) : Type 0 where
   pub finds : growth_found old pid pages ≡ Ok found
   pub process : Proc
   pub there : proc_in old.kernel pid ≡ Some process
-  pub step : new.kernel ≡ change_step (facts_named old.images) (record old.kernel { holdings = found }) pid process.regs (Grew pid pages) (growth old.kernel pid pages)
+  pub step : new.kernel
+      ≡ change_step (facts_named old.images) (record old.kernel { holdings = found }) pid process.regs (Grew pid pages) (growth old.kernel pid pages)
   pub rest : new ≡ record old { kernel = new.kernel; before = new.kernel.holdings; room = None }
   pub keeps : ChangesWhole (with_pieces old found) new pid process.regs (growth old.kernel pid pages)
 

@@ -25,7 +25,8 @@ pub record CanServe (p : Placement) (q : Page) : Type 0 where
   pub blank : is_blank (state_of p q) (filling_of p q) ≡ true → p.due ≡ []
 
 -- the next unit of serving the page was made, with the swap image before and after it
-pub record UnitMade (now : Bool) (locked : List Page) (q : Page) (old new : Standing) (holds : Option (List NamedFile)) (before after : Option (List ℕ)) : Type 0 where
+pub record UnitMade (now : Bool) (locked : List Page) (q : Page) (old new : Standing) (holds : Option (List NamedFile))
+    (before after : Option (List ℕ)) : Type 0 where
   pub entry : Entry
   pub next : serve_unit old.kernel.place q now ≡ Some entry
   pub made : MadeBy (ground old holds locked) entry old.kernel before new.kernel
@@ -43,14 +44,16 @@ pub record UnitStops (now : Bool) (q : Page) (old new : Standing) (before after 
 
 -- Units of serving the page, one after another, lead from the one machine and swap image to the other, and the flat states
 -- for which the machine stood stay so.
-pub record ServesTo (now : Bool) (locked : List Page) (q : Page) (old new : Standing) (holds : Option (List NamedFile)) (before after : Option (List ℕ)) : Type 0 where
+pub record ServesTo (now : Bool) (locked : List Page) (q : Page) (old new : Standing) (holds : Option (List NamedFile))
+    (before after : Option (List ℕ)) : Type 0 where
   pub units : List Entry
   pub leads : Serves units old.kernel.place locked q now new.kernel.place
   pub makes : Makes (ground old holds locked) units old new before after
   pub keeps : KeepsThrough old new holds before after
 
 -- Units of serving the page lead to a kernel and a swap image, and there the run stopped where the next one comes.
-pub record StopsServing (now : Bool) (locked : List Page) (q : Page) (old new : Standing) (holds : Option (List NamedFile)) (before after : Option (List ℕ)) (stop : Stop) : Type 0 where
+pub record StopsServing (now : Bool) (locked : List Page) (q : Page) (old new : Standing) (holds : Option (List NamedFile)) (before after : Option (List ℕ))
+    (stop : Stop) : Type 0 where
   pub units : List Entry
   pub kernel : Kernel
   pub image : Option (List ℕ)

@@ -109,7 +109,8 @@ pub record StopsGrowing (old new : Standing) (before after : Option (List ℕ)) 
   pub image : after ≡ before
 
 -- the run stopped while the page was served, after few entries
-pub record StopsAtPage (now : Bool) (locked : List Page) (q : Page) (old new : Standing) (holds : Option (List NamedFile)) (before after : Option (List ℕ)) (stop : Stop) : Type 0 where
+pub record StopsAtPage (now : Bool) (locked : List Page) (q : Page) (old new : Standing) (holds : Option (List NamedFile)) (before after : Option (List ℕ))
+    (stop : Stop) : Type 0 where
   pub serving : StopsServing now locked q old new holds before after stop
   pub few : length new.kernel.journal ≤ length old.kernel.journal + length old.kernel.place.transfers + 5
 

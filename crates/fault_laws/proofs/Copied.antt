@@ -106,7 +106,8 @@ copied_touched =
     ∷ Text 1 0 ∷ Data 2 0 ∷ Text 1 0 ∷ Data 2 1 ∷ Text 1 0 ∷ Text 1 0 ∷ []
 
 -- the run makes these units, and touches these pages
-copied_makes : (units_from 21 copied_run (start copied_run copied_held) ≡ copied_units) × (references_from copied_run (Some (start_point copied_run)) copied_units ≡ copied_touched)
+copied_makes : (units_from 21 copied_run (start copied_run copied_held) ≡ copied_units)
+    × (references_from copied_run (Some (start_point copied_run)) copied_units ≡ copied_touched)
 unfolding units_from more copied_run copied_held copied_image next_unit after state_after act asks held_step flat_step distinct step_accesses touched
     argument exit_reply reply_of replaced returned apply_change apply_writes argument_area start_regs spot_at kept place_all computation bytes_at store_effect
     fetch evaluations write_tests tested_effect execution execution_by instruction number_at address_of evaluation_at evaluation_through evaluation
@@ -213,7 +214,8 @@ unfolding copied_behind
 copied_follows = units_follow 21 copied_run (start copied_run copied_held) copied_units copied_makes.0 refl
 
 copied_references : references_of copied_run (appended [] copied_units) ≡ copied_touched
-copied_references = ap (references_from copied_run (Some (start_point copied_run))) (appended_units [] copied_units (all_units copied_run copied_units (start copied_run copied_held) copied_behind copied_follows)) ∙ copied_makes.1
+copied_references = ap (references_from copied_run (Some (start_point copied_run)))
+    (appended_units [] copied_units (all_units copied_run copied_units (start copied_run copied_held) copied_behind copied_follows)) ∙ copied_makes.1
 
 pub copies_matter : CopiesCount
 copies_matter = (

@@ -28,7 +28,8 @@ stepped_gain A s e pid r =
     let p : Placement = touch_all s.place qs in
     keeps_gain s.place (place_behind A s pid (step_at A s.point pid) e)
     (keeps_both s.place p (place_behind A s pid (step_at A s.point pid) e) (touch_all_keeps qs s.place)
-    (change_keeps (facts_of A.images) p pid (space_of_process (process_of s.point.flat pid)) (is_borrower s.point.flat.processes pid) s.point.flat.next_sid (place_at s e) (step_at A s.point pid).change
+    (change_keeps (facts_of A.images) p pid (space_of_process (process_of s.point.flat pid)) (is_borrower s.point.flat.processes pid) s.point.flat.next_sid (place_at s e)
+    (step_at A s.point pid).change
     (touched_new A s qs r)))
 
 flat_gain : (A : Inputs) (s : State) (u : Entry) (pid : ℕ) → IsRun A s → process_of_entry u ≡ Some pid

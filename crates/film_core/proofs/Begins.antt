@@ -56,7 +56,8 @@ pub none_found : (r : Result Holdings ℕ) (pid : ℕ) → starteds.NoSpace pid 
 none_found (Ok hs) pid e = absurd cc
 none_found (Err n) pid e = let same : pid ≡ n = cc in ap (λ (k : ℕ). let r : Result Holdings ℕ = Err k in r) (sym same)
 
-pub no_space : (result : Result Started Stop) (r : Result Holdings ℕ) (pid : ℕ) → IfOk result (λ started. started ≡ started_by r) → result ≡ Ok (starteds.NoSpace pid) → r ≡ Err pid
+pub no_space : (result : Result Started Stop) (r : Result Holdings ℕ) (pid : ℕ) → IfOk result (λ started. started ≡ started_by r)
+    → result ≡ Ok (starteds.NoSpace pid) → r ≡ Err pid
 no_space result r pid h e = none_found r pid (subst (λ (x : Result Started Stop). IfOk x (λ started. started ≡ started_by r)) e h)
 
 -- No unit makes no entry.
@@ -77,7 +78,8 @@ empty (e ∷ es) l = absurd (omega (arith, l))
 
 -- The machine stands at the start, with no entry.
 
-pub told_of : (A : Inputs) (old : Filming) (numbers : List ℕ) (lines : List Event) (holds : Option (List NamedFile)) (image : List ℕ) → IsAskedOf A old.machine numbers lines holds image → IsTold A old.machine numbers holds image
+pub told_of : (A : Inputs) (old : Filming) (numbers : List ℕ) (lines : List Event) (holds : Option (List NamedFile)) (image : List ℕ)
+    → IsAskedOf A old.machine numbers lines holds image → IsTold A old.machine numbers holds image
 told_of A old numbers lines holds image asked = record {
   starts = record { named = asked.named; first = asked.first; frames = asked.frames; blocks = asked.blocks };
   images = asked.images;
@@ -85,7 +87,8 @@ told_of A old numbers lines holds image asked = record {
   room = asked.room;
 }
 
-module _ (A : Inputs) (old new : Filming) (numbers : List ℕ) (lines : List Event) (holds : Option (List NamedFile)) (image : List ℕ) (j : Option (List ℕ)) (asked : IsAskedOf A old.machine numbers lines holds image)
+module _ (A : Inputs) (old new : Filming) (numbers : List ℕ) (lines : List Event) (holds : Option (List NamedFile)) (image : List ℕ) (j : Option (List ℕ))
+    (asked : IsAskedOf A old.machine numbers lines holds image)
     (few : length numbers ≤ 16) (unbegun : IsUnbegun old) (params : new.machine.params ≡ old.machine.params) (images : new.machine.images ≡ old.machine.images)
     (within : length new.machine.kernel.journal ≤ new.machine.params.journal) (none_taken : new.lines ≡ old.lines) (same_mark : new.mark ≡ old.mark) (none_counted : new.counted ≡ old.counted) where
   inputs : InputsOf A old.machine
@@ -100,7 +103,8 @@ module _ (A : Inputs) (old new : Filming) (numbers : List ℕ) (lines : List Eve
   no_entry : new.machine.kernel.journal ≡ []
   no_entry = empty new.machine.kernel.journal (let b = no_room in omega (arith, within, b))
 
-  module _ (hs : Holdings) (can : CanRun A hs) (us : List Entry) (t : State) (behind : List ℕ) (l : Leads A (start A hs) (machine_at_start A hs) image us t new.machine.kernel (Some behind)) (told : j ≡ Some behind) where
+  module _ (hs : Holdings) (can : CanRun A hs) (us : List Entry) (t : State) (behind : List ℕ) (l : Leads A (start A hs) (machine_at_start A hs) image us t new.machine.kernel (Some behind))
+      (told : j ≡ Some behind) where
     at_start : At A (start A hs) (machine_at_start A hs) image
     at_start = stands_at_start A hs image can asked.room
 
@@ -196,7 +200,8 @@ module _ (A : Inputs) (old new : Filming) (numbers : List ℕ) (lines : List Eve
       a_turn : 0 < old.machine.params.limit → lines ≡ [] → (pid : ℕ) → chosen_next new.machine.kernel 0 ≡ Some pid → next_unit A t ≡ None → ⊥
       a_turn some e pid n none =
           let no_lines : length A.lines ≡ t.lines = ap (λ (xs : List Event). length xs) (asked.lines_are ∙ e) ∙ ap (λ (x : State). x.lines) is_start in
-          let z : None ≡ Some (entries.Turn pid) = sym none ∙ turn_comes A t pid clear is_over.over (below some) no_lines (sym (turned_same new.machine.kernel t.point.flat 0 there.stands.keeps.coupled.tables ∙ ap (next_turned t.point.flat) (ap (λ (x : State). last_turned x.mark) is_start)) ∙ n) in cc
+          let z : None ≡ Some (entries.Turn pid) = sym none ∙ turn_comes A t pid clear is_over.over (below some) no_lines
+          (sym (turned_same new.machine.kernel t.point.flat 0 there.stands.keeps.coupled.tables ∙ ap (next_turned t.point.flat) (ap (λ (x : State). last_turned x.mark) is_start)) ∙ n) in cc
 
       no_line : 0 < old.machine.params.limit → (es : List Event) → lines ≡ es → next_unit A t ≡ None → lines ≡ []
       no_line some [] e n = e

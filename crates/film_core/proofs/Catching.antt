@@ -16,7 +16,8 @@ pub got : (r : Option (Bor Event)) (xs : List Event) (i : ℕ) → IfSome r (λ 
 got None xs i h m = sym (slice_get_past xs i m)
 got (Some x) xs i h m = sym (slice_get_read xs (length xs) i x.now refl m.0 h)
 
-pub caught : (f : Filming) (lines : List Event) (e : Entry) (taken more count : ℕ) (mark : Mark) (event : Option Event) → more ≡ entry_counts e → event ≡ slice_get lines f.lines → taken ≡ lines_behind f.lines e
+pub caught : (f : Filming) (lines : List Event) (e : Entry) (taken more count : ℕ) (mark : Mark) (event : Option Event) → more ≡ entry_counts e
+    → event ≡ slice_get lines f.lines → taken ≡ lines_behind f.lines e
     → mark ≡ mark_behind f.machine.kernel (f.counted + more) event f.mark e → count ≡ f.counted + more
     → (let new : Filming = record f { lines = taken; mark = mark; counted = count } in new ≡ caught_up f lines e)
 caught f lines e taken more count mark event m v t k c =

@@ -34,7 +34,8 @@ not_true b e f = let z : false ≡ true = sym e ∙ f in cc
 
 -- A film that isn't over stands where its journal is full and a unit comes.
 
-pub film_full : (A : Inputs) (s : State) (f : Filming) (lines : List Event) (holds : Option (List NamedFile)) (i : Option (List ℕ)) (image : List ℕ) → A.lines ≡ lines → f.over ≡ false → FilmAt A s f holds i image
+pub film_full : (A : Inputs) (s : State) (f : Filming) (lines : List Event) (holds : Option (List NamedFile)) (i : Option (List ℕ)) (image : List ℕ)
+    → A.lines ≡ lines → f.over ≡ false → FilmAt A s f holds i image
     → FullAt A s f.machine f.mark lines f.lines f.counted holds i image
 film_full A s f lines holds i image are on at = record {
   going = record {
@@ -50,7 +51,8 @@ film_full A s f lines holds i image are on at = record {
   more = λ none. not_true f.over on (at.over.1 none);
 }
 
-pub filming_full : (f : Filming) (lines : List Event) (holds : Option (List NamedFile)) (i : Option (List ℕ)) → f.over ≡ false → IsFilming f lines holds i → IsFull f.machine f.mark lines f.lines f.counted holds i
+pub filming_full : (f : Filming) (lines : List Event) (holds : Option (List NamedFile)) (i : Option (List ℕ)) → f.over ≡ false → IsFilming f lines holds i
+    → IsFull f.machine f.mark lines f.lines f.counted holds i
 filming_full f lines holds i on x = (x.inputs, x.state, x.image, film_full x.inputs x.state f lines holds i x.image x.are on x.at)
 
 -- The entry that was made.
@@ -58,7 +60,8 @@ filming_full f lines holds i on x = (x.inputs, x.state, x.image, film_full x.inp
 counts_behind : (es : List Entry) (e : Entry) → instructions_of (es ++ e ∷ []) ≡ instructions_of es + counted e
 counts_behind es e = let both = count-append es (e ∷ []) in omega (arith, both)
 
-module _ (A : Inputs) (s : State) (old : Filming) (m : Standing) (ended : Bool) (holds : Option (List NamedFile)) (i j : Option (List ℕ)) (image : List ℕ) (at : FilmAt A s old holds i image) (x : EntryMade A s old.machine m ended holds image j) where
+module _ (A : Inputs) (s : State) (old : Filming) (m : Standing) (ended : Bool) (holds : Option (List NamedFile)) (i j : Option (List ℕ)) (image : List ℕ) (at : FilmAt A s old holds i image)
+    (x : EntryMade A s old.machine m ended holds image j) where
   follows : Follows A s x.units x.state
   follows = leads_follow A s x.state old.machine.kernel m.kernel image x.units j x.leads
 
@@ -155,8 +158,10 @@ module _ (A : Inputs) (s : State) (old : Filming) (m : Standing) (ended : Bool) 
 abbrev pub CaughtUp : Filming → Filming → List Event → Type 0
 CaughtUp mid new lines = (e : Entry) → last_entry mid.machine.kernel.journal ≡ Some e → new ≡ caught_up mid lines e
 
-pub film_goes : (old new : Filming) (m : Standing) (ended : Bool) (lines : List Event) (holds : Option (List NamedFile)) (i j : Option (List ℕ)) → old.over ≡ false → HaveFewMoves lines
-    → MakesEntry old.machine m old.mark lines old.lines old.counted ended holds i j → CaughtUp (record old { machine = m; over = ended }) new lines → FilmGoes old new lines holds i j
+pub film_goes : (old new : Filming) (m : Standing) (ended : Bool) (lines : List Event) (holds : Option (List NamedFile)) (i j : Option (List ℕ))
+    → old.over ≡ false → HaveFewMoves lines
+    → MakesEntry old.machine m old.mark lines old.lines old.counted ended holds i j → CaughtUp (record old { machine = m; over = ended }) new lines
+    → FilmGoes old new lines holds i j
 film_goes old new m ended lines holds i j on few f c A s image are at =
     let x = f A s image (film_full A s old lines holds i image are on at) in
     one_more A s old m ended holds i j image at x lines are few new (c (entry A s old m ended holds i j image at x).0 (last_made A s old m ended holds i j image at x))
@@ -166,15 +171,19 @@ pub film_stops : (old : Filming) (new : Filming) (lines : List Event) (holds : O
 film_stops old new lines holds i j stop on f A s image are at = f A s image (film_full A s old lines holds i image are on at)
 
 -- the count fits
-pub film_fits : (old : Filming) (m : Standing) (ended : Bool) (lines : List Event) (holds : Option (List NamedFile)) (i j : Option (List ℕ)) → old.over ≡ false → IsFilming old lines holds i
-    → MakesEntry old.machine m old.mark lines old.lines old.counted ended holds i j → (e : Entry) → last_entry m.kernel.journal ≡ Some e → old.counted + counted e < 2 ^ 32
+pub film_fits : (old : Filming) (m : Standing) (ended : Bool) (lines : List Event) (holds : Option (List NamedFile)) (i j : Option (List ℕ)) → old.over ≡ false
+    → IsFilming old lines holds i
+    → MakesEntry old.machine m old.mark lines old.lines old.counted ended holds i j → (e : Entry) → last_entry m.kernel.journal ≡ Some e
+    → old.counted + counted e < 2 ^ 32
 film_fits old m ended lines holds i j on x f e is =
     let y = f x.inputs x.state x.image (film_full x.inputs x.state old lines holds i x.image x.are on x.at) in
-    subst (λ (u : Entry). old.counted + counted u < 2 ^ 32) (same_Some (entry x.inputs x.state old m ended holds i j x.image x.at y).0 e (sym (last_made x.inputs x.state old m ended holds i j x.image x.at y) ∙ is))
+    subst (λ (u : Entry). old.counted + counted u < 2 ^ 32)
+    (same_Some (entry x.inputs x.state old m ended holds i j x.image x.at y).0 e (sym (last_made x.inputs x.state old m ended holds i j x.image x.at y) ∙ is))
     (made_fits x.inputs x.state old m ended holds i j x.image x.at y)
 
 -- no memory is found before a unit
-pub starved_film : (old : Filming) (lines : List Event) (holds : Option (List NamedFile)) (i : Option (List ℕ)) → FilmStops old old lines holds i i stops.NoMemory
+pub starved_film : (old : Filming) (lines : List Event) (holds : Option (List NamedFile)) (i : Option (List ℕ))
+    → FilmStops old old lines holds i i stops.NoMemory
 starved_film old lines holds i A s image are at = (
   (λ e. cc),
   record {
@@ -189,10 +198,12 @@ starved_film old lines holds i A s image are at = (
   },
 )
 
-pub film_counted : (old : Filming) (lines : List Event) (holds : Option (List NamedFile)) (i : Option (List ℕ)) → IsFilming old lines holds i → instructions_of old.machine.kernel.journal ≡ old.counted
+pub film_counted : (old : Filming) (lines : List Event) (holds : Option (List NamedFile)) (i : Option (List ℕ)) → IsFilming old lines holds i
+    → instructions_of old.machine.kernel.journal ≡ old.counted
 film_counted old lines holds i x = x.at.made.lawful.count ∙ x.at.stands.count
 
-pub film_frames : (old : Filming) (lines : List Event) (holds : Option (List NamedFile)) (i : Option (List ℕ)) → IsFilming old lines holds i → 64 ≤ length old.machine.kernel.place.holds
+pub film_frames : (old : Filming) (lines : List Event) (holds : Option (List NamedFile)) (i : Option (List ℕ)) → IsFilming old lines holds i
+    → 64 ≤ length old.machine.kernel.place.holds
 film_frames old lines holds i x =
     let many = x.at.stands.machine.at.run.placed.frames in
     let same = ap (λ (p : Placement). length p.holds) x.at.stands.machine.at.stands.place in
@@ -200,8 +211,10 @@ film_frames old lines holds i x =
     omega (arith, many, same, frames)
 
 -- it has the machine with the entry
-pub film_machine : (old new : Filming) (m : Standing) (ended : Bool) (lines : List Event) (holds : Option (List NamedFile)) (i j : Option (List ℕ)) → old.over ≡ false → IsFilming old lines holds i
-    → MakesEntry old.machine m old.mark lines old.lines old.counted ended holds i j → CaughtUp (record old { machine = m; over = ended }) new lines → new.machine ≡ m
+pub film_machine : (old new : Filming) (m : Standing) (ended : Bool) (lines : List Event) (holds : Option (List NamedFile)) (i j : Option (List ℕ))
+    → old.over ≡ false → IsFilming old lines holds i
+    → MakesEntry old.machine m old.mark lines old.lines old.counted ended holds i j
+    → CaughtUp (record old { machine = m; over = ended }) new lines → new.machine ≡ m
 film_machine old new m ended lines holds i j on x f c =
     let y = f x.inputs x.state x.image (film_full x.inputs x.state old lines holds i x.image x.are on x.at) in
     ap (λ (g : Filming). g.machine) (c (entry x.inputs x.state old m ended holds i j x.image x.at y).0 (last_made x.inputs x.state old m ended holds i j x.image x.at y))

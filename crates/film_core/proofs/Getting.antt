@@ -17,18 +17,22 @@ use Rattle.film_core.specs.Ways.{WayAt, Settles, RestAt, IsUnder, Rests, StopsRe
 use Rattle.film_core.proofs.Composing.{then_lead, then_stop, then_out, leads_reached, reached_below, stands_then, leads_longer}
 use Rattle.film_core.proofs.Holding.{holders_there}
 
-pub going_holders : (m : Standing) (last : Mark) (schedule : List Event) (taken counted : ℕ) (holds : Option (List NamedFile)) (i : Option (List ℕ)) → IsGoing m last schedule taken counted holds i → HoldersStand m.kernel
+pub going_holders : (m : Standing) (last : Mark) (schedule : List Event) (taken counted : ℕ) (holds : Option (List NamedFile)) (i : Option (List ℕ))
+    → IsGoing m last schedule taken counted holds i → HoldersStand m.kernel
 going_holders m last schedule taken counted holds i (A, s, image, at) = holders_there A s m.kernel image at.stands.machine.at
 
-pub going_fits : (m : Standing) (last : Mark) (schedule : List Event) (taken counted : ℕ) (holds : Option (List NamedFile)) (i : Option (List ℕ)) → IsGoing m last schedule taken counted holds i → counted + 1 < 2 ^ 32
+pub going_fits : (m : Standing) (last : Mark) (schedule : List Event) (taken counted : ℕ) (holds : Option (List NamedFile)) (i : Option (List ℕ))
+    → IsGoing m last schedule taken counted holds i → counted + 1 < 2 ^ 32
 going_fits m last schedule taken counted holds i (A, s, image, at) =
     let few = at.stands.inputs.few in let below = reached_below A s at.reached in let same = at.stands.count in omega (arith, few, below, same)
 
-way_at : (A : Inputs) (s : State) (m : Standing) (last : Mark) (schedule : List Event) (taken counted : ℕ) (holds : Option (List NamedFile)) (i : Option (List ℕ)) (image : List ℕ) → GoesAt A s m last schedule taken counted holds i image
+way_at : (A : Inputs) (s : State) (m : Standing) (last : Mark) (schedule : List Event) (taken counted : ℕ) (holds : Option (List NamedFile))
+    (i : Option (List ℕ)) (image : List ℕ) → GoesAt A s m last schedule taken counted holds i image
     → WayAt A s m holds i image
 way_at A s m last schedule taken counted holds i image at = record { machine = at.stands.machine; told = at.stands.told; reached = at.reached }
 
-module _ (old mid : Standing) (last : Mark) (schedule : List Event) (taken counted count : ℕ) (holds : Option (List NamedFile)) (i h : Option (List ℕ)) (to : CountsTo old mid counted count) (f : Settles old mid counted count holds i h)
+module _ (old mid : Standing) (last : Mark) (schedule : List Event) (taken counted count : ℕ) (holds : Option (List NamedFile)) (i h : Option (List ℕ)) (to : CountsTo old mid counted count)
+    (f : Settles old mid counted count holds i h)
     (A : Inputs) (s : State) (image : List ℕ) (at : GoesAt A s old last schedule taken counted holds i image) where
   settled : (n : ℕ) × (count ≡ counted + n) × StepLeads A s old.kernel image n mid.kernel h
   settled = f A s image (way_at A s old last schedule taken counted holds i image at)
@@ -46,13 +50,15 @@ module _ (old mid : Standing) (last : Mark) (schedule : List Event) (taken count
     order = subst (λ (es : List Event). IsInOrder es led.state.lines last) (sym at.are) (subst (λ (n : ℕ). IsInOrder schedule n last) (sym (led.lines ∙ at.lines)) at.order);
   }
 
-pub going_under : (old mid : Standing) (last : Mark) (schedule : List Event) (taken counted count : ℕ) (holds : Option (List NamedFile)) (i h : Option (List ℕ)) → CountsTo old mid counted count
+pub going_under : (old mid : Standing) (last : Mark) (schedule : List Event) (taken counted count : ℕ) (holds : Option (List NamedFile)) (i h : Option (List ℕ))
+    → CountsTo old mid counted count
     → Settles old mid counted count holds i h → IsGoing old last schedule taken counted holds i → IsUnder mid last count holds h
 going_under old mid last schedule taken counted count holds i h to f (A, s, image, at) =
     let l = led old mid last schedule taken counted count holds i h to f A s image at in
     (A, l.state, l.leads.behind, rest_at old mid last schedule taken counted count holds i h to f A s image at)
 
-pub gets_over : (old mid new : Standing) (last : Mark) (schedule : List Event) (taken counted count more : ℕ) (holds : Option (List NamedFile)) (i h j : Option (List ℕ)) → CountsTo old mid counted count
+pub gets_over : (old mid new : Standing) (last : Mark) (schedule : List Event) (taken counted count more : ℕ) (holds : Option (List NamedFile))
+    (i h j : Option (List ℕ)) → CountsTo old mid counted count
     → Settles old mid counted count holds i h → Rests mid new last count more holds h j → GetsOver old new last schedule taken counted more holds i j
 gets_over old mid new last schedule taken counted count more holds i h j to f r A s image at =
     let l = led old mid last schedule taken counted count holds i h to f A s image at in
@@ -67,7 +73,8 @@ gets_over old mid new last schedule taken counted count more holds i h j to f r 
       turned = d.turned;
     }
 
-pub rest_stops_going : (old mid new : Standing) (last : Mark) (schedule : List Event) (taken counted count : ℕ) (holds : Option (List NamedFile)) (i h j : Option (List ℕ)) (stop : Stop) → CountsTo old mid counted count
+pub rest_stops_going : (old mid new : Standing) (last : Mark) (schedule : List Event) (taken counted count : ℕ) (holds : Option (List NamedFile))
+    (i h j : Option (List ℕ)) (stop : Stop) → CountsTo old mid counted count
     → Settles old mid counted count holds i h → StopsResting mid new last count holds h j stop → StopsGoing old new last schedule taken counted holds i j stop
 rest_stops_going old mid new last schedule taken counted count holds i h j stop to f r A s image at =
     let l = led old mid last schedule taken counted count holds i h to f A s image at in
@@ -77,7 +84,8 @@ rest_stops_going old mid new last schedule taken counted count holds i h j stop 
 
 module _ (old mid : Standing) (last : Mark) (schedule : List Event) (taken counted count turn : ℕ) (holds : Option (List NamedFile)) (i h : Option (List ℕ)) (on : StaysOn old mid count)
     (f : GetsOver old mid last schedule taken counted count holds i h) (e : turn ≡ last_turned last) where
-  past_at : (A : Inputs) (s : State) (image : List ℕ) (at : GoesAt A s old last schedule taken counted holds i image) → let d = f A s image at in OverAt A d.state mid schedule taken count turn holds h d.leads.behind
+  past_at : (A : Inputs) (s : State) (image : List ℕ) (at : GoesAt A s old last schedule taken counted holds i image) → let d =
+      f A s image at in OverAt A d.state mid schedule taken count turn holds h d.leads.behind
   past_at A s image at =
       let d = f A s image at in
       record {

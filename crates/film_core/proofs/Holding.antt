@@ -40,7 +40,8 @@ none_holds (x ∷ xs) qid q t e h a = elim (cases_eq x.pid qid) [
 ]
 
 -- the first process holds the space, and so none behind it does
-first_alone : (x : Process) (xs : List Process) (s : Space) → x.holding ≡ Holds s → AllDistinct (map sid_of (held (x ∷ xs))) → IsAbsent s.sid (map sid_of (held xs))
+first_alone : (x : Process) (xs : List Process) (s : Space) → x.holding ≡ Holds s → AllDistinct (map sid_of (held (x ∷ xs)))
+    → IsAbsent s.sid (map sid_of (held xs))
 first_alone x xs s h d = (subst (λ (o : Holding). AllDistinct (map sid_of (space_held o ++ held xs))) h d).0
 
 one_holds : (ps : List Process) (pid qid : ℕ) (p q : Process) (s t : Space) → numbered pid_of pid ps ≡ Some p → numbered pid_of qid ps ≡ Some q
@@ -71,7 +72,8 @@ record Holder (flat : FlatState) (pid sid : ℕ) : Type 0 where
   pub holds : process.holding ≡ Holds space
   pub number : space.sid ≡ sid
 
-held_by : (flat : FlatState) (pid sid : ℕ) (q : Process) (h : Holding) → numbered pid_of pid flat.processes ≡ Some q → q.holding ≡ h → life_of h ≡ HoldsSpace sid → Holder flat pid sid
+held_by : (flat : FlatState) (pid sid : ℕ) (q : Process) (h : Holding) → numbered pid_of pid flat.processes ≡ Some q → q.holding ≡ h
+    → life_of h ≡ HoldsSpace sid → Holder flat pid sid
 held_by flat pid sid q (Holds s) e h life = record { process = q; space = s; here = e; holds = h; number = let l : HoldsSpace s.sid ≡ HoldsSpace sid = life in cc }
 held_by flat pid sid q (Lends other child) e h life = absurd (let l : LendsSpace other child ≡ HoldsSpace sid = life in cc)
 held_by flat pid sid q (Zombie status) e h life = absurd (let l : Ended status ≡ HoldsSpace sid = life in cc)
@@ -89,7 +91,8 @@ holder : (k : Kernel) (flat : FlatState) (pid sid : ℕ) → SameTables k flat �
 holder k flat pid sid t life = holder_of k flat pid sid (numbered kept_pid pid k.processes) (numbered pid_of pid flat.processes) t refl refl life
 
 -- its space is there
-own : (flat : FlatState) (pid sid : ℕ) (h : Holder flat pid sid) → AllDistinct (map sid_of (held flat.processes)) → numbered sid_of sid (spaces_of flat) ≡ Some h.space
+own : (flat : FlatState) (pid sid : ℕ) (h : Holder flat pid sid) → AllDistinct (map sid_of (held flat.processes))
+    → numbered sid_of sid (spaces_of flat) ≡ Some h.space
 own flat pid sid h d =
     let number : h.process.pid ≡ pid = has_number pid_of pid flat.processes h.process h.here in
     let here : numbered pid_of h.process.pid flat.processes ≡ Some h.process = ap (λ (n : ℕ). numbered pid_of n flat.processes) number ∙ h.here in

@@ -24,7 +24,8 @@ join_two (Ran p m) (Hands n) long = refl
 join_two (Hands m) (Ran q n) long = refl
 join_two _ _ long = refl
 
-after_two : (e : Entry) (journal : List Entry) (u : Entry) → suc (length journal) < length (append_after e journal u) → append_after e journal u ≡ (e ∷ journal) ++ u ∷ []
+after_two : (e : Entry) (journal : List Entry) (u : Entry) → suc (length journal) < length (append_after e journal u)
+    → append_after e journal u ≡ (e ∷ journal) ++ u ∷ []
 after_two e [] u long = join_two e u long
 after_two e (f ∷ journal) u long = ap (λ (js : List Entry). e ∷ js) (after_two f journal u (omega (arith, long)))
 
@@ -81,7 +82,8 @@ all_behind [] journal more h = h
 all_behind (u ∷ us) journal more h = all_behind us journal (append more u) (stays_behind journal more u h)
 
 -- a unit that makes a journal longer, and others
-pub goes_behind : (journal : List Entry) (u : Entry) (us : List Entry) → length journal < length (append journal u) → Behind journal (appended (append journal u) us)
+pub goes_behind : (journal : List Entry) (u : Entry) (us : List Entry) → length journal < length (append journal u)
+    → Behind journal (appended (append journal u) us)
 goes_behind journal u us long = all_behind us journal (append journal u) (u, [], stands_behind journal u long)
 
 -- No unit makes a journal shorter.

@@ -35,10 +35,12 @@ use Rattle.film_core.proofs.Longer.{Behind, goes_behind, behind_longer}
 abbrev pub widened : Standing → Standing
 widened m = record m { params = record m.params { journal = m.params.journal + 1 } }
 
-pub widened_by : (old mid : Standing) (p : Params) → p ≡ old.params → (let m : Standing = record old { params = record old.params { journal = p.journal + 1 } } in mid ≡ m) → mid ≡ widened old
+pub widened_by : (old mid : Standing) (p : Params) → p ≡ old.params
+    → (let m : Standing = record old { params = record old.params { journal = p.journal + 1 } } in mid ≡ m) → mid ≡ widened old
 widened_by old mid p e h = h ∙ ap (λ (x : Params). let m : Standing = record old { params = record old.params { journal = x.journal + 1 } } in m) e
 
-wide_stands : (A : Inputs) (s : State) (m : Standing) (holds : Option (List NamedFile)) (i : Option (List ℕ)) (image : List ℕ) (counted : ℕ) → StandsIn A s m holds i image counted
+wide_stands : (A : Inputs) (s : State) (m : Standing) (holds : Option (List NamedFile)) (i : Option (List ℕ)) (image : List ℕ) (counted : ℕ)
+    → StandsIn A s m holds i image counted
     → StandsIn A s (widened m) holds i image counted
 wide_stands A s m holds i image counted st = record {
   machine = record { at = st.machine.at; images = st.machine.images; blocks = st.machine.blocks };
@@ -49,7 +51,8 @@ wide_stands A s m holds i image counted st = record {
   count = st.count;
 }
 
-wide_goes : (A : Inputs) (s : State) (old mid : Standing) (mark : Mark) (lines : List Event) (taken counted : ℕ) (holds : Option (List NamedFile)) (i : Option (List ℕ)) (image : List ℕ) → mid ≡ widened old
+wide_goes : (A : Inputs) (s : State) (old mid : Standing) (mark : Mark) (lines : List Event) (taken counted : ℕ) (holds : Option (List NamedFile))
+    (i : Option (List ℕ)) (image : List ℕ) → mid ≡ widened old
     → GoesAt A s old mark lines taken counted holds i image → GoesAt A s mid mark lines taken counted holds i image
 wide_goes A s old mid mark lines taken counted holds i image e at = subst (λ (m : Standing). GoesAt A s m mark lines taken counted holds i image) (sym e) (record {
   stands = wide_stands A s old holds i image counted at.stands;
@@ -60,14 +63,16 @@ wide_goes A s old mid mark lines taken counted holds i image e at = subst (λ (m
   order = at.order;
 })
 
-pub wide_going : (old mid : Standing) (mark : Mark) (lines : List Event) (taken counted : ℕ) (holds : Option (List NamedFile)) (i : Option (List ℕ)) → mid ≡ widened old
+pub wide_going : (old mid : Standing) (mark : Mark) (lines : List Event) (taken counted : ℕ) (holds : Option (List NamedFile)) (i : Option (List ℕ))
+    → mid ≡ widened old
     → ((A : Inputs) × (s : State) × (image : List ℕ) × FullAt A s old mark lines taken counted holds i image)
     → (A : Inputs) × (s : State) × (image : List ℕ) × GoesAt A s mid mark lines taken counted holds i image
 wide_going old mid mark lines taken counted holds i e (A, s, image, full) = (A, s, image, wide_goes A s old mid mark lines taken counted holds i image e full.going)
 
 -- Units that lead to where none comes make a journal longer.
 
-grown : (A : Inputs) (s t : State) (k l : Kernel) (image behind : List ℕ) (us : List Entry) (j : Option (List ℕ)) → StandsAt A s k image → StandsAt A t l behind → Leads A s k image us t l j
+grown : (A : Inputs) (s t : State) (k l : Kernel) (image behind : List ℕ) (us : List Entry) (j : Option (List ℕ)) → StandsAt A s k image → StandsAt A t l behind
+    → Leads A s k image us t l j
     → l.journal ≡ appended k.journal us
 grown A s t k l image behind us j at there a =
     there.journal

@@ -41,7 +41,8 @@ use Rattle.film_core.proofs.Longer.{same_behind}
 
 -- One entry more is made by its own units.
 
-pub one_follows : (A : Inputs) (s t : State) (us : List Entry) (e : Entry) → Follows A s us t → t.journal ≡ s.journal ++ e ∷ [] → Follows A s (units_with e []) t
+pub one_follows : (A : Inputs) (s t : State) (us : List Entry) (e : Entry) → Follows A s us t → t.journal ≡ s.journal ++ e ∷ []
+    → Follows A s (units_with e []) t
 one_follows A s t us e f j =
     let behind : t.journal ≡ appended s.journal us = ap (λ (x : State). x.journal) (sym (follows_state A us s t f)) ∙ units_journal A s us in
     let all : units_of (appended s.journal us) ≡ units_of s.journal ++ us = appended_units s.journal us (all_units A us s t f) in
@@ -255,7 +256,8 @@ asked_order k lines taken count events.Swapper few = by (swap_choice k.place (ru
     by Rattle.page_model.specs.Swapper.Nothing = tt
 asked_order k lines taken count events.Audit few = tt
 
-asked_if_order : (k : Kernel) (lines : List Event) (at taken count : ℕ) (o : Option Event) → HaveFewMoves lines → slice_get lines at ≡ o → IsInOrder lines taken (marked_if k count o)
+asked_if_order : (k : Kernel) (lines : List Event) (at taken count : ℕ) (o : Option Event) → HaveFewMoves lines → slice_get lines at ≡ o
+    → IsInOrder lines taken (marked_if k count o)
 asked_if_order k lines at taken count None few e = tt
 asked_if_order k lines at taken count (Some x) few e = asked_order k lines taken count x (few_at lines at x few e)
 
@@ -285,7 +287,8 @@ audited_order : (lines : List Event) (taken : ℕ) (m : Mark) → IsInOrder line
 audited_order lines taken marks.Audit h = tt
 audited_order lines taken m h = h
 
-pub order_follows : (A : Inputs) (s t : State) (k : Kernel) (count : ℕ) (e : Entry) → HaveFewMoves A.lines → IsInOrder A.lines s.lines s.mark → Follows A s (units_with e []) t
+pub order_follows : (A : Inputs) (s t : State) (k : Kernel) (count : ℕ) (e : Entry) → HaveFewMoves A.lines → IsInOrder A.lines s.lines s.mark
+    → Follows A s (units_with e []) t
     → IsInOrder A.lines (lines_behind s.lines e) (mark_behind k count (slice_get A.lines s.lines) s.mark e)
 order_follows A s t k count (entries.Event line) few h f = asked_if_order k A.lines s.lines line count (slice_get A.lines s.lines) few refl
 order_follows A s t k count (entries.Turn pid) few h f = next_begins A s (entries.Turn pid) tt f.0

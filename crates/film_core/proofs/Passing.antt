@@ -119,7 +119,8 @@ record Noted (old new : Standing) (n : ℕ) : Type 0 where
   pub images : new.images ≡ old.images
   pub counted : instructions_of new.kernel.journal ≡ n
 
-noted : (old new : Standing) (e : Entry) (n : ℕ) → MayNote old → IsPlain e → counted e ≡ 0 → instructions_of old.kernel.journal ≡ n → new.kernel ≡ note_step old.kernel e
+noted : (old new : Standing) (e : Entry) (n : ℕ) → MayNote old → IsPlain e → counted e ≡ 0 → instructions_of old.kernel.journal ≡ n
+    → new.kernel ≡ note_step old.kernel e
     → new ≡ record old { kernel = new.kernel; room = None } → Noted old new n
 noted old new e n may plain none is k r =
     let c : Continues old new (counted e) = note_continues old new e (record { running = may.running; whole = may.whole; clear = may.clear }) plain (as_noted old new e k r) in
@@ -139,8 +140,10 @@ noted old new e n may plain none is k r =
 
 -- A mark is over.
 
-pub over_at : (A : Inputs) (s : State) (old new : Standing) (last : Mark) (schedule : List Event) (taken counted count turn : ℕ) (holds : Option (List NamedFile)) (i j : Option (List ℕ)) (image : List ℕ)
-    → (at : RoundAt A s old last schedule taken counted holds i image) → (d : RestDone A s old new last count image j) → StaysOn old new count → turn ≡ last_turned last
+pub over_at : (A : Inputs) (s : State) (old new : Standing) (last : Mark) (schedule : List Event) (taken counted count turn : ℕ)
+    (holds : Option (List NamedFile)) (i j : Option (List ℕ)) (image : List ℕ)
+    → (at : RoundAt A s old last schedule taken counted holds i image) → (d : RestDone A s old new last count image j) → StaysOn old new count
+    → turn ≡ last_turned last
     → OverAt A d.state new schedule taken count turn holds j d.leads.behind
 over_at A s old new last schedule taken counted count turn holds i j image at d on e = record {
   stands = stands_then A s d.state old new holds i j image d.units counted count at.rest.reached at.rest.stands d.leads on.params on.images d.counts;
@@ -151,7 +154,8 @@ over_at A s old new last schedule taken counted count turn holds i j image at d 
   turned = d.turned ∙ sym e;
 }
 
-pub over_rounds : (old new : Standing) (last : Mark) (schedule : List Event) (taken counted count turn : ℕ) (holds : Option (List NamedFile)) (i j : Option (List ℕ)) → Rests old new last counted count holds i j
+pub over_rounds : (old new : Standing) (last : Mark) (schedule : List Event) (taken counted count turn : ℕ) (holds : Option (List NamedFile))
+    (i j : Option (List ℕ)) → Rests old new last counted count holds i j
     → StaysOn old new count → turn ≡ last_turned last → (new.params.limit ≤ count) ⊎ ((slice_get schedule taken ≡ None) × (chosen_next new.kernel turn ≡ None))
     → RoundsOff old new last schedule taken counted holds i j
 over_rounds old new last schedule taken counted count turn holds i j f on e why A s image at =
@@ -196,15 +200,18 @@ module _ (A : Inputs) (s : State) (m : Standing) (schedule : List Event) (taken 
   stop_full may full (inl (e, l, x)) = stop_line m e stops.JournalFull l x (stops_full m may full)
   stop_full may full (inr (pid, l, x, y)) = stop_turn m pid stops.JournalFull l x y (stops_full m may full)
 
-grown_full : (A : Inputs) (s t : State) (old new : Standing) (holds : Option (List NamedFile)) (i j : Option (List ℕ)) (image behind : List ℕ) (us : List Entry) (counted count room : ℕ)
-    → StandsIn A s old holds i image counted → StandsIn A t new holds j behind count → Leads A s old.kernel image us t new.kernel j → room ≤ length old.kernel.journal → room ≤ length new.kernel.journal
+grown_full : (A : Inputs) (s t : State) (old new : Standing) (holds : Option (List NamedFile)) (i j : Option (List ℕ)) (image behind : List ℕ) (us : List Entry)
+    (counted count room : ℕ)
+    → StandsIn A s old holds i image counted → StandsIn A t new holds j behind count → Leads A s old.kernel image us t new.kernel j
+    → room ≤ length old.kernel.journal → room ≤ length new.kernel.journal
 grown_full A s t old new holds i j image behind us counted count room st there a full =
     let long = leads_longer A s t old.kernel new.kernel image behind us j st.machine.at.stands there.machine.at.stands a in omega (arith, long, full)
 
 same_room : (old new : Standing) → new.params ≡ old.params → (n : ℕ) → old.params.journal ≤ n → new.params.journal ≤ n
 same_room old new e n l = subst (λ (p : Params). p.journal ≤ n) (sym e) l
 
-module _ (old new : Standing) (last : Mark) (schedule : List Event) (taken counted count turn : ℕ) (holds : Option (List NamedFile)) (i j : Option (List ℕ)) (f : Rests old new last counted count holds i j)
+module _ (old new : Standing) (last : Mark) (schedule : List Event) (taken counted count turn : ℕ) (holds : Option (List NamedFile)) (i j : Option (List ℕ))
+    (f : Rests old new last counted count holds i j)
     (on : StaysOn old new count) (e : turn ≡ last_turned last) (full : old.params.journal ≤ length old.kernel.journal) where
   round_full : (A : Inputs) (s : State) (image : List ℕ) → RoundAt A s old last schedule taken counted holds i image → new.params.journal ≤ length new.kernel.journal
   round_full A s image at =
@@ -223,21 +230,25 @@ module _ (old new : Standing) (last : Mark) (schedule : List Event) (taken count
   pub full_kept : IsRound old last schedule taken counted holds i → KeptAtStop old new stops.JournalFull
   full_kept (A, s, image, at) = record { sizes = record { params = on.params; images = on.images }; full = λ x. round_full A s image at }
 
-pub rest_round : (old new : Standing) (last : Mark) (schedule : List Event) (taken counted : ℕ) (holds : Option (List NamedFile)) (i j : Option (List ℕ)) (stop : Stop) → StopsResting old new last counted holds i j stop
+pub rest_round : (old new : Standing) (last : Mark) (schedule : List Event) (taken counted : ℕ) (holds : Option (List NamedFile)) (i j : Option (List ℕ))
+    (stop : Stop) → StopsResting old new last counted holds i j stop
     → StopsRound old new last schedule taken counted holds i j stop
 rest_round old new last schedule taken counted holds i j stop f A s image at = f A s image at.rest
 
 -- The next line, or a turn, begins.
 
-pub record NextBegun (A : Inputs) (s : State) (old new : Standing) (mark : Mark) (schedule : List Event) (taken counted : ℕ) (holds : Option (List NamedFile)) (i : Option (List ℕ)) (image : List ℕ) : Type 0 where
+pub record NextBegun (A : Inputs) (s : State) (old new : Standing) (mark : Mark) (schedule : List Event) (taken counted : ℕ) (holds : Option (List NamedFile))
+    (i : Option (List ℕ)) (image : List ℕ) : Type 0 where
   pub units : List Entry
   pub state : State
   pub leads : Leads A s old.kernel image units state new.kernel i
   pub at : RoundAt A state new mark schedule taken counted holds i leads.behind
 
-pub line_begun : (A : Inputs) (s : State) (old new : Standing) (mark : Mark) (schedule : List Event) (taken counted turn : ℕ) (holds : Option (List NamedFile)) (i : Option (List ℕ)) (image : List ℕ) (e : Event)
+pub line_begun : (A : Inputs) (s : State) (old new : Standing) (mark : Mark) (schedule : List Event) (taken counted turn : ℕ) (holds : Option (List NamedFile))
+    (i : Option (List ℕ)) (image : List ℕ) (e : Event)
     → OverAt A s old schedule taken counted turn holds i image → counted < old.params.limit → slice_get schedule taken ≡ Some e → HaveFewMoves schedule
-    → MayNote old → instructions_of old.kernel.journal ≡ counted → new.kernel ≡ note_step old.kernel (entries.Event (taken + 1)) → new ≡ record old { kernel = new.kernel; room = None }
+    → MayNote old → instructions_of old.kernel.journal ≡ counted → new.kernel ≡ note_step old.kernel (entries.Event (taken + 1))
+    → new ≡ record old { kernel = new.kernel; room = None }
     → mark ≡ marked_by new.kernel counted e → NextBegun A s old new mark schedule (taken + 1) counted holds i image
 line_begun A s old new mark schedule taken counted turn holds i image e at l x few may is k r m =
     let number : taken + 1 ≡ s.lines + 1 = ap (λ (n : ℕ). n + 1) (sym at.lines) in
@@ -268,9 +279,12 @@ line_begun A s old new mark schedule taken counted turn holds i image e at l x f
       };
     }
 
-pub turn_begun : (A : Inputs) (s : State) (old new : Standing) (schedule : List Event) (taken counted turn : ℕ) (holds : Option (List NamedFile)) (i : Option (List ℕ)) (image : List ℕ) (pid : ℕ)
-    → OverAt A s old schedule taken counted turn holds i image → counted < old.params.limit → slice_get schedule taken ≡ None → chosen_next old.kernel turn ≡ Some pid
-    → MayNote old → instructions_of old.kernel.journal ≡ counted → new.kernel ≡ note_step old.kernel (entries.Turn pid) → new ≡ record old { kernel = new.kernel; room = None }
+pub turn_begun : (A : Inputs) (s : State) (old new : Standing) (schedule : List Event) (taken counted turn : ℕ) (holds : Option (List NamedFile))
+    (i : Option (List ℕ)) (image : List ℕ) (pid : ℕ)
+    → OverAt A s old schedule taken counted turn holds i image → counted < old.params.limit → slice_get schedule taken ≡ None
+    → chosen_next old.kernel turn ≡ Some pid
+    → MayNote old → instructions_of old.kernel.journal ≡ counted → new.kernel ≡ note_step old.kernel (entries.Turn pid)
+    → new ≡ record old { kernel = new.kernel; room = None }
     → NextBegun A s old new (marks.Turn pid counted) schedule taken counted holds i image
 turn_begun A s old new schedule taken counted turn holds i image pid at l x y may is k r =
     let n = noted old new (entries.Turn pid) counted may tt refl is k r in
@@ -297,13 +311,17 @@ turn_begun A s old new schedule taken counted turn holds i image pid at l x y ma
     }
 
 -- what is led to from there is led to from before
-begun_over : (A : Inputs) (s : State) (old mid new : Standing) (mark : Mark) (schedule : List Event) (taken counted : ℕ) (holds : Option (List NamedFile)) (i j : Option (List ℕ)) (image : List ℕ)
-    → (b : NextBegun A s old mid mark schedule taken counted holds i image) → RoundsOff mid new mark schedule taken counted holds i j → RunsOut A s old new image j
+begun_over : (A : Inputs) (s : State) (old mid new : Standing) (mark : Mark) (schedule : List Event) (taken counted : ℕ) (holds : Option (List NamedFile))
+    (i j : Option (List ℕ)) (image : List ℕ)
+    → (b : NextBegun A s old mid mark schedule taken counted holds i image) → RoundsOff mid new mark schedule taken counted holds i j
+    → RunsOut A s old new image j
 begun_over A s old mid new mark schedule taken counted holds i j image b f =
     then_out A s b.state old mid new image i j b.units b.leads (f A b.state b.leads.behind b.at)
 
-begun_stops : (A : Inputs) (s : State) (old mid new : Standing) (mark : Mark) (schedule : List Event) (taken counted : ℕ) (holds : Option (List NamedFile)) (i j : Option (List ℕ)) (image : List ℕ) (stop : Stop)
-    → (b : NextBegun A s old mid mark schedule taken counted holds i image) → StopsRound mid new mark schedule taken counted holds i j stop → StopLeads A s old.kernel image stop new j
+begun_stops : (A : Inputs) (s : State) (old mid new : Standing) (mark : Mark) (schedule : List Event) (taken counted : ℕ) (holds : Option (List NamedFile))
+    (i j : Option (List ℕ)) (image : List ℕ) (stop : Stop)
+    → (b : NextBegun A s old mid mark schedule taken counted holds i image) → StopsRound mid new mark schedule taken counted holds i j stop
+    → StopLeads A s old.kernel image stop new j
 begun_stops A s old mid new mark schedule taken counted holds i j image stop b f =
     then_stop A s b.state old.kernel mid.kernel image i j b.units stop new b.leads (f A b.state b.leads.behind b.at)
 
@@ -329,7 +347,8 @@ module _ (old mid new : Standing) (mark : Mark) (schedule : List Event) (taken c
 module _ (old mid new : Standing) (schedule : List Event) (taken counted turn : ℕ) (holds : Option (List NamedFile)) (i j : Option (List ℕ)) (pid : ℕ)
     (l : counted < old.params.limit) (x : slice_get schedule taken ≡ None) (y : chosen_next old.kernel turn ≡ Some pid) (may : MayNote old) (is : instructions_of old.kernel.journal ≡ counted)
     (k : mid.kernel ≡ note_step old.kernel (entries.Turn pid)) (r : mid ≡ record old { kernel = mid.kernel; room = None }) where
-  turn_there : (A : Inputs) (s : State) (image : List ℕ) → OverAt A s old schedule taken counted turn holds i image → NextBegun A s old mid (marks.Turn pid counted) schedule taken counted holds i image
+  turn_there : (A : Inputs) (s : State) (image : List ℕ) → OverAt A s old schedule taken counted turn holds i image
+      → NextBegun A s old mid (marks.Turn pid counted) schedule taken counted holds i image
   turn_there A s image at = turn_begun A s old mid schedule taken counted turn holds i image pid at l x y may is k r
 
   pub turn_round : IsPast old schedule taken counted turn holds i → IsRound mid (marks.Turn pid counted) schedule taken counted holds i
@@ -341,20 +360,25 @@ module _ (old mid new : Standing) (schedule : List Event) (taken counted turn : 
   pub turn_stops_passing : (stop : Stop) → StopsRound mid new (marks.Turn pid counted) schedule taken counted holds i j stop → StopsPassing old new schedule taken counted turn holds i j stop
   turn_stops_passing stop f A s image at = begun_stops A s old mid new (marks.Turn pid counted) schedule taken counted holds i j image stop (turn_there A s image at) f
 
-pub noted_so : (old new : Standing) (e : Entry) (n : ℕ) → MayNote old → IsPlain e → counted e ≡ 0 → instructions_of old.kernel.journal ≡ n → new.kernel ≡ note_step old.kernel e
+pub noted_so : (old new : Standing) (e : Entry) (n : ℕ) → MayNote old → IsPlain e → counted e ≡ 0 → instructions_of old.kernel.journal ≡ n
+    → new.kernel ≡ note_step old.kernel e
     → new ≡ record old { kernel = new.kernel; room = None } → IsSteady new × (instructions_of new.kernel.journal ≡ n)
 noted_so old new e n may plain none is k r = let x = noted old new e n may plain none is k r in (x.steady, x.counted)
 
-pub line_noting : (old new : Standing) (schedule : List Event) (taken counted turn : ℕ) (holds : Option (List NamedFile)) (i : Option (List ℕ)) (e : Event) (stop : Stop) → counted < old.params.limit
+pub line_noting : (old new : Standing) (schedule : List Event) (taken counted turn : ℕ) (holds : Option (List NamedFile)) (i : Option (List ℕ)) (e : Event)
+    (stop : Stop) → counted < old.params.limit
     → slice_get schedule taken ≡ Some e → StopsNoting old new stop → StopsPassing old new schedule taken counted turn holds i i stop
 line_noting old new schedule taken counted turn holds i e stop l x n A s image at = stop_line A s old schedule taken counted turn holds i image at new e stop l x n
 
-pub turn_noting : (old new : Standing) (schedule : List Event) (taken counted turn : ℕ) (holds : Option (List NamedFile)) (i : Option (List ℕ)) (pid : ℕ) (stop : Stop) → counted < old.params.limit
-    → slice_get schedule taken ≡ None → chosen_next old.kernel turn ≡ Some pid → StopsNoting old new stop → StopsPassing old new schedule taken counted turn holds i i stop
+pub turn_noting : (old new : Standing) (schedule : List Event) (taken counted turn : ℕ) (holds : Option (List NamedFile)) (i : Option (List ℕ)) (pid : ℕ)
+    (stop : Stop) → counted < old.params.limit
+    → slice_get schedule taken ≡ None → chosen_next old.kernel turn ≡ Some pid → StopsNoting old new stop
+    → StopsPassing old new schedule taken counted turn holds i i stop
 turn_noting old new schedule taken counted turn holds i pid stop l x y n A s image at = stop_turn A s old schedule taken counted turn holds i image at new pid stop l x y n
 
 pub none_passes : (m : Standing) (schedule : List Event) (taken counted turn : ℕ) (holds : Option (List NamedFile)) (i : Option (List ℕ))
-    → (m.params.limit ≤ counted) ⊎ ((slice_get schedule taken ≡ None) × (chosen_next m.kernel turn ≡ None)) → PassesOver m m schedule taken counted turn holds i i
+    → (m.params.limit ≤ counted) ⊎ ((slice_get schedule taken ≡ None) × (chosen_next m.kernel turn ≡ None))
+    → PassesOver m m schedule taken counted turn holds i i
 none_passes m schedule taken counted turn holds i why A s image at = record {
   units = [];
   state = s;

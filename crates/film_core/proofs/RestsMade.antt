@@ -60,7 +60,8 @@ same_stays m counted s is = record { may = steady_may m s; params = refl; images
 
 -- A mark that is over.
 
-over_rest : (A : Inputs) (s : State) (m : Standing) (mark : Mark) (counted : ℕ) (holds : Option (List NamedFile)) (i : Option (List ℕ)) (image : List ℕ) → RestAt A s m mark counted holds i image
+over_rest : (A : Inputs) (s : State) (m : Standing) (mark : Mark) (counted : ℕ) (holds : Option (List NamedFile)) (i : Option (List ℕ)) (image : List ℕ)
+    → RestAt A s m mark counted holds i image
     → under A s mark ≡ None → RestDone A s m m mark counted image i
 over_rest A s m mark counted holds i image at over = record {
   units = [];
@@ -77,7 +78,8 @@ over_rests m counted holds i A s image at = over_rest A s m marks.Over counted h
 
 -- A line whose last unit was made.
 
-line_rest : (A : Inputs) (s : State) (old new : Standing) (mark : Mark) (counted : ℕ) (holds : Option (List NamedFile)) (i j : Option (List ℕ)) (image : List ℕ) → RestAt A s old mark counted holds i image
+line_rest : (A : Inputs) (s : State) (old new : Standing) (mark : Mark) (counted : ℕ) (holds : Option (List NamedFile)) (i j : Option (List ℕ)) (image : List ℕ)
+    → RestAt A s old mark counted holds i image
     → last_turned mark ≡ 0 → LineLeads A s old.kernel image new.kernel j → RestDone A s old new mark counted image j
 line_rest A s old new mark counted holds i j image at none l = record {
   units = l.units;
@@ -91,7 +93,8 @@ line_rest A s old new mark counted holds i j image at none l = record {
 
 -- Dispatches.
 
-dispatched : (A : Inputs) (s : State) (m : Standing) (pid more since counted until : ℕ) (holds : Option (List NamedFile)) (i : Option (List ℕ)) (image : List ℕ) → until ≡ min (since + more) m.params.limit
+dispatched : (A : Inputs) (s : State) (m : Standing) (pid more since counted until : ℕ) (holds : Option (List NamedFile)) (i : Option (List ℕ)) (image : List ℕ)
+    → until ≡ min (since + more) m.params.limit
     → RestAt A s m (marks.Dispatch pid more since) counted holds i image → UnderMark A s m holds i image pid false counted until
 dispatched A s m pid more since counted until holds i image u at = record {
   machine = at.stands.machine;
@@ -102,7 +105,8 @@ dispatched A s m pid more since counted until holds i image u at = record {
   asks = (more, since, at.mark, u ∙ ap (min (since + more)) (sym at.stands.inputs.limit));
 }
 
-pub dispatch_rests : (old new : Standing) (pid more since counted until count : ℕ) (holds : Option (List NamedFile)) (i j : Option (List ℕ)) → until ≡ min (since + more) old.params.limit
+pub dispatch_rests : (old new : Standing) (pid more since counted until count : ℕ) (holds : Option (List NamedFile)) (i j : Option (List ℕ))
+    → until ≡ min (since + more) old.params.limit
     → Runs old new pid false counted until holds i j count → Rests old new (marks.Dispatch pid more since) counted count holds i j
 dispatch_rests old new pid more since counted until count holds i j u f A s image at =
     let l = f A s image (dispatched A s old pid more since counted until holds i image u at) in
@@ -116,7 +120,8 @@ dispatch_rests old new pid more since counted until count holds i j u f A s imag
       turned = ap last_turned (l.mark ∙ at.mark);
     }
 
-pub dispatch_stops : (old new : Standing) (pid more since counted until : ℕ) (holds : Option (List NamedFile)) (i j : Option (List ℕ)) (stop : Stop) → until ≡ min (since + more) old.params.limit
+pub dispatch_stops : (old new : Standing) (pid more since counted until : ℕ) (holds : Option (List NamedFile)) (i j : Option (List ℕ)) (stop : Stop)
+    → until ≡ min (since + more) old.params.limit
     → StopsRunning old new pid false counted until holds i j stop → StopsResting old new (marks.Dispatch pid more since) counted holds i j stop
 dispatch_stops old new pid more since counted until holds i j stop u f A s image at = f A s image (dispatched A s old pid more since counted until holds i image u at)
 
@@ -126,7 +131,8 @@ dispatch_stops old new pid more since counted until holds i j stop u f A s image
 turn_idle : (A : Inputs) (s : State) (pid since : ℕ) → goes_on A s pid (since + turn_instructions) ≡ false → under A s (marks.Turn pid since) ≡ None
 turn_idle A s pid since e = ap (λ (b : Bool). when b (turn_unit A s pid)) e
 
-pub turn_spent : (m : Standing) (pid since counted until : ℕ) (holds : Option (List NamedFile)) (i : Option (List ℕ)) → until ≡ min (since + turn_instructions) m.params.limit
+pub turn_spent : (m : Standing) (pid since counted until : ℕ) (holds : Option (List NamedFile)) (i : Option (List ℕ))
+    → until ≡ min (since + turn_instructions) m.params.limit
     → (until ≤ counted) ⊎ (steps_by (proc_of m.kernel pid) ≡ false) → Rests m m (marks.Turn pid since) counted counted holds i i
 turn_spent m pid since counted until holds i u why A s image at =
     over_rest A s m (marks.Turn pid since) counted holds i image at (turn_idle A s pid since (elim why [
@@ -135,7 +141,8 @@ turn_spent m pid since counted until holds i u why A s image at =
     ]))
 
 turn_at : (A : Inputs) (s : State) (m : Standing) (pid since counted until : ℕ) (holds : Option (List NamedFile)) (i : Option (List ℕ)) (image : List ℕ)
-    → until ≡ min (since + turn_instructions) m.params.limit → counted < until → steps_by (proc_of m.kernel pid) ≡ true → RestAt A s m (marks.Turn pid since) counted holds i image
+    → until ≡ min (since + turn_instructions) m.params.limit → counted < until → steps_by (proc_of m.kernel pid) ≡ true
+    → RestAt A s m (marks.Turn pid since) counted holds i image
     → TurnAt A s m holds i image counted since pid
 turn_at A s m pid since counted until holds i image u l e at = record {
   stands = at.stands;
@@ -146,8 +153,10 @@ turn_at A s m pid since counted until holds i image u l e at = record {
   lines = at.order;
 }
 
-pub turn_rests : (old mid new : Standing) (pid since counted until count : ℕ) (holds : Option (List NamedFile)) (i h j : Option (List ℕ)) → until ≡ min (since + turn_instructions) old.params.limit
-    → counted < until → steps_by (proc_of old.kernel pid) ≡ true → ComesIn old mid pid counted since holds i h → FinishesTurn mid new pid counted since count holds h j
+pub turn_rests : (old mid new : Standing) (pid since counted until count : ℕ) (holds : Option (List NamedFile)) (i h j : Option (List ℕ))
+    → until ≡ min (since + turn_instructions) old.params.limit
+    → counted < until → steps_by (proc_of old.kernel pid) ≡ true → ComesIn old mid pid counted since holds i h
+    → FinishesTurn mid new pid counted since count holds h j
     → Rests old new (marks.Turn pid since) counted count holds i j
 turn_rests old mid new pid since counted until count holds i h j u l e comes finishes A s image at =
     let c = comes A s image (turn_at A s old pid since counted until holds i image u l e at) in
@@ -164,12 +173,16 @@ turn_rests old mid new pid since counted until count holds i h j u l e comes fin
       turned = d.turned;
     }
 
-pub turn_coming_stops : (old new : Standing) (pid since counted until : ℕ) (holds : Option (List NamedFile)) (i j : Option (List ℕ)) (stop : Stop) → until ≡ min (since + turn_instructions) old.params.limit
-    → counted < until → steps_by (proc_of old.kernel pid) ≡ true → StopsComingIn old new pid counted since holds i j stop → StopsResting old new (marks.Turn pid since) counted holds i j stop
+pub turn_coming_stops : (old new : Standing) (pid since counted until : ℕ) (holds : Option (List NamedFile)) (i j : Option (List ℕ)) (stop : Stop)
+    → until ≡ min (since + turn_instructions) old.params.limit
+    → counted < until → steps_by (proc_of old.kernel pid) ≡ true → StopsComingIn old new pid counted since holds i j stop
+    → StopsResting old new (marks.Turn pid since) counted holds i j stop
 turn_coming_stops old new pid since counted until holds i j stop u l e f A s image at = f A s image (turn_at A s old pid since counted until holds i image u l e at)
 
-pub turn_stops : (old mid new : Standing) (pid since counted until : ℕ) (holds : Option (List NamedFile)) (i h j : Option (List ℕ)) (stop : Stop) → until ≡ min (since + turn_instructions) old.params.limit
-    → counted < until → steps_by (proc_of old.kernel pid) ≡ true → ComesIn old mid pid counted since holds i h → StopsFinishing mid new pid counted since holds h j stop
+pub turn_stops : (old mid new : Standing) (pid since counted until : ℕ) (holds : Option (List NamedFile)) (i h j : Option (List ℕ)) (stop : Stop)
+    → until ≡ min (since + turn_instructions) old.params.limit
+    → counted < until → steps_by (proc_of old.kernel pid) ≡ true → ComesIn old mid pid counted since holds i h
+    → StopsFinishing mid new pid counted since holds h j stop
     → StopsResting old new (marks.Turn pid since) counted holds i j stop
 turn_stops old mid new pid since counted until holds i h j stop u l e comes f A s image at =
     let c = comes A s image (turn_at A s old pid since counted until holds i image u l e at) in
@@ -179,7 +192,8 @@ turn_stops old mid new pid since counted until holds i h j stop u l e comes f A 
 
 -- The end of a transfer.
 
-waiting : (A : Inputs) (s : State) (m : Standing) (counted : ℕ) (holds : Option (List NamedFile)) (i : Option (List ℕ)) (image : List ℕ) → RestAt A s m marks.Interrupt counted holds i image
+waiting : (A : Inputs) (s : State) (m : Standing) (counted : ℕ) (holds : Option (List NamedFile)) (i : Option (List ℕ)) (image : List ℕ)
+    → RestAt A s m marks.Interrupt counted holds i image
     → LineAt A s m holds i image events.Interrupt
 waiting A s m counted holds i image at = record {
   machine = at.stands.machine;
@@ -189,17 +203,20 @@ waiting A s m counted holds i image at = record {
   fit = at.stands.longwords.fit;
 }
 
-pub wait_rests : (old new : Standing) (counted : ℕ) (holds : Option (List NamedFile)) (i j : Option (List ℕ)) → MakesLine events.Interrupt old new holds i j → Rests old new marks.Interrupt counted counted holds i j
+pub wait_rests : (old new : Standing) (counted : ℕ) (holds : Option (List NamedFile)) (i j : Option (List ℕ)) → MakesLine events.Interrupt old new holds i j
+    → Rests old new marks.Interrupt counted counted holds i j
 wait_rests old new counted holds i j f A s image at =
     line_rest A s old new marks.Interrupt counted holds i j image at refl (f A s image (waiting A s old counted holds i image at))
 
-pub wait_stops : (old new : Standing) (counted : ℕ) (holds : Option (List NamedFile)) (i j : Option (List ℕ)) (stop : Stop) → StopsLine events.Interrupt old new holds i j stop
+pub wait_stops : (old new : Standing) (counted : ℕ) (holds : Option (List NamedFile)) (i j : Option (List ℕ)) (stop : Stop)
+    → StopsLine events.Interrupt old new holds i j stop
     → StopsResting old new marks.Interrupt counted holds i j stop
 wait_stops old new counted holds i j stop f A s image at = f A s image (waiting A s old counted holds i image at)
 
 -- Numbers that are noted.
 
-auditing : (A : Inputs) (s : State) (m : Standing) (counted : ℕ) (holds : Option (List NamedFile)) (i : Option (List ℕ)) (image : List ℕ) → RestAt A s m marks.Audit counted holds i image
+auditing : (A : Inputs) (s : State) (m : Standing) (counted : ℕ) (holds : Option (List NamedFile)) (i : Option (List ℕ)) (image : List ℕ)
+    → RestAt A s m marks.Audit counted holds i image
     → LineAt A s m holds i image events.Audit
 auditing A s m counted holds i image at = record {
   machine = at.stands.machine;
@@ -209,27 +226,32 @@ auditing A s m counted holds i image at = record {
   fit = at.stands.longwords.fit;
 }
 
-pub audit_rests : (old new : Standing) (counted : ℕ) (holds : Option (List NamedFile)) (i j : Option (List ℕ)) → MakesLine events.Audit old new holds i j → Rests old new marks.Audit counted counted holds i j
+pub audit_rests : (old new : Standing) (counted : ℕ) (holds : Option (List NamedFile)) (i j : Option (List ℕ)) → MakesLine events.Audit old new holds i j
+    → Rests old new marks.Audit counted counted holds i j
 audit_rests old new counted holds i j f A s image at =
     line_rest A s old new marks.Audit counted holds i j image at refl (f A s image (auditing A s old counted holds i image at))
 
-pub audit_stops : (old new : Standing) (counted : ℕ) (holds : Option (List NamedFile)) (i j : Option (List ℕ)) (stop : Stop) → StopsLine events.Audit old new holds i j stop
+pub audit_stops : (old new : Standing) (counted : ℕ) (holds : Option (List NamedFile)) (i j : Option (List ℕ)) (stop : Stop)
+    → StopsLine events.Audit old new holds i j stop
     → StopsResting old new marks.Audit counted holds i j stop
 audit_stops old new counted holds i j stop f A s image at = f A s image (auditing A s old counted holds i image at)
 
 -- Moves of the hands.
 
-pub hands_rest : (old new : Standing) (left made counted : ℕ) (holds : Option (List NamedFile)) (i j : Option (List ℕ)) → Moved left old new made holds i j → Rests old new (marks.Hands left) counted counted holds i j
+pub hands_rest : (old new : Standing) (left made counted : ℕ) (holds : Option (List NamedFile)) (i j : Option (List ℕ)) → Moved left old new made holds i j
+    → Rests old new (marks.Hands left) counted counted holds i j
 hands_rest old new left made counted holds i j m A s image at =
     line_rest A s old new (marks.Hands left) counted holds i j image at refl
     (hands_made A s old new holds image j left made at.stands.machine at.clear at.mark (subst (λ (o : Option (List ℕ)). Moved left old new made holds o j) at.stands.told m))
 
-pub hands_stops : (old new : Standing) (left counted : ℕ) (holds : Option (List NamedFile)) (i j : Option (List ℕ)) (stop : Stop) → StopsMoving left old stop new holds i j
+pub hands_stops : (old new : Standing) (left counted : ℕ) (holds : Option (List NamedFile)) (i j : Option (List ℕ)) (stop : Stop)
+    → StopsMoving left old stop new holds i j
     → StopsResting old new (marks.Hands left) counted holds i j stop
 hands_stops old new left counted holds i j stop x A s image at =
     hands_stop A s old new holds image j left stop at.stands.machine at.clear at.mark (subst (λ (o : Option (List ℕ)). StopsMoving left old stop new holds o j) at.stands.told x)
 
-pub hands_stay : (old new : Standing) (left made counted : ℕ) (holds : Option (List NamedFile)) (i j : Option (List ℕ)) → IsSteady old → instructions_of old.kernel.journal ≡ counted
+pub hands_stay : (old new : Standing) (left made counted : ℕ) (holds : Option (List NamedFile)) (i j : Option (List ℕ)) → IsSteady old
+    → instructions_of old.kernel.journal ≡ counted
     → Moved left old new made holds i j → StaysOn old new counted
 hands_stay old new left made counted holds i j s is m =
     let r = moves_continue old new left made holds i j (steady_ready old s) m in
@@ -247,7 +269,8 @@ hands_stay old new left made counted holds i j s is m =
     }
 
 -- the line asked for few
-pub hands_fit : (A : Inputs) (s : State) (m : Standing) (left counted : ℕ) (holds : Option (List NamedFile)) (i : Option (List ℕ)) (image : List ℕ) → RestAt A s m (marks.Hands left) counted holds i image
+pub hands_fit : (A : Inputs) (s : State) (m : Standing) (left counted : ℕ) (holds : Option (List NamedFile)) (i : Option (List ℕ)) (image : List ℕ)
+    → RestAt A s m (marks.Hands left) counted holds i image
     → left ≤ 1000000
 hands_fit A s m left counted holds i image at = at.order
 
@@ -259,20 +282,23 @@ bring_rests old new pid counted holds i j is same A s image at =
     line_rest A s old new (marks.BringIn pid) counted holds i j image at refl
     (in_comes A s old new image j pid at.clear at.mark (subst (λ (o : Option (List ℕ)). IsIn old.kernel new.kernel pid o) at.stands.told is) (same ∙ at.stands.told))
 
-pub bring_stops : (old new : Standing) (pid counted : ℕ) (holds : Option (List NamedFile)) (i j : Option (List ℕ)) (stop : Stop) → StopsAt (entries.SwapIn pid) old.kernel i stop new j
+pub bring_stops : (old new : Standing) (pid counted : ℕ) (holds : Option (List NamedFile)) (i j : Option (List ℕ)) (stop : Stop)
+    → StopsAt (entries.SwapIn pid) old.kernel i stop new j
     → StopsResting old new (marks.BringIn pid) counted holds i j stop
 bring_stops old new pid counted holds i j stop x A s image at =
     stops_here A s old.kernel image stop new j (entries.SwapIn pid) ((line_asks A s at.clear.clear).0 pid at.mark)
     (subst (λ (o : Option (List ℕ)). StopsAt (entries.SwapIn pid) old.kernel o stop new j) at.stands.told x)
 
-pub put_rests : (old new : Standing) (pid sid counted : ℕ) (holds : Option (List NamedFile)) (i j : Option (List ℕ)) → HoldsThere old.kernel pid sid → PutOut pid sid old new holds i j
+pub put_rests : (old new : Standing) (pid sid counted : ℕ) (holds : Option (List NamedFile)) (i j : Option (List ℕ)) → HoldsThere old.kernel pid sid
+    → PutOut pid sid old new holds i j
     → Rests old new (marks.PutOut pid) counted counted holds i j
 put_rests old new pid sid counted holds i j there o A s image at =
     line_rest A s old new (marks.PutOut pid) counted holds i j image at refl
     (out_comes A s old new holds image j pid sid at.stands.machine at.clear at.stands.longwords.fit at.mark there
     (subst (λ (x : Option (List ℕ)). PutOut pid sid old new holds x j) at.stands.told o))
 
-pub put_stops : (old new : Standing) (pid sid counted : ℕ) (holds : Option (List NamedFile)) (i j : Option (List ℕ)) (stop : Stop) → HoldsThere old.kernel pid sid
+pub put_stops : (old new : Standing) (pid sid counted : ℕ) (holds : Option (List NamedFile)) (i j : Option (List ℕ)) (stop : Stop)
+    → HoldsThere old.kernel pid sid
     → StopsPutting pid sid old stop new holds i j → StopsResting old new (marks.PutOut pid) counted holds i j stop
 put_stops old new pid sid counted holds i j stop there x A s image at =
     out_stops A s old new holds image j pid sid stop at.stands.machine at.clear at.mark there (subst (λ (o : Option (List ℕ)). StopsPutting pid sid old stop new holds o j) at.stands.told x)

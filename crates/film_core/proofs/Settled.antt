@@ -22,7 +22,8 @@ use Rattle.film_core.specs.Ways.{WayAt, IsOnWay, Settles, StopsSettling}
 use Rattle.film_core.proofs.Composing.{then_lead, then_stop, leads_reached}
 
 -- A machine whose due fills are made may be asked for a unit.
-pub filled_steady : (old new : Standing) → Continues old new 0 → HoldersStand new.kernel → 64 ≤ length old.kernel.place.holds → last_moves old.kernel.journal ≤ 1000000 → IsSteady new
+pub filled_steady : (old new : Standing) → Continues old new 0 → HoldersStand new.kernel → 64 ≤ length old.kernel.place.holds
+    → last_moves old.kernel.journal ≤ 1000000 → IsSteady new
 filled_steady old new c h frames low = record {
   running = c.running;
   whole = c.whole;
@@ -32,7 +33,8 @@ filled_steady old new c h frames low = record {
   low = let l = c.low in omega (arith, l, low);
 }
 
-filled_counts : (old new : Standing) (counted : ℕ) → Continues old new 0 → IsSteady new → instructions_of old.kernel.journal ≡ counted → CountsTo old new counted counted
+filled_counts : (old new : Standing) (counted : ℕ) → Continues old new 0 → IsSteady new → instructions_of old.kernel.journal ≡ counted
+    → CountsTo old new counted counted
 filled_counts old new counted c s is = record {
   steady = s;
   params = c.params;
@@ -41,7 +43,8 @@ filled_counts old new counted c s is = record {
   more = omega arith;
 }
 
-pub fills_count : (old new : Standing) (counted : ℕ) → Continues old new 0 → HoldersStand new.kernel → 64 ≤ length old.kernel.place.holds → last_moves old.kernel.journal ≤ 1000000
+pub fills_count : (old new : Standing) (counted : ℕ) → Continues old new 0 → HoldersStand new.kernel → 64 ≤ length old.kernel.place.holds
+    → last_moves old.kernel.journal ≤ 1000000
     → instructions_of old.kernel.journal ≡ counted → CountsTo old new counted counted
 fills_count old new counted c h frames low is = filled_counts old new counted c (filled_steady old new c h frames low) is
 
@@ -55,7 +58,8 @@ both_count old mid new counted c is t = record {
   more = omega arith;
 }
 
-module _ (A : Inputs) (s : State) (old mid : Standing) (holds : Option (List NamedFile)) (i h : Option (List ℕ)) (image : List ℕ) (at : WayAt A s old holds i image) (l : FillsLead A s old mid holds image h) where
+module _ (A : Inputs) (s : State) (old mid : Standing) (holds : Option (List NamedFile)) (i h : Option (List ℕ)) (image : List ℕ) (at : WayAt A s old holds i image)
+    (l : FillsLead A s old mid holds image h) where
   way : WayAt A l.state mid holds h l.leads.behind
   way = record {
     machine = l.machine;
@@ -98,17 +102,20 @@ module _ (A : Inputs) (s : State) (old mid : Standing) (holds : Option (List Nam
         mark = d.mark ∙ l.same.mark;
       }
 
-pub fills_settle : (old mid : Standing) (counted : ℕ) (holds : Option (List NamedFile)) (i h : Option (List ℕ)) → FillsRest old mid holds i h → begun_by (before_done mid.kernel.journal) ≡ None
+pub fills_settle : (old mid : Standing) (counted : ℕ) (holds : Option (List NamedFile)) (i h : Option (List ℕ)) → FillsRest old mid holds i h
+    → begun_by (before_done mid.kernel.journal) ≡ None
     → Settles old mid counted counted holds i h
 fills_settle old mid counted holds i h f e A s image at =
     (0, (let z : counted ≡ counted + 0 = omega arith in z), filled A s old mid holds i h image at (f A s image at.machine at.told) e)
 
-pub finish_settles : (old mid new : Standing) (counted : ℕ) (holds : Option (List NamedFile)) (i h j : Option (List ℕ)) (b : Begun) → FillsRest old mid holds i h
+pub finish_settles : (old mid new : Standing) (counted : ℕ) (holds : Option (List NamedFile)) (i h j : Option (List ℕ)) (b : Begun)
+    → FillsRest old mid holds i h
     → begun_by (before_done mid.kernel.journal) ≡ Some b → FinishesStep mid new b holds h j → Settles old new counted (counted + 1) holds i j
 finish_settles old mid new counted holds i h j b f e g A s image at =
     (1, refl, finished A s old mid holds i h image at (f A s image at.machine at.told) new j b e g)
 
-pub fill_stops : (old new : Standing) (holds : Option (List NamedFile)) (i j : Option (List ℕ)) (stop : Stop) → StopsRest old new holds i j stop → StopsSettling old new holds i j stop
+pub fill_stops : (old new : Standing) (holds : Option (List NamedFile)) (i j : Option (List ℕ)) (stop : Stop) → StopsRest old new holds i j stop
+    → StopsSettling old new holds i j stop
 fill_stops old new holds i j stop f A s image at = f A s image at.machine at.told
 
 pub finish_stops : (old mid new : Standing) (holds : Option (List NamedFile)) (i h j : Option (List ℕ)) (b : Begun) (stop : Stop) → FillsRest old mid holds i h
@@ -117,7 +124,8 @@ finish_stops old mid new holds i h j b stop f e g A s image at =
     let l = f A s image at.machine at.told in
     then_stop A s l.state old.kernel mid.kernel image h j l.units stop new l.leads (g A l.state l.leads.behind (begun_at A s old mid holds i h image at l b e))
 
-pub finish_begun : (old mid : Standing) (holds : Option (List NamedFile)) (i h : Option (List ℕ)) (b : Begun) → IsOnWay old holds i → FillsRest old mid holds i h
+pub finish_begun : (old mid : Standing) (holds : Option (List NamedFile)) (i h : Option (List ℕ)) (b : Begun) → IsOnWay old holds i
+    → FillsRest old mid holds i h
     → begun_by (before_done mid.kernel.journal) ≡ Some b → IsBegun mid b holds h
 finish_begun old mid holds i h b (A, s, image, at) f e =
     let l = f A s image at.machine at.told in

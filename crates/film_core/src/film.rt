@@ -46,7 +46,13 @@ impl Film {
         requires images { length images.items ≤ 16 }
         requires sound { AreSound (map (λ image. image.facts) images.items) }
         requires names { AreNames (map image_shown images.items) }
-        ensures machine { IfOk result (λ f. f.machine ≡ record { kernel = fresh_kernel (map (λ image. image.facts) images.items) params.frames; params = params; images = map image_shown images.items; before = []; room = None }) }
+        ensures machine { IfOk result (λ f. f.machine ≡ record {
+          kernel = fresh_kernel (map (λ image. image.facts) images.items) params.frames;
+          params = params;
+          images = map image_shown images.items;
+          before = [];
+          room = None;
+        }) }
         ensures lines { IfOk result (λ f. f.lines ≡ 0) }
         ensures mark { IfOk result (λ f. f.mark ≡ Mark.Over) }
         ensures counted { IfOk result (λ f. f.counted ≡ 0) }

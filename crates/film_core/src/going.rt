@@ -45,7 +45,8 @@ fn next_of(m: &Machine, lines: &[Event], taken: u32, counted: u32, last: u32) ->
     requires running { m.now.kernel.stopped ≡ false }
     ensures over { result ≡ Next.Over → (m.now.params.limit ≤ counted) ⊎ ((slice_get lines.now taken ≡ None) × (next_turned m.now.kernel last ≡ None)) }
     ensures line { (e : AnyEvent) → result ≡ Next.Line e → (counted < m.now.params.limit) × (slice_get lines.now taken ≡ Some e) }
-    ensures turn { (pid : ℕ) → result ≡ Next.Turn pid → (counted < m.now.params.limit) × (slice_get lines.now taken ≡ None) × (next_turned m.now.kernel last ≡ Some pid) }
+    ensures turn { (pid : ℕ) → result ≡ Next.Turn pid → (counted < m.now.params.limit) × (slice_get lines.now taken ≡ None)
+        × (next_turned m.now.kernel last ≡ Some pid) }
 {
     if counted >= m.params().limit {
         return Next::Over;

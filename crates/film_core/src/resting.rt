@@ -46,7 +46,8 @@ fn dispatch<F: Files, D: SwapDev>(
     requires under { IsUnder m.old (Mark.Dispatch pid more since) counted (F.holds files.old) (D.image swap.old) }
     requires area { m.old.params.swap_blocks ≤ D.blocks swap.old }
     requires files { AreFiles m.old.images (F.holds files.old) }
-    ensures rests { IfOk result (λ count. Rests m.old m.new (Mark.Dispatch pid more since) counted count (F.holds files.old) (D.image swap.old) (D.image swap.new)) }
+    ensures rests { IfOk result
+        (λ count. Rests m.old m.new (Mark.Dispatch pid more since) counted count (F.holds files.old) (D.image swap.old) (D.image swap.new)) }
     ensures stops { IfErr result (StopsResting m.old m.new (Mark.Dispatch pid more since) counted (F.holds files.old) (D.image swap.old) (D.image swap.new)) }
     ensures on { IfOk result (λ count. StaysOn m.old m.new count) }
     ensures kept { IfErr result (KeptAtStop m.old m.new) }

@@ -186,23 +186,29 @@ image_same images k flat image (Some named) i x c n t e =
     (λ z. shared ∙ no_sharers image k.place.spaces z) (λ m z. shared ∙ some_sharers image m k.place.spaces z) size in
     ap (λ (sid : ℕ). image_asked k.place sid image (Some named.image.facts)) t.next_sid
     ∙ ap (λ (ws : List Wanted). ws ++ (wanted (owners.Data flat.next_sid) (pieces (2 * data_pages_of named.image.facts)) ++ wanted (owners.Stack flat.next_sid) (pieces 2))) text
-    ∙ sym (append_assoc (text_wanted (is_shared flat image) image named.image) (wanted (owners.Data flat.next_sid) (pieces (2 * data_pages_of named.image.facts))) (wanted (owners.Stack flat.next_sid) (pieces 2)))
+    ∙ sym (append_assoc (text_wanted (is_shared flat image) image named.image) (wanted (owners.Data flat.next_sid) (pieces (2 * data_pages_of named.image.facts)))
+    (wanted (owners.Stack flat.next_sid) (pieces 2)))
 
 -- Changes.
 
 -- what a change wants, where the space has these sizes
 sizes_same : (images : List NamedImage) (k : Kernel) (flat : FlatState) (s : Space) (change : Change) → ImagesFit images → TextFits images k.place
     → Numbered k → IsNumbered flat → SameTables k flat
-    → data_count k.place s.sid ≡ data_pages_in s → stack_count k.place s.sid ≡ stack_pages_of s → change_asks (facts_of images) k.place s.sid k.next_sid change ≡ change_wanted images flat s change
+    → data_count k.place s.sid ≡ data_pages_in s → stack_count k.place s.sid ≡ stack_pages_of s
+    → change_asks (facts_of images) k.place s.sid k.next_sid change ≡ change_wanted images flat s change
 sizes_same images k flat s (Resize data_pages stack_pages) i x c n t d u =
     ap₂ (λ (v w : List Wanted). v ++ w)
-    (further_same (owners.Data s.sid) (pieces (2 * data_count k.place s.sid)) (pieces (2 * data_pages)) ∙ ap (λ (m : ℕ). drop (length (pieces_for (owners.Data s.sid) m)) (pieces_for (owners.Data s.sid) data_pages)) d)
-    (further_same (owners.Stack s.sid) (pieces (2 * stack_count k.place s.sid)) (pieces (2 * stack_pages)) ∙ ap (λ (m : ℕ). drop (length (pieces_for (owners.Stack s.sid) m)) (pieces_for (owners.Stack s.sid) stack_pages)) u)
+    (further_same (owners.Data s.sid) (pieces (2 * data_count k.place s.sid)) (pieces (2 * data_pages))
+    ∙ ap (λ (m : ℕ). drop (length (pieces_for (owners.Data s.sid) m)) (pieces_for (owners.Data s.sid) data_pages)) d)
+    (further_same (owners.Stack s.sid) (pieces (2 * stack_count k.place s.sid)) (pieces (2 * stack_pages))
+    ∙ ap (λ (m : ℕ). drop (length (pieces_for (owners.Stack s.sid) m)) (pieces_for (owners.Stack s.sid) stack_pages)) u)
 sizes_same images k flat s (Fork child) i x c n t d u =
-    ap (λ (sid : ℕ). wanted (owners.Data sid) (pieces (2 * data_count k.place s.sid)) ++ (wanted (owners.Stack sid) (pieces (2 * stack_count k.place s.sid)) ++ wanted (owners.U child) (u_pieces 2))) t.next_sid
+    ap (λ (sid : ℕ). wanted (owners.Data sid) (pieces (2 * data_count k.place s.sid)) ++ (wanted (owners.Stack sid) (pieces (2 * stack_count k.place s.sid)) ++ wanted (owners.U child) (u_pieces 2)))
+    t.next_sid
     ∙ ap₂ (λ (a b : ℕ). wanted (owners.Data flat.next_sid) (pieces (2 * a)) ++ (wanted (owners.Stack flat.next_sid) (pieces (2 * b)) ++ wanted (owners.U child) (u_pieces 2))) d u
     ∙ sym (append_assoc (pieces_for (owners.Data flat.next_sid) (data_pages_in s)) (pieces_for (owners.Stack flat.next_sid) (stack_pages_of s)) (pieces_for (owners.U child) 1))
-sizes_same images k flat s (Exec image top) i x c n t d u = ap (image_asked k.place k.next_sid image) (facts_same images image) ∙ image_same images k flat image (image_numbered images image) i x c n t refl
+sizes_same images k flat s (Exec image top) i x c n t d u =
+    ap (image_asked k.place k.next_sid image) (facts_same images image) ∙ image_same images k flat image (image_numbered images image) i x c n t refl
 sizes_same images k flat s _ i x c n t d u = refl
 
 pub change_same : (images : List NamedImage) (k : Kernel) (flat : FlatState) (pid : ℕ) (p : Process) (s : Space) (change : Change) → ImagesFit images
@@ -227,7 +233,8 @@ step_same A k flat pid i x c n t can = go (process_of flat pid) refl can ∙ ap 
     change : Change
     change = (flat_step A flat pid false).change
 
-    ready : (p : Process) (b : Bool) → process_of flat pid ≡ Some p → (h : Holding) → p.holding ≡ h → is_ready (record p { asleep = b; holding = h }) ≡ true → asked (facts_of A.images) k pid change ≡ wanted_in A.images flat change h
+    ready : (p : Process) (b : Bool) → process_of flat pid ≡ Some p → (h : Holding) → p.holding ≡ h → is_ready (record p { asleep = b; holding = h }) ≡ true
+        → asked (facts_of A.images) k pid change ≡ wanted_in A.images flat change h
     ready p true here h holds e = absurd cc
     ready p false here (Holds s) holds e = change_same A.images k flat pid p s change i x c n t here holds
     ready p false here (Lends sid child) holds e = absurd cc

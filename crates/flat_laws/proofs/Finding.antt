@@ -49,7 +49,8 @@ unfolding returned
 found_returned of given [] pid s h = absurd (let k = h.here in cc)
 found_returned of given (q ∷ qs) pid s h = go (λ k. found_returned of given qs pid s k) (lends_to of q.holding) refl (first_of q qs pid s h)
   where
-    go : (FoundHolding qs pid s → FoundHolding (returned of given qs) pid s) → (b : Bool) → lends_to of q.holding ≡ b → First q qs pid s → FoundHolding (returned_by b given q qs (returned of given qs)) pid s
+    go : (FoundHolding qs pid s → FoundHolding (returned of given qs) pid s) → (b : Bool) → lends_to of q.holding ≡ b → First q qs pid s
+        → FoundHolding (returned_by b given q qs (returned of given qs)) pid s
     go later true e (Here k holds) = absurd (let lends : false ≡ true = sym (ap (lends_to of) holds) ∙ e in cc)
     go later true e (Behind k found) = found_behind (record q { holding = Holds given }) qs pid s k found
     go later false e (Here k holds) = found_here q (returned of given qs) pid s k holds
@@ -117,8 +118,10 @@ found_by_number test (q ∷ qs) z own h = go (λ k. found_by_number test qs z ow
     last true e k f = absurd (found_present test qs z q.pid own.0 k (sym (eqb-true q.pid z.pid e)))
     last false e k f = f
 
-    go : (find test qs ≡ Some z → find (λ r. r.pid == z.pid) qs ≡ Some z) → (b : Bool) → cond b (Some q) (find test qs) ≡ Some z → cond (q.pid == z.pid) (Some q) (find (λ r. r.pid == z.pid) qs) ≡ Some z
-    go later true k = let same : q ≡ z = cc in ap (λ (b : Bool). cond b (Some q) (find (λ r. r.pid == z.pid) qs)) (eq-eqb q.pid z.pid (ap (λ (r : Process). r.pid) same)) ∙ ap (λ (r : Process). Some r) same
+    go : (find test qs ≡ Some z → find (λ r. r.pid == z.pid) qs ≡ Some z) → (b : Bool) → cond b (Some q) (find test qs) ≡ Some z
+        → cond (q.pid == z.pid) (Some q) (find (λ r. r.pid == z.pid) qs) ≡ Some z
+    go later true k =
+        let same : q ≡ z = cc in ap (λ (b : Bool). cond b (Some q) (find (λ r. r.pid == z.pid) qs)) (eq-eqb q.pid z.pid (ap (λ (r : Process). r.pid) same)) ∙ ap (λ (r : Process). Some r) same
     go later false k = last (q.pid == z.pid) refl k (later k)
 
 -- who takes the place of one of his number changes no number

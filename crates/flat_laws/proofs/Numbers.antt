@@ -87,7 +87,8 @@ called_kept : (images : List NamedImage) (F : FlatState) (p : Process) (t : Spac
 called_kept images F p t refused effect None h = after_kept images F p effect.writes p.regs (End 12) tt h
 called_kept images F p t refused effect (Some call) h =
     replied_kept images F p call effect (reply_behind images F p t refused call effect)
-    (reply_fits images (apply_writes F p.pid effect.writes) (answers_of (puts t effect.writes)) (written_process p t effect.writes) (puts t effect.writes) call effect.regs refused (subst (λ (ns : List ℕ). AllDistinct ns) (sym (pids_written F p.pid effect.writes)) h.pids))
+    (reply_fits images (apply_writes F p.pid effect.writes) (answers_of (puts t effect.writes)) (written_process p t effect.writes) (puts t effect.writes) call effect.regs refused
+    (subst (λ (ns : List ℕ). AllDistinct ns) (sym (pids_written F p.pid effect.writes)) h.pids))
     h
 
 behind_kept : (images : List NamedImage) (F : FlatState) (p : Process) (t : Space) (refused : Bool) (effect : Effect) (number : Option ℤ)
@@ -152,7 +153,8 @@ unfolding flat_units
 units_numbered A [] point q h k = where_numbered true point q h k
 units_numbered A (u ∷ us) point q h k = go (λ next l m. units_numbered A us next q l m) (flat_entry A point u) refl h
   where
-    go : ((next : Point) → flat_units A (Some next) us ≡ Some q → IsNumbered next.flat → IsNumbered q.flat) → (o : Option Point) → flat_entry A point u ≡ o → flat_units A o us ≡ Some q → IsNumbered q.flat
+    go : ((next : Point) → flat_units A (Some next) us ≡ Some q → IsNumbered next.flat → IsNumbered q.flat) → (o : Option Point) → flat_entry A point u ≡ o
+        → flat_units A o us ≡ Some q → IsNumbered q.flat
     go later None e l = absurd cc
     go later (Some next) e l = later next l (entry_numbered A point next u e k)
 

@@ -48,7 +48,8 @@ same_run : {A : Type 0} (some other : Answers) (p : Program A) → AreAlike some
 same_run some other (Reads a next) h =
     ap (λ (answer : ByteRead). after_read answer a (λ byte. run some (next byte))) h.0 ∙ go (λ byte k. same_run some other (next byte) k) (other.read a) h.1
   where
-    go : ((byte : ℕ) → AreAlike some other (accesses other (next byte)) → run some (next byte) ≡ run other (next byte)) → (answer : ByteRead) → AreAlike some other (rest_of_read answer (λ byte. accesses other (next byte))) → after_read answer a (λ byte. run some (next byte)) ≡ after_read answer a (λ byte. run other (next byte))
+    go : ((byte : ℕ) → AreAlike some other (accesses other (next byte)) → run some (next byte) ≡ run other (next byte)) → (answer : ByteRead)
+        → AreAlike some other (rest_of_read answer (λ byte. accesses other (next byte))) → after_read answer a (λ byte. run some (next byte)) ≡ after_read answer a (λ byte. run other (next byte))
     go later (bytes.Is byte) k = later byte k
     go later bytes.Miss k = refl
     go later bytes.Below k = refl
@@ -56,7 +57,8 @@ same_run some other (Reads a next) h =
 same_run some other (Tests a next) h =
     ap (λ (answer : MayWrite). after_test answer a (run some next)) h.0 ∙ go (λ k. same_run some other next k) (other.may_write a) h.1
   where
-    go : (AreAlike some other (accesses other next) → run some next ≡ run other next) → (answer : MayWrite) → AreAlike some other (rest_of_test answer (accesses other next)) → after_test answer a (run some next) ≡ after_test answer a (run other next)
+    go : (AreAlike some other (accesses other next) → run some next ≡ run other next) → (answer : MayWrite) → AreAlike some other (rest_of_test answer (accesses other next))
+        → after_test answer a (run some next) ≡ after_test answer a (run other next)
     go later tests.May k = later k
     go later tests.Miss k = refl
     go later tests.Below k = refl
@@ -179,7 +181,8 @@ after_is A F p s effect call ok is =
 pub reply_shown : (A : Inputs) (F : FlatState) (pid : ℕ) (p : Process) (s : Space) (effect : Effect) (call : SystemCall) → process_of F pid ≡ Some p
     → is_ready p ≡ true → p.holding ≡ Holds s
     → instruction_in s p.regs ≡ Ok effect → IsCallOf effect call
-    → run (shown (puts s effect.writes) (touched A F pid)) (reply_program A.images F p s effect call) ≡ run (answers_of (puts s effect.writes)) (reply_program A.images F p s effect call)
+    → run (shown (puts s effect.writes) (touched A F pid)) (reply_program A.images F p s effect call)
+    ≡ run (answers_of (puts s effect.writes)) (reply_program A.images F p s effect call)
 unfolding step_accesses
 reply_shown A F pid p s effect call here ready holds ok is =
     let back = back_shown s (touched A F pid) (accesses (answers_of s) (instruction p.regs)) (accesses_after A.images F p s (instruction_in s p.regs)) (steps_shown A F pid p s here ready holds) in

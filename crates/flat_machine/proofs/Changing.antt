@@ -27,7 +27,8 @@ unfolding replaced
 replaced_absent [] p pid same = refl
 replaced_absent (x ∷ xs) p pid same = go (x.pid == pid) refl (replaced_absent xs p pid same)
   where
-    go : (b : Bool) → (x.pid == pid) ≡ b → replaced (filter (λ (q : Process). not (q.pid == pid)) xs) p ≡ filter (λ (q : Process). not (q.pid == pid)) xs → replaced (filter (λ (q : Process). not (q.pid == pid)) (x ∷ xs)) p ≡ filter (λ (q : Process). not (q.pid == pid)) (x ∷ xs)
+    go : (b : Bool) → (x.pid == pid) ≡ b → replaced (filter (λ (q : Process). not (q.pid == pid)) xs) p ≡ filter (λ (q : Process). not (q.pid == pid)) xs
+        → replaced (filter (λ (q : Process). not (q.pid == pid)) (x ∷ xs)) p ≡ filter (λ (q : Process). not (q.pid == pid)) (x ∷ xs)
     go true e more = rw e more
     go false e more =
         let other : (x.pid == p.pid) ≡ false = grind (arith, nat_tests) in
@@ -39,7 +40,8 @@ unfolding replaced
 replaced_filter [] p pid = refl
 replaced_filter (x ∷ xs) p pid = go (x.pid == p.pid) (x.pid == pid) refl refl (replaced_filter xs p pid)
   where
-    go : (b c : Bool) → (x.pid == p.pid) ≡ b → (x.pid == pid) ≡ c → replaced (filter (λ (q : Process). not (q.pid == pid)) xs) p ≡ filter (λ (q : Process). not (q.pid == pid)) (replaced xs p) → replaced (filter (λ (q : Process). not (q.pid == pid)) (x ∷ xs)) p ≡ filter (λ (q : Process). not (q.pid == pid)) (replaced (x ∷ xs) p)
+    go : (b c : Bool) → (x.pid == p.pid) ≡ b → (x.pid == pid) ≡ c → replaced (filter (λ (q : Process). not (q.pid == pid)) xs) p ≡ filter (λ (q : Process). not (q.pid == pid)) (replaced xs p)
+        → replaced (filter (λ (q : Process). not (q.pid == pid)) (x ∷ xs)) p ≡ filter (λ (q : Process). not (q.pid == pid)) (replaced (x ∷ xs) p)
     go true true e f more =
         let same : (p.pid == pid) ≡ true = grind (arith, nat_tests) in
         let is : p.pid ≡ pid = grind (arith, nat_tests) in

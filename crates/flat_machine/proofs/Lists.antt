@@ -112,7 +112,8 @@ pub with_at : (F : FlatState) (place : ℕ) (p : Process) → IsPlace F place �
     → with_process F p ≡ record F { processes = set F.processes place p }
 with_at F place p at same =
     ap (λ (xs : List Process). record F { processes = xs })
-    (replaced_at F.processes place p (subst (λ (n : ℕ). IsFirst (λ (q : Process). q.pid == n) F.processes place) (sym same) (is_first (λ (q : Process). q.pid == (process_at F place).pid) F.processes place at.first)))
+    (replaced_at F.processes place p
+    (subst (λ (n : ℕ). IsFirst (λ (q : Process). q.pid == n) F.processes place) (sym same) (is_first (λ (q : Process). q.pid == (process_at F place).pid) F.processes place at.first)))
 
 set_same : (xs : List Process) (i : ℕ) → i < length xs → set xs i (get_or xs i no_process) ≡ xs
 set_same [] i below = absurd (omega arith)

@@ -37,9 +37,11 @@ reply_same images call G H p q s t regs more states processes spaces registers =
     ∙ ap (λ (x : Regs). or_fault (run (answers_of t) (reply_of images H q t call x))) registers
 
 -- a step ends in the reply of its call
-pub by_call : (images : List NamedImage) (F : FlatState) (p : Process) (s : Space) (refused : Bool) (r : Result Effect Refused) (number : ℤ) (call : SystemCall) (deed : Deed) (reply : Reply)
+pub by_call : (images : List NamedImage) (F : FlatState) (p : Process) (s : Space) (refused : Bool) (r : Result Effect Refused) (number : ℤ) (call : SystemCall)
+    (deed : Deed) (reply : Reply)
     → answer_of r ≡ steps.Call number → call_of number ≡ Some call
-    → reply ≡ refused_reply refused (or_fault (run (answers_of (puts s (writes_of r))) (reply_of images (apply_writes F p.pid (writes_of r)) (written_process p s (writes_of r)) (puts s (writes_of r)) call (registers_after p.regs r))))
+    → reply ≡ refused_reply refused (or_fault (run (answers_of (puts s (writes_of r)))
+    (reply_of images (apply_writes F p.pid (writes_of r)) (written_process p s (writes_of r)) (puts s (writes_of r)) call (registers_after p.regs r))))
     → ((effect : Effect) → r ≡ Ok effect → step_by images F p effect.writes deed ≡ replied_step images F p call effect reply)
     → step_by images F p (writes_of r) deed ≡ step_of images F p s refused r
 by_call images F p s refused (Ok effect) number call deed reply e one is does = go effect.call e
@@ -74,7 +76,8 @@ wrote_at F place writes at =
 
 pub behind_at : (F G : FlatState) (place : ℕ) (stepped : Stepped) (regs : Regs) → IsPlace F place
     → G ≡ with_process F (written_process (process_at F place) (space_at F place) (writes_of (instruction_in (space_at F place) (process_at F place).regs)))
-    → stepped ≡ answer_of (instruction_in (space_at F place) (process_at F place).regs) → regs ≡ registers_after (process_at F place).regs (instruction_in (space_at F place) (process_at F place).regs)
+    → stepped ≡ answer_of (instruction_in (space_at F place) (process_at F place).regs)
+    → regs ≡ registers_after (process_at F place).regs (instruction_in (space_at F place) (process_at F place).regs)
     → IsBehind F (process_at F place) (space_at F place) (instruction_in (space_at F place) (process_at F place).regs) G place stepped regs
 behind_at F G place stepped regs at is answer registers =
     let r = instruction_in (space_at F place) (process_at F place).regs in
@@ -87,7 +90,8 @@ behind_at F G place stepped regs at is answer registers =
     }
 
 flat_at : (A : Inputs) (images : List NamedImage) (F : FlatState) (place : ℕ) (refused : Bool) → IsPlace F place → A.images ≡ images
-    → flat_step A F (process_at F place).pid refused ≡ step_of images F (process_at F place) (space_at F place) refused (instruction_in (space_at F place) (process_at F place).regs)
+    → flat_step A F (process_at F place).pid refused
+    ≡ step_of images F (process_at F place) (space_at F place) refused (instruction_in (space_at F place) (process_at F place).regs)
 unfolding flat_step
 flat_at A images F place refused at same =
     ap (λ (is : List NamedImage). step_if is F refused (process_of F (process_at F place).pid)) same
@@ -98,11 +102,13 @@ flat_at A images F place refused at same =
 pub step_made : (A : Inputs) (images : List NamedImage) (F : FlatState) (place : ℕ) (refused : Bool) (deed : Deed) → IsPlace F place → A.images ≡ images
     → step_by images F (process_at F place) (writes_of (instruction_in (space_at F place) (process_at F place).regs)) deed
     ≡ step_of images F (process_at F place) (space_at F place) refused (instruction_in (space_at F place) (process_at F place).regs)
-    → step_by images F (process_at F place) (writes_of (instruction_in (space_at F place) (process_at F place).regs)) deed ≡ flat_step A F (process_at F place).pid refused
+    → step_by images F (process_at F place) (writes_of (instruction_in (space_at F place) (process_at F place).regs)) deed
+    ≡ flat_step A F (process_at F place).pid refused
 step_made A images F place refused deed at same is = is ∙ sym (flat_at A images F place refused at same)
 
 -- the change of a deed leaves what its step does
-pub step_left : (images : List NamedImage) (F G : FlatState) (p : Process) (s : Space) (r : Result Effect Refused) (place : ℕ) (stepped : Stepped) (regs : Regs) (deed : Deed)
+pub step_left : (images : List NamedImage) (F G : FlatState) (p : Process) (s : Space) (r : Result Effect Refused) (place : ℕ) (stepped : Stepped)
+    (regs : Regs) (deed : Deed)
     → IsBehind F p s r G place stepped regs
     → apply_change images G (process_at G place).pid deed.regs deed.change ≡ (step_by images F p (writes_of r) deed).after
 step_left images F G p s r place stepped regs deed behind =

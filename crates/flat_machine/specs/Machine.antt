@@ -57,7 +57,8 @@ entries_if true step = step.entries
 entries_if false step = []
 
 -- the state after an instruction that came to this, the process that ran it at its place, and what it left
-pub record IsBehind (F : FlatState) (p : Process) (s : Space) (r : Result Effect Refused) (G : FlatState) (place : ℕ) (stepped : Stepped) (regs : Regs) : Type 0 where
+pub record IsBehind (F : FlatState) (p : Process) (s : Space) (r : Result Effect Refused) (G : FlatState) (place : ℕ) (stepped : Stepped)
+    (regs : Regs) : Type 0 where
   pub state : G ≡ apply_writes F p.pid (writes_of r)
   pub process : process_at G place ≡ written_process p s (writes_of r)
   pub answer : stepped ≡ answer_of r

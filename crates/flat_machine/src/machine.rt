@@ -172,7 +172,11 @@ impl Machine {
     fn start(&mut self, alloc: Global, programs: &[Program], number: u32) -> Result<(), NoMemory>
         requires image { IsSome (image_numbered programs.now number) }
         requires numbers { self.old.next_sid ≡ self.old.next_pid }
-        ensures { OnOk result (self.new ≡ record { processes = self.old.processes ++ start_if self.old.next_pid number (image_numbered programs.now number); next_pid = self.old.next_pid + 1; next_sid = self.old.next_sid + 1 }) }
+        ensures { OnOk result (self.new ≡ record {
+          processes = self.old.processes ++ start_if self.old.next_pid number (image_numbered programs.now number);
+          next_pid = self.old.next_pid + 1;
+          next_sid = self.old.next_sid + 1;
+        }) }
     {
         let program = program_at(programs, number);
         let Ok(name) = Vec::from_slice(alloc, program.name()) else {
@@ -251,7 +255,9 @@ impl Machine {
         requires at { IsPlace self.old place }
         requires of_data { data_pages ≤ 4096 }
         requires of_stack { stack_pages ≤ 512 }
-        ensures { OnOk result (self.new ≡ with_process self.old (record (process_at self.old place) { holding = Holds (resized (space_at self.old place) data_pages stack_pages) })) }
+        ensures { OnOk result (self.new ≡ with_process self.old (record (process_at self.old place) {
+          holding = Holds (resized (space_at self.old place) data_pages stack_pages);
+        })) }
     {
         self.list[place].resize(data_pages, stack_pages)
     }
@@ -297,7 +303,8 @@ impl Machine {
         requires at { IsPlace self.old place }
         requires image { IsSome (image_numbered programs.now image) }
         requires top { length top.now ≡ 1024 }
-        ensures { OnOk result (self.new ≡ entered self.old (process_at self.old place) (space_at self.old place) image (image_numbered programs.now image) top.now) }
+        ensures { OnOk result
+            (self.new ≡ entered self.old (process_at self.old place) (space_at self.old place) image (image_numbered programs.now image) top.now) }
     {
         let sid = next(self.next_sid)?;
         let space = space_with(alloc, programs, self.next_sid, image, top)?;
@@ -393,7 +400,8 @@ impl Machine {
         requires at { IsPlace self.now place }
         requires few { length programs.now < 2 ^ 31 }
         requires near { IsNearStep stepped }
-        ensures value { IfOk result (λ deed. (F : FlatState) (p : Record) (s : Space) (r : Result Effect Refused) → IsBehind F p s r self.now place stepped regs → step_by programs.now F p (writes_of r) deed ≡ step_of programs.now F p s refused r) }
+        ensures value { IfOk result (λ deed. (F : FlatState) (p : Record) (s : Space) (r : Result Effect Refused) → IsBehind F p s r self.now place stepped regs
+            → step_by programs.now F p (writes_of r) deed ≡ step_of programs.now F p s refused r) }
         ensures sound { IfOk result (λ deed. CanChange programs.now deed.change) }
     {
         let process = self.at(place);
@@ -479,7 +487,8 @@ impl Machine {
         requires { IsPlace self.old place }
         ensures near { IsNearStep result.0 }
         ensures at { IsPlace self.new place }
-        ensures behind { IsBehind self.old (process_at self.old place) (space_at self.old place) (instruction_in (space_at self.old place) (process_at self.old place).regs) self.new place result.0 result.1 }
+        ensures behind { IsBehind self.old (process_at self.old place) (space_at self.old place)
+            (instruction_in (space_at self.old place) (process_at self.old place).regs) self.new place result.0 result.1 }
     {
         self.list[place].run()
     }
@@ -497,7 +506,8 @@ impl Machine {
         requires few { length programs.now < 2 ^ 31 }
         ensures near { IfOk result (λ ran. IsNearStep ran.0) }
         ensures at { OnOk result (IsPlace self.new place) }
-        ensures behind { IfOk result (λ ran. IsBehind self.old (process_at self.old place) (space_at self.old place) (instruction_in (space_at self.old place) (process_at self.old place).regs) self.new place ran.0 ran.1) }
+        ensures behind { IfOk result (λ ran. IsBehind self.old (process_at self.old place) (space_at self.old place)
+            (instruction_in (space_at self.old place) (process_at self.old place).regs) self.new place ran.0 ran.1) }
         ensures pages { IfOk result (λ ran. ran.2.items ≡ touched_in programs.now self.old (process_at self.old place) (process_at self.old place).holding) }
     {
         self.list[place].run_touching(alloc, programs)
@@ -579,7 +589,11 @@ fn ended(process: &Process, status: u32) -> Deed
 fn grown(process: &Process, address: u32) -> Deed
     requires holds { IsTrue (holds_space process.now.holding) }
     requires near { IsNear address }
-    ensures value { result ≡ record { did = Did.Grew (pages_down_to address); regs = process.now.regs; change = Change.Resize (data_pages_of (space_in process.now.holding)) (pages_down_to address) } }
+    ensures value { result ≡ record {
+      did = Did.Grew (pages_down_to address);
+      regs = process.now.regs;
+      change = Change.Resize (data_pages_of (space_in process.now.holding)) (pages_down_to address);
+    } }
     ensures few { (pages_down_to address ≤ 512) × (data_pages_of (space_in process.now.holding) ≤ 4096) }
 {
     let stack_pages = (STACK_TOP - 1 - address) / PAGE + 1;
@@ -596,7 +610,8 @@ fn grown(process: &Process, address: u32) -> Deed
 
 // A call and its reply, from the registers that the instruction left.
 fn replied_deed(process: &Process, call: SystemCall, regs: Regs, reply: Reply) -> Deed
-    ensures value { (images : List NamedImage) (F : FlatState) (p : Record) (effect : Effect) → CanReply images reply → p.regs ≡ process.now.regs → effect.regs ≡ regs
+    ensures value { (images : List NamedImage) (F : FlatState) (p : Record) (effect : Effect) → CanReply images reply
+        → p.regs ≡ process.now.regs → effect.regs ≡ regs
         → step_by images F p effect.writes result ≡ replied_step images F p call effect reply }
     ensures sound { (images : List NamedImage) → CanReply images reply → CanChange images result.change }
 {

@@ -19,7 +19,8 @@ abbrev pub byte_at : ℕ → Program ℕ
 byte_at address = Reads address (λ byte. Gives byte)
 
 one : (memory : Answers) (count address : ℕ)
-    → run memory (bytes_from (suc count) address) ≡ then (run memory (byte_at address)) (λ byte. then (run memory (bytes_from count (past address 1))) (λ more. Ok (byte ∷ more)))
+    → run memory (bytes_from (suc count) address)
+    ≡ then (run memory (byte_at address)) (λ byte. then (run memory (bytes_from count (past address 1))) (λ more. Ok (byte ∷ more)))
 unfolding bytes_from
 one memory count address =
     run_bind memory (byte_at address) (λ (byte : ℕ). bytes_from count (past address 1) >>= λ more. Gives (byte ∷ more))
@@ -107,7 +108,8 @@ string_one : (memory : Answers) (left address : ℕ)
 unfolding string_from
 string_one memory left address = go (memory.read address)
   where
-    go : (r : ByteRead) → after_read r address (λ byte. run memory (string_after byte (string_from left (past address 1)))) ≡ then (after_read r address (λ byte. Ok byte)) (string_next memory (string_from left (past address 1)))
+    go : (r : ByteRead) → after_read r address (λ byte. run memory (string_after byte (string_from left (past address 1))))
+        ≡ then (after_read r address (λ byte. Ok byte)) (string_next memory (string_from left (past address 1)))
     go (reads.Is byte) = refl
     go reads.Miss = refl
     go reads.Below = refl
@@ -131,7 +133,8 @@ Spells memory limit address index bytes =
     run memory (string_from limit address) ≡ after_string bytes (run memory (string_from (limit - index) (past address index)))
 
 spells_one : (memory : Answers) (limit address index : ℕ) (bytes : List ℕ) → Spells memory limit address index bytes → index < limit
-    → run memory (string_from limit address) ≡ after_string bytes (then (run memory (byte_at (past address index))) (string_next memory (string_from (limit - (index + 1)) (past address (index + 1)))))
+    → run memory (string_from limit address)
+    ≡ after_string bytes (then (run memory (byte_at (past address index))) (string_next memory (string_from (limit - (index + 1)) (past address (index + 1)))))
 spells_one memory limit address index bytes h below =
     h
     ∙ ap (λ (n : ℕ). after_string bytes (run memory (string_from n (past address index)))) (left_one limit index below)

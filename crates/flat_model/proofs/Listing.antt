@@ -55,7 +55,8 @@ abbrev pub rest_of : Answers → ℕ → ℕ → ℕ → Program (Option (List (
 rest_of memory limit address index = arguments_from (limit - (index + 1)) (past address (4 * (index + 1)))
 
 lists_one : (memory : Answers) (limit address index : ℕ) (front : List (List ℕ)) → Lists memory limit address index front → index < limit
-    → run memory (arguments_from limit address) ≡ after_arguments front (then (run memory (number_at 4 (past address (4 * index)))) (pointer_next memory (rest_of memory limit address index)))
+    → run memory (arguments_from limit address)
+    ≡ after_arguments front (then (run memory (number_at 4 (past address (4 * index)))) (pointer_next memory (rest_of memory limit address index)))
 lists_one memory limit address index front h below =
     h
     ∙ ap (λ (n : ℕ). after_arguments front (run memory (arguments_from n (past address (4 * index))))) (left_one limit index below)
@@ -78,7 +79,8 @@ lists_end memory limit address index front h below e =
 
 lists_string : (memory : Answers) (limit address index : ℕ) (front : List (List ℕ)) (pointer : ℕ) → Lists memory limit address index front → index < limit
     → run memory (number_at 4 (past address (4 * index))) ≡ Ok pointer → (pointer ≡ 0 → ⊥)
-    → run memory (arguments_from limit address) ≡ after_arguments front (then (run memory (string_from string_limit pointer)) (string_next memory (rest_of memory limit address index)))
+    → run memory (arguments_from limit address)
+    ≡ after_arguments front (then (run memory (string_from string_limit pointer)) (string_next memory (rest_of memory limit address index)))
 lists_string memory limit address index front pointer h below e other =
     lists_one memory limit address index front h below
     ∙ ap (λ (r : Result ℕ Refused). after_arguments front (then r (pointer_next memory (rest_of memory limit address index)))) e
@@ -111,7 +113,8 @@ lists_more memory limit address index front pointer string h below e other k =
 
 -- after the last argument that may be, only a pointer 0 ends the list
 pub lists_last : (memory : Answers) (limit address index : ℕ) (front : List (List ℕ)) → Lists memory limit address index front → index ≡ limit
-    → run memory (arguments_from limit address) ≡ after_arguments front (then (run memory (number_at 4 (past address (4 * limit)))) (λ pointer. run memory (last_pointer pointer)))
+    → run memory (arguments_from limit address)
+    ≡ after_arguments front (then (run memory (number_at 4 (past address (4 * limit)))) (λ pointer. run memory (last_pointer pointer)))
 lists_last memory limit address index front h end =
     h
     ∙ ap (λ (n : ℕ). after_arguments front (run memory (arguments_from n (past address (4 * index))))) (let e : limit - index ≡ 0 = omega arith in e)

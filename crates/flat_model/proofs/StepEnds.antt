@@ -149,21 +149,27 @@ refused_outcome A F pid n = go (can_step F pid) n
 
 -- A step that writes asks for no pieces.
 
-replied_writes : (images : List NamedImage) (F : FlatState) (p : Process) (s : Space) (call : SystemCall) (effect : Effect) (reply : Reply) (pid : ℕ) (bytes : List ℕ) (behind : List Entry)
-    → (replied_step images F p call effect reply).entries ≡ Out pid bytes ∷ behind → change_wanted images F s (replied_step images F p call effect reply).change ≡ []
+replied_writes : (images : List NamedImage) (F : FlatState) (p : Process) (s : Space) (call : SystemCall) (effect : Effect) (reply : Reply) (pid : ℕ)
+    (bytes : List ℕ) (behind : List Entry)
+    → (replied_step images F p call effect reply).entries ≡ Out pid bytes ∷ behind
+    → change_wanted images F s (replied_step images F p call effect reply).change ≡ []
 replied_writes images F p s call effect (Fails error) pid bytes behind h = refl
 replied_writes images F p s call effect (Does regs change) pid bytes behind h = absurd cc
 replied_writes images F p s call effect (Writes written) pid bytes behind h = refl
 replied_writes images F p s call effect Waits pid bytes behind h = refl
 replied_writes images F p s call effect (Exits status) pid bytes behind h = refl
 
-called_writes : (images : List NamedImage) (F : FlatState) (p : Process) (s : Space) (effect : Effect) (o : Option SystemCall) (pid : ℕ) (bytes : List ℕ) (behind : List Entry)
-    → (called_step images F p s false effect o).entries ≡ Out pid bytes ∷ behind → change_wanted images F s (called_step images F p s false effect o).change ≡ []
+called_writes : (images : List NamedImage) (F : FlatState) (p : Process) (s : Space) (effect : Effect) (o : Option SystemCall) (pid : ℕ)
+    (bytes : List ℕ) (behind : List Entry)
+    → (called_step images F p s false effect o).entries ≡ Out pid bytes ∷ behind
+    → change_wanted images F s (called_step images F p s false effect o).change ≡ []
 called_writes images F p s effect None pid bytes behind h = refl
 called_writes images F p s effect (Some call) pid bytes behind h = replied_writes images F p s call effect (reply_behind images F p s false call effect) pid bytes behind h
 
-behind_writes : (images : List NamedImage) (F : FlatState) (p : Process) (s : Space) (effect : Effect) (o : Option ℤ) (pid : ℕ) (bytes : List ℕ) (behind : List Entry)
-    → (step_behind images F p s false effect o).entries ≡ Out pid bytes ∷ behind → change_wanted images F s (step_behind images F p s false effect o).change ≡ []
+behind_writes : (images : List NamedImage) (F : FlatState) (p : Process) (s : Space) (effect : Effect) (o : Option ℤ) (pid : ℕ)
+    (bytes : List ℕ) (behind : List Entry)
+    → (step_behind images F p s false effect o).entries ≡ Out pid bytes ∷ behind
+    → change_wanted images F s (step_behind images F p s false effect o).change ≡ []
 behind_writes images F p s effect None pid bytes behind h = refl
 behind_writes images F p s effect (Some number) pid bytes behind h = called_writes images F p s effect (call_of number) pid bytes behind h
 

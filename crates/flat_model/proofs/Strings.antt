@@ -34,8 +34,10 @@ unfolding argument_area
 area_count arguments =
     let n = word_bytes (length arguments) in
     let p = pointers_from (strings_at arguments) arguments in
-    let a : length (n ++ p ++ word_bytes 0 ++ word_bytes 0 ++ string_area arguments ++ word_bytes 0) ≡ length (n ++ p ++ word_bytes 0 ++ word_bytes 0 ++ string_area arguments) + 4 = length-append (n ++ p ++ word_bytes 0 ++ word_bytes 0 ++ string_area arguments) (word_bytes 0) in
-    let b : length (n ++ p ++ word_bytes 0 ++ word_bytes 0 ++ string_area arguments) ≡ length (n ++ p ++ word_bytes 0 ++ word_bytes 0) + length (string_area arguments) = length-append (n ++ p ++ word_bytes 0 ++ word_bytes 0) (string_area arguments) in
+    let a : length (n ++ p ++ word_bytes 0 ++ word_bytes 0 ++ string_area arguments ++ word_bytes 0) ≡ length (n ++ p ++ word_bytes 0 ++ word_bytes 0 ++ string_area arguments) + 4 =
+    length-append (n ++ p ++ word_bytes 0 ++ word_bytes 0 ++ string_area arguments) (word_bytes 0) in
+    let b : length (n ++ p ++ word_bytes 0 ++ word_bytes 0 ++ string_area arguments) ≡ length (n ++ p ++ word_bytes 0 ++ word_bytes 0) + length (string_area arguments) =
+    length-append (n ++ p ++ word_bytes 0 ++ word_bytes 0) (string_area arguments) in
     let c : length (n ++ p ++ word_bytes 0 ++ word_bytes 0) ≡ length (n ++ p ++ word_bytes 0) + 4 = length-append (n ++ p ++ word_bytes 0) (word_bytes 0) in
     let d : length (n ++ p ++ word_bytes 0) ≡ length (n ++ p) + 4 = length-append (n ++ p) (word_bytes 0) in
     let e : length (n ++ p) ≡ 4 + length p = length-append n p in
@@ -54,7 +56,8 @@ pub area_parts : (page : List ℕ) (arguments : List (List ℕ)) →
     ++ replicate (in_longwords (length (strings_of arguments)) - length (strings_of arguments)) 0 ++ word_bytes 0
     ≡ page ++ argument_area arguments
 unfolding argument_area
-area_parts page arguments = appends page (word_bytes (length arguments)) (pointers_from (strings_at arguments) arguments) (word_bytes 0) (word_bytes 0) (strings_of arguments) (replicate (in_longwords (length (strings_of arguments)) - length (strings_of arguments)) 0) (word_bytes 0)
+area_parts page arguments = appends page (word_bytes (length arguments)) (pointers_from (strings_at arguments) arguments) (word_bytes 0) (word_bytes 0) (strings_of arguments)
+    (replicate (in_longwords (length (strings_of arguments)) - length (strings_of arguments)) 0) (word_bytes 0)
   where
     appends : (p a b c d e f g : List ℕ) → ((((((p ++ a) ++ b) ++ c) ++ d) ++ e) ++ f) ++ g ≡ p ++ (((((a ++ b) ++ c) ++ d) ++ (e ++ f)) ++ g)
     appends p a b c d e f g =

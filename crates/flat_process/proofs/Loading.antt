@@ -33,7 +33,8 @@ abbrev pub Searches : List NamedImage → List ℕ → ℕ → Type 0
 Searches images name place = image_named 1 images name ≡ image_named (place + 1) (drop place images) name
 
 search_one : (images : List NamedImage) (name : List ℕ) (place : ℕ) (d : NamedImage) → place < length images
-    → image_named (place + 1) (drop place images) name ≡ numbered_by (bytes_eq (get_or images place d).name name) (place + 1) (get_or images place d) (image_named (suc (place + 1)) (drop (place + 1) images) name)
+    → image_named (place + 1) (drop place images) name ≡ numbered_by (bytes_eq (get_or images place d).name name) (place + 1) (get_or images place d)
+    (image_named (suc (place + 1)) (drop (place + 1) images) name)
 unfolding image_named
 search_one images name place d below = ap (λ (x : List NamedImage). image_named (place + 1) x name) (drop_more images place d below)
 

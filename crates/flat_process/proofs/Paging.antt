@@ -179,7 +179,8 @@ pub data Paging {A : Type 0} (s : Space) (present : List Page) (some whole : Res
       → page_of_access s (access_of address write) ≡ Some page → is_among page present ≡ false → AllAmong present front → touched ≡ front ++ page ∷ back
       → Paging s present some whole touched
 
-one_read : {A : Type 0} (s : Space) (present : List Page) (address byte : ℕ) (page : Page) (next : ℕ → Result A Refused) (whole : Result A Refused) (touched : List Page)
+one_read : {A : Type 0} (s : Space) (present : List Page) (address byte : ℕ) (page : Page) (next : ℕ → Result A Refused)
+    (whole : Result A Refused) (touched : List Page)
     → page_of_access s (ReadOf address) ≡ Some page → Paging s present (next byte) whole touched
     → (b : Bool) → is_among page present ≡ b → Paging s present (after_read (read_where b (reads.Is byte)) address next) whole (page ∷ touched)
 one_read s present address byte page next whole touched is (Whole e all) true h = Whole e (h, all)
@@ -330,7 +331,8 @@ pub record Hits (s t : Space) (present left : List Page) (regs after : Regs) (st
 
 pub hit_answer : (s t : Space) (present left : List Page) (regs after : Regs) (stepped : Stepped)
     → stepped ≡ answer_of (run (shown s present) (instruction regs)) → after ≡ registers_after regs (run (shown s present) (instruction regs))
-    → WrotePresent present s (writes_of (run (shown s present) (instruction regs))) left t → ((address : ℕ) (write : Bool) → stepped ≡ steps.Miss address write → ⊥)
+    → WrotePresent present s (writes_of (run (shown s present) (instruction regs))) left t
+    → ((address : ℕ) (write : Bool) → stepped ≡ steps.Miss address write → ⊥)
     → Hits s t present left regs after stepped
 hit_answer s t present left regs after stepped answer registers wrote none =
     let whole = hit s present (instruction regs) (λ address write h. none address write (answer ∙ ap answer_of h)) in
@@ -355,7 +357,8 @@ missed_from s t s₀ first present kept more regs after regs₀ address write mi
     (subst₂ (λ (x : Space) (y : Regs). Brings x present address write (instruction_pages x y)) space registers misses.brings) same pushed
 
 pub hit_from : (s t s₀ : Space) (first present kept : List Page) (regs after regs₀ : Regs) (stepped : Stepped) → Hits s t present kept regs after stepped
-    → s ≡ s₀ → regs ≡ regs₀ → gathered present (instruction_pages s₀ regs₀) ≡ gathered first (instruction_pages s₀ regs₀) → Hits s₀ t first kept regs₀ after stepped
+    → s ≡ s₀ → regs ≡ regs₀ → gathered present (instruction_pages s₀ regs₀) ≡ gathered first (instruction_pages s₀ regs₀)
+    → Hits s₀ t first kept regs₀ after stepped
 hit_from s t s₀ first present kept regs after regs₀ stepped hits space registers same =
     let here = subst₂ (λ (x : Space) (y : Regs). Hits x t present kept y after stepped) space registers hits in
     record { answer = here.answer; registers = here.registers; space = here.space; pages = here.pages ∙ same }
@@ -400,7 +403,8 @@ pub hit_reads_from : {A : Type 0} (s s₀ : Space) (first present : List Page) (
 hit_reads_from s s₀ first present p asked is none space same =
     subst (λ (x : Space). present ≡ gathered present (pages_of x (accesses (answers_of x) p))) space (hit_reads s present p asked is none) ∙ same
 
-pub missed_reads_from : {A : Type 0} (s s₀ : Space) (first present more : List Page) (p : Program A) (address : ℕ) (write : Bool) (asked : Result (Unit {0}) Refused)
+pub missed_reads_from : {A : Type 0} (s s₀ : Space) (first present more : List Page) (p : Program A) (address : ℕ) (write : Bool)
+    (asked : Result (Unit {0}) Refused)
     → asked ≡ refusal_of (run (shown s present) p) → asked ≡ Err (Miss address write) → s ≡ s₀
     → gathered present (pages_of s₀ (accesses (answers_of s₀) p)) ≡ gathered first (pages_of s₀ (accesses (answers_of s₀) p))
     → ((page : Page) → page_of_access s (access_of address write) ≡ Some page → more ≡ present ++ page ∷ [])
@@ -503,9 +507,11 @@ present_put present s t w test h =
 
 -- A whole step: the instruction, and then what its call reads.
 
-pub after_call : (images : List NamedImage) (F : FlatState) (p : Process) (s t : Space) (r : Result Effect Refused) (number : ℤ) (call : SystemCall) (regs : Regs)
+pub after_call : (images : List NamedImage) (F : FlatState) (p : Process) (s t : Space) (r : Result Effect Refused) (number : ℤ)
+    (call : SystemCall) (regs : Regs)
     → steps.Call number ≡ answer_of r → call_of number ≡ Some call → regs ≡ registers_after p.regs r → t ≡ puts s (writes_of r)
-    → accesses_after images F p s r ≡ accesses (answers_of t) (reply_of images (apply_writes F p.pid (writes_of r)) (written_process p s (writes_of r)) (puts s (writes_of r)) call regs)
+    → accesses_after images F p s r
+    ≡ accesses (answers_of t) (reply_of images (apply_writes F p.pid (writes_of r)) (written_process p s (writes_of r)) (puts s (writes_of r)) call regs)
 after_call images F p s t (Ok effect) number call regs e found registers space = go effect.call e
   where
     go : (o : Option ℤ) → steps.Call number ≡ answer_of_call o
@@ -514,7 +520,8 @@ after_call images F p s t (Ok effect) number call regs e found registers space =
     go (Some other) k =
         let same : other ≡ number = cc in
         ap (call_accesses images F p s effect) (ap call_of same ∙ found)
-        ∙ sym (ap₂ (λ (x : Space) (y : Regs). accesses (answers_of x) (reply_of images (apply_writes F p.pid effect.writes) (written_process p s effect.writes) (puts s effect.writes) call y)) space registers)
+        ∙ sym (ap₂ (λ (x : Space) (y : Regs). accesses (answers_of x) (reply_of images (apply_writes F p.pid effect.writes) (written_process p s effect.writes) (puts s effect.writes) call y)) space
+        registers)
 after_call images F p s t (Err (Miss a w)) number call regs e found registers space = absurd cc
 after_call images F p s t (Err (Falls a)) number call regs e found registers space = absurd cc
 after_call images F p s t (Err (Signal n)) number call regs e found registers space = absurd cc

@@ -261,7 +261,11 @@ pub fn reply(
     regs: Regs,
 ) -> Result<Reply, NoMemory>
     requires { length programs.now < 2 ^ 31 }
-    ensures value { (sid : ℕ) → IfOk result (λ r. r ≡ or_fault (run (answers_of space.now) (reply_of programs.now (record { processes = list.now; next_pid = next_pid; next_sid = sid }) process.now space.now call regs))) }
+    ensures value { (sid : ℕ) → IfOk result (λ r. r ≡ or_fault (run (answers_of space.now) (reply_of programs.now (record {
+      processes = list.now;
+      next_pid = next_pid;
+      next_sid = sid;
+    }) process.now space.now call regs))) }
     ensures sound { IfOk result (CanReply programs.now) }
 {
     match call {

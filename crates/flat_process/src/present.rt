@@ -144,7 +144,8 @@ impl Paged {
         ensures answer { IfOk result (λ stepped. stepped ≡ answer_of (instruction_in self.old.space regs.old)) }
         ensures registers { OnOk result (regs.new ≡ registers_after regs.old (instruction_in self.old.space regs.old)) }
         ensures space { OnOk result (self.new.space ≡ puts self.old.space (writes_of (instruction_in self.old.space regs.old))) }
-        ensures pages { OnOk result (self.new.pages.items ≡ gathered self.old.pages.items (pages_of self.old.space (accesses (answers_of self.old.space) (instruction regs.old)))) }
+        ensures pages { OnOk result
+            (self.new.pages.items ≡ gathered self.old.pages.items (pages_of self.old.space (accesses (answers_of self.old.space) (instruction regs.old)))) }
     {
         loop {
             match step(regs, self) {
@@ -164,7 +165,8 @@ impl Paged {
     ) -> Result<(), NoMemory>
         requires { length programs.now < 2 ^ 31 }
         ensures space { OnOk result (self.new.space ≡ self.old.space) }
-        ensures pages { (F : FlatState) (p : Record) (s : Space) → OnOk result (self.new.pages.items ≡ gathered self.old.pages.items (pages_of self.old.space (accesses (answers_of self.old.space) (reply_of programs.now F p s call regs)))) }
+        ensures pages { (F : FlatState) (p : Record) (s : Space) → OnOk result (self.new.pages.items
+            ≡ gathered self.old.pages.items (pages_of self.old.space (accesses (answers_of self.old.space) (reply_of programs.now F p s call regs)))) }
     {
         loop {
             match read_by_call(alloc, programs, self, call, regs)? {
@@ -186,7 +188,8 @@ impl Paged {
     ) -> Result<(), NoMemory>
         requires { length programs.now < 2 ^ 31 }
         ensures space { OnOk result (self.new.space ≡ self.old.space) }
-        ensures pages { (F : FlatState) (p : Record) (s : Space) (r : Result Effect Outcome) → stepped ≡ answer_of r → regs ≡ registers_after p.regs r → self.old.space ≡ puts s (writes_of r)
+        ensures pages { (F : FlatState) (p : Record) (s : Space) (r : Result Effect Outcome) → stepped ≡ answer_of r → regs ≡ registers_after p.regs r
+            → self.old.space ≡ puts s (writes_of r)
             → OnOk result (self.new.pages.items ≡ gathered self.old.pages.items (pages_of self.old.space (accesses_after programs.now F p s r))) }
     {
         match stepped {

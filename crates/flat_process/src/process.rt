@@ -225,7 +225,9 @@ impl Process {
         ensures answer { result.0 ≡ answer_of (instruction_in (space_in self.old.holding) self.old.regs) }
         ensures near { IsNearStep result.0 }
         ensures registers { result.1 ≡ registers_after self.old.regs (instruction_in (space_in self.old.holding) self.old.regs) }
-        ensures after { self.new ≡ record self.old { holding = Holds (puts (space_in self.old.holding) (writes_of (instruction_in (space_in self.old.holding) self.old.regs))) } }
+        ensures after { self.new ≡ record self.old {
+          holding = Holds (puts (space_in self.old.holding) (writes_of (instruction_in (space_in self.old.holding) self.old.regs)));
+        } }
     {
         let mut regs = self.regs;
         match &mut self.held {
@@ -250,7 +252,9 @@ impl Process {
         ensures answer { IfOk result (λ ran. ran.0 ≡ answer_of (instruction_in (space_in self.old.holding) self.old.regs)) }
         ensures near { IfOk result (λ ran. IsNearStep ran.0) }
         ensures registers { IfOk result (λ ran. ran.1 ≡ registers_after self.old.regs (instruction_in (space_in self.old.holding) self.old.regs)) }
-        ensures after { OnOk result (self.new ≡ record self.old { holding = Holds (puts (space_in self.old.holding) (writes_of (instruction_in (space_in self.old.holding) self.old.regs))) }) }
+        ensures after { OnOk result (self.new ≡ record self.old {
+          holding = Holds (puts (space_in self.old.holding) (writes_of (instruction_in (space_in self.old.holding) self.old.regs)));
+        }) }
         ensures pages { (F : FlatState) → IfOk result (λ ran. ran.2.items ≡ touched_in programs.now F self.old self.old.holding) }
     {
         let mut regs = self.regs;

@@ -31,7 +31,8 @@ impl Model for FlatSpace {
 
     ghost view = { λ s. record { sid = s.sid; image = s.image; text_bytes = s.text.items; data_bytes = s.data.items; stack_bytes = s.stack.items } };
 
-    ghost invariant = { λ s. IsSized (record { sid = s.sid; image = s.image; text_bytes = s.text.items; data_bytes = s.data.items; stack_bytes = s.stack.items }) };
+    ghost invariant = { λ s.
+        IsSized (record { sid = s.sid; image = s.image; text_bytes = s.text.items; data_bytes = s.data.items; stack_bytes = s.stack.items }) };
 }
 
 fn copy_of(alloc: Global, bytes: &[u8]) -> Result<Vec<u8>, NoMemory>

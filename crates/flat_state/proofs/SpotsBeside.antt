@@ -37,7 +37,8 @@ text_beside t d s a i by h near =
     let same : a ≡ i = at.0 in
     let inside : a + by < t = omega (arith, same, near) in
     let test : ltb (a + by) t ≡ true = grind (arith, nat_tests) in
-    first_holds (ltb (a + by) t) (ltb (a + by) (t + d)) (leb (stack_top - s) (a + by) && ltb (a + by) stack_top) (leb (stack_top - stack_reach) (a + by) && ltb (a + by) stack_top) t (a + by) test ∙ ap (λ (k : ℕ). Text (k + by)) same
+    first_holds (ltb (a + by) t) (ltb (a + by) (t + d)) (leb (stack_top - s) (a + by) && ltb (a + by) stack_top) (leb (stack_top - stack_reach) (a + by) && ltb (a + by) stack_top) t (a + by) test
+    ∙ ap (λ (k : ℕ). Text (k + by)) same
 
 -- the next bytes of the data
 pub data_beside : (t d s a i by : ℕ) → spot_at t d s a ≡ Data i → i + by < d → spot_at t d s (a + by) ≡ Data (i + by)
@@ -50,7 +51,8 @@ data_beside t d s a i by h near =
     let first : ltb (a + by) t ≡ false = grind (arith, nat_tests) in
     let second : ltb (a + by) (t + d) ≡ true = grind (arith, nat_tests) in
     let place : a + by - t ≡ i + by = omega (arith, same) in
-    second_holds (ltb (a + by) t) (ltb (a + by) (t + d)) (leb (stack_top - s) (a + by) && ltb (a + by) stack_top) (leb (stack_top - stack_reach) (a + by) && ltb (a + by) stack_top) t (a + by) first second ∙ ap (λ (k : ℕ). Data k) place
+    second_holds (ltb (a + by) t) (ltb (a + by) (t + d)) (leb (stack_top - s) (a + by) && ltb (a + by) stack_top) (leb (stack_top - stack_reach) (a + by) && ltb (a + by) stack_top) t
+    (a + by) first second ∙ ap (λ (k : ℕ). Data k) place
 
 -- the next bytes of a page of the stack
 pub stack_beside : (t d s a i by : ℕ) → spot_at t d s a ≡ Stack i → i % 1024 + by < 1024 → spot_at t d s (a + by) ≡ Stack (i + by)
@@ -75,5 +77,6 @@ stack_beside t d s a i by h near =
     let third : leb (stack_top - s) (a + by) ≡ true = grind (arith, nat_tests) in
     let fourth : ltb (a + by) stack_top ≡ true = grind (arith, nat_tests) in
     let place : stack_index (a + by) ≡ i + by = omega (arith, index, high, column) in
-    third_holds (ltb (a + by) t) (ltb (a + by) (t + d)) (leb (stack_top - s) (a + by) && ltb (a + by) stack_top) (leb (stack_top - stack_reach) (a + by) && ltb (a + by) stack_top) t (a + by) first second (ap (λ (x : Bool). x && ltb (a + by) stack_top) third ∙ fourth)
+    third_holds (ltb (a + by) t) (ltb (a + by) (t + d)) (leb (stack_top - s) (a + by) && ltb (a + by) stack_top) (leb (stack_top - stack_reach) (a + by) && ltb (a + by) stack_top) t
+    (a + by) first second (ap (λ (x : Bool). x && ltb (a + by) stack_top) third ∙ fourth)
     ∙ ap (λ (k : ℕ). Stack k) place

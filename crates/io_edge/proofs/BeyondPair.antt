@@ -45,7 +45,8 @@ writes_beyond place blocks size None new bytes long inside within whole written 
 writes_beyond place blocks size (Some image) new bytes long inside within whole written =
     ap (bytes_beyond blocks) written ∙ ap (λ (rest : List ℕ). Some rest) (dropped place blocks bytes image within (omega (arith, long image refl, inside)) whole)
 
-pub leaves_beyond : (moved : Moved) (place blocks size : ℕ) (old new : Option (List ℕ)) (bytes : List ℕ) → ((image : List ℕ) → old ≡ Some image → length image ≡ 512 * size)
+pub leaves_beyond : (moved : Moved) (place blocks size : ℕ) (old new : Option (List ℕ)) (bytes : List ℕ)
+    → ((image : List ℕ) → old ≡ Some image → length image ≡ 512 * size)
     → place + 2 ≤ size → place + 2 ≤ blocks → length bytes ≡ 1024 → LeavesPage moved old place bytes new → KeepsBeyond blocks old new
 leaves_beyond Done place blocks size old new bytes long inside within whole left = writes_beyond place blocks size old new bytes long inside within whole left.0
 leaves_beyond Failed place blocks size old new bytes long inside within whole left =

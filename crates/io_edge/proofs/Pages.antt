@@ -43,7 +43,8 @@ pub put_blocks_last : (block : ℕ) (bytes front page : List ℕ) → length fro
     → put_blocks (front ++ page) block bytes ≡ front ++ bytes
 unfolding put_blocks
 put_blocks_last block bytes front page begins whole =
-    let ends : drop (512 * block + 1024) (front ++ page) ≡ [] = nil_from_length (drop (512 * block + 1024) (front ++ page)) (omega (arith, length-drop (512 * block + 1024) (front ++ page), length-append front page)) in
+    let ends : drop (512 * block + 1024) (front ++ page) ≡ [] =
+    nil_from_length (drop (512 * block + 1024) (front ++ page)) (omega (arith, length-drop (512 * block + 1024) (front ++ page), length-append front page)) in
     ap (λ (xs : List ℕ). xs ++ bytes ++ drop (512 * block + 1024) (front ++ page)) (take_at (512 * block) front page begins)
     ∙ ap (λ (back : List ℕ). front ++ bytes ++ back) ends
     ∙ append-nil (front ++ bytes)

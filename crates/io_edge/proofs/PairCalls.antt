@@ -28,13 +28,15 @@ pub pair_reads_even : (even_size odd_size place block : ℕ) (evens odds : Optio
     → IsWhole odds odd_size → place ≡ place_of block → device_of block ≡ 0 → block % 2 ≡ 0 → block + 2 ≤ pair_blocks even_size odd_size
     → HoldsPage evens place bytes → HoldsPage (pair_image (pair_blocks even_size odd_size) evens odds) block bytes
 pair_reads_even even_size odd_size place block evens odds bytes even_whole odd_whole there on even within held =
-    holds_even (pair_blocks even_size odd_size) block evens odds bytes even (omega arith) (tell_blocks even_size odd_size evens odds even_whole odd_whole) on (subst (λ (p : ℕ). HoldsPage evens p bytes) there held)
+    holds_even (pair_blocks even_size odd_size) block evens odds bytes even (omega arith) (tell_blocks even_size odd_size evens odds even_whole odd_whole) on
+    (subst (λ (p : ℕ). HoldsPage evens p bytes) there held)
 
 pub pair_reads_odd : (even_size odd_size place block : ℕ) (evens odds : Option (List ℕ)) (bytes : List ℕ) → IsWhole evens even_size
     → IsWhole odds odd_size → place ≡ place_of block → device_of block ≡ 1 → block % 2 ≡ 0 → block + 2 ≤ pair_blocks even_size odd_size
     → HoldsPage odds place bytes → HoldsPage (pair_image (pair_blocks even_size odd_size) evens odds) block bytes
 pair_reads_odd even_size odd_size place block evens odds bytes even_whole odd_whole there on even within held =
-    holds_odd (pair_blocks even_size odd_size) block 0 evens odds bytes even (omega arith) (tell_blocks even_size odd_size evens odds even_whole odd_whole) on (subst (λ (p : ℕ). HoldsPage odds p bytes) there held)
+    holds_odd (pair_blocks even_size odd_size) block 0 evens odds bytes even (omega arith) (tell_blocks even_size odd_size evens odds even_whole odd_whole) on
+    (subst (λ (p : ℕ). HoldsPage odds p bytes) there held)
 
 pub pair_writes_even : (even_size new_size odd_size place block : ℕ) (evens odds new : Option (List ℕ)) (bytes : List ℕ) → IsWhole evens even_size
     → IsWhole odds odd_size → new_size ≡ even_size → place ≡ place_of block → device_of block ≡ 0 → block % 2 ≡ 0
@@ -42,7 +44,8 @@ pub pair_writes_even : (even_size new_size odd_size place block : ℕ) (evens od
     → WritesPage (pair_image (pair_blocks even_size odd_size) evens odds) block bytes (pair_image (pair_blocks new_size odd_size) new odds)
 pair_writes_even even_size new_size odd_size place block evens odds new bytes even_whole odd_whole same there on even within whole written =
     subst (λ (size : ℕ). WritesPage (pair_image (pair_blocks even_size odd_size) evens odds) block bytes (pair_image (pair_blocks size odd_size) new odds)) (sym same)
-    (writes_even (pair_blocks even_size odd_size) block evens odds new bytes even (omega arith) (tell_blocks even_size odd_size evens odds even_whole odd_whole) whole on (subst (λ (p : ℕ). WritesPage evens p bytes new) there written))
+    (writes_even (pair_blocks even_size odd_size) block evens odds new bytes even (omega arith) (tell_blocks even_size odd_size evens odds even_whole odd_whole) whole on
+    (subst (λ (p : ℕ). WritesPage evens p bytes new) there written))
 
 pub pair_writes_odd : (even_size odd_size new_size place block : ℕ) (evens odds new : Option (List ℕ)) (bytes : List ℕ) → IsWhole evens even_size
     → IsWhole odds odd_size → new_size ≡ odd_size → place ≡ place_of block → device_of block ≡ 1 → block % 2 ≡ 0
@@ -50,7 +53,8 @@ pub pair_writes_odd : (even_size odd_size new_size place block : ℕ) (evens odd
     → WritesPage (pair_image (pair_blocks even_size odd_size) evens odds) block bytes (pair_image (pair_blocks even_size new_size) evens new)
 pair_writes_odd even_size odd_size new_size place block evens odds new bytes even_whole odd_whole same there on even within whole written =
     subst (λ (size : ℕ). WritesPage (pair_image (pair_blocks even_size odd_size) evens odds) block bytes (pair_image (pair_blocks even_size size) evens new)) (sym same)
-    (writes_odd (pair_blocks even_size odd_size) block 0 evens odds new bytes even (omega arith) (tell_blocks even_size odd_size evens odds even_whole odd_whole) whole on (subst (λ (p : ℕ). WritesPage odds p bytes new) there written))
+    (writes_odd (pair_blocks even_size odd_size) block 0 evens odds new bytes even (omega arith) (tell_blocks even_size odd_size evens odds even_whole odd_whole) whole on
+    (subst (λ (p : ℕ). WritesPage odds p bytes new) there written))
 
 pub pair_spoils_even : (even_size new_size odd_size place block : ℕ) (evens odds new : Option (List ℕ)) → IsWhole evens even_size
     → IsWhole odds odd_size → new_size ≡ even_size → place ≡ place_of block → device_of block ≡ 0 → block % 2 ≡ 0

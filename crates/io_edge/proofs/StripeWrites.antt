@@ -11,7 +11,8 @@ use Rattle.io_edge.proofs.Stripes.{fewer, last_page, length-last_page, page_of_p
 
 -- the blocks other than those of a page are the same on each device
 abbrev OthersSame : ℕ → ℕ → List ℕ → List ℕ → List ℕ → List ℕ → Type 0
-OthersSame blocks block evens odds evens' odds' = (device other : ℕ) → device_of other ≡ device → other < blocks → (other < block) ⊎ (suc block < other) → block_at (of_device device evens' odds') (place_of other) ≡ block_at (of_device device evens odds) (place_of other)
+OthersSame blocks block evens odds evens' odds' = (device other : ℕ) → device_of other ≡ device → other < blocks → (other < block) ⊎ (suc block < other)
+    → block_at (of_device device evens' odds') (place_of other) ≡ block_at (of_device device evens odds) (place_of other)
 
 -- the blocks before a page
 front_same : (blocks count block : ℕ) (evens odds evens' odds' : List ℕ) → count ≤ block → count ≤ blocks
@@ -28,9 +29,11 @@ put_last : (block : ℕ) (bytes evens odds evens' odds' : List ℕ) → block % 
 put_last block bytes evens odds evens' odds' even has others written =
     let page = blocks_at (of_device (device_of block) evens odds) (place_of block) in
     ap (λ (image : List ℕ). put_blocks image block bytes) (last_page block evens odds even)
-    ∙ put_blocks_last block bytes (first_blocks block evens odds) page (length-first_blocks block evens odds (fewer (suc (suc block)) block evens odds (omega arith) has)) (length-last_page block evens odds even has)
+    ∙ put_blocks_last block bytes (first_blocks block evens odds) page (length-first_blocks block evens odds (fewer (suc (suc block)) block evens odds (omega arith) has))
+    (length-last_page block evens odds even has)
     ∙ sym (last_page block evens' odds' even
-    ∙ ap (λ (front : List ℕ). front ++ blocks_at (of_device (device_of block) evens' odds') (place_of block)) (front_same (suc (suc block)) block block evens odds evens' odds' (omega arith) (omega arith) others)
+    ∙ ap (λ (front : List ℕ). front ++ blocks_at (of_device (device_of block) evens' odds') (place_of block))
+    (front_same (suc (suc block)) block block evens odds evens' odds' (omega arith) (omega arith) others)
     ∙ ap (λ (back : List ℕ). first_blocks block evens odds ++ back) written)
 
 put_of_pair : (blocks block : ℕ) (bytes evens odds evens' odds' : List ℕ) → block % 2 ≡ 0 → suc (suc block) ≤ blocks → HasBlocks blocks evens odds
@@ -41,11 +44,13 @@ put_of_pair zero block bytes evens odds evens' odds' even within has others writ
 put_of_pair (suc last) block bytes evens odds evens' odds' even within has others written =
     elim (eq-or-lt_of_le within) [
       | inl ends ↦ subst (λ (blocks : ℕ). put_blocks (first_blocks blocks evens odds) block bytes ≡ first_blocks blocks evens' odds') ends
-          (put_last block bytes evens odds evens' odds' even (fewer (suc last) (suc (suc block)) evens odds within has) (λ device other on below apart. others device other on (omega arith) apart) written)
+          (put_last block bytes evens odds evens' odds' even (fewer (suc last) (suc (suc block)) evens odds within has)
+          (λ device other on below apart. others device other on (omega arith) apart) written)
       | inr below ↦
           let has_front = fewer (suc last) last evens odds (omega arith) has in
           put_blocks-append block bytes (first_blocks last evens odds) (block_at (of_device (device_of last) evens odds) (place_of last)) (omega (arith, length-first_blocks last evens odds has_front))
-          ∙ ap (λ (front : List ℕ). front ++ block_at (of_device (device_of last) evens odds) (place_of last)) (put_of_pair last block bytes evens odds evens' odds' even (omega arith) has_front (λ device other on lower apart. others device other on (omega arith) apart) written)
+          ∙ ap (λ (front : List ℕ). front ++ block_at (of_device (device_of last) evens odds) (place_of last))
+          (put_of_pair last block bytes evens odds evens' odds' even (omega arith) has_front (λ device other on lower apart. others device other on (omega arith) apart) written)
           ∙ ap (λ (back : List ℕ). first_blocks last evens' odds' ++ back) (sym (others (device_of last) last refl (omega arith) (inr (omega arith))))
     ]
 

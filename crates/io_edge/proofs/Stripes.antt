@@ -79,7 +79,14 @@ last_page block evens odds even =
 pub length-last_page : (block : ℕ) (evens odds : List ℕ) → block % 2 ≡ 0 → HasBlocks (suc (suc block)) evens odds
     → length (blocks_at (of_device (device_of block) evens odds) (place_of block)) ≡ 1024
 length-last_page block evens odds even has =
-    omega (arith, ap length (pair_page block evens odds even), length-append (pair_block block evens odds) (pair_block (suc block) evens odds), length-pair_block (suc (suc block)) block evens odds has, length-pair_block (suc (suc block)) (suc block) evens odds has)
+    omega (
+      arith,
+      ap length (pair_page block evens odds even),
+      length-append (pair_block block evens odds) (pair_block (suc block) evens
+          odds),
+      length-pair_block (suc (suc block)) block evens odds has,
+      length-pair_block (suc (suc block)) (suc block) evens odds has,
+    )
 
 pub fewer : (blocks last : ℕ) (evens odds : List ℕ) → last ≤ blocks → HasBlocks blocks evens odds → HasBlocks last evens odds
 fewer blocks last evens odds below has device block on within = has device block on (omega arith)
@@ -90,7 +97,8 @@ page_of_last : (block : ℕ) (evens odds : List ℕ) → block % 2 ≡ 0 → Has
 page_of_last block evens odds even has =
     let page = blocks_at (of_device (device_of block) evens odds) (place_of block) in
     ap (λ (image : List ℕ). blocks_at image block) (last_page block evens odds even)
-    ∙ blocks_at_last block (first_blocks block evens odds) page (length-first_blocks block evens odds (fewer (suc (suc block)) block evens odds (omega arith) has)) (length-last_page block evens odds even has)
+    ∙ blocks_at_last block (first_blocks block evens odds) page (length-first_blocks block evens odds (fewer (suc (suc block)) block evens odds (omega arith) has))
+    (length-last_page block evens odds even has)
 
 pub page_of_pair : (blocks block : ℕ) (evens odds : List ℕ) → block % 2 ≡ 0 → suc (suc block) ≤ blocks → HasBlocks blocks evens odds
     → blocks_at (first_blocks blocks evens odds) block ≡ blocks_at (of_device (device_of block) evens odds) (place_of block)

@@ -39,9 +39,11 @@ adds_through count_a count_b count_c last_a last_b last_c zero_a zero_b zero_c o
       elim (then.named device named) [
         | inl before ↦ elim (first.named device before) [
           | inl at_first ↦ inl at_first
-          | inr rose ↦ inr (rose_then (of_device device zero_a one_a) (of_device device zero_b one_b) (of_device device zero_c one_c) rose (each_grows device zero_b zero_c one_b one_c zero_then one_then))
+          | inr rose ↦ inr (rose_then (of_device device zero_a one_a) (of_device device zero_b one_b) (of_device device zero_c one_c) rose
+              (each_grows device zero_b zero_c one_b one_c zero_then one_then))
         ]
-        | inr rose ↦ inr (then_rose (of_device device zero_a one_a) (of_device device zero_b one_b) (of_device device zero_c one_c) (each_grows device zero_a zero_b one_a one_b zero_first one_first) rose)
+        | inr rose ↦ inr (then_rose (of_device device zero_a one_a) (of_device device zero_b one_b) (of_device device zero_c one_c)
+            (each_grows device zero_a zero_b one_a one_b zero_first one_first) rose)
       ];
   still = λ same below.
       let a = first.grows in

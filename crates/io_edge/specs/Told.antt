@@ -20,7 +20,11 @@ pub extends_through : (a b c : Option (List ℕ)) → Extends a b → Extends b 
 extends_through None None c first then = then
 extends_through None (Some y) c first then = cc
 extends_through (Some x) None c first then = cc
-extends_through (Some x) (Some y) c first then = (first.0 ++ then.0, then.1 ∙ ap (λ (kept : List ℕ). Some kept) (ap (λ (kept : List ℕ). kept ++ then.0) (some_is y (x ++ first.0) first.1) ∙ append_assoc x first.0 then.0))
+extends_through (Some x) (Some y) c first then = (
+  first.0 ++ then.0,
+  then.1 ∙ ap (λ (kept : List ℕ).
+      Some kept) (ap (λ (kept : List ℕ). kept ++ then.0) (some_is y (x ++ first.0) first.1) ∙ append_assoc x first.0 then.0),
+)
 
 -- what isn't told has any length
 pub untold_length : (bytes : List ℕ) (n : ℕ) → None ≡ Some bytes → length bytes ≡ n

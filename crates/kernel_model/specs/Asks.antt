@@ -33,7 +33,8 @@ text_asked (suc n) image blocks = []
 -- the text, the data and one stack page of a space that an image starts in
 abbrev pub image_pieces : Placement → ℕ → ℕ → Image → List Wanted
 image_pieces p sid image facts =
-    text_asked (sharers p image) image (2 * length (slots_of p (Text image 0))) ++ (wanted (owners.Data sid) (pieces (2 * data_pages_of facts)) ++ wanted (owners.Stack sid) (pieces 2))
+    text_asked (sharers p image) image (2 * length (slots_of p (Text image 0)))
+    ++ (wanted (owners.Data sid) (pieces (2 * data_pages_of facts)) ++ wanted (owners.Stack sid) (pieces 2))
 
 -- the pieces that a new space of an image wants; none where there is no such image
 abbrev pub image_asked : Placement → ℕ → ℕ → Option Image → List Wanted
@@ -46,7 +47,8 @@ abbrev pub change_asks : List Image → Placement → ℕ → ℕ → Change →
 change_asks images p sid next_sid (Resize data_pages stack_pages) =
     further (owners.Data sid) (data_count p sid) data_pages ++ further (owners.Stack sid) (stack_count p sid) stack_pages
 change_asks images p sid next_sid (Fork child) =
-    wanted (owners.Data next_sid) (pieces (2 * data_count p sid)) ++ (wanted (owners.Stack next_sid) (pieces (2 * stack_count p sid)) ++ wanted (owners.U child) (u_pieces 2))
+    wanted (owners.Data next_sid) (pieces (2 * data_count p sid))
+    ++ (wanted (owners.Stack next_sid) (pieces (2 * stack_count p sid)) ++ wanted (owners.U child) (u_pieces 2))
 change_asks images p sid next_sid (Lend child) = wanted (owners.U child) (u_pieces 2)
 change_asks images p sid next_sid (Exec image top) = image_asked p next_sid image (facts_numbered images image)
 change_asks images p sid next_sid _ = []
@@ -95,7 +97,8 @@ abbrev pub start_asks : Placement → List ℕ → ℕ → List Starting → Lis
 start_asks p earlier pid [] = []
 start_asks p earlier pid (a ∷ more) =
     text_asked (times a.image earlier) a.image (2 * length (slots_of p (Text a.image 0)))
-    ++ (wanted (owners.Data pid) (pieces (2 * data_pages_of a.facts)) ++ (wanted (owners.Stack pid) (pieces 2) ++ (wanted (owners.U pid) (u_pieces 2) ++ start_asks p (a.image ∷ earlier) (pid + 1) more)))
+    ++ (wanted (owners.Data pid) (pieces (2 * data_pages_of a.facts))
+    ++ (wanted (owners.Stack pid) (pieces 2) ++ (wanted (owners.U pid) (u_pieces 2) ++ start_asks p (a.image ∷ earlier) (pid + 1) more)))
 
 -- the holdings once they have found their places one after another
 abbrev pub first_found : ℕ → List Image → List Starting → ℕ → Result Holdings ℕ

@@ -65,7 +65,8 @@ abbrev pub begin_step : Kernel → Holdings → ℕ → List ℕ → Image → K
 begin_step k found image name facts = record k {
   place = begin_place k.place k.next_pid image facts;
   holdings = found;
-  processes = k.processes ++ record { pid = k.next_pid; parent = 0; regs = start_regs facts.entry (name ∷ []); life = HoldsSpace k.next_pid; asleep = false } ∷ [];
+  processes =
+      k.processes ++ record { pid = k.next_pid; parent = 0; regs = start_regs facts.entry (name ∷ []); life = HoldsSpace k.next_pid; asleep = false } ∷ [];
   next_pid = k.next_pid + 1;
   next_sid = k.next_sid + 1;
   starts = k.starts ++ record { page = Stack k.next_pid 0; bytes = start_page (name ∷ []) } ∷ [];

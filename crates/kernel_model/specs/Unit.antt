@@ -159,7 +159,8 @@ flat_after images flat u = flat
 
 -- the kernel after a unit: the machine, the pieces that were found, the swap image and the flat state
 abbrev pub state_after : List NamedImage → KernelState → KernelUnit → KernelState
-state_after images m u = record { kernel = kernel_step (facts_of images) m u; found = found_after (facts_of images) m u; image = swap_after m u; flat = flat_after images m.flat u }
+state_after images m u =
+    record { kernel = kernel_step (facts_of images) m u; found = found_after (facts_of images) m u; image = swap_after m u; flat = flat_after images m.flat u }
 
 -- the kernel after these units, one after another
 abbrev pub states_after : List NamedImage → KernelState → List KernelUnit → KernelState

@@ -43,7 +43,8 @@ known_fills t fills known whole once =
 
 pub added_lists : (t u : Tables) (s : Places) (fills : List DueFill) → u.spaces ≡ t.spaces ++ with_text_places (lists_of t) s ∷ []
     → u.texts ≡ entered_texts t.texts s.image
-    → u.fills.items ≡ fills → u ≡ record t { spaces = u.spaces; texts = u.texts; fills = u.fills; next_sid = u.next_sid } → lists_of u ≡ with_space (lists_of t) s fills
+    → u.fills.items ≡ fills → u ≡ record t { spaces = u.spaces; texts = u.texts; fills = u.fills; next_sid = u.next_sid }
+    → lists_of u ≡ with_space (lists_of t) s fills
 added_lists t u s fills spaces texts due rest =
     ap lists_of rest
     ∙ ap (λ (ss : List Places). record (lists_of t) { spaces = ss; texts = u.texts; fills = u.fills.items }) spaces

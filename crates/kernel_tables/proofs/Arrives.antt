@@ -55,11 +55,14 @@ arrived t u q f place a = go q a.there (some_of (entry_in t.spaces q) a.entry).0
     differ = subst AllDistinct (sym (head_sids u.spaces t.spaces (arrives_moved t u q f place a).heads)) a.differ
 
     go : (r : Page) → IsThere (placement_of t) r → (was : Place) → entry_in t.spaces r ≡ Some was → u.spaces ≡ map (placed r place) t.spaces → slot_of (placement_of u) r ≡ page_shown u r place
-    go (Data n v) th was e s = data_shown u.slots u.spaces n v differ ∙ ap (slot_or (slot_shown u.slots)) (ap (λ (ss : List Places). entry_in ss (Data n v)) s ∙ entry_same t.spaces (Data n v) place was e)
-    go (Stack n v) th was e s = stack_shown u.slots u.spaces n v differ ∙ ap (slot_or (slot_shown u.slots)) (ap (λ (ss : List Places). entry_in ss (Stack n v)) s ∙ entry_same t.spaces (Stack n v) place was e)
+    go (Data n v) th was e s =
+        data_shown u.slots u.spaces n v differ ∙ ap (slot_or (slot_shown u.slots)) (ap (λ (ss : List Places). entry_in ss (Data n v)) s ∙ entry_same t.spaces (Data n v) place was e)
+    go (Stack n v) th was e s =
+        stack_shown u.slots u.spaces n v differ ∙ ap (slot_or (slot_shown u.slots)) (ap (λ (ss : List Places). entry_in ss (Stack n v)) s ∙ entry_same t.spaces (Stack n v) place was e)
     go (Text i v) th was e s =
         text_at u i v (subst (λ (fs : List Rattle.aout_image.specs.declared.Image.Image). v < pages_in 1 i fs) (sym a.facts) (text_within t i v th))
-        ∙ ap (λ (o : Option Place). text_shown u.slots (is_saved (text_of u.texts i) v) (text_place_by o u.slots (Text i v) v)) (ap (λ (ss : List Places). entry_in ss (Text i v)) s ∙ entry_same t.spaces (Text i v) place was e)
+        ∙ ap (λ (o : Option Place). text_shown u.slots (is_saved (text_of u.texts i) v) (text_place_by o u.slots (Text i v) v))
+        (ap (λ (ss : List Places). entry_in ss (Text i v)) s ∙ entry_same t.spaces (Text i v) place was e)
 
 -- a data or stack page that is there has an entry
 pub get_within : {A : Type 0} (xs : List A) (v : ℕ) → v < length xs → (x : A) × (slice_get xs v ≡ Some x)
@@ -72,11 +75,13 @@ pub data_there : (slots : List Token) (ss : List Places) (n v : ℕ) → v < len
 data_there slots [] n v l = absurd (omega arith)
 data_there slots (s ∷ ss) n v l = elim (cases_eq s.sid n) [
   | inl e ↦
-      let k : v < length s.data = let a = ap (λ (o : Option SpacePages). length (data_in o)) (hit n (space_shown slots s) (map (space_shown slots) ss) e) ∙ length_map (slot_shown slots) s.data in omega arith in
+      let k : v < length s.data =
+      let a = ap (λ (o : Option SpacePages). length (data_in o)) (hit n (space_shown slots s) (map (space_shown slots) ss) e) ∙ length_map (slot_shown slots) s.data in omega arith in
       let x = get_within s.data v k in
       subst IsSome (sym (ap (λ (o : Option Place). or_else o (entry_in ss (Data n v))) (data_hit s n v (sym e) ∙ x.1))) refl
   | inr d ↦
-      let k : v < length (data_in (numbered space_number n (map (space_shown slots) ss))) = let a = ap (λ (o : Option SpacePages). length (data_in o)) (miss n (space_shown slots s) (map (space_shown slots) ss) d) in omega arith in
+      let k : v < length (data_in (numbered space_number n (map (space_shown slots) ss))) =
+      let a = ap (λ (o : Option SpacePages). length (data_in o)) (miss n (space_shown slots s) (map (space_shown slots) ss) d) in omega arith in
       subst IsSome (sym (ap (λ (o : Option Place). or_else o (entry_in ss (Data n v))) (data_miss s n v (λ e. d (sym e))))) (data_there slots ss n v k)
 ]
 
@@ -85,10 +90,12 @@ pub stack_there : (slots : List Token) (ss : List Places) (n v : ℕ) → v < le
 stack_there slots [] n v l = absurd (omega arith)
 stack_there slots (s ∷ ss) n v l = elim (cases_eq s.sid n) [
   | inl e ↦
-      let k : v < length s.stack = let a = ap (λ (o : Option SpacePages). length (stack_in o)) (hit n (space_shown slots s) (map (space_shown slots) ss) e) ∙ length_map (slot_shown slots) s.stack in omega arith in
+      let k : v < length s.stack =
+      let a = ap (λ (o : Option SpacePages). length (stack_in o)) (hit n (space_shown slots s) (map (space_shown slots) ss) e) ∙ length_map (slot_shown slots) s.stack in omega arith in
       let x = get_within s.stack v k in
       subst IsSome (sym (ap (λ (o : Option Place). or_else o (entry_in ss (Stack n v))) (stack_hit s n v (sym e) ∙ x.1))) refl
   | inr d ↦
-      let k : v < length (stack_in (numbered space_number n (map (space_shown slots) ss))) = let a = ap (λ (o : Option SpacePages). length (stack_in o)) (miss n (space_shown slots s) (map (space_shown slots) ss) d) in omega arith in
+      let k : v < length (stack_in (numbered space_number n (map (space_shown slots) ss))) =
+      let a = ap (λ (o : Option SpacePages). length (stack_in o)) (miss n (space_shown slots s) (map (space_shown slots) ss) d) in omega arith in
       subst IsSome (sym (ap (λ (o : Option Place). or_else o (entry_in ss (Stack n v))) (stack_miss s n v (λ e. d (sym e))))) (stack_there slots ss n v k)
 ]

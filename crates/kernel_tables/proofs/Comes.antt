@@ -77,7 +77,8 @@ come_shown t n x f k e a there fr =
 
 pub come_is : (t : Lists) (page : Option Page) (rest : List ℕ) (token was : Frame) (q : Page) (e : Errand) → Known t
     → Head t token.number was page rest → IsShared (placement_of t) q → CanEnter (placement_of t) q
-    → placement_of (coming (taken t token.number page rest) token q (join_last t.transfers e (record { page = q; frame = token.number }))) ≡ get_one (placement_of t) e q
+    → placement_of (coming (taken t token.number page rest) token q (join_last t.transfers e (record { page = q; frame = token.number })))
+    ≡ get_one (placement_of t) e q
 come_is t page rest token was q e known h sh can =
     let f : ℕ = token.number in
     let p : Placement = placement_of t in
@@ -145,7 +146,8 @@ come_ties t page rest token q ts k e none = record {
   heads = placed_heads (evicted t.texts page t.spaces) q (places.Frame token.number false false) ∙ evicted_heads t.texts page t.spaces;
   entries = λ r x. still_there (evicted t.texts page t.spaces) q r (places.Frame token.number false false) (evicted_there t.texts page t.spaces r x);
   alike = λ h. placed_alike (evicted t.texts page t.spaces) q (places.Frame token.number false false) (evicted_alike t.texts page t.spaces h);
-  filled = λ h. placed_filled t.facts (evicted t.texts page t.spaces) q (places.Frame token.number false false) (frame_fits q token.number false false) (evicted_filled t.facts t.texts page t.spaces h);
+  filled =
+      λ h. placed_filled t.facts (evicted t.texts page t.spaces) q (places.Frame token.number false false) (frame_fits q token.number false false) (evicted_filled t.facts t.texts page t.spaces h);
   counts = λ i. refl;
   marked = marks_entered t token.number token.number page rest q (places.Frame token.number false false) (coming (taken t token.number page rest) token q ts) k e none (λ h d. refl) refl refl
       (λ a r mark h. absurd (let x = set_resident t.slots token.number tokens.Away a r mark h in cc));

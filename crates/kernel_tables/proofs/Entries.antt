@@ -67,14 +67,16 @@ with_other s (Data sid v) (Data t w) place was h n = elim (cases_eq t s.sid) [
 ]
 with_other s (Stack sid v) (Stack t w) place was h n = elim (cases_eq t s.sid) [
   | inl e ↦ elim (cases_eq sid s.sid) [
-    | inl k ↦ stack_hit (with_place s (Stack sid v) place) t w e ∙ get_set_other s.stack v w place (λ m. n (ap (λ (x : ℕ). Stack x w) (e ∙ sym k) ∙ ap (λ (x : ℕ). Stack sid x) m)) ∙ sym (stack_hit s t w e)
+    | inl k ↦ stack_hit (with_place s (Stack sid v) place) t w e ∙ get_set_other s.stack v w place (λ m. n (ap (λ (x : ℕ). Stack x w) (e ∙ sym k) ∙ ap (λ (x : ℕ). Stack sid x) m))
+        ∙ sym (stack_hit s t w e)
     | inr m ↦ absurd (let k = sym (stack_miss s sid v m) ∙ h in cc)
   ]
   | inr m ↦ stack_miss (with_place s (Stack sid v) place) t w m ∙ sym (stack_miss s t w m)
 ]
 with_other s (Text image v) (Text t w) place was h n = elim (cases_eq t s.image) [
   | inl e ↦ elim (cases_eq image s.image) [
-    | inl k ↦ text_hit (with_place s (Text image v) place) t w e ∙ get_set_other s.text v w place (λ m. n (ap (λ (x : ℕ). Text x w) (e ∙ sym k) ∙ ap (λ (x : ℕ). Text image x) m)) ∙ sym (text_hit s t w e)
+    | inl k ↦ text_hit (with_place s (Text image v) place) t w e ∙ get_set_other s.text v w place (λ m. n (ap (λ (x : ℕ). Text x w) (e ∙ sym k) ∙ ap (λ (x : ℕ). Text image x) m))
+        ∙ sym (text_hit s t w e)
     | inr m ↦ absurd (let k = sym (text_miss s image v m) ∙ h in cc)
   ]
   | inr m ↦ text_miss (with_place s (Text image v) place) t w m ∙ sym (text_miss s t w m)

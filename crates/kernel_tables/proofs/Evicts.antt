@@ -107,7 +107,8 @@ here_some t f token e rest k h =
     let there : IsThere (placement_of t) e = page_in (placement_of t) e f (ap frame_of named.state) in
     record { there = there; slot = left e named.state named.clean there (ap token_page h.was) }
   where
-    swapped : (i v : ℕ) (c : Bool) → text_shown (set t.slots f tokens.Away) c (left_text c v) ≡ record { state = left_state (Text i v) c; mark = c; filling = filling_behind (left_state (Text i v) c) Zeros }
+    swapped : (i v : ℕ) (c : Bool)
+        → text_shown (set t.slots f tokens.Away) c (left_text c v) ≡ record { state = left_state (Text i v) c; mark = c; filling = filling_behind (left_state (Text i v) c) Zeros }
     swapped i v true = refl
     swapped i v false = refl
 
@@ -116,18 +117,26 @@ here_some t f token e rest k h =
     unshared (suc n) z = absurd (z (omega arith))
 
     left_of : (i v : ℕ) (b : Bool) → is_saved (text_of t.texts i) v ≡ b → (o : Option Place) → entry_in t.spaces (Text i v) ≡ o
-        → (sharers (placement_of t) i ≡ 0 → is_saved (text_of t.texts i) v ≡ false) → (0 < sharers (placement_of t) i → IsSome (entry_in t.spaces (Text i v))) → token_page (slot_at t.slots f) ≡ Some (Text i v)
-        → text_shown (set t.slots f tokens.Away) (is_saved (text_of t.texts i) v) (text_place (map (placed (Text i v) (left_text (is_saved (text_of t.texts i) v) v)) t.spaces) (set t.slots f tokens.Away) (Text i v) v)
-        ≡ record { state = left_state (Text i v) (is_saved (text_of t.texts i) v); mark = is_saved (text_of t.texts i) v; filling = filling_behind (left_state (Text i v) (is_saved (text_of t.texts i) v)) Zeros }
+        → (sharers (placement_of t) i ≡ 0 → is_saved (text_of t.texts i) v ≡ false) → (0 < sharers (placement_of t) i → IsSome (entry_in t.spaces (Text i v)))
+        → token_page (slot_at t.slots f) ≡ Some (Text i v)
+        → text_shown (set t.slots f tokens.Away) (is_saved (text_of t.texts i) v)
+        (text_place (map (placed (Text i v) (left_text (is_saved (text_of t.texts i) v) v)) t.spaces) (set t.slots f tokens.Away) (Text i v) v)
+        ≡ record {
+          state = left_state (Text i v) (is_saved (text_of t.texts i) v);
+          mark = is_saved (text_of t.texts i) v;
+          filling = filling_behind (left_state (Text i v) (is_saved (text_of t.texts i) v)) Zeros;
+        }
     left_of i v b eb (Some x) eo z sh pg =
-        ap (λ (y : Option Place). text_shown (set t.slots f tokens.Away) (is_saved (text_of t.texts i) v) (text_place_by y (set t.slots f tokens.Away) (Text i v) v)) (entry_same t.spaces (Text i v) (left_text (is_saved (text_of t.texts i) v) v) x eo)
+        ap (λ (y : Option Place). text_shown (set t.slots f tokens.Away) (is_saved (text_of t.texts i) v) (text_place_by y (set t.slots f tokens.Away) (Text i v) v))
+        (entry_same t.spaces (Text i v) (left_text (is_saved (text_of t.texts i) v) v) x eo)
         ∙ swapped i v (is_saved (text_of t.texts i) v)
     left_of i v b eb None eo z sh pg =
         let none : sharers (placement_of t) i ≡ 0 = unshared (sharers (placement_of t) i) (λ l. absurd (let y = subst IsSome eo (sh l) in cc)) in
         let clean : is_saved (text_of t.texts i) v ≡ false = z none in
         let spaces : map (placed (Text i v) (left_text (is_saved (text_of t.texts i) v) v)) t.spaces ≡ t.spaces = entry_none t.spaces (Text i v) (left_text (is_saved (text_of t.texts i) v) v) eo in
         let gone : frame_holding (set t.slots f tokens.Away) (Text i v) ≡ None = holding_none (set t.slots f tokens.Away) (Text i v) (λ g. elim (cases_eq g f) [
-          | inl eq ↦ λ m. absurd (let y = sym (ap (λ (n : ℕ). token_page (slot_at (set t.slots f tokens.Away) n)) eq ∙ ap token_page (get_or-set_same t.slots f tokens.Away tokens.Away (head_below t f token (Some e) h.was))) ∙ m in cc)
+          | inl eq ↦ λ m. absurd (let y = sym (ap (λ (n : ℕ). token_page (slot_at (set t.slots f tokens.Away) n)) eq
+              ∙ ap token_page (get_or-set_same t.slots f tokens.Away tokens.Away (head_below t f token (Some e) h.was))) ∙ m in cc)
           | inr n ↦ λ m. n (sym (k.core.unique f g (Text i v) pg (sym (ap token_page (get_or-set_other t.slots f g tokens.Away tokens.Away n)) ∙ m)))
         ]) in
         ap (λ (ss : List Places). text_shown (set t.slots f tokens.Away) (is_saved (text_of t.texts i) v) (text_place ss (set t.slots f tokens.Away) (Text i v) v)) spaces
@@ -136,8 +145,13 @@ here_some t f token e rest k h =
         ∙ ap (λ (c : Bool). let y : Slot = record { state = Unfilled; mark = c; filling = Zeros } in y) clean
         ∙ sym (ap (λ (c : Bool). let y : Slot = record { state = left_state (Text i v) c; mark = c; filling = filling_behind (left_state (Text i v) c) Zeros } in y) clean)
 
-    left : (q : Page) → state_of (placement_of t) q ≡ Invalid f → Rattle.page_model.specs.Ownership.is_marked_dirty q (mark_of (placement_of t) q) ≡ false → IsThere (placement_of t) q → token_page (slot_at t.slots f) ≡ Some q
-        → slot_of (placement_of (taken t f (Some q) rest)) q ≡ record { state = left_state q (mark_of (placement_of t) q); mark = mark_of (placement_of t) q; filling = filling_behind (left_state q (mark_of (placement_of t) q)) (slot_of (placement_of t) q).filling }
+    left : (q : Page) → state_of (placement_of t) q ≡ Invalid f → Rattle.page_model.specs.Ownership.is_marked_dirty q (mark_of (placement_of t) q) ≡ false → IsThere (placement_of t) q
+        → token_page (slot_at t.slots f) ≡ Some q
+        → slot_of (placement_of (taken t f (Some q) rest)) q ≡ record {
+          state = left_state q (mark_of (placement_of t) q);
+          mark = mark_of (placement_of t) q;
+          filling = filling_behind (left_state q (mark_of (placement_of t) q)) (slot_of (placement_of t) q).filling;
+        }
     left (Data n v) s c th pg =
         let u : Lists = taken t f (Some (Data n v)) rest in
         let was = data_shown t.slots t.spaces n v k.differ in
@@ -165,7 +179,11 @@ here_some t f token e rest k h =
         (λ z. let a = k.aside i v z in mark ∙ a.unsaved)
         (λ z. k.tied.shared i v z l) pg
         ∙ ap (λ (b : Bool). let z : Slot = record { state = left_state (Text i v) b; mark = b; filling = filling_behind (left_state (Text i v) b) Zeros } in z) mark
-        ∙ ap (λ (y : Rattle.page_model.specs.Pages.Filling). let z : Slot = record { state = left_state (Text i v) (mark_of (placement_of t) (Text i v)); mark = mark_of (placement_of t) (Text i v); filling = filling_behind (left_state (Text i v) (mark_of (placement_of t) (Text i v))) y } in z) filling
+        ∙ ap (λ (y : Rattle.page_model.specs.Pages.Filling). let z : Slot = record {
+          state = left_state (Text i v) (mark_of (placement_of t) (Text i v));
+          mark = mark_of (placement_of t) (Text i v);
+          filling = filling_behind (left_state (Text i v) (mark_of (placement_of t) (Text i v))) y;
+        } in z) filling
 
 pub frames_same : {A : Type 0} (g h : ℕ → A) (ns : List ℕ) → ((k : ℕ) → h k ≡ g k) → map h ns ≡ map g ns
 frames_same g h [] s = refl
@@ -174,7 +192,8 @@ frames_same g h (n ∷ ns) s = ap (λ z. z ∷ map h ns) (s n) ∙ ap (λ zs. g 
 -- the pages of all other frames
 pub other_held : (t : Lists) (f : ℕ) (x : Token) (slots : List Token) → slots ≡ set t.slots f x → (g : ℕ) → g ≢ f
     → page_by (slot_at slots g) (flown_at t.flown g) ≡ page_held t g
-other_held t f x slots e g n = ap (λ (ss : List Token). page_by (slot_at ss g) (flown_at t.flown g)) e ∙ ap (λ (y : Token). page_by y (flown_at t.flown g)) (get_or-set_other t.slots f g x tokens.Away n)
+other_held t f x slots e g n =
+    ap (λ (ss : List Token). page_by (slot_at ss g) (flown_at t.flown g)) e ∙ ap (λ (y : Token). page_by y (flown_at t.flown g)) (get_or-set_other t.slots f g x tokens.Away n)
 
 -- Taking the head of the free list evicts its page.
 pub evict_is : (t : Lists) (f : ℕ) (token : Frame) (page : Option Page) (rest : List ℕ) → Known t → Head t f token page rest

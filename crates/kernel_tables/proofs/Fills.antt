@@ -105,7 +105,8 @@ seat_is t u token q dirty k w there =
     let n : Lists = seated u token q dirty in
     let a : Arrives u n q f (places.Frame f true dirty) = seat_arrives t u token q dirty k w there in
     let s : SameLists n (put (placement_of u) q (Valid f) dirty) =
-    segments_are u n q f (Valid f) dirty (arrives_moved u n q f (places.Frame f true dirty) a) (record { there = a.there; slot = arrived u n q f (places.Frame f true dirty) a ∙ seat_shown n q f dirty w }) in
+    segments_are u n q f (Valid f) dirty (arrives_moved u n q f (places.Frame f true dirty) a)
+    (record { there = a.there; slot = arrived u n q f (places.Frame f true dirty) a ∙ seat_shown n q f dirty w }) in
     let count : length n.slots - 1 ≡ length u.slots - 1 = ap (λ (m : ℕ). m - 1) (length-set u.slots f (tokens.Resident token q dirty)) in
     let here : page_held n f ≡ Some q = ap (λ (y : Token). page_by y (flown_at u.flown f)) (get_or-set_same u.slots f (tokens.Resident token q dirty) tokens.Away k.below) in
     let r : EvictRest (placement_of t) (evict (placement_of t) f) = evict_rest (placement_of t) f in

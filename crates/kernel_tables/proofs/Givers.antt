@@ -37,7 +37,8 @@ module _ (t u : Tables) (from to sid : ℕ) (receiver : Life) (g b giver taker :
   other n None f d c = refl
   other n (Some q) f d c =
       let i = found_pid n t.processes q f in
-      sym (ap (λ (x : Bool). Some (passes_by x (q.pid == to) (proc_shown q))) (ne_eqb q.pid from (λ k. d (sym i ∙ k))) ∙ ap (λ (y : Bool). Some (passes_by false y (proc_shown q))) (ne_eqb q.pid to (λ k. c (sym i ∙ k))))
+      sym (ap (λ (x : Bool). Some (passes_by x (q.pid == to) (proc_shown q))) (ne_eqb q.pid from (λ k. d (sym i ∙ k)))
+      ∙ ap (λ (y : Bool). Some (passes_by false y (proc_shown q))) (ne_eqb q.pid to (λ k. c (sym i ∙ k))))
 
   each : (n : ℕ) → proc_of (find n u.processes) ≡ step_in passes (proc_of (find n t.processes))
   each n = elim (cases_eq n from) [
@@ -166,7 +167,8 @@ gives_there t pid from taker h m = go (find pid t.processes) (subst (λ (o : Opt
 pub may_lives : (t : Tables) (from to : ℕ) (g b : Record) → AreRecords t.processes t.next_pid → find from t.processes ≡ Some g
     → find to t.processes ≡ Some b → MayPass (life_at t from) (life_at t to) from
     → MayPass (life_shown g.state) (life_shown b.state) from
-may_lives t from to g b h gave took m = subst (λ (l : Life). MayPass l (life_shown b.state) from) (life_shown_at t from g h gave) (subst (λ (l : Life). MayPass (life_at t from) l from) (life_shown_at t to b h took) m)
+may_lives t from to g b h gave took m =
+    subst (λ (l : Life). MayPass l (life_shown b.state) from) (life_shown_at t from g h gave) (subst (λ (l : Life). MayPass (life_at t from) l from) (life_shown_at t to b h took) m)
 
 pub giver_holds : (l : RecordLife) (taker : Life) (from : ℕ) → ((x : ℕ) → l ≡ lives.Holds x → ⊥) → MayPass (life_shown l) taker from → ⊥
 giver_holds (lives.Holds sid) taker from n m = n sid refl
@@ -205,7 +207,8 @@ has_lent t u from to sid g b h gave took apart gs bs had =
     let p : HasPassed t u from to giver taker = subst (λ (n : ℕ). HasPassed t u n to giver taker) (found_pid from t.processes g gave)
     (subst (λ (n : ℕ). HasPassed t u g.pid n (record g { state = lives.Lends sid n }) taker) (found_pid to t.processes b took) had) in
     has_processes t u _ _ p.rest
-    (passed_processes t u from to sid New g b giver taker gave took apart p refl refl ∙ passed_is t from to sid New (life_shown_at t from g h gave ∙ ap life_shown gs) (life_shown_at t to b h took ∙ ap life_shown bs))
+    (passed_processes t u from to sid New g b giver taker gave took apart p refl refl
+    ∙ passed_is t from to sid New (life_shown_at t from g h gave ∙ ap life_shown gs) (life_shown_at t to b h took ∙ ap life_shown bs))
     (passed_residents t u from to sid New g b giver taker gave took apart p refl refl (sym (ap (residence_by g) gs)) (sym (ap (residence_by b) bs)))
     (lent_records t u from to sid g b h gave took apart gs bs p)
 

@@ -49,7 +49,8 @@ still_there ss q r place h = elim (page_cases r q) [
   where
     go : (o : Option Place) → entry_in ss r ≡ o → IsSome o → r ≡ q → IsSome (entry_in (map (placed q place) ss) r)
     go None k s e = absurd cc
-    go (Some was) k s e = subst (λ (x : Page). IsSome (entry_in (map (placed q place) ss) x)) (sym e) (subst IsSome (sym (entry_same ss q place was (subst (λ (x : Page). entry_in ss x ≡ Some was) e k))) refl)
+    go (Some was) k s e =
+        subst (λ (x : Page). IsSome (entry_in (map (placed q place) ss) x)) (sym e) (subst IsSome (sym (entry_same ss q place was (subst (λ (x : Page). entry_in ss x ≡ Some was) e k))) refl)
 
 pub evicted_there : (texts : List SharedText) (page : Option Page) (ss : List Places) (r : Page) → IsSome (entry_in ss r)
     → IsSome (entry_in (evicted texts page ss) r)
@@ -94,7 +95,8 @@ tied_still t u s k = record {
   few_pages = few_heads t.spaces u.spaces s.heads k.few_pages;
   sound = subst AreSound (sym s.facts) k.sound;
   small_texts = λ i. subst (λ (fs : List Image). pages_in 1 i fs ≤ 2048) (sym s.facts) (k.small_texts i);
-  shared = λ i v l m. s.entries (Text i v) (k.shared i v (subst (λ (n : ℕ). 0 < n) (sharers_heads u.slots t.slots u.spaces t.spaces i s.heads) l) (subst (λ (fs : List Image). v < pages_in 1 i fs) s.facts m));
+  shared = λ i v l m.
+      s.entries (Text i v) (k.shared i v (subst (λ (n : ℕ). 0 < n) (sharers_heads u.slots t.slots u.spaces t.spaces i s.heads) l) (subst (λ (fs : List Image). v < pages_in 1 i fs) s.facts m));
   alike = s.alike k.alike;
   filled = subst (λ (fs : List Image). EachSpace (IsFilled fs) u.spaces) (sym s.facts) (s.filled k.filled);
   counted = λ i l m. s.counts i ∙ k.counted i l m ∙ sym (sharers_heads u.slots t.slots u.spaces t.spaces i s.heads);

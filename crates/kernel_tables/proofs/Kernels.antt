@@ -87,12 +87,14 @@ zeroed_ties t f page rest filling q k e w there none = record {
   heads = placed_heads (evicted t.texts page t.spaces) q (Rattle.vax_pte.specs.declared.Place.TheVariants.Frame filling.number true true) ∙ evicted_heads t.texts page t.spaces;
   entries = λ r h. still_there (evicted t.texts page t.spaces) q r (Rattle.vax_pte.specs.declared.Place.TheVariants.Frame filling.number true true) (evicted_there t.texts page t.spaces r h);
   alike = λ h. placed_alike (evicted t.texts page t.spaces) q (Rattle.vax_pte.specs.declared.Place.TheVariants.Frame filling.number true true) (evicted_alike t.texts page t.spaces h);
-  filled = λ h. placed_filled t.facts (evicted t.texts page t.spaces) q (Rattle.vax_pte.specs.declared.Place.TheVariants.Frame filling.number true true) (frame_fits q filling.number true true) (evicted_filled t.facts t.texts page t.spaces h);
+  filled = λ h. placed_filled t.facts (evicted t.texts page t.spaces) q (Rattle.vax_pte.specs.declared.Place.TheVariants.Frame filling.number true true) (frame_fits q filling.number true true)
+      (evicted_filled t.facts t.texts page t.spaces h);
   counts = λ i. refl;
   marked = marks_entered t f filling.number page rest q (Rattle.vax_pte.specs.declared.Place.TheVariants.Frame filling.number true true) (zeroed t f page rest filling q) k e none
       (λ h d. get_or-set_other (set t.slots f tokens.Away) filling.number h (tokens.Resident filling q true) tokens.Away d) refl refl
       (λ token r mark h. let x = set_resident (set t.slots f tokens.Away) filling.number (tokens.Resident filling q true) token r mark h in
-      marks_here (evicted t.texts page t.spaces) t.texts (Rattle.vax_pte.specs.declared.Place.TheVariants.Frame filling.number true true) q r mark (evicted_there t.texts page t.spaces q (entry_there t q w there))
+      marks_here (evicted t.texts page t.spaces) t.texts (Rattle.vax_pte.specs.declared.Place.TheVariants.Frame filling.number true true) q r mark
+      (evicted_there t.texts page t.spaces q (entry_there t q w there))
       (resident_page filling token q r true mark x) (resident_mark filling token q r true mark x ∙ sym (dirty_place t.texts filling.number q w)));
   whole = whole_rest t.fills;
   once = once_rest t.fills;
@@ -101,4 +103,5 @@ zeroed_ties t f page rest filling q k e w there none = record {
 pub zero_ties : (t u v w : Tables) (token filling : Frame) (q : Page) → Zeroing t u v w token filling q
     → frame_of (state_of (placement_of (lists_of t)) q) ≡ None → Ties (lists_of t) (lists_of w)
 zero_ties t u v w token filling q z none =
-    subst (Ties (lists_of t)) (sym (zeroing_lists t u v w token filling q z)) (zeroed_ties (lists_of t) token.number (token_page (slot_at t.core.slots token.number)) u.core.free filling q z.known refl z.writable z.there none)
+    subst (Ties (lists_of t)) (sym (zeroing_lists t u v w token filling q z))
+    (zeroed_ties (lists_of t) token.number (token_page (slot_at t.core.slots token.number)) u.core.free filling q z.known refl z.writable z.there none)

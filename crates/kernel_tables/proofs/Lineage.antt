@@ -92,7 +92,8 @@ pub one_more : (t u : Tables) (p : Record) → AreRecords t.processes t.next_pid
 one_more t u p h i f b o c s e n =
     let r : residence_by p p.state ≡ Some (let x : Residence = record { pid = t.next_pid; out = false; since = p.since } in x) =
     fresh_residence p p.state f
-    ∙ ap (λ (k : ℕ). Some (let x : Residence = record { pid = k; out = p.out; since = p.since } in x)) i ∙ ap (λ (k : Bool). Some (let x : Residence = record { pid = t.next_pid; out = k; since = p.since } in x)) o in
+    ∙ ap (λ (k : ℕ). Some (let x : Residence = record { pid = k; out = p.out; since = p.since } in x)) i
+    ∙ ap (λ (k : Bool). Some (let x : Residence = record { pid = t.next_pid; out = k; since = p.since } in x)) o in
     record {
       number = n;
       processes = ap (processes_of u.processes) n ∙ added_processes t.processes u.processes t.next_pid p h.first c;
@@ -239,8 +240,10 @@ orphan_residence pid (Some q) = orphan_resides q (q.parent == pid)
 pub has_left : (t u : Tables) (pid : ℕ) → AreRecords t.processes t.next_pid → LeftChildren t u pid
     → HasProcesses t u t.next_pid (orphaned_procs (processes_in t) pid) (residents_in t)
 has_left t u pid h l = has_processes t u _ _ l.rest
-    (over_left (λ n. proc_of (find n u.processes)) (λ n. proc_of (find n t.processes)) (stays pid) (orphan pid) (range_with_len 1 (t.next_pid - 1)) (λ n. ap proc_of (l.left n) ∙ orphan_in pid (find n t.processes)))
-    (over_same (λ n. residence_of (find n u.processes)) (λ n. residence_of (find n t.processes)) (range_with_len 1 (t.next_pid - 1)) (λ n. ap residence_of (l.left n) ∙ orphan_residence pid (find n t.processes)))
+    (over_left (λ n. proc_of (find n u.processes)) (λ n. proc_of (find n t.processes)) (stays pid) (orphan pid) (range_with_len 1 (t.next_pid - 1))
+    (λ n. ap proc_of (l.left n) ∙ orphan_in pid (find n t.processes)))
+    (over_same (λ n. residence_of (find n u.processes)) (λ n. residence_of (find n t.processes)) (range_with_len 1 (t.next_pid - 1))
+    (λ n. ap residence_of (l.left n) ∙ orphan_residence pid (find n t.processes)))
     (left_records t.processes u.processes t.next_pid pid h l.sound l.left)
 
 -- Zombies.

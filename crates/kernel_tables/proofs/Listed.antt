@@ -249,7 +249,8 @@ counted_over [] a k apart known = omega arith
 counted_over (q ∷ qs) a k apart known =
     let hits : find q.pid (q ∷ qs) ≡ Some q = find_hit q.pid q qs refl in
     let w = known q.pid q hits in
-    let one = one_over (λ n. proc_of (find n (q ∷ qs))) (λ n. proc_of (find n qs)) q.pid (proc_shown q) (ap proc_of apart.0) (ap proc_of hits) (λ n d. ap proc_of (find_miss n q qs (λ i. d (sym i)))) k a w.0 w.1 in
+    let one = one_over (λ n. proc_of (find n (q ∷ qs))) (λ n. proc_of (find n qs)) q.pid (proc_shown q) (ap proc_of apart.0) (ap proc_of hits)
+    (λ n d. ap proc_of (find_miss n q qs (λ i. d (sym i)))) k a w.0 w.1 in
     let more = counted_over qs a k apart.1 (λ pid p f. known pid p (find_miss pid q qs (λ i. none_some p (sym apart.0 ∙ ap (λ (n : ℕ). find n qs) i ∙ f)) ∙ f)) in
     omega (arith, one, more)
 

@@ -41,7 +41,8 @@ record_over (n ∷ ns) ps pid q e = go (find n ps) refl (λ k. record_over ns ps
     go : (o : Option Record) → find n ps ≡ o → (numbered pid_of pid (filter_map (λ n. proc_of (find n ps)) ns) ≡ Some q → HasRecord ps pid q) → HasRecord ps pid q
     go None f more = more (sym (ap (numbered pid_of pid) (keeps_none (λ m. proc_of (find m ps)) n ns (ap proc_of f))) ∙ e)
     go (Some x) f more =
-        let here : numbered pid_of pid (proc_shown x ∷ filter_map (λ m. proc_of (find m ps)) ns) ≡ Some q = sym (ap (numbered pid_of pid) (keeps_some (λ m. proc_of (find m ps)) n ns (proc_shown x) (ap proc_of f))) ∙ e in
+        let here : numbered pid_of pid (proc_shown x ∷ filter_map (λ m. proc_of (find m ps)) ns) ≡ Some q =
+        sym (ap (numbered pid_of pid) (keeps_some (λ m. proc_of (find m ps)) n ns (proc_shown x) (ap proc_of f))) ∙ e in
         elim (cases_eq x.pid pid) [
           | inl i ↦ record {
             found = x;

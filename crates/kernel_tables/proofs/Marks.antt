@@ -107,7 +107,8 @@ pub marks_taken : (t : Lists) (f : ℕ) (page : Option Page) (rest : List ℕ) �
 marks_taken t f page rest k e = marks_kept t (taken t f page rest) f (λ g n. get_or-set_other t.slots f g tokens.Away tokens.Away n) (others page e)
     (λ token r mark h. absurd (let a = set_resident t.slots f tokens.Away token r mark h in cc))
   where
-    others : (o : Option Page) → token_page (slot_at t.slots f) ≡ o → (g : ℕ) (w : Page) → g ≢ f → token_page (slot_at t.slots g) ≡ Some w → dirty_shown (evicted t.texts o t.spaces) t.texts w ≡ dirty_shown t.spaces t.texts w
+    others : (o : Option Page) → token_page (slot_at t.slots f) ≡ o → (g : ℕ) (w : Page) → g ≢ f → token_page (slot_at t.slots g) ≡ Some w
+        → dirty_shown (evicted t.texts o t.spaces) t.texts w ≡ dirty_shown t.spaces t.texts w
     others None e g w d h = refl
     others (Some q) e g w d h =
         same_dirty t.spaces (map (placed q (left_place t.texts q)) t.spaces) t.texts t.texts w
@@ -117,7 +118,8 @@ stayed : (t : Lists) (f g : ℕ) (q : Page) → token_page (slot_at (set t.slots
 stayed t f g q e = elim (cases_eq g f) [
   | inl i ↦ elim (within f (length t.slots)) [
     | inl l ↦ none_some q (sym (ap token_page (ap (slot_at (set t.slots f tokens.Away)) i ∙ get_or-set_same t.slots f tokens.Away tokens.Away l)) ∙ e)
-    | inr l ↦ none_some q (sym (ap token_page (ap (slot_at (set t.slots f tokens.Away)) i ∙ get_or_past (set t.slots f tokens.Away) f tokens.Away (omega (arith, length-set t.slots f tokens.Away)))) ∙ e)
+    | inr l ↦ none_some q
+        (sym (ap token_page (ap (slot_at (set t.slots f tokens.Away)) i ∙ get_or_past (set t.slots f tokens.Away) f tokens.Away (omega (arith, length-set t.slots f tokens.Away)))) ∙ e)
   ]
   | inr d ↦ sym (ap token_page (get_or-set_other t.slots f g tokens.Away tokens.Away d)) ∙ e
 ]
@@ -128,7 +130,8 @@ texts_left t f k g i v e = texts_here t k g i v (stayed t f g (Text i v) e)
 -- and then a page takes its place in it, which had no frame
 pub marks_entered : (t : Lists) (f g : ℕ) (page : Option Page) (rest : List ℕ) (q : Page) (place : Place) (u : Lists) → Known t
     → token_page (slot_at t.slots f) ≡ page → frame_of (state_of (placement_of t) q) ≡ None
-    → ((h : ℕ) → h ≢ g → slot_at u.slots h ≡ slot_at (set t.slots f tokens.Away) h) → u.spaces ≡ map (placed q place) (evicted t.texts page t.spaces) → u.texts ≡ t.texts
+    → ((h : ℕ) → h ≢ g → slot_at u.slots h ≡ slot_at (set t.slots f tokens.Away) h)
+    → u.spaces ≡ map (placed q place) (evicted t.texts page t.spaces) → u.texts ≡ t.texts
     → ((token : Frame) (r : Page) (mark : Bool) → slot_at u.slots g ≡ tokens.Resident token r mark → mark ≡ dirty_shown u.spaces u.texts r)
     → AreMarked t.slots t.spaces t.texts → AreMarked u.slots u.spaces u.texts
 marks_entered t f g page rest q place u k e n slots spaces texts here m =
@@ -137,7 +140,8 @@ marks_entered t f g page rest q place u k e n slots spaces texts here m =
 
 -- A frame that holds a page is off the free list.
 pub marks_revived : (t : Lists) (f : ℕ) (q : Page) (s : Token) → AreMarked t.slots t.spaces t.texts → slot_at t.slots f ≡ s → token_page s ≡ Some q
-    → (token : Frame) (r : Page) (mark : Bool) → revived s q (dirty_shown t.spaces t.texts q) ≡ tokens.Resident token r mark → (r ≡ q) × (mark ≡ dirty_shown t.spaces t.texts q)
+    → (token : Frame) (r : Page) (mark : Bool) → revived s q (dirty_shown t.spaces t.texts q) ≡ tokens.Resident token r mark
+    → (r ≡ q) × (mark ≡ dirty_shown t.spaces t.texts q)
 marks_revived t f q (tokens.Free a page) m at h token r mark e = (resident_page a token q r (dirty_shown t.spaces t.texts q) mark e, resident_mark a token q r (dirty_shown t.spaces t.texts q) mark e)
 marks_revived t f q (tokens.Resident a page d) m at h token r mark e =
     let same : page ≡ q = same_Some page q h in

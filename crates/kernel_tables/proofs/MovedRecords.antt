@@ -44,7 +44,8 @@ moved_processes old new next pid regs out since m =
     let changed_is : (p : Proc) → proc_of (find pid old) ≡ Some p → proc_of (find pid new) ≡ Some (with_regs pid regs p) = λ p h.
     let is : proc_shown m.was ≡ p = same_Some (proc_shown m.was) p (sym (ap proc_of m.found) ∙ h) in
     ap proc_of m.changes.changed
-    ∙ ap (λ (b : Bool). Some (let z : Proc = cond b (record (proc_shown m.was) { regs = regs }) (proc_shown m.was) in z)) (sym (ap (λ (n : ℕ). n == pid) (found_pid pid old m.was m.found) ∙ eq_self pid))
+    ∙ ap (λ (b : Bool). Some (let z : Proc = cond b (record (proc_shown m.was) { regs = regs }) (proc_shown m.was) in z))
+    (sym (ap (λ (n : ℕ). n == pid) (found_pid pid old m.was m.found) ∙ eq_self pid))
     ∙ ap (λ (q : Proc). Some (with_regs pid regs q)) is in
     let gone : proc_of (find pid old) ≡ None → proc_of (find pid new) ≡ None = λ h. none_some (proc_shown m.was) (sym h ∙ ap proc_of m.found) in
     let still : (n : ℕ) (p : Proc) → n ≢ pid → proc_of (find n old) ≡ Some p → with_regs pid regs p ≡ p = λ n p d h.
@@ -87,17 +88,20 @@ same_above : (k a : ℕ) (old new : List Record) (pid : ℕ) (found : Option Rec
     → filter_map (λ n. residence_of (find n new)) (range_with_len a k) ≡ filter_map (λ n. residence_of (find n old)) (range_with_len a k)
 same_above zero a old new pid found c l = refl
 same_above (suc k) a old new pid found c l =
-    same_first (λ n. residence_of (find n new)) (λ n. residence_of (find n old)) a (range_with_len (a + 1) k) (ap residence_of (c.others a (λ e. absurd (omega arith)))) (same_above k (a + 1) old new pid found c (omega arith))
+    same_first (λ n. residence_of (find n new)) (λ n. residence_of (find n old)) a (range_with_len (a + 1) k) (ap residence_of (c.others a (λ e. absurd (omega arith))))
+    (same_above k (a + 1) old new pid found c (omega arith))
 
 residents_over : (k a : ℕ) (old new : List Record) (pid : ℕ) (regs : Regs) (out : Bool) (since : ℕ) (m : MovedRecord old new pid regs out since)
     → Lasts m.was.state
-    → filter_map (λ n. residence_of (find n new)) (range_with_len a k) ≡ changed pid_in pid (moves_to out since) (filter_map (λ n. residence_of (find n old)) (range_with_len a k))
+    → filter_map (λ n. residence_of (find n new)) (range_with_len a k)
+    ≡ changed pid_in pid (moves_to out since) (filter_map (λ n. residence_of (find n old)) (range_with_len a k))
 residents_over zero a old new pid regs out since m l = refl
 residents_over (suc k) a old new pid regs out since m l = elim (cases_eq a pid) [
   | inl h ↦
       let was : Record = m.was in
       let r : Residence = record { pid = was.pid; out = was.out; since = was.since } in
-      let now : residence_of (find a new) ≡ Some (moves_to out since r) = ap (λ (n : ℕ). residence_of (find n new)) h ∙ ap residence_of m.changes.changed ∙ residence_is (now_of was regs out since) was.state l in
+      let now : residence_of (find a new) ≡ Some (moves_to out since r) =
+      ap (λ (n : ℕ). residence_of (find n new)) h ∙ ap residence_of m.changes.changed ∙ residence_is (now_of was regs out since) was.state l in
       let before : residence_of (find a old) ≡ Some r = ap (λ (n : ℕ). residence_of (find n old)) h ∙ ap residence_of m.found ∙ residence_is was was.state l in
       keeps_some (λ n. residence_of (find n new)) a (range_with_len (a + 1) k) (moves_to out since r) now
       ∙ ap (λ (rs : List Residence). moves_to out since r ∷ rs) (same_above k (a + 1) old new pid _ m.changes (omega arith))
@@ -160,7 +164,12 @@ out_over (n ∷ ns) ps pid e = go (find n ps) refl (λ k. out_over ns ps pid k)
 
     -- the next of another pid
     later : (x : Record) → find n ps ≡ Some x → x.pid ≢ pid → IsOutThere ps pid procs → IsOutThere ps pid (filter_map (λ k. proc_of (find k ps)) (n ∷ ns))
-    later x f d o = record { was = o.was; found = o.found; lasts = o.lasts; kept = ap (numbered pid_of pid) (keeps_some (λ k. proc_of (find k ps)) n ns (proc_shown x) (ap proc_of f)) ∙ miss pid (proc_shown x) procs d ∙ o.kept }
+    later x f d o = record {
+      was = o.was;
+      found = o.found;
+      lasts = o.lasts;
+      kept = ap (numbered pid_of pid) (keeps_some (λ k. proc_of (find k ps)) n ns (proc_shown x) (ap proc_of f)) ∙ miss pid (proc_shown x) procs d ∙ o.kept;
+    }
 
     found : (x : Record) → find n ps ≡ Some x → x.pid ≡ pid → Lasts x.state → IsOutThere ps pid (filter_map (λ k. proc_of (find k ps)) (n ∷ ns))
     found x f h l = record {
@@ -174,17 +183,20 @@ out_over (n ∷ ns) ps pid e = go (find n ps) refl (λ k. out_over ns ps pid k)
     same : (x : Record) → find n ps ≡ Some x → x.pid ≡ pid → IsOutThere ps pid procs → IsOutThere ps pid (filter_map (λ k. proc_of (find k ps)) (n ∷ ns))
     same x f h o = found x f h (subst (λ (y : Record). Lasts y.state) (same_Some o.was x (sym o.found ∙ ap (λ (k : ℕ). find k ps) (sym h ∙ found_pid n ps x f) ∙ f)) o.lasts)
 
-    behind : (x : Record) → find n ps ≡ Some x → (swapper.residence_of rs pid).out ≡ true → ((swapper.residence_of rs pid).out ≡ true → IsOutThere ps pid procs) → IsOutThere ps pid (filter_map (λ k. proc_of (find k ps)) (n ∷ ns))
+    behind : (x : Record) → find n ps ≡ Some x → (swapper.residence_of rs pid).out ≡ true → ((swapper.residence_of rs pid).out ≡ true → IsOutThere ps pid procs)
+        → IsOutThere ps pid (filter_map (λ k. proc_of (find k ps)) (n ∷ ns))
     behind x f k more = elim (cases_eq x.pid pid) [
       | inl h ↦ same x f h (more k)
       | inr d ↦ later x f d (more k)
     ]
 
-    by : (x : Record) → find n ps ≡ Some x → (o : Option Residence) → residence_by x x.state ≡ o → ((swapper.residence_of rs pid).out ≡ true → IsOutThere ps pid procs) → IsOutThere ps pid (filter_map (λ k. proc_of (find k ps)) (n ∷ ns))
+    by : (x : Record) → find n ps ≡ Some x → (o : Option Residence) → residence_by x x.state ≡ o → ((swapper.residence_of rs pid).out ≡ true → IsOutThere ps pid procs)
+        → IsOutThere ps pid (filter_map (λ k. proc_of (find k ps)) (n ∷ ns))
     by x f None z more = behind x f (sym (ap (λ (l : List Residence). (swapper.residence_of l pid).out) (keeps_none (λ k. residence_of (find k ps)) n ns (ap residence_of f ∙ z))) ∙ e) more
     by x f (Some r) z more = elim (cases_eq r.pid pid) [
       | inl h ↦ found x f (sym (residence_pid x x.state r z) ∙ h) (lasting x x.state r z)
-      | inr d ↦ behind x f (sym (ap (λ (y : Residence). y.out) (out_miss pid r rs d)) ∙ sym (ap (λ (l : List Residence). (swapper.residence_of l pid).out) (keeps_some (λ k. residence_of (find k ps)) n ns r (ap residence_of f ∙ z))) ∙ e) more
+      | inr d ↦ behind x f (sym (ap (λ (y : Residence). y.out) (out_miss pid r rs d))
+          ∙ sym (ap (λ (l : List Residence). (swapper.residence_of l pid).out) (keeps_some (λ k. residence_of (find k ps)) n ns r (ap residence_of f ∙ z))) ∙ e) more
     ]
 
     go : (o : Option Record) → find n ps ≡ o → ((swapper.residence_of rs pid).out ≡ true → IsOutThere ps pid procs) → IsOutThere ps pid (filter_map (λ k. proc_of (find k ps)) (n ∷ ns))

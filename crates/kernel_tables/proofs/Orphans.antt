@@ -13,7 +13,8 @@ pub left_orphan : (old new : List Record) (child parent : ℕ) (p : Record) → 
     → ((x : ℕ) → p.state ≡ lives.Zombie x → ⊥)
     → Changes old new p.pid (Some (record p { parent = 0 })) → Changes old new child (left_in parent (find child old))
 left_orphan old new child parent p f i e alive c =
-    let left : left_in parent (find child old) ≡ Some (record p { parent = 0 }) = ap (left_in parent) f ∙ ap (λ (b : Bool). left_by b p) (ap (λ (n : ℕ). n == parent) e ∙ eq_self parent) ∙ by p.state refl in
+    let left : left_in parent (find child old) ≡ Some (record p { parent = 0 }) =
+    ap (left_in parent) f ∙ ap (λ (b : Bool). left_by b p) (ap (λ (n : ℕ). n == parent) e ∙ eq_self parent) ∙ by p.state refl in
     subst (λ (o : Option Record). Changes old new child o) (sym left) (subst (λ (n : ℕ). Changes old new n (Some (record p { parent = 0 }))) i c)
   where
     by : (l : RecordLife) → p.state ≡ l → left_life p l ≡ Some (record p { parent = 0 })

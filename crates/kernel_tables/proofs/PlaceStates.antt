@@ -41,7 +41,8 @@ pub record TellsState (t : Lists) (q : Page) (o : Option Place) : Type 0 where
 number_found : (ss : List Places) (n : ℕ) (s : Places) → numbered (λ (s : Places). s.sid) n ss ≡ Some s → n ≡ s.sid
 number_found [] n s e = absurd cc
 number_found (x ∷ xs) n s e = elim (cases_eq x.sid n) [
-  | inl h ↦ let same : x ≡ s = (let k : numbered (λ (s : Places). s.sid) n (x ∷ xs) ≡ Some x = grind (arith, nat_tests) in let j : Some x ≡ Some s = sym k ∙ e in cc) in sym h ∙ ap (λ (y : Places). y.sid) same
+  | inl h ↦ let same : x ≡ s =
+      (let k : numbered (λ (s : Places). s.sid) n (x ∷ xs) ≡ Some x = grind (arith, nat_tests) in let j : Some x ≡ Some s = sym k ∙ e in cc) in sym h ∙ ap (λ (y : Places). y.sid) same
   | inr d ↦ number_found xs n s (let k : numbered (λ (s : Places). s.sid) n (x ∷ xs) ≡ numbered (λ (s : Places). s.sid) n xs = grind (arith, nat_tests) in sym k ∙ e)
 ]
 
@@ -83,7 +84,8 @@ text_tells : (t : Lists) (image v : ℕ) (b : Bool) → ltb v (pages_in 1 image 
 text_tells t image v true e =
     let l : v < pages_in 1 image t.facts = ltb-true v (pages_in 1 image t.facts) e in
     record {
-      there = λ h. (let size : length (Rattle.page_model.specs.Placement.slots_of (placement_of t) (Text image v)) ≡ pages_in 1 image t.facts = ap length (texts_shown t 1 image t.facts) ∙ text_length t image (pages_in 1 image t.facts) in omega arith);
+      there = λ h. (let size : length (Rattle.page_model.specs.Placement.slots_of (placement_of t) (Text image v)) ≡ pages_in 1 image t.facts =
+          ap length (texts_shown t 1 image t.facts) ∙ text_length t image (pages_in 1 image t.facts) in omega arith);
       found = λ h. refl;
       state = λ x k. (let same : text_place t.spaces t.slots (Text image v) v ≡ x = cc in ap (λ (s : Slot). s.state) (text_at t image v l) ∙ ap (state_shown t.slots) same);
     }
@@ -114,7 +116,8 @@ holds_self q = same_page_self q
 held_first : (n : ℕ) (ss : List Token) (f : ℕ) (q : Page) → token_page (slot_at ss f) ≡ Some q
     → ((g h : ℕ) → token_page (slot_at ss g) ≡ Some q → token_page (slot_at ss h) ≡ Some q → g ≡ h) → found_from n ss q ≡ Some (n + f)
 held_first n [] f q e one = absurd cc
-held_first n (s ∷ ss) zero q e one = ap (λ (o : Option Page). cond (holds_it o q) (Some n) (found_from (n + 1) ss q)) e ∙ ap (λ (b : Bool). cond b (Some n) (found_from (n + 1) ss q)) (holds_self q) ∙ ap (λ (m : ℕ). Some m) (omega arith)
+held_first n (s ∷ ss) zero q e one = ap (λ (o : Option Page). cond (holds_it o q) (Some n) (found_from (n + 1) ss q)) e ∙ ap (λ (b : Bool). cond b (Some n) (found_from (n + 1) ss q)) (holds_self q)
+    ∙ ap (λ (m : ℕ). Some m) (omega arith)
 held_first n (s ∷ ss) (suc f) q e one = go (holds_it (token_page s) q) refl (held_first (n + 1) ss f q e (λ g h a b. (let j = one (suc g) (suc h) a b in omega arith)))
   where
     held_is : (o : Option Page) → holds_it o q ≡ true → o ≡ Some q

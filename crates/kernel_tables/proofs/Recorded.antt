@@ -104,4 +104,5 @@ same_life old next pid was now h e s b = record {
 pub regs_records : (old new : List Record) (next pid : ℕ) (regs : Regs) (was : Record) → find pid old ≡ Some was
     → Changes old new pid (Some (record was { regs = regs }))
     → IsTable new → AreRecords old next → AreRecords new next
-regs_records old new next pid regs was e c b h = changed_records old new next pid was (Some (record was { regs = regs })) b e c (same_life old next pid was (record was { regs = regs }) h e refl refl) h
+regs_records old new next pid regs was e c b h =
+    changed_records old new next pid was (Some (record was { regs = regs })) b e c (same_life old next pid was (record was { regs = regs }) h e refl refl) h

@@ -120,7 +120,8 @@ pub any_found : (f : Record → Bool) (ps : List Record) → ArePidsApart ps →
 any_found f [] apart h = absurd cc
 any_found f (q ∷ qs) apart h = go (f q) refl h (any_found f qs apart.1)
   where
-    go : (b : Bool) → f q ≡ b → (b || list_any f qs) ≡ true → (list_any f qs ≡ true → (p : Record) × (find p.pid qs ≡ Some p) × (f p ≡ true)) → (p : Record) × (find p.pid (q ∷ qs) ≡ Some p) × (f p ≡ true)
+    go : (b : Bool) → f q ≡ b → (b || list_any f qs) ≡ true → (list_any f qs ≡ true → (p : Record) × (find p.pid qs ≡ Some p) × (f p ≡ true))
+        → (p : Record) × (find p.pid (q ∷ qs) ≡ Some p) × (f p ≡ true)
     go true e k more = (q, find_hit q.pid q qs refl, e)
     go false e k more =
         let r = more k in

@@ -86,7 +86,8 @@ rest_shown slots sid [] = refl
 rest_shown slots sid (s ∷ ss) = go (s.sid == sid) (rest_shown slots sid ss)
   where
     go : (b : Bool) → map (space_shown slots) (without_space sid ss) ≡ rest_of sid (map (space_shown slots) ss)
-        → map (space_shown slots) (cond (not b) (s ∷ without_space sid ss) (without_space sid ss)) ≡ cond (not b) (space_shown slots s ∷ rest_of sid (map (space_shown slots) ss)) (rest_of sid (map (space_shown slots) ss))
+        → map (space_shown slots) (cond (not b) (s ∷ without_space sid ss) (without_space sid ss))
+        ≡ cond (not b) (space_shown slots s ∷ rest_of sid (map (space_shown slots) ss)) (rest_of sid (map (space_shown slots) ss))
     go true h = h
     go false h = ap (λ (xs : List SpacePages). space_shown slots s ∷ xs) h
 
@@ -169,7 +170,8 @@ pub none_shares : (slots : List Token) (ss : List Places) (i : ℕ) → sharing 
 none_shares slots [] i e = refl
 none_shares slots (s ∷ ss) i e = elim (cases_eq s.image i) [
   | inl k ↦ absurd (let z : Some s ≡ None = sym (numbered_hit (λ (s : Places). s.image) i s ss k) ∙ e in cc)
-  | inr n ↦ ap (λ (b : Bool). cond b 1 0 + sharers_in i (map (space_shown slots) ss)) (ne_eqb s.image i n) ∙ (omega arith) ∙ none_shares slots ss i (sym (numbered_miss (λ (s : Places). s.image) i s ss n) ∙ e)
+  | inr n ↦ ap (λ (b : Bool). cond b 1 0 + sharers_in i (map (space_shown slots) ss)) (ne_eqb s.image i n) ∙ (omega arith)
+      ∙ none_shares slots ss i (sym (numbered_miss (λ (s : Places). s.image) i s ss n) ∙ e)
 ]
 
 pub some_shares : (slots : List Token) (ss : List Places) (i : ℕ) (x : Places) → sharing ss i ≡ Some x

@@ -23,7 +23,8 @@ below_held slots f q e = below_length slots f (λ n. none_some q (sym (ap page_o
 
 pub revive_slots : (old one two three : List Token) (f : ℕ) (token : Frame) (q : Page) (c : Bool) → f < length old → IsTrue (is_free (slot_at old f))
     → token ≡ token_of (slot_at old f) → token.number ≡ f → one ≡ set old f tokens.Away
-    → two ≡ set one token.number (tokens.Resident token q false) → three ≡ set two f (with_dirty (slot_at two f) c) → three ≡ set old f (revived (slot_at old f) q c)
+    → two ≡ set one token.number (tokens.Resident token q false) → three ≡ set two f (with_dirty (slot_at two f) c)
+    → three ≡ set old f (revived (slot_at old f) q c)
 revive_slots old one two three f token q c l h t n e1 e2 e3 =
     let r : Token = tokens.Resident token q false in
     let second : two ≡ set old f r = e2 ∙ ap (λ (m : ℕ). set one m r) n ∙ ap (λ (xs : List Token). set xs f r) e1 ∙ set-set old f tokens.Away r in

@@ -67,7 +67,8 @@ data_shown slots (s ∷ ss) sid v d = elim (cases_eq s.sid sid) [
       let gone : entry_in ss (Data sid v) ≡ None = data_absent ss sid v (subst (λ (n : ℕ). IsAbsent n (sids_of ss)) e d.0) in
       ap (λ (o : Option SpacePages). get_or (data_in o) v no_slot) (hit sid (space_shown slots s) (map (space_shown slots) ss) e)
       ∙ get_map (slot_shown slots) s.data v
-      ∙ ap (slot_or (slot_shown slots)) (sym (ap (λ (o : Option Place). or_else o (entry_in ss (Data sid v))) (data_hit s sid v (sym e)) ∙ ap (or_else (slice_get s.data v)) gone ∙ or_else_none (slice_get s.data v)))
+      ∙ ap (slot_or (slot_shown slots))
+      (sym (ap (λ (o : Option Place). or_else o (entry_in ss (Data sid v))) (data_hit s sid v (sym e)) ∙ ap (or_else (slice_get s.data v)) gone ∙ or_else_none (slice_get s.data v)))
   | inr n ↦
       ap (λ (o : Option SpacePages). get_or (data_in o) v no_slot) (miss sid (space_shown slots s) (map (space_shown slots) ss) n)
       ∙ data_shown slots ss sid v d.1
@@ -82,7 +83,8 @@ stack_shown slots (s ∷ ss) sid v d = elim (cases_eq s.sid sid) [
       let gone : entry_in ss (Stack sid v) ≡ None = stack_absent ss sid v (subst (λ (n : ℕ). IsAbsent n (sids_of ss)) e d.0) in
       ap (λ (o : Option SpacePages). get_or (stack_in o) v no_slot) (hit sid (space_shown slots s) (map (space_shown slots) ss) e)
       ∙ get_map (slot_shown slots) s.stack v
-      ∙ ap (slot_or (slot_shown slots)) (sym (ap (λ (o : Option Place). or_else o (entry_in ss (Stack sid v))) (stack_hit s sid v (sym e)) ∙ ap (or_else (slice_get s.stack v)) gone ∙ or_else_none (slice_get s.stack v)))
+      ∙ ap (slot_or (slot_shown slots))
+      (sym (ap (λ (o : Option Place). or_else o (entry_in ss (Stack sid v))) (stack_hit s sid v (sym e)) ∙ ap (or_else (slice_get s.stack v)) gone ∙ or_else_none (slice_get s.stack v)))
   | inr n ↦
       ap (λ (o : Option SpacePages). get_or (stack_in o) v no_slot) (miss sid (space_shown slots s) (map (space_shown slots) ss) n)
       ∙ stack_shown slots ss sid v d.1
@@ -167,16 +169,20 @@ data_length : (slots : List Token) (n : ℕ) (ss : List Places)
     → length (data_in (numbered space_number n (map (space_shown slots) ss))) ≡ data_counted (head_numbered n (map head_of ss))
 data_length slots n [] = refl
 data_length slots n (s ∷ ss) = elim (cases_eq s.sid n) [
-  | inl e ↦ ap (λ (o : Option SpacePages). length (data_in o)) (hit n (space_shown slots s) (map (space_shown slots) ss) e) ∙ length_map (slot_shown slots) s.data ∙ sym (ap data_counted (head_hit n (head_of s) (map head_of ss) e))
-  | inr d ↦ ap (λ (o : Option SpacePages). length (data_in o)) (miss n (space_shown slots s) (map (space_shown slots) ss) d) ∙ data_length slots n ss ∙ sym (ap data_counted (head_miss n (head_of s) (map head_of ss) d))
+  | inl e ↦ ap (λ (o : Option SpacePages). length (data_in o)) (hit n (space_shown slots s) (map (space_shown slots) ss) e) ∙ length_map (slot_shown slots) s.data
+      ∙ sym (ap data_counted (head_hit n (head_of s) (map head_of ss) e))
+  | inr d ↦ ap (λ (o : Option SpacePages). length (data_in o)) (miss n (space_shown slots s) (map (space_shown slots) ss) d) ∙ data_length slots n ss
+      ∙ sym (ap data_counted (head_miss n (head_of s) (map head_of ss) d))
 ]
 
 stack_length : (slots : List Token) (n : ℕ) (ss : List Places)
     → length (stack_in (numbered space_number n (map (space_shown slots) ss))) ≡ stack_counted (head_numbered n (map head_of ss))
 stack_length slots n [] = refl
 stack_length slots n (s ∷ ss) = elim (cases_eq s.sid n) [
-  | inl e ↦ ap (λ (o : Option SpacePages). length (stack_in o)) (hit n (space_shown slots s) (map (space_shown slots) ss) e) ∙ length_map (slot_shown slots) s.stack ∙ sym (ap stack_counted (head_hit n (head_of s) (map head_of ss) e))
-  | inr d ↦ ap (λ (o : Option SpacePages). length (stack_in o)) (miss n (space_shown slots s) (map (space_shown slots) ss) d) ∙ stack_length slots n ss ∙ sym (ap stack_counted (head_miss n (head_of s) (map head_of ss) d))
+  | inl e ↦ ap (λ (o : Option SpacePages). length (stack_in o)) (hit n (space_shown slots s) (map (space_shown slots) ss) e) ∙ length_map (slot_shown slots) s.stack
+      ∙ sym (ap stack_counted (head_hit n (head_of s) (map head_of ss) e))
+  | inr d ↦ ap (λ (o : Option SpacePages). length (stack_in o)) (miss n (space_shown slots s) (map (space_shown slots) ss) d) ∙ stack_length slots n ss
+      ∙ sym (ap stack_counted (head_miss n (head_of s) (map head_of ss) d))
 ]
 
 pub text_length : (t : Lists) (image n : ℕ) → length (text_slots t image n) ≡ n
@@ -229,7 +235,8 @@ pub text_within : (t : Lists) (i v : ℕ) → IsThere (placement_of t) (Text i v
 text_within t i v there = let a = ap length (texts_shown t 1 i t.facts) ∙ text_length t i (pages_in 1 i t.facts) in omega arith
 
 pub text_past : (t : Lists) (i v : ℕ) → pages_in 1 i t.facts ≤ v → slot_of (placement_of t) (Text i v) ≡ no_slot
-text_past t i v l = ap (λ (xs : List Slot). get_or xs v no_slot) (texts_shown t 1 i t.facts) ∙ get_or_past (text_slots t i (pages_in 1 i t.facts)) v no_slot (omega (arith, text_length t i (pages_in 1 i t.facts)))
+text_past t i v l =
+    ap (λ (xs : List Slot). get_or xs v no_slot) (texts_shown t 1 i t.facts) ∙ get_or_past (text_slots t i (pages_in 1 i t.facts)) v no_slot (omega (arith, text_length t i (pages_in 1 i t.facts)))
 
 pub other_slots : (t u : Lists) (E : Page → Type 0) (f : ℕ) → Moved t u E f → (w : Page) → E w → slot_of (placement_of u) w ≡ slot_of (placement_of t) w
 other_slots t u E f m (Data n v) d =
@@ -254,7 +261,8 @@ other_slots t u E f m (Text i v) d = elim (within_or_past v (pages_in 1 i t.fact
       text_at u i v (subst (λ (fs : List Image). v < pages_in 1 i fs) (sym m.facts) l)
       ∙ ap (λ (x : Place). text_shown u.slots (is_saved (text_of u.texts i) v) x) same
       ∙ ap (λ (b : Bool). text_shown u.slots b (text_place t.spaces t.slots (Text i v) v)) (m.saved i v d (let h = pages_low 1 i t.facts (omega arith) in h.0))
-      ∙ ap (λ (y : PageState). let z : Slot = record { state = y; mark = is_saved (text_of t.texts i) v; filling = Zeros } in z) (same_shown t.slots u.slots f (text_place t.spaces t.slots (Text i v) v) m.slots (λ e. m.apart (Text i v) d (ap (λ (x : Slot). frame_of x.state) was ∙ e)))
+      ∙ ap (λ (y : PageState). let z : Slot = record { state = y; mark = is_saved (text_of t.texts i) v; filling = Zeros } in z)
+      (same_shown t.slots u.slots f (text_place t.spaces t.slots (Text i v) v) m.slots (λ e. m.apart (Text i v) d (ap (λ (x : Slot). frame_of x.state) was ∙ e)))
       ∙ sym was
   | inr l ↦ text_past u i v (subst (λ (fs : List Image). pages_in 1 i fs ≤ v) (sym m.facts) l) ∙ sym (text_past t i v l)
 ]
@@ -312,7 +320,8 @@ images_changed : (n : ℕ) (change : TextPages → TextPages) → ((x : TextPage
 images_changed n change k [] = refl
 images_changed n change k (x ∷ xs) = go (x.image == n) (images_changed n change k xs)
   where
-    go : (b : Bool) → map image_number (changed image_number n change xs) ≡ map image_number xs → map image_number (cond b (change x ∷ xs) (x ∷ changed image_number n change xs)) ≡ map image_number (x ∷ xs)
+    go : (b : Bool) → map image_number (changed image_number n change xs) ≡ map image_number xs
+        → map image_number (cond b (change x ∷ xs) (x ∷ changed image_number n change xs)) ≡ map image_number (x ∷ xs)
     go true rest = ap (λ (m : ℕ). m ∷ map image_number xs) (k x)
     go false rest = ap (λ (ms : List ℕ). x.image ∷ ms) rest
 

@@ -100,7 +100,8 @@ image_heads a b (s ∷ ss) (r ∷ rs) n e =
     let same : s.sid ≡ r.sid = ap (λ (h : Head). h.sid) x in
     elim (cases_eq s.sid n) [
       | inl i ↦ ap image_in (hit n (space_shown a s) (map (space_shown a) ss) i) ∙ ap (λ (h : Head). h.image) x ∙ sym (ap image_in (hit n (space_shown b r) (map (space_shown b) rs) (sym same ∙ i)))
-      | inr d ↦ ap image_in (miss n (space_shown a s) (map (space_shown a) ss) d) ∙ image_heads a b ss rs n y ∙ sym (ap image_in (miss n (space_shown b r) (map (space_shown b) rs) (λ i. d (same ∙ i))))
+      | inr d ↦ ap image_in (miss n (space_shown a s) (map (space_shown a) ss) d) ∙ image_heads a b ss rs n y
+          ∙ sym (ap image_in (miss n (space_shown b r) (map (space_shown b) rs) (λ i. d (same ∙ i))))
     ]
 
 pub images_heads : (t w : Tables) → map head_of w.spaces ≡ map head_of t.spaces → (sid : ℕ) → image_at w sid ≡ image_at t sid

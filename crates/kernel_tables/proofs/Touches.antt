@@ -102,18 +102,21 @@ write_place t q f token k w e i =
       there = there;
       entry = entry_there t q w there;
     } in
-    let l : SameLists n (put p q (Valid f) true) = segments_are t n q f (Valid f) true (arrives_moved t n q f place a) (record { there = there; slot = arrived t n q f place a ∙ write_shown n q f w }) in
+    let l : SameLists n (put p q (Valid f) true) =
+    segments_are t n q f (Valid f) true (arrives_moved t n q f place a) (record { there = there; slot = arrived t n q f place a ∙ write_shown n q f w }) in
     placement_ext (placement_of n) (turn p q (Valid f) true p.free p.transfers) l.spaces l.texts
     (ap (λ (m : ℕ). map (page_held n) (range_with_len 1 (m - 1))) (length-set t.slots f s)
     ∙ frames_same (page_held t) (page_held n) (range_with_len 1 (length t.slots - 1)) (λ g. elim (cases_eq g f) [
-      | inl h ↦ subst (λ (m : ℕ). page_held n m ≡ page_held t m) (sym h) (ap (λ (y : Token). page_by y (flown_at t.flown f)) (get_or-set_same t.slots f s tokens.Away i.below) ∙ sym (ap (λ (y : Token). page_by y (flown_at t.flown f)) i.resident))
+      | inl h ↦ subst (λ (m : ℕ). page_held n m ≡ page_held t m) (sym h)
+          (ap (λ (y : Token). page_by y (flown_at t.flown f)) (get_or-set_same t.slots f s tokens.Away i.below) ∙ sym (ap (λ (y : Token). page_by y (flown_at t.flown f)) i.resident))
       | inr d ↦ ap (λ (y : Token). page_by y (flown_at t.flown g)) (get_or-set_other t.slots f g s tokens.Away d)
     ]))
     refl refl refl refl refl refl
     ∙ sym (ap (touch_to p q) e ∙ touch_is p q f w)
 
 pub write_frames : (t : Lists) (q : Page) (f at byte : ℕ) (i : InFrame t q f)
-    → frames_of (written t q f (tokens.Resident (record i.token { bytes = set i.token.bytes at byte }) q true)) ≡ set_frame (frames_of t) f (set (at_frame (frames_of t) f []) at byte)
+    → frames_of (written t q f (tokens.Resident (record i.token { bytes = set i.token.bytes at byte }) q true))
+    ≡ set_frame (frames_of t) f (set (at_frame (frames_of t) f []) at byte)
 write_frames t q f at byte i =
     let s : Token = tokens.Resident (record i.token { bytes = set i.token.bytes at byte }) q true in
     let n : Lists = written t q f s in

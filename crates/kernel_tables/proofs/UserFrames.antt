@@ -88,7 +88,8 @@ pub facts_pages : (n image : ℕ) (facts : List Image) (x : Image) → facts_in 
 facts_pages n image [] x e = absurd cc
 facts_pages n image (f ∷ fs) x e = go (n == image) (λ k. facts_pages (n + 1) image fs x k) e
   where
-    go : (b : Bool) → (facts_in (n + 1) image fs ≡ Some x → pages_in (n + 1) image fs ≡ text_pages_of x) → cond b (Some f) (facts_in (n + 1) image fs) ≡ Some x → cond b (text_pages_of f) (pages_in (n + 1) image fs) ≡ text_pages_of x
+    go : (b : Bool) → (facts_in (n + 1) image fs ≡ Some x → pages_in (n + 1) image fs ≡ text_pages_of x) → cond b (Some f) (facts_in (n + 1) image fs) ≡ Some x
+        → cond b (text_pages_of f) (pages_in (n + 1) image fs) ≡ text_pages_of x
     go true more k = let same : f ≡ x = cc in ap text_pages_of same
     go false more k = more k
 
@@ -137,24 +138,29 @@ module _ (t : Lists) (i : ℕ) (s : Places) (k : Known t) (rising : AreRising (s
         let x = get_within s.text v l in
         let entry : place_in s (Text image v) ≡ Some x.0 = text_hit s image v same ∙ x.1 in
         let first : entry_in t.spaces (Text image v) ≡ Some x.0 = at_each (IsLikeFirst t.spaces) t.spaces i s k.tied.alike at image v x.0 entry in
-        let pages : pages_in 1 image t.facts ≡ length s.text = ap (λ (n : ℕ). pages_in 1 n t.facts) same ∙ facts_pages 1 s.image t.facts s.facts (at_each (IsFilled t.facts) t.spaces i s k.tied.filled at).facts_are ∙ sym whole in
+        let pages : pages_in 1 image t.facts ≡ length s.text =
+        ap (λ (n : ℕ). pages_in 1 n t.facts) same ∙ facts_pages 1 s.image t.facts s.facts (at_each (IsFilled t.facts) t.spaces i s k.tied.filled at).facts_are ∙ sym whole in
         ap entry_frame entry ∙ sym (place_frame t.slots x.0)
         ∙ sym (ap (λ (y : Slot). valid_frame y.state) (text_at t image v (omega arith)) ∙ ap (λ (o : Option Place). valid_frame (state_shown t.slots (text_place_by o t.slots (Text image v) v))) first)
     | inr p ↦
-        let pages : pages_in 1 image t.facts ≡ length s.text = ap (λ (n : ℕ). pages_in 1 n t.facts) same ∙ facts_pages 1 s.image t.facts s.facts (at_each (IsFilled t.facts) t.spaces i s k.tied.filled at).facts_are ∙ sym whole in
+        let pages : pages_in 1 image t.facts ≡ length s.text =
+        ap (λ (n : ℕ). pages_in 1 n t.facts) same ∙ facts_pages 1 s.image t.facts s.facts (at_each (IsFilled t.facts) t.spaces i s k.tied.filled at).facts_are ∙ sym whole in
         ap entry_frame (text_hit s image v same ∙ get_past s.text v p)
-        ∙ sym (ap (λ (y : Slot). valid_frame y.state) (gone image v (within v (length (slots_of (placement_of t) (Text image v)))) (λ l. absurd (let w : v < pages_in 1 image t.facts = text_within t image v l in omega arith))))
+        ∙ sym (ap (λ (y : Slot). valid_frame y.state)
+        (gone image v (within v (length (slots_of (placement_of t) (Text image v)))) (λ l. absurd (let w : v < pages_in 1 image t.facts = text_within t image v l in omega arith))))
   ]
 
   data_frame : (v : ℕ) → entry_frame (slice_get s.data v) ≡ valid_frame (state_of (placement_of t) (Data s.sid v))
   data_frame v =
       let entry : entry_in t.spaces (Data s.sid v) ≡ place_in s (Data s.sid v) = found_entry (Data s.sid v) s.sid (data_of_space s.sid v) t.spaces s rising found in
-      ap entry_frame (sym (entry ∙ data_hit s s.sid v refl)) ∙ sym (slot_frame t.slots (entry_in t.spaces (Data s.sid v))) ∙ sym (ap (λ (y : Slot). valid_frame y.state) (data_shown t.slots t.spaces s.sid v k.differ))
+      ap entry_frame (sym (entry ∙ data_hit s s.sid v refl)) ∙ sym (slot_frame t.slots (entry_in t.spaces (Data s.sid v)))
+      ∙ sym (ap (λ (y : Slot). valid_frame y.state) (data_shown t.slots t.spaces s.sid v k.differ))
 
   stack_frame : (v : ℕ) → entry_frame (slice_get s.stack v) ≡ valid_frame (state_of (placement_of t) (Stack s.sid v))
   stack_frame v =
       let entry : entry_in t.spaces (Stack s.sid v) ≡ place_in s (Stack s.sid v) = found_entry (Stack s.sid v) s.sid (stack_of_space s.sid v) t.spaces s rising found in
-      ap entry_frame (sym (entry ∙ stack_hit s s.sid v refl)) ∙ sym (slot_frame t.slots (entry_in t.spaces (Stack s.sid v))) ∙ sym (ap (λ (y : Slot). valid_frame y.state) (stack_shown t.slots t.spaces s.sid v k.differ))
+      ap entry_frame (sym (entry ∙ stack_hit s s.sid v refl)) ∙ sym (slot_frame t.slots (entry_in t.spaces (Stack s.sid v)))
+      ∙ sym (ap (λ (y : Slot). valid_frame y.state) (stack_shown t.slots t.spaces s.sid v k.differ))
 
   shown : numbered space_number s.sid (placement_of t).spaces ≡ Some (space_shown t.slots s)
   shown = numbered_shown t.slots t.spaces s.sid ∙ ap (option_map (space_shown t.slots)) found
@@ -190,8 +196,10 @@ module _ (t : Lists) (i : ℕ) (s : Places) (k : Known t) (rising : AreRising (s
         shares = ap (λ (p : Placement). slice_get (map (λ (y : SpacePages). y.image) p.spaces) i) place ∙ at_image t.slots t.spaces i s at ∙ ap (λ (n : ℕ). Some n) (sym same);
         image_is = same ∙ sym (ap (λ (p : Placement). image_of p sid) place ∙ ap (image_of (placement_of t)) own ∙ image_shown);
         text_is = text ∙ sym (ap (λ (p : Placement). text_len p sid) place ∙ ap (text_len (placement_of t)) own ∙ text_shown);
-        data_is = data_size ∙ sym (ap (λ (p : Placement). data_len p sid) place ∙ ap (data_len (placement_of t)) own ∙ ap (λ (o : Option SpacePages). 1024 * length (data_in o)) shown ∙ ap (λ (n : ℕ). 1024 * n) (map_length (slot_shown t.slots) s.data));
-        stack_is = stack_size ∙ sym (ap (λ (p : Placement). stack_len p sid) place ∙ ap (stack_len (placement_of t)) own ∙ ap (λ (o : Option SpacePages). 1024 * length (stack_in o)) shown ∙ ap (λ (n : ℕ). 1024 * n) (map_length (slot_shown t.slots) s.stack));
+        data_is = data_size ∙ sym (ap (λ (p : Placement). data_len p sid) place ∙ ap (data_len (placement_of t)) own ∙ ap (λ (o : Option SpacePages). 1024 * length (data_in o)) shown
+            ∙ ap (λ (n : ℕ). 1024 * n) (map_length (slot_shown t.slots) s.data));
+        stack_is = stack_size ∙ sym (ap (λ (p : Placement). stack_len p sid) place ∙ ap (stack_len (placement_of t)) own ∙ ap (λ (o : Option SpacePages). 1024 * length (stack_in o)) shown
+            ∙ ap (λ (n : ℕ). 1024 * n) (map_length (slot_shown t.slots) s.stack));
         low = low;
         high = high;
       }
@@ -210,8 +218,16 @@ pub space_below : (t : Lists) (i : ℕ) → i < length (placement_of t).spaces �
 space_below t i h = let l = map_length (space_shown t.slots) t.spaces in omega arith
 
 pub own_home : (t : Lists) (i : ℕ) (q : Page) → IsWritable q → IsOwnPage (placement_of t) i q → IsHome t.spaces i q
-own_home t i (Data n v) w own = record { sid = n; named = refl; stands = record { in_range = space_below t i (number_below (placement_of t) i n own); number = ap (λ (ns : List ℕ). slice_get ns i) (sym (sids_shown t.slots t.spaces)) ∙ own } }
-own_home t i (Stack n v) w own = record { sid = n; named = refl; stands = record { in_range = space_below t i (number_below (placement_of t) i n own); number = ap (λ (ns : List ℕ). slice_get ns i) (sym (sids_shown t.slots t.spaces)) ∙ own } }
+own_home t i (Data n v) w own = record {
+  sid = n;
+  named = refl;
+  stands = record { in_range = space_below t i (number_below (placement_of t) i n own); number = ap (λ (ns : List ℕ). slice_get ns i) (sym (sids_shown t.slots t.spaces)) ∙ own };
+}
+own_home t i (Stack n v) w own = record {
+  sid = n;
+  named = refl;
+  stands = record { in_range = space_below t i (number_below (placement_of t) i n own); number = ap (λ (ns : List ℕ). slice_get ns i) (sym (sids_shown t.slots t.spaces)) ∙ own };
+}
 own_home t i (Text n v) w own = absurd w
 
 -- Bytes.

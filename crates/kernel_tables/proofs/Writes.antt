@@ -57,7 +57,8 @@ writing_lists : (t u : Tables) (q : Page) (f at byte : ℕ) (w : Writing t u q f
 writing_lists t u q f at byte w i =
     let s : Token = tokens.Resident (record i.token { bytes = set i.token.bytes at byte }) q true in
     ap lists_of w.wrote.rest
-    ∙ ap (λ (ss : List Token). record (lists_of t) { slots = ss; free = u.core.free; spaces = u.spaces }) (w.wrote.slots ∙ ap (λ (x : Token). set t.core.slots f (with_dirty (with_byte x at byte) true)) i.resident)
+    ∙ ap (λ (ss : List Token). record (lists_of t) { slots = ss; free = u.core.free; spaces = u.spaces })
+    (w.wrote.slots ∙ ap (λ (x : Token). set t.core.slots f (with_dirty (with_byte x at byte) true)) i.resident)
     ∙ ap (λ (fs : List ℕ). record (lists_of t) { slots = set t.core.slots f s; free = fs; spaces = u.spaces }) w.wrote.free
     ∙ ap (λ (ss : List Places). record (lists_of t) { slots = set t.core.slots f s; spaces = ss }) w.wrote.spaces
 
@@ -104,7 +105,8 @@ write_runs t u q f at byte j b hs r w =
       marked = marks_placed (lists_of t) (record (lists_of t) { slots = set t.core.slots f s; spaces = map (placed q (places.Frame f true true)) t.spaces }) q f (places.Frame f true true)
           (texts_here (lists_of t) w.known) (λ h d. get_or-set_other t.core.slots f h s tokens.Away d) refl (λ i v d l. refl) (alone_in (lists_of t) q f w.known (ap frame_of w.valid))
           (λ a r mark h. let y = set_resident t.core.slots f s a r mark h in
-          marks_here t.spaces t.texts (places.Frame f true true) q r mark (shared_entry (lists_of t) q w.known.tied (writable_shared (placement_of (lists_of t)) q w.writable) (page_in (placement_of (lists_of t)) q f (ap frame_of w.valid))) (resident_page (record i.token { bytes = set i.token.bytes at byte }) a q r true mark y)
+          marks_here t.spaces t.texts (places.Frame f true true) q r mark (shared_entry (lists_of t) q w.known.tied (writable_shared (placement_of (lists_of t)) q w.writable)
+          (page_in (placement_of (lists_of t)) q f (ap frame_of w.valid))) (resident_page (record i.token { bytes = set i.token.bytes at byte }) a q r true mark y)
           (resident_mark (record i.token { bytes = set i.token.bytes at byte }) a q r true mark y ∙ sym (dirty_place t.texts f q w.writable)));
       whole = λ x. x;
       once = λ x. x;

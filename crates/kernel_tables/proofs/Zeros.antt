@@ -57,7 +57,8 @@ pub starts_first : (ds : List DueFill) (q : Page) → DueOnce ds → IsFirstStar
 starts_first [] q o h = refl
 starts_first (fills.Copy child parent ∷ ds) q o h = absurd h
 starts_first (fills.Start r bytes ∷ ds) q o h =
-    sym (ap (λ (b : Bool). cond (not b) (record { page = r; bytes = bytes } ∷ starts_after (starts_of ds) q) (starts_after (starts_of ds) q)) (ap (λ (x : Page). same_page r x) (sym h) ∙ same_page_self r)
+    sym (ap (λ (b : Bool). cond (not b) (record { page = r; bytes = bytes } ∷ starts_after (starts_of ds) q) (starts_after (starts_of ds) q))
+    (ap (λ (x : Page). same_page r x) (sym h) ∙ same_page_self r)
     ∙ others_kept ds q (subst (λ (x : Page). EachPage (λ (y : Page). y ≡ x → ⊥) (map due_page (map due_shown ds))) h o.0))
 
 -- The lists.

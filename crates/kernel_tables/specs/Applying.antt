@@ -109,4 +109,5 @@ abbrev pub ChangesWhole : Standing → Standing → ℕ → Regs → Change → 
 ChangesWhole old new pid regs change = (images : List NamedImage) (m : KernelState) → ImagesFit images → facts_of images ≡ facts_named old.images
     → Invariant old.params.swap_blocks images m → MayComplete old.params.swap_blocks images m pid change
     → passed_before (has_lender m.kernel.processes pid) (with_found m) pid change ≡ old.kernel
-    → Invariant old.params.swap_blocks images (record { kernel = passed_behind new.kernel pid change; found = new.kernel.holdings; image = m.image; flat = apply_change images m.flat pid regs change })
+    → Invariant old.params.swap_blocks images
+    (record { kernel = passed_behind new.kernel pid change; found = new.kernel.holdings; image = m.image; flat = apply_change images m.flat pid regs change })

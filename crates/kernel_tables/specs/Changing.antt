@@ -35,7 +35,8 @@ pub record Dropped (t u : Tables) (qs : List Page) : Type 0 where
 pub record Resized (t u : Tables) (sid data_pages stack_pages : ℕ) : Type 0 where
   pub shows : Shows t u (resize (placement_of (lists_of t)) sid data_pages stack_pages)
   pub images : (other : ℕ) → image_at u other ≡ image_at t other
-  pub book : u.book ≡ with_holdings t.book (kept (owners.Stack sid) (length (pieces (2 * stack_pages))) (kept (owners.Data sid) (length (pieces (2 * data_pages))) t.book.holdings))
+  pub book : u.book ≡ with_holdings t.book
+      (kept (owners.Stack sid) (length (pieces (2 * stack_pages))) (kept (owners.Data sid) (length (pieces (2 * data_pages))) t.book.holdings))
   pub rest : u ≡ record t { core = u.core; spaces = u.spaces; book = u.book }
 
 -- a space is given up, with its pieces, and with the last space that shares it its image's text
@@ -106,7 +107,8 @@ HasChanged t u p = HasProcesses t u t.next_pid (with_proc (processes_in t) p) (r
 -- a process has ended, and left its children
 abbrev pub HasEnded : Tables → Tables → Proc → ℕ → Type 0
 HasEnded t u p status =
-    HasProcesses t u t.next_pid (left_procs (p.parent == 0) (orphaned_procs (processes_in t) p.pid) p status) (filter (λ (r : Residence). not (r.pid == p.pid)) (residents_in t))
+    HasProcesses t u t.next_pid (left_procs (p.parent == 0) (orphaned_procs (processes_in t) p.pid) p status)
+    (filter (λ (r : Residence). not (r.pid == p.pid)) (residents_in t))
 
 -- the processes once a space has passed
 abbrev pub passed_procs : List Proc → ℕ → ℕ → List Proc

@@ -59,7 +59,8 @@ StandsTold k images (Some image) flat = Coupled k images image flat
 -- with the images that the files have, the machine still stands for the flat states that it stood for; a told image stays told
 abbrev pub KeepsThrough : Standing → Standing → Option (List NamedFile) → Option (List ℕ) → Option (List ℕ) → Type 0
 KeepsThrough old new holds before after =
-    (images : List NamedImage) (flat : FlatState) → AreImages old.images holds images → TextFits images old.kernel.place → StandsTold old.kernel images before flat → StandsTold new.kernel images after flat
+    (images : List NamedImage) (flat : FlatState) → AreImages old.images holds images → TextFits images old.kernel.place
+    → StandsTold old.kernel images before flat → StandsTold new.kernel images after flat
 
 -- the swap image, where it is told, after the oldest transfer
 abbrev pub ImageAfter : Kernel → Option (List ℕ) → Option (List ℕ) → Type 0

@@ -42,7 +42,8 @@ pub record IsAlone (p : Record) : Type 0 where
 -- a process that has ended, and no child, is a zombie, or gone where it has no parent
 abbrev pub IsBuried : Tables → Tables → Record → ℕ → Type 0
 IsBuried t u p status =
-    HasProcesses t u t.next_pid (left_procs (p.parent == 0) (processes_in t) (proc_shown p) status) (filter (λ (r : Residence). not (r.pid == p.pid)) (residents_in t))
+    HasProcesses t u t.next_pid (left_procs (p.parent == 0) (processes_in t) (proc_shown p) status)
+    (filter (λ (r : Residence). not (r.pid == p.pid)) (residents_in t))
 
 -- two processes have other records
 pub record HasPassed (t u : Tables) (from to : ℕ) (giver taker : Record) : Type 0 where

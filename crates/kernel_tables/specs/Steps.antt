@@ -37,7 +37,8 @@ taken t f page rest = record t { slots = slice_set t.slots f tokens.Away; free =
 
 -- a page is in a frame, and usable
 abbrev pub seated : Lists → Frame → Page → Bool → Lists
-seated t token q dirty = record t { slots = slice_set t.slots token.number (tokens.Resident token q dirty); spaces = map (placed q (places.Frame token.number true dirty)) t.spaces }
+seated t token q dirty =
+    record t { slots = slice_set t.slots token.number (tokens.Resident token q dirty); spaces = map (placed q (places.Frame token.number true dirty)) t.spaces }
 
 -- the pages of text that frames hold are of images that there may be
 abbrev pub AreTextsHere : List Token → Type 0
@@ -45,7 +46,11 @@ AreTextsHere slots = (frame image v : ℕ) → page_of (slot_at slots frame) ≡
 
 -- a page is in flight into a frame
 abbrev pub coming : Lists → Frame → Page → List Transfer → Lists
-coming t token q transfers = record t { spaces = map (placed q (places.Frame token.number false false)) t.spaces; transfers = transfers; flown = t.flown ++ record { page = q; token = token } ∷ [] }
+coming t token q transfers = record t {
+  spaces = map (placed q (places.Frame token.number false false)) t.spaces;
+  transfers = transfers;
+  flown = t.flown ++ record { page = q; token = token } ∷ [];
+}
 
 -- a frame that holds the page is off the free list
 abbrev pub revived : Token → Page → Bool → Token
@@ -59,7 +64,8 @@ reclaimed t q f s changed = record t { slots = slice_set t.slots f s; free = wit
 
 -- a page lands: its token is in the map, and leaves those in flight, of which it is the first
 abbrev pub landed : Lists → Page → ℕ → Token → Place → List ℕ → List SharedText → List Transfer → List Flown → Lists
-landed t q f x place free texts transfers flown = record t { slots = slice_set t.slots f x; free = free; spaces = map (placed q place) t.spaces; texts = texts; transfers = transfers; flown = flown }
+landed t q f x place free texts transfers flown =
+    record t { slots = slice_set t.slots f x; free = free; spaces = map (placed q place) t.spaces; texts = texts; transfers = transfers; flown = flown }
 
 -- text that was written to swap is saved
 abbrev pub saved_texts : List SharedText → Page → List SharedText

@@ -73,7 +73,8 @@ impl Tables {
         requires within { image ≤ length self.old.images.items }
         requires whole { length top ≡ 1024 }
         ensures number { IfOk result (λ sid. sid ≡ self.old.next_sid) }
-        ensures entered { OnOk result ((facts : Facts) → facts_numbered (lists_of self.old).facts image ≡ Some facts → EnteredImage self.old self.new image facts top) }
+        ensures entered { OnOk result
+            ((facts : Facts) → facts_numbered (lists_of self.old).facts image ≡ Some facts → EnteredImage self.old self.new image facts top) }
         ensures params { self.new.params ≡ self.old.params }
         ensures images { self.new.images ≡ self.old.images }
     {

@@ -52,7 +52,8 @@ impl Tables {
         requires records { AreRecords self.old.processes self.old.next_pid }
         requires few { length (processes_in self.old) < 64 }
         requires fresh { HoldsOrNew (life_shown state) }
-        ensures one_more { OnOk result (HasOneMore self.old self.new (record { pid = self.old.next_pid; parent = parent; regs = regs; life = life_shown state; asleep = false }) since) }
+        ensures one_more { OnOk result
+            (HasOneMore self.old self.new (record { pid = self.old.next_pid; parent = parent; regs = regs; life = life_shown state; asleep = false }) since) }
         ensures params { self.new.params ≡ self.old.params }
         ensures images { self.new.images ≡ self.old.images }
     {
@@ -78,7 +79,8 @@ impl Tables {
         requires there { IsSome (process_in self.old parent) }
         requires few { length (processes_in self.old) < 64 }
         requires fresh { HoldsOrNew (life_shown state) }
-        ensures child { OnOk result ((p : Process) → process_in self.old parent ≡ Some p → HasOneMore self.old self.new (child_proc p self.old.next_pid (life_shown state)) since) }
+        ensures child { OnOk result
+            ((p : Process) → process_in self.old parent ≡ Some p → HasOneMore self.old self.new (child_proc p self.old.next_pid (life_shown state)) since) }
         ensures params { self.new.params ≡ self.old.params }
         ensures images { self.new.images ≡ self.old.images }
     {
@@ -209,7 +211,8 @@ impl Tables {
         requires lender { find lender.pid self.old.processes ≡ Some lender }
         requires borrower { find borrower.pid self.old.processes ≡ Some borrower }
         requires apart { lender.pid ≢ borrower.pid }
-        ensures { HasPassed self.old self.new lender.pid borrower.pid (record lender { state = lives.Lends sid borrower.pid }) (record borrower { state = lives.Holds sid; borrowed = true }) }
+        ensures { HasPassed self.old self.new lender.pid borrower.pid (record lender { state = lives.Lends sid borrower.pid })
+            (record borrower { state = lives.Holds sid; borrowed = true }) }
     {
         self.set_process(Proc {
             state: Life::Lends {
@@ -230,7 +233,8 @@ impl Tables {
         requires borrower { find borrower.pid self.old.processes ≡ Some borrower }
         requires lender { find lender.pid self.old.processes ≡ Some lender }
         requires apart { borrower.pid ≢ lender.pid }
-        ensures { HasPassed self.old self.new borrower.pid lender.pid (record borrower { state = lives.New; borrowed = false }) (record lender { state = lives.Holds sid }) }
+        ensures { HasPassed self.old self.new borrower.pid lender.pid (record borrower { state = lives.New; borrowed = false })
+            (record lender { state = lives.Holds sid }) }
     {
         self.set_process(Proc {
             state: Life::New,

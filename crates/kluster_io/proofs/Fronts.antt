@@ -100,7 +100,8 @@ none_listed f free other e z = ap (λ (fs : List ℕ). times f fs == 0) e ∙ ap
 -- locked, and is invalid or the front page
 pub goes_behind : (p : Placement) (locked : List Page) (front : Option Page) (q : Page) → Expires p locked front
     → ((f : ℕ) → state_of p q ≡ Valid f → times f p.free ≡ 0)
-    → goes_along (expire p locked) locked q ≡ ((is_seated p q && is_dirty p q) && (not (is_among q locked) && (is_front q front || not (is_valid (state_of p q)))))
+    → goes_along (expire p locked) locked q
+    ≡ ((is_seated p q && is_dirty p q) && (not (is_among q locked) && (is_front q front || not (is_valid (state_of p q)))))
 goes_behind p locked front q x off = elim (turned p locked q) [
   | inl e ↦
       ap (λ (y : Slot). is_idle_by (expire p locked) y.state && (is_dirty_by q y.mark && not (is_among q locked))) e

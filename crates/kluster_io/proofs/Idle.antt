@@ -21,7 +21,8 @@ abbrev pub TestsIdle : Frames → Place → Page → List Page → Option Page �
 TestsIdle core place r locked front b =
     (p : Placement) → p.free ≡ core.free → state_of p r ≡ state_shown core.slots place → ShowsMark core.slots place (is_dirty p r) → Expires p locked front → b ≡ goes_along (expire p locked) locked r
 
-pub idle_joins : (p : Placement) (core : Frames) (s : Places) (kin : Kin) (q r : Page) (w : ℕ) (place : Place) (locked : Bor (List Page)) (front : Option Page) (b : Bool) (m n : ℕ)
+pub idle_joins : (p : Placement) (core : Frames) (s : Places) (kin : Kin) (q r : Page) (w : ℕ) (place : Place) (locked : Bor (List Page))
+    (front : Option Page) (b : Bool) (m n : ℕ)
     → ShowsSpace p core s → IsNamedBy s q → HasFront p kin → place_in s (beside q w) ≡ Some place → r ≡ beside q w → kin ≡ kins.Idle locked front
     → TestsIdle core place r locked.now front b → m ≡ chunk_of q → n ≡ chunk_of r → (b && (m == n)) ≡ joins p kin q w
 idle_joins p core s kin q r w place locked front b m n h named x e g k tests i j =

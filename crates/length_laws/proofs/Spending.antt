@@ -112,7 +112,8 @@ due_next A s d ds e = ap (λ (x : List Due). or_else (due_unit s.place x) (or_el
 
 -- one unit of the first, and what is left behind it: the first still, or the others
 data Filled (A : Inputs) (s : State) (u : Entry) (b : Bool) (d : Due) (ds : List Due) (n : ℕ) : Type 0 where
-  Still : (m : ℕ) → process_of_entry u ≡ None → (after A s u).place.due ≡ d ∷ ds → FirstLeft (is_hands u) (after A s u).place d m → adds b u + m ≤ n → Filled A s u b d ds n
+  Still : (m : ℕ) → process_of_entry u ≡ None → (after A s u).place.due ≡ d ∷ ds → FirstLeft (is_hands u) (after A s u).place d m
+      → adds b u + m ≤ n → Filled A s u b d ds n
   Gone : process_of_entry u ≡ None → (after A s u).place.due ≡ ds → length (after A s u).place.transfers + 1 ≤ n → Filled A s u b d ds n
 
 started : (A : Inputs) (s : State) (u : Entry) (b : Bool) (q : Page) (ds : List Due) (n : ℕ) → IsRun A s → s.place.due ≡ Start q ∷ ds → FirstLeft b s.place

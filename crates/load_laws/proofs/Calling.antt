@@ -46,7 +46,8 @@ abbrev pub reply_at : List NamedImage → FlatState → ℕ → LoadProgram → 
 reply_at images F pages t p s call regs =
     run (answers_of (space_at pages t s)) (reply_of images (apply_writes F p.pid []) (written_process p (space_at pages t s) []) (space_at pages t s) call regs)
 
-pub record Called (images : List NamedImage) (F : FlatState) (pages : ℕ) (t : LoadProgram) (p : Process) (s : Space) (b : Bank) (pc number : ℕ) (call : SystemCall) : Type 0 where
+pub record Called (images : List NamedImage) (F : FlatState) (pages : ℕ) (t : LoadProgram) (p : Process) (s : Space) (b : Bank) (pc number : ℕ)
+    (call : SystemCall) : Type 0 where
   pub n : Bool
   pub z : Bool
   pub v : Bool

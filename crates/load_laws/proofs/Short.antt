@@ -46,7 +46,8 @@ is_few : (x named : NamedImage) → Some x ≡ Some named → data_pages_of x.im
 is_few x named e l = subst (λ (n : NamedImage). data_pages_of n.image.facts ≤ 4096) (same_Some x named e) l
 
 -- the two images have few pages
-few_pages : (pages number : ℕ) (named : NamedImage) → pages ≤ 64 → image_numbered (images_for pages) number ≡ Some named → data_pages_of named.image.facts ≤ 4096
+few_pages : (pages number : ℕ) (named : NamedImage) → pages ≤ 64 → image_numbered (images_for pages) number ≡ Some named
+    → data_pages_of named.image.facts ≤ 4096
 few_pages pages zero named l e = absurd cc
 few_pages pages (suc zero) named l e = is_few _ named e (omega arith)
 few_pages pages (suc (suc zero)) named l e = is_few _ named e (omega (arith, l))

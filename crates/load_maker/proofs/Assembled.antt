@@ -28,7 +28,8 @@ unfolding register_number_at register_at in_parentheses_at deferred_at absolute_
 operands_read = tt
 
 unfoldable lines_read : ⊤
-unfolding row_named all_rows place_of_row_at operands_at sentence_of whole_value whole_number directive_by directive_of instruction_of statement_of label_before behind_label line_by line_of lines_in items_in
+unfolding row_named all_rows place_of_row_at operands_at sentence_of whole_value whole_number directive_by directive_of instruction_of statement_of label_before behind_label line_by
+    line_of lines_in items_in
 lines_read = tt
 
 unfoldable operands_laid : ⊤

@@ -29,7 +29,8 @@ pub found_ok : (r : Result Bool NoMemory) (b now : Book) (ws : List Want) → r 
     → OnOk r (now ≡ book_asked true b ws)
     → (hs : Holdings) × (found_for b.size b.holdings ws ≡ Ok hs) × (now ≡ with_holdings b hs)
 found_ok r b now ws e answer book =
-    split_found b now (found_for b.size b.holdings ws) (subst (λ (x : Result Bool NoMemory). IfOk x (λ fits. fits ≡ fits_for b.size b.holdings ws)) e answer) (subst (λ (x : Result Bool NoMemory). OnOk x (now ≡ book_asked true b ws)) e book)
+    split_found b now (found_for b.size b.holdings ws) (subst (λ (x : Result Bool NoMemory). IfOk x (λ fits. fits ≡ fits_for b.size b.holdings ws)) e answer)
+    (subst (λ (x : Result Bool NoMemory). OnOk x (now ≡ book_asked true b ws)) e book)
 
 none_found : (b now : Book) (x : Result Holdings ℕ) → false ≡ is_ok x → now ≡ grown_book b x → now ≡ b
 none_found b now (Ok hs) t e = absurd cc
@@ -38,7 +39,8 @@ none_found b now (Err n) t e = e
 pub found_none : (r : Result Bool NoMemory) (b now : Book) (ws : List Want) → r ≡ Ok false → IfOk r (λ fits. fits ≡ fits_for b.size b.holdings ws)
     → OnOk r (now ≡ book_asked true b ws) → now ≡ b
 found_none r b now ws e answer book =
-    none_found b now (found_for b.size b.holdings ws) (subst (λ (x : Result Bool NoMemory). IfOk x (λ fits. fits ≡ fits_for b.size b.holdings ws)) e answer) (subst (λ (x : Result Bool NoMemory). OnOk x (now ≡ book_asked true b ws)) e book)
+    none_found b now (found_for b.size b.holdings ws) (subst (λ (x : Result Bool NoMemory). IfOk x (λ fits. fits ≡ fits_for b.size b.holdings ws)) e answer)
+    (subst (λ (x : Result Bool NoMemory). OnOk x (now ≡ book_asked true b ws)) e book)
 
 pub only_looked : (r : Result Bool NoMemory) (b now : Book) (ws : List Want) → OnOk r (now ≡ book_asked false b ws) → OnErr r (now ≡ b) → now ≡ b
 only_looked (Ok fits) b now ws book err = book
@@ -130,7 +132,8 @@ asked_standing m s b found ws hs a =
 
 -- Where the entry that takes the pieces can't be made the machine has stopped, which is so too of the one before the pieces were found: there
 -- the journal had room.
-pub stopped_found : (m asked new : Standing) (hs : Holdings) → asked ≡ record m { kernel = record m.kernel { holdings = hs } } → length m.kernel.journal < m.params.journal → HasStopped asked new → HasStopped m new
+pub stopped_found : (m asked new : Standing) (hs : Holdings) → asked ≡ record m { kernel = record m.kernel { holdings = hs } }
+    → length m.kernel.journal < m.params.journal → HasStopped asked new → HasStopped m new
 stopped_found m asked new hs e room s =
     let t : HasStopped (record m { kernel = record m.kernel { holdings = hs } }) new = subst (λ (x : Standing). HasStopped x new) e s in
     record { journal = t.journal; params = t.params; images = t.images; full = λ bound. absurd (omega arith); held = t.held }

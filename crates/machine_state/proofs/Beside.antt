@@ -46,8 +46,10 @@ reads_ahead k sid a i make q by beside low bytes from j below =
     ∙ ap (λ (x : ℕ). read_page k (q (i / 1024)) x) (same_column i j near)
     ∙ (from j below).1
 
-may_ahead : (k : Kernel) (sid a i : ℕ) (make : ℕ → Spot) (q : ℕ → Page) → ((x : ℕ) → may_write_spot k.place sid (make x) ≡ may_write_by (state_of k.place (q (x / 1024))))
-    → AreBeside k sid a i make → a + 1024 ≤ 2 ^ 32 → (count : ℕ) → MayFrom (state_of k.place (q (i / 1024))) (i % 1024) count → MayAhead (kernel_answers k sid) a count
+may_ahead : (k : Kernel) (sid a i : ℕ) (make : ℕ → Spot) (q : ℕ → Page)
+    → ((x : ℕ) → may_write_spot k.place sid (make x) ≡ may_write_by (state_of k.place (q (x / 1024))))
+    → AreBeside k sid a i make → a + 1024 ≤ 2 ^ 32 → (count : ℕ) → MayFrom (state_of k.place (q (i / 1024))) (i % 1024) count
+    → MayAhead (kernel_answers k sid) a count
 may_ahead k sid a i make q by beside low count from j below =
     let near : i % 1024 + j < 1024 = (from j below).0 in
     ap (λ (x : ℕ). may_write_spot k.place sid (spot_in k.place sid x)) (no_wrap a i j low near)
@@ -62,7 +64,8 @@ module _ (k : Kernel) (index sid image t d s : ℕ) (laid : IsLaidOut k index si
   text_ahead a i bytes e from =
       let at : (a ≡ i) × (i < text_len k.place sid) = text_spot (text_len k.place sid) (data_len k.place sid) (stack_len k.place sid) a i e in
       reads_ahead k sid a i (λ x. Text x) (λ v. pages.Text (image_of k.place sid) v) (λ x. refl)
-      (λ j near. text_beside (text_len k.place sid) (data_len k.place sid) (stack_len k.place sid) a i j e (whole_within (length (slots_of k.place (pages.Text (image_of k.place sid) 0))) i j at.1 near))
+      (λ j near. text_beside (text_len k.place sid) (data_len k.place sid) (stack_len k.place sid) a i j e
+      (whole_within (length (slots_of k.place (pages.Text (image_of k.place sid) 0))) i j at.1 near))
       (omega (arith, at.0, at.1, laid.low, laid.text_is)) bytes from
 
   below_data : (a i : ℕ) → spot_in k.place sid a ≡ Data i → a + 1024 ≤ 2 ^ 32

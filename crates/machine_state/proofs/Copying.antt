@@ -107,7 +107,8 @@ copying_rest t u v w token copy q parent f others z =
 pub copy_ties : (t u v w : Tables) (token copy : Frame) (q parent : Page) (f : ℕ) (others : List Due) → Copying t u v w token copy q parent f others
     → frame_of (state_of (placement_of (lists_of t)) q) ≡ None → Ties (lists_of t) (lists_of w)
 copy_ties t u v w token copy q parent f others z none =
-    subst (Ties (lists_of t)) (sym (copying_lists t u v w token copy q parent f others z)) (zeroed_ties (lists_of t) token.number (page_of (slot_at t.core.slots token.number)) u.core.free copy q z.known refl z.writable z.there none)
+    subst (Ties (lists_of t)) (sym (copying_lists t u v w token copy q parent f others z))
+    (zeroed_ties (lists_of t) token.number (page_of (slot_at t.core.slots token.number)) u.core.free copy q z.known refl z.writable z.there none)
 
 -- the first free frame was taken
 copying_took : (t u v w : Tables) (token copy : Frame) (q parent : Page) (f : ℕ) (others : List Due) → Copying t u v w token copy q parent f others
@@ -165,16 +166,19 @@ copy_kernel t u v w token copy q parent f others journal stopped z =
     refl
 
 pub copy_runs : (m : Inside) (u v w : Tables) (token copy : Frame) (q parent : Page) (f : ℕ) (others : List Due) (journal : List Entry) (stopped : Bool)
-    → Runs (kernel_by m.tables m.journal.items m.stopped) (lists_of m.tables) m.tables.book.size → CanCopy (placement_of (lists_of m.tables)) q parent → Copying m.tables u v w token copy q parent f others
+    → Runs (kernel_by m.tables m.journal.items m.stopped) (lists_of m.tables) m.tables.book.size → CanCopy (placement_of (lists_of m.tables)) q parent
+    → Copying m.tables u v w token copy q parent f others
     → journal ≡ m.journal.items → stopped ≡ m.stopped → Runs (kernel_by w (journal ++ entries.Copy q ∷ []) stopped) (lists_of w) w.book.size
 copy_runs m u v w token copy q parent f others journal stopped r can z ej es =
     let k : Kernel = kernel_by m.tables m.journal.items m.stopped in
     let is : kernel_by w (journal ++ entries.Copy q ∷ []) stopped ≡ copy_step k q =
-    copy_kernel m.tables u v w token copy q parent f others journal stopped z ∙ ap (λ (j : List Entry). copy_step (kernel_by m.tables j stopped) q) ej ∙ ap (λ (b : Bool). copy_step (kernel_by m.tables m.journal.items b) q) es in
+    copy_kernel m.tables u v w token copy q parent f others journal stopped z ∙ ap (λ (j : List Entry). copy_step (kernel_by m.tables j stopped) q) ej
+    ∙ ap (λ (b : Bool). copy_step (kernel_by m.tables m.journal.items b) q) es in
     let enter : CanEnter k.place q = record { there = can.there; frameless = ap frame_of can.unfilled } in
     let size : w.book.size ≡ m.tables.book.size = ap (λ (x : Tables). x.book.size) (copying_rest m.tables u v w token copy q parent f others z) in
     record {
-      sound = subst (λ (n : ℕ). Sound n (kernel_by w (journal ++ entries.Copy q ∷ []) stopped)) (sym size) (subst (Sound m.tables.book.size) (sym is) (copy_sound m.tables.book.size k q r.sound enter (writable_shared k.place q can.writable)));
+      sound = subst (λ (n : ℕ). Sound n (kernel_by w (journal ++ entries.Copy q ∷ []) stopped)) (sym size)
+          (subst (Sound m.tables.book.size) (sym is) (copy_sound m.tables.book.size k q r.sound enter (writable_shared k.place q can.writable)));
       numbered = subst Numbered (sym is) (copy_numbered k q r.numbered);
       due = subst (λ (x : Kernel). DueStand x.place) (sym is) (entry_due [] 0 k.place (entries.Copy q) r.sound.owner.frames enter (left_due m.tables.fills.items q parent others z.once z.due) r.due);
       tied = tied_still (lists_of m.tables) (lists_of w) (copy_ties m.tables u v w token copy q parent f others z (ap frame_of can.unfilled)) r.tied;
@@ -182,7 +186,8 @@ copy_runs m u v w token copy q parent f others journal stopped r can z ej es =
 
 pub copy_keeps : (size : ℕ) (k : Kernel) (q parent : Page) → Sound size k → CanCopy k.place q parent → KeepsFlat k (copy_step k q)
 copy_keeps size k q parent so can images image flat c =
-    copy_coupled size k images image flat q q parent can.frame so (record { there = can.there; frameless = ap frame_of can.unfilled }) can.writable can.free can.unfilled (due_copied k.place.due q parent can.others can.first) can.valid c
+    copy_coupled size k images image flat q q parent can.frame so (record { there = can.there; frameless = ap frame_of can.unfilled }) can.writable can.free can.unfilled
+    (due_copied k.place.due q parent can.others can.first) can.valid c
 
 head_is : (fs : List ℕ) → 0 < length fs → (f : ℕ) × (rest : List ℕ) × (fs ≡ f ∷ rest)
 head_is [] l = absurd (omega arith)

@@ -135,16 +135,19 @@ out_numbers : (xs : List Outbound) → flying (map (moving Writes) (map out_part
 out_numbers [] = refl
 out_numbers (x ∷ xs) = ap (λ (ns : List ℕ). x.token.number ∷ ns) (out_numbers xs)
 
-pub done_image : (t : Tables) (ns : List ImageNamed) (k : Kernel) (o n : Flight) (rest : List Flight) (size : ℕ) (holds : Option (List NamedFile)) (before after : Option (List ℕ))
+pub done_image : (t : Tables) (ns : List ImageNamed) (k : Kernel) (o n : Flight) (rest : List Flight) (size : ℕ) (holds : Option (List NamedFile))
+    (before after : Option (List ℕ))
     → Before t ns k o rest size → Ends o holds before after (answers.Done n) → ImageAfter k before after
 done_image t ns k (flights.Read demanded parts) n rest size holds None after b e = e.1
-done_image t ns k (flights.Read demanded parts) n rest size holds (Some image) after b e = e.1 ∙ ap (λ (ts : List Transfer). Some (image_after_of k image ts)) (sym (oldest_first t ns k (flights.Read demanded parts) rest size b))
+done_image t ns k (flights.Read demanded parts) n rest size holds (Some image) after b e =
+    e.1 ∙ ap (λ (ts : List Transfer). Some (image_after_of k image ts)) (sym (oldest_first t ns k (flights.Read demanded parts) rest size b))
 done_image t ns k (flights.Write parts) n rest size holds None after b e = none_written parts.items after e.1
 done_image t ns k (flights.Write parts) n rest size holds (Some image) after b e =
     pages_written k size image parts.items after b.sourced (own_bytes t ns k (flights.Write parts) rest size parts.items b refl (out_numbers parts.items)) e.1
     ∙ ap (λ (ts : List Transfer). Some (image_after_of k image ts)) (sym (oldest_first t ns k (flights.Write parts) rest size b))
 
-pub spoiled_image : (t : Tables) (ns : List ImageNamed) (k : Kernel) (o n : Flight) (rest : List Flight) (size : ℕ) (holds : Option (List NamedFile)) (before after : Option (List ℕ))
+pub spoiled_image : (t : Tables) (ns : List ImageNamed) (k : Kernel) (o n : Flight) (rest : List Flight) (size : ℕ) (holds : Option (List NamedFile))
+    (before after : Option (List ℕ))
     → Before t ns k o rest size → Ends o holds before after (answers.SwapWriteFault n) → SpoilsAfter k before after
 spoiled_image t ns k (flights.Read demanded parts) n rest size holds before after b e = absurd e.0
 spoiled_image t ns k (flights.Write parts) n rest size holds None after b e = none_spoiled parts.items after e.1
@@ -152,15 +155,18 @@ spoiled_image t ns k (flights.Write parts) n rest size holds (Some image) after 
     let s = pages_spoiled k size image parts.items after b.sourced (own_bytes t ns k (flights.Write parts) rest size parts.items b refl (out_numbers parts.items)) e.1 in
     (s.0, s.1, subst (λ (ts : List Transfer). SpoilsBy k image ts s.0) (sym (oldest_first t ns k (flights.Write parts) rest size b)) (refl, s.2))
 
-done_read : (t : Tables) (ns : List ImageNamed) (k : Kernel) (o n : Flight) (rest : List Flight) (size : ℕ) (holds : Option (List NamedFile)) (image : List ℕ) (after : Option (List ℕ)) (images : List NamedImage) (flat : FlatState)
+done_read : (t : Tables) (ns : List ImageNamed) (k : Kernel) (o n : Flight) (rest : List Flight) (size : ℕ) (holds : Option (List NamedFile)) (image : List ℕ)
+    (after : Option (List ℕ)) (images : List NamedImage) (flat : FlatState)
     → Before t ns k o rest size → Ends o holds (Some image) after (answers.Done n)
-    → AreFiles ns holds → AreImages ns holds images → IsWholeFlight n → AreRead (beside_kernel k images image flat) (transfer_shown o ∷ map transfer_shown rest) (brought n)
+    → AreFiles ns holds → AreImages ns holds images → IsWholeFlight n
+    → AreRead (beside_kernel k images image flat) (transfer_shown o ∷ map transfer_shown rest) (brought n)
 done_read t ns k (flights.Write parts) n rest size holds image after images flat b e f l w = tt
 done_read t ns k (flights.Read demanded parts) (flights.Write news) rest size holds image after images flat b e f l w = absurd e.0.0
 done_read t ns k (flights.Read demanded parts) (flights.Read page news) rest size holds image after images flat b e f l w =
     pages_read ns k size holds images image flat (source_shown parts.items) parts.items news.items f l b.sourced e.0.0.1 w e.0.1
 
-pub done_told : (t : Tables) (ns : List ImageNamed) (k : Kernel) (o n : Flight) (rest : List Flight) (size : ℕ) (holds : Option (List NamedFile)) (before after : Option (List ℕ))
+pub done_told : (t : Tables) (ns : List ImageNamed) (k : Kernel) (o n : Flight) (rest : List Flight) (size : ℕ) (holds : Option (List NamedFile))
+    (before after : Option (List ℕ))
     → Before t ns k o rest size → Ends o holds before after (answers.Done n)
     → AreFiles ns holds → IsWholeFlight n → ReadsTold (record { images = ns; files = holds }) before k (brought n)
 done_told t ns k o n rest size holds None after b e f w = tt
@@ -168,12 +174,15 @@ done_told t ns k o n rest size holds (Some image) after b e f w = λ images flat
     subst (λ (ts : List Transfer). AreRead (beside_kernel k images image flat) ts (brought n)) (sym (oldest_first t ns k o rest size b))
     (done_read t ns k o n rest size holds image after images flat b e f l w)
 
-pub done_keeps : (t : Tables) (ns : List ImageNamed) (k : Kernel) (o n : Flight) (rest : List Flight) (size : ℕ) (holds : Option (List NamedFile)) (before after : Option (List ℕ)) (images : List NamedImage) (flat : FlatState)
+pub done_keeps : (t : Tables) (ns : List ImageNamed) (k : Kernel) (o n : Flight) (rest : List Flight) (size : ℕ) (holds : Option (List NamedFile))
+    (before after : Option (List ℕ)) (images : List NamedImage) (flat : FlatState)
     → Before t ns k o rest size → Ends o holds before after (answers.Done n)
-    → Sound size k → AreFiles ns holds → AreImages ns holds images → IsWholeFlight n → TextFits images k.place → ((image : List ℕ) → before ≡ Some image → 512 * size ≤ length image)
+    → Sound size k → AreFiles ns holds → AreImages ns holds images → IsWholeFlight n → TextFits images k.place
+    → ((image : List ℕ) → before ≡ Some image → 512 * size ≤ length image)
     → StandsTold k images before flat → StandsTold (done_step k (brought n)) images after flat
 done_keeps t ns k o n rest size holds None after images flat b e so f l w fits long c = absurd c
 done_keeps t ns k o n rest size holds (Some image) after images flat b e so f l w fits long c =
     subst (λ (i : Option (List ℕ)). StandsTold (done_step k (brought n)) images i flat) (sym (done_image t ns k o n rest size holds (Some image) after b e))
     (done_coupled_step size k images image flat (brought n) so fits (long image refl)
-    (subst (λ (ts : List Transfer). AreRead (beside_kernel k images image flat) ts (brought n)) (sym (oldest_first t ns k o rest size b)) (done_read t ns k o n rest size holds image after images flat b e f l w)) c)
+    (subst (λ (ts : List Transfer). AreRead (beside_kernel k images image flat) ts (brought n)) (sym (oldest_first t ns k o rest size b))
+    (done_read t ns k o n rest size holds image after images flat b e f l w)) c)

@@ -96,7 +96,8 @@ pub record Alike (o n : Flight) : Type 0 where
   pub same : SameFlown (flown_in o) (flown_in n)
 
 pub alike : (o n : Flight) → IsBack o n → Alike o n
-alike (flights.Write parts) n b = record { shown = ap transfer_shown b; same = subst (λ (y : Flight). SameFlown (map outbound_flown parts.items) (flown_in y)) (sym b) (self_flown (map outbound_flown parts.items)) }
+alike (flights.Write parts) n b =
+    record { shown = ap transfer_shown b; same = subst (λ (y : Flight). SameFlown (map outbound_flown parts.items) (flown_in y)) (sym b) (self_flown (map outbound_flown parts.items)) }
 alike (flights.Read demanded parts) (flights.Write news) b = absurd b
 alike (flights.Read demanded parts) (flights.Read page news) b = record {
   shown = ap (λ (s : Rattle.page_model.specs.Placement.Source). let z : Transfer = record { errand = Reads s page; parts = map in_part news.items } in z) (same_source parts.items news.items b.1)
@@ -120,7 +121,20 @@ ending_known t o n a k = record {
   core = k.core;
   owns = subst OwnsFrames (sym (ending_place t o n a)) k.owns;
   aside = subst TextAside (sym (ending_place t o n a)) k.aside;
-  tied = record { few_frames = k.tied.few_frames; few_images = k.tied.few_images; few_pages = k.tied.few_pages; sound = k.tied.sound; small_texts = k.tied.small_texts; shared = k.tied.shared; alike = k.tied.alike; filled = k.tied.filled; counted = k.tied.counted; marked = k.tied.marked; whole = k.tied.whole; once = k.tied.once };
+  tied = record {
+    few_frames = k.tied.few_frames;
+    few_images = k.tied.few_images;
+    few_pages = k.tied.few_pages;
+    sound = k.tied.sound;
+    small_texts = k.tied.small_texts;
+    shared = k.tied.shared;
+    alike = k.tied.alike;
+    filled = k.tied.filled;
+    counted = k.tied.counted;
+    marked = k.tied.marked;
+    whole = k.tied.whole;
+    once = k.tied.once;
+  };
   differ = k.differ;
   numbers = ap (λ (x : Transfer). flying (parts_of (x ∷ map transfer_shown t.ring))) a.shown ∙ k.numbers ∙ sym (same_numbers (flown_in o) (flown_in n) (flown t.ring) a.same);
 }
@@ -175,7 +189,8 @@ before_none : (pre ys : List Flown) (y : Flown) → times (flown_number y) (map 
     → times (flown_number y) (map flown_number pre) ≡ 0
 before_none pre ys y h =
     let f : ℕ = flown_number y in
-    let a : times f (map flown_number (pre ++ y ∷ ys)) ≡ times f (map flown_number pre) + times f (f ∷ map flown_number ys) = ap (times f) (map-append flown_number pre (y ∷ ys)) ∙ times-append f (map flown_number pre) (f ∷ map flown_number ys) in
+    let a : times f (map flown_number (pre ++ y ∷ ys)) ≡ times f (map flown_number pre) + times f (f ∷ map flown_number ys) =
+    ap (times f) (map-append flown_number pre (y ∷ ys)) ∙ times-append f (map flown_number pre) (f ∷ map flown_number ys) in
     let b = times_head f (map flown_number ys) in
     omega arith
 
@@ -187,7 +202,8 @@ with_flown t xs = record t { flown = xs }
 
 pub reads_into : (olds news : List Inbound) (t : Lists) (pre post : List Flown) → AreSameParts olds news
     → AllFly t (map flown_number (map inbound_flown olds)) → Once t (pre ++ (map inbound_flown olds ++ post))
-    → frames_of (with_flown t (pre ++ (map inbound_flown news ++ post))) ≡ read_into (map in_part olds) (map (λ (x : Inbound). x.token.bytes) news) (frames_of (with_flown t (pre ++ (map inbound_flown olds ++ post))))
+    → frames_of (with_flown t (pre ++ (map inbound_flown news ++ post)))
+    ≡ read_into (map in_part olds) (map (λ (x : Inbound). x.token.bytes) news) (frames_of (with_flown t (pre ++ (map inbound_flown olds ++ post))))
 reads_into [] [] t pre post h a o = refl
 reads_into [] (n ∷ ns) t pre post h a o = absurd h
 reads_into (x ∷ xs) [] t pre post h a o = absurd h
@@ -202,10 +218,12 @@ reads_into (x ∷ xs) (n ∷ ns) t pre post h a o =
     let none : times f (map flown_number pre) ≡ 0 = before_none pre ys was (o f a.0.above a.0.below) in
     let here : bytes_held B f ≡ n.token.bytes = ap (λ (s : Token). bytes_by s (flown_at (pre ++ now ∷ ys) f)) a.0.away ∙ ap bytes_flown (flown_mid pre ys now f h.0.frame none) in
     let one : frames_of B ≡ set_frame (frames_of A) f n.token.bytes =
-    frames_set [] (bytes_held A) (bytes_held B) (length t.slots - 1) f (λ g d. ap (λ (y : Option Flown). bytes_by (slot_at t.slots g) y) (flown_swap pre ys was now g (λ e. d (sym e)) (λ e. d (sym e ∙ h.0.frame))))
+    frames_set [] (bytes_held A) (bytes_held B) (length t.slots - 1) f
+    (λ g d. ap (λ (y : Option Flown). bytes_by (slot_at t.slots g) y) (flown_swap pre ys was now g (λ e. d (sym e)) (λ e. d (sym e ∙ h.0.frame))))
     ∙ ap (set_frame (frames_of A) f) here in
     let same : map flown_number (now ∷ ys) ≡ map flown_number (was ∷ ys) = ap (λ (m : ℕ). m ∷ map flown_number ys) h.0.frame in
-    let left : Once t ((pre ++ now ∷ []) ++ ys) = λ g l m. subst (λ (ns : List ℕ). times g ns ≤ 1) (sym (ap (map flown_number) (append_assoc pre (now ∷ []) ys) ∙ map-append flown_number pre (now ∷ ys) ∙ ap (λ (ns : List ℕ). map flown_number pre ++ ns) same ∙ sym (map-append flown_number pre (was ∷ ys)))) (o g l m) in
+    let left : Once t ((pre ++ now ∷ []) ++ ys) = λ g l m. subst (λ (ns : List ℕ). times g ns ≤ 1) (sym (ap (map flown_number) (append_assoc pre (now ∷ []) ys) ∙ map-append flown_number pre (now ∷ ys)
+    ∙ ap (λ (ns : List ℕ). map flown_number pre ++ ns) same ∙ sym (map-append flown_number pre (was ∷ ys)))) (o g l m) in
     ap (λ (fs : List Flown). frames_of (with_flown t fs)) (sym (append_assoc pre (now ∷ []) zs))
     ∙ reads_into xs ns t (pre ++ now ∷ []) post h.1 a.1 left
     ∙ ap (λ (fs : List Flown). read_into (map in_part xs) (map (λ (y : Inbound). y.token.bytes) ns) (frames_of (with_flown t fs))) (append_assoc pre (now ∷ []) ys)
@@ -241,11 +259,13 @@ write_bytes (x ∷ xs) t pre post e a o =
     let y : Flown = outbound_flown x in
     let ys : List Flown = map outbound_flown xs ++ post in
     let none : times f (map flown_number pre) ≡ 0 = before_none pre ys y (subst (λ (fs : List Flown). times f (map flown_number fs) ≤ 1) e (o f a.0.above a.0.below)) in (
-      bytes_at t f a.0.above a.0.below ∙ ap (λ (s : Token). bytes_by s (flown_at t.flown f)) a.0.away ∙ ap (λ (fs : List Flown). bytes_flown (flown_at fs f)) e ∙ ap bytes_flown (flown_mid pre ys y f refl none),
+      bytes_at t f a.0.above a.0.below ∙ ap (λ (s : Token). bytes_by s (flown_at t.flown f)) a.0.away ∙ ap (λ (fs : List Flown). bytes_flown (flown_at fs f)) e
+          ∙ ap bytes_flown (flown_mid pre ys y f refl none),
       write_bytes xs t (pre ++ y ∷ []) post (e ∙ sym (append_assoc pre (y ∷ []) ys)) a.1 o,
     )
 
 pub written_bytes : (t : Tables) (xs : List Outbound) (o : Flight) → flown_in o ≡ map outbound_flown xs
-    → flying (map (moving (transfer_shown o).errand) (transfer_shown o).parts) ≡ map flown_number (map outbound_flown xs) → Known (ending t o) → AreBytes (frames_of (ending t o)) xs
+    → flying (map (moving (transfer_shown o).errand) (transfer_shown o).parts) ≡ map flown_number (map outbound_flown xs) → Known (ending t o)
+    → AreBytes (frames_of (ending t o)) xs
 written_bytes t xs o e n k =
     write_bytes xs (ending t o) [] (flown t.ring) (ap (λ (fs : List Flown). fs ++ flown t.ring) e) (subst (AllFly (ending t o)) n (first_fly t o k)) (flown_once (ending t o) k)

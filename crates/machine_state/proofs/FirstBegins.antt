@@ -187,7 +187,13 @@ same_named images image n facts e f =
 
 -- In a machine of one image the first process may begin.
 pub may_first : (m : Standing) (images : List Named) (frames : ℕ) (params : Params)
-    → m ≡ record { kernel = fresh_kernel (map (λ (x : Named). x.facts) images) frames; params = params; images = map image_shown images; before = []; room = None }
+    → m ≡ record {
+      kernel = fresh_kernel (map (λ (x : Named). x.facts) images) frames;
+      params = params;
+      images = map image_shown images;
+      before = [];
+      room = None;
+    }
     → length images ≡ 1 → MayStart m 1 1
 may_first m images frames params is one = record {
   empty = ap (λ (x : Standing). x.kernel.journal) is;

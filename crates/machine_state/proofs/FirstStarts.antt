@@ -47,7 +47,8 @@ few_processes ps next = few_kept (λ pid. proc_of (find pid ps)) 1 (next - 1)
 pub same_records : (t m : Tables) (image : ℕ) (facts : Image) (top : List ℕ) → EnteredImage t m image facts top → AreRecords t.processes t.next_pid
     → AreRecords m.processes m.next_pid
 same_records t m image facts top e h =
-    subst (λ (n : ℕ). AreRecords m.processes n) (sym (ap (λ (x : Tables). x.next_pid) e.rest)) (subst (λ (ps : List Record). AreRecords ps t.next_pid) (sym (ap (λ (x : Tables). x.processes) e.rest)) h)
+    subst (λ (n : ℕ). AreRecords m.processes n) (sym (ap (λ (x : Tables). x.next_pid) e.rest))
+    (subst (λ (ps : List Record). AreRecords ps t.next_pid) (sym (ap (λ (x : Tables). x.processes) e.rest)) h)
 
 -- The whole.
 

@@ -82,12 +82,14 @@ module _ (images : List NamedImage) (k : Kernel) (image : List ℕ) (flat : Flat
 
   frame_is : (q : Page) (f : ℕ) → state_of k.place q ≡ Valid f → frame_bytes k f ≡ memory_of images flat q
   frame_is q f e =
-      let inside : IsInFrame (beside_kernel k images image flat) (is_dirty k.place q) f q = keeps_at k.place (beside_kernel k images image flat) q (Valid f) coupled.pages (page_in k.place q f (ap frame_of e)) e in
+      let inside : IsInFrame (beside_kernel k images image flat) (is_dirty k.place q) f q =
+      keeps_at k.place (beside_kernel k images image flat) q (Valid f) coupled.pages (page_in k.place q f (ap frame_of e)) e in
       inside.here
 
   page_reads : (q : Page) (segment : List ℕ) (i : ℕ) → memory_of images flat q ≡ page_at (i / 1024) segment
       → (read_page k q (i % 1024) ≡ reads.Miss) ⊎ (read_page k q (i % 1024) ≡ reads.Is (slice_index segment i))
-  page_reads q segment i same = read_or_miss k (state_of k.place q) (i % 1024) (slice_index segment i) (λ f e. ap (λ (b : List ℕ). slice_index b (i % 1024)) (frame_is q f e ∙ same) ∙ sym (byte_there segment i))
+  page_reads q segment i same =
+      read_or_miss k (state_of k.place q) (i % 1024) (slice_index segment i) (λ f e. ap (λ (b : List ℕ). slice_index b (i % 1024)) (frame_is q f e ∙ same) ∙ sym (byte_there segment i))
 
   spot_reads : (p : Spot) → (read_spot k x.sid p ≡ reads.Miss) ⊎ (read_spot k x.sid p ≡ byte_at x p)
   spot_reads (Text i) =
@@ -108,5 +110,6 @@ module _ (images : List NamedImage) (k : Kernel) (image : List ℕ) (flat : Flat
   pub memory_covers : Covers (kernel_answers k x.sid) (answers_of x)
   memory_covers = record {
     reads = λ a. subst (λ (p : Spot). (read_spot k x.sid p ≡ reads.Miss) ⊎ (read_spot k x.sid p ≡ byte_at x (address_in x a))) (sym (spot_same a)) (spot_reads (address_in x a));
-    tests = λ a. subst (λ (p : Spot). (may_write_spot k.place x.sid p ≡ tests.Miss) ⊎ (may_write_spot k.place x.sid p ≡ may_write_at (address_in x a))) (sym (spot_same a)) (spot_tests (address_in x a));
+    tests =
+        λ a. subst (λ (p : Spot). (may_write_spot k.place x.sid p ≡ tests.Miss) ⊎ (may_write_spot k.place x.sid p ≡ may_write_at (address_in x a))) (sym (spot_same a)) (spot_tests (address_in x a));
   }

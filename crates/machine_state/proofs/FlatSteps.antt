@@ -249,7 +249,8 @@ module _ (t u : Tables) (j : List Entry) (b : Bool) (pid : ℕ) (regs : Regs) (e
         (subst (λ (l : Life). MayForget (lists_of t).facts (place_in t) (space_of_life l) (gave_back l) t.next_sid change) life may.forgets);
     next = names_next (kernel_by t j b) t.next_pid change refl r.can.ready.next;
     reaps = reaps_same (processes_in t) (processes_in left_tables) change
-        (λ n. ap (λ (ps : List Proc). lives ps n) left_processes ∙ regs_lives (processes_in t) process regs only (ap (λ (m : ℕ). numbered pid_of m (processes_in t)) number ∙ there) n) r.can.ready.reaps;
+        (λ n. ap (λ (ps : List Proc). lives ps n) left_processes ∙ regs_lives (processes_in t) process regs only (ap (λ (m : ℕ). numbered pid_of m (processes_in t)) number ∙ there) n)
+        r.can.ready.reaps;
     alone = λ l. ap (λ (ps : List Proc). has_lender ps pid) left_processes ∙ regs_lender (processes_in t) process regs only pid ∙ r.can.returned l;
     whole = r.can.whole;
     few = λ l. subst (λ (n : ℕ). n < 64) (sym (ap (λ (ps : List Proc). length ps) left_processes ∙ regs_count (processes_in t) process regs only)) (r.can.few l);
@@ -357,7 +358,8 @@ module _ (t u : Tables) (j : List Entry) (b : Bool) (pid : ℕ) (regs : Regs) (e
       behind =
           let s : Sound w.book.size (kernel_by after journal stopped) = now_sound in
           let o : OneOwner t.book.size (lives (processes_in w)) (place_in w) w.book.holdings = subst (λ (n : ℕ). OneOwner n (lives (processes_in w)) (place_in w) w.book.holdings) size_is s.owner in
-          let h : Unhanded (place_in t) next_place = change_unhanded (facts_named (images_of t)) (place_in t) process.pid (space_of_life process.life) (gave_back process.life) t.next_sid (length (append j e)) change in
+          let h : Unhanded (place_in t) next_place =
+          change_unhanded (facts_named (images_of t)) (place_in t) process.pid (space_of_life process.life) (gave_back process.life) t.next_sid (length (append j e)) change in
           record {
             owns = subst (λ (q : Placement). OneOwner t.book.size (lives (processes_in w)) q w.book.holdings) place_is o;
             same = h.transfers;
@@ -370,7 +372,8 @@ module _ (t u : Tables) (j : List Entry) (b : Bool) (pid : ℕ) (regs : Regs) (e
       now_ring : AreSourced (images_of w) (image_at w) w.book.holdings w.book.size w.ring
       now_ring =
           let s : AreSourced (images_of t) (image_of next_place) w.book.holdings t.book.size t.ring =
-          sourced_behind (images_of t) (facts_named (images_of t)) t.book.size (lives (processes_in w)) (place_in t) process.pid (space_of_life process.life) (gave_back process.life) t.next_sid (length (append j e)) change
+          sourced_behind (images_of t) (facts_named (images_of t)) t.book.size (lives (processes_in w)) (place_in t) process.pid (space_of_life process.life) (gave_back process.life) t.next_sid
+          (length (append j e)) change
           (before_of t) t.book.holdings w.book.holdings t.ring behind refl owns r.stands.ring in
           subst (λ (ts : List Flight). AreSourced (images_of w) (image_at w) w.book.holdings w.book.size ts) (sym made.ring)
           (subst (λ (n : ℕ). AreSourced (images_of w) (image_at w) w.book.holdings n t.ring) (sym size_is)
@@ -391,7 +394,8 @@ module _ (t u : Tables) (j : List Entry) (b : Bool) (pid : ℕ) (regs : Regs) (e
         found = subst (λ (hs : Holdings). WereFound w.book.size hs w.book.holdings) (sym before_now) (no_pieces w.book.size w.book.holdings);
         records = made.records;
         named = subst AreNames (sym flat_images) r.stands.named;
-        numbers = λ h. absurd (let x : length journal ≡ 0 = ap (λ (es : List Entry). length es) h in let y : length journal ≡ length j + 1 = ap (λ (es : List Entry). length es) ej ∙ length-append j (e ∷ []) in omega arith);
+        numbers = λ h. absurd (let x : length journal ≡ 0 = ap (λ (es : List Entry). length es) h in
+            let y : length journal ≡ length j + 1 = ap (λ (es : List Entry). length es) ej ∙ length-append j (e ∷ []) in omega arith);
       }
 
       pub flat_before : before_of after ≡ w.book.holdings

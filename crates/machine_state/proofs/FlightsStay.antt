@@ -243,7 +243,8 @@ ring_stays ns f g hs now size (flights.Write parts ∷ ts) k h =
     (r.0, ring_stays ns f g hs now size ts r.1 h.1)
 
 -- what is in flight before and after
-pub record Behind (images : List Image) (size : ℕ) (lives : ℕ → Bool) (p : Placement) (pid sid : ℕ) (b : Bool) (next at : ℕ) (change : Change) (before hs now : Holdings) : Type 0 where
+pub record Behind (images : List Image) (size : ℕ) (lives : ℕ → Bool) (p : Placement) (pid sid : ℕ) (b : Bool) (next at : ℕ) (change : Change)
+    (before hs now : Holdings) : Type 0 where
   pub owns : OneOwner size lives (place_change images p pid sid b next at change) now
   pub same : (place_change images p pid sid b next at change).transfers ≡ p.transfers
   pub new : numbered space_number next p.spaces ≡ None
@@ -255,7 +256,8 @@ pub record Behind (images : List Image) (size : ℕ) (lives : ℕ → Bool) (p :
 data_space : (p : Placement) (sid v : ℕ) → IsThere p (Data sid v) → IsSpace p sid
 data_space p sid v there none = absurd (let h : v < 0 = subst (λ (o : Option SpacePages). v < length (Rattle.page_model.specs.Pages.data_in o)) none there in omega arith)
 
-each_stays : (images : List Image) (size : ℕ) (lives : ℕ → Bool) (p : Placement) (pid sid : ℕ) (b : Bool) (next at : ℕ) (change : Change) (before hs now : Holdings)
+each_stays : (images : List Image) (size : ℕ) (lives : ℕ → Bool) (p : Placement) (pid sid : ℕ) (b : Bool) (next at : ℕ) (change : Change)
+    (before hs now : Holdings)
     → Behind images size lives p pid sid b next at change before hs now → (ms : List Moving) → Each (IsMoving p) ms
     → Each (IsMoving (place_change images p pid sid b next at change)) ms
     → Each (Stay (image_of p) (image_of (place_change images p pid sid b next at change)) before now) ms
@@ -284,7 +286,8 @@ each_stays images size lives p pid sid b next at change before hs now z (m ∷ m
     }
 
 -- the transfers have their sources after a change
-pub sourced_behind : (ns : List ImageNamed) (images : List Image) (size : ℕ) (lives : ℕ → Bool) (p : Placement) (pid sid : ℕ) (b : Bool) (next at : ℕ) (change : Change) (before hs now : Holdings) (ts : List Flight)
+pub sourced_behind : (ns : List ImageNamed) (images : List Image) (size : ℕ) (lives : ℕ → Bool) (p : Placement) (pid sid : ℕ) (b : Bool) (next at : ℕ)
+    (change : Change) (before hs now : Holdings) (ts : List Flight)
     → Behind images size lives p pid sid b next at change before hs now → p.transfers ≡ map transfer_shown ts → OwnsFrames p
     → AreSourced ns (image_of p) before size ts → AreSourced ns (image_of (place_change images p pid sid b next at change)) now size ts
 sourced_behind ns images size lives p pid sid b next at change before hs now ts z e o s =

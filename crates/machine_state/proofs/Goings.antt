@@ -57,7 +57,8 @@ use Rattle.table_steps.proofs.Moved.{tied_moved}
 -- The step.
 
 -- one process has another record, and the journal one more entry
-pub record Gone (m : Inside) (ps : List Record) (journal : List Entry) (stopped : Bool) (pid : ℕ) (regs : Regs) (out : Bool) (since : ℕ) (e : Entry) : Type 0 where
+pub record Gone (m : Inside) (ps : List Record) (journal : List Entry) (stopped : Bool) (pid : ℕ) (regs : Regs) (out : Bool) (since : ℕ)
+    (e : Entry) : Type 0 where
   pub moved : MovedRecord m.tables.processes ps pid regs out since
   pub lasts : Lasts moved.was.state
   pub since_is : since ≡ length m.journal.items + 1
@@ -101,7 +102,8 @@ in_is m ps journal stopped pid regs since g =
 -- what no change of records changes
 stands_by : (m : Inside) (ps : List Record) (j : List Entry) (b : Bool) → Stands m.tables m.journal.items m.stopped
     → before_of m.tables ≡ m.tables.book.holdings → AreRecords ps m.tables.next_pid
-    → Runs (kernel_by (with_records m.tables ps) j b) (lists_of (with_records m.tables ps)) m.tables.book.size → Grown m.journal.items j m.tables.params.journal → Stands (with_records m.tables ps) j b
+    → Runs (kernel_by (with_records m.tables ps) j b) (lists_of (with_records m.tables ps)) m.tables.book.size → Grown m.journal.items j m.tables.params.journal
+    → Stands (with_records m.tables ps) j b
 stands_by m ps j b s whole records r grown =
     let w : Tables = with_records m.tables ps in
     record {
@@ -121,7 +123,8 @@ within_by m journal e j l = pushed m.journal.items m.journal.items journal e m.t
 
 pub out_stands : (m : Inside) (ps : List Record) (journal : List Entry) (stopped : Bool) (pid : ℕ) (regs : Regs) (since : ℕ)
     → Gone m ps journal stopped pid regs true since (entries.SwapOut pid) → regs ≡ cleared
-    → Stands m.tables m.journal.items m.stopped → before_of m.tables ≡ m.tables.book.holdings → Runs (kernel_by m.tables m.journal.items m.stopped) (lists_of m.tables) m.tables.book.size
+    → Stands m.tables m.journal.items m.stopped → before_of m.tables ≡ m.tables.book.holdings
+    → Runs (kernel_by m.tables m.journal.items m.stopped) (lists_of m.tables) m.tables.book.size
     → length m.journal.items + 1 ≤ m.tables.params.journal → Stands (with_records m.tables ps) journal stopped
 out_stands m ps journal stopped pid regs since g c s whole r l =
     let k : Kernel = kernel_by m.tables m.journal.items m.stopped in
@@ -138,7 +141,8 @@ out_stands m ps journal stopped pid regs since g c s whole r l =
 
 pub in_stands : (m : Inside) (ps : List Record) (journal : List Entry) (stopped : Bool) (pid : ℕ) (regs : Regs) (since : ℕ)
     → Gone m ps journal stopped pid regs false since (entries.SwapIn pid)
-    → Stands m.tables m.journal.items m.stopped → before_of m.tables ≡ m.tables.book.holdings → Runs (kernel_by m.tables m.journal.items m.stopped) (lists_of m.tables) m.tables.book.size
+    → Stands m.tables m.journal.items m.stopped → before_of m.tables ≡ m.tables.book.holdings
+    → Runs (kernel_by m.tables m.journal.items m.stopped) (lists_of m.tables) m.tables.book.size
     → length m.journal.items + 1 ≤ m.tables.params.journal → Stands (with_records m.tables ps) journal stopped
 in_stands m ps journal stopped pid regs since g s whole r l =
     let k : Kernel = kernel_by m.tables m.journal.items m.stopped in
@@ -216,13 +220,15 @@ leaving_lasts t k pid was l f = subst (λ (x : Record). Lasts x.state) (same_Som
 data_length : (t : Tables) (sid : ℕ) (s : Places) → numbered (λ (s : Places). s.sid) sid t.spaces ≡ Some s
     → length (slots_of (placement_of (lists_of t)) (Data sid 0)) ≡ length s.data
 data_length t sid s e =
-    ap (λ (o : Option Rattle.page_model.specs.Pages.SpacePages). length (Rattle.page_model.specs.Pages.data_in o)) (numbered_shown t.core.slots t.spaces sid ∙ ap (option_map (space_shown t.core.slots)) e)
+    ap (λ (o : Option Rattle.page_model.specs.Pages.SpacePages). length (Rattle.page_model.specs.Pages.data_in o))
+    (numbered_shown t.core.slots t.spaces sid ∙ ap (option_map (space_shown t.core.slots)) e)
     ∙ length-map s.data (Rattle.table_steps.specs.KernelTablesShown.slot_shown t.core.slots)
 
 stack_length : (t : Tables) (sid : ℕ) (s : Places) → numbered (λ (s : Places). s.sid) sid t.spaces ≡ Some s
     → length (slots_of (placement_of (lists_of t)) (Stack sid 0)) ≡ length s.stack
 stack_length t sid s e =
-    ap (λ (o : Option Rattle.page_model.specs.Pages.SpacePages). length (Rattle.page_model.specs.Pages.stack_in o)) (numbered_shown t.core.slots t.spaces sid ∙ ap (option_map (space_shown t.core.slots)) e)
+    ap (λ (o : Option Rattle.page_model.specs.Pages.SpacePages). length (Rattle.page_model.specs.Pages.stack_in o))
+    (numbered_shown t.core.slots t.spaces sid ∙ ap (option_map (space_shown t.core.slots)) e)
     ∙ length-map s.stack (Rattle.table_steps.specs.KernelTablesShown.slot_shown t.core.slots)
 
 -- the bytes that are written are the kernel's u page
@@ -236,7 +242,8 @@ bytes_are t j b pid bytes l u =
     ∙ ap (λ (n : ℕ). u_page u.process.regs n (length u.space.stack)) (sym (data_length t u.sid u.space u.there))
     ∙ ap (λ (n : ℕ). u_page u.process.regs (length (slots_of k.place (Data u.sid 0))) n) (sym (stack_length t u.sid u.space u.there))
     ∙ ap (λ (n : ℕ). u_page u.process.regs (length (slots_of k.place (Data n 0))) (length (slots_of k.place (Stack n 0)))) (sym at)
-    ∙ ap (λ (r : Regs). u_page r (length (slots_of k.place (Data (space_of_life l.process.life) 0))) (length (slots_of k.place (Stack (space_of_life l.process.life) 0)))) (ap (λ (p : Proc). p.regs) same)
+    ∙ ap (λ (r : Regs). u_page r (length (slots_of k.place (Data (space_of_life l.process.life) 0))) (length (slots_of k.place (Stack (space_of_life l.process.life) 0))))
+    (ap (λ (p : Proc). p.regs) same)
     ∙ ap (u_bytes k) (sym l.kept)
 
 -- Blocks.
@@ -267,7 +274,8 @@ read_regs k pid block bytes regs (Some image) e r h = r ∙ ap regs_in (h ∙ sy
 
 pub out_keeps : (size : ℕ) (t : Tables) (k : Kernel) (pid : ℕ) (before after : Option (List ℕ)) → Leaving t k pid → Sound size k → Numbered k
     → is_out k.place pid ≡ false
-    → (bytes : List ℕ) → IsUPage t pid bytes → ((image : List ℕ) → before ≡ Some image → 512 * size ≤ length image) → WritesU k pid before after → KeepsOut k (out_step k pid) before after
+    → (bytes : List ℕ) → IsUPage t pid bytes → ((image : List ℕ) → before ≡ Some image → 512 * size ≤ length image) → WritesU k pid before after
+    → KeepsOut k (out_step k pid) before after
 out_keeps size t k pid None after l s n out bytes u long w images flat c = absurd c
 out_keeps size t k pid (Some image) after l s n out bytes u long w images flat c =
     let q : Proc = l.process in

@@ -66,7 +66,8 @@ flat_holder k images image flat pid sid c h =
     let p = holder k pid sid h in
     go p.0 p.2 (numbered pid_of pid flat.processes) refl (sym (outlines_at k.processes flat.processes c.tables.processes pid) ∙ ap (image_by outline_kept) p.1)
   where
-    go : (p : Proc) → p.life ≡ HoldsSpace sid → (o : Option Process) → numbered pid_of pid flat.processes ≡ o → image_by outline_of o ≡ Some (outline_kept p) → (q : Process) × (s : Space) × (process_of flat pid ≡ Some q) × (q.holding ≡ Holds s)
+    go : (p : Proc) → p.life ≡ HoldsSpace sid → (o : Option Process) → numbered pid_of pid flat.processes ≡ o → image_by outline_of o ≡ Some (outline_kept p)
+        → (q : Process) × (s : Space) × (process_of flat pid ≡ Some q) × (q.holding ≡ Holds s)
     go p l None e i = absurd cc
     go p l (Some q) e i =
         let same : outline_of q ≡ outline_kept p = same_Some (outline_of q) (outline_kept p) i in
@@ -81,19 +82,24 @@ ran_changes k pid regs can images image flat c =
 -- The tables with another record.
 module _ (t u : Tables) (pid : ℕ) (regs : Regs) (left : LeftRegs t u pid regs) where
   pub lists_are : lists_of u ≡ lists_of t
-  lists_are = ap lists_of left.rest ∙ ap (λ (rs : List Residence). let x : Lists = record (lists_of t) { residents = rs } in x) (residents_are t.processes u.processes pid regs left.was t.next_pid left.there left.changes)
+  lists_are = ap lists_of left.rest
+      ∙ ap (λ (rs : List Residence). let x : Lists = record (lists_of t) { residents = rs } in x) (residents_are t.processes u.processes pid regs left.was t.next_pid left.there left.changes)
 
   pub regs_kernel : (old journal : List Entry) (a b : Bool) (n : ℕ) → journal ≡ append old (Ran pid n) → b ≡ a
       → kernel_by u journal b ≡ ran_by (kernel_by t old a) pid regs (Ran pid n)
   regs_kernel old journal a b n j s =
       ap (λ (x : Tables). kernel_by x journal b) left.rest
-      ∙ ap (λ (rs : List Residence). let x : Kernel = record (kernel_by t journal b) { place = placement_of (record (lists_of t) { residents = rs }); processes = Rattle.table_steps.specs.Machine.processes_of u.processes t.next_pid } in x)
+      ∙ ap (λ (rs : List Residence). let x : Kernel = record (kernel_by t journal b) {
+        place = placement_of (record (lists_of t) { residents = rs });
+        processes = Rattle.table_steps.specs.Machine.processes_of u.processes t.next_pid;
+      } in x)
       (residents_are t.processes u.processes pid regs left.was t.next_pid left.there left.changes)
       ∙ ap (λ (ps : List Proc). let x : Kernel = record (kernel_by t journal b) { processes = ps } in x) (regs_are t.processes u.processes pid regs left.was t.next_pid left.there left.changes)
       ∙ ap (λ (es : List Entry). ran_regs es b) j ∙ ap (λ (x : Bool). ran_regs (append old (Ran pid n)) x) s
     where
       ran_regs : List Entry → Bool → Kernel
-      ran_regs es x = record (kernel_by t es x) { processes = map (λ (p : Proc). cond (p.pid == pid) (record p { regs = regs }) p) (Rattle.table_steps.specs.Machine.processes_of t.processes t.next_pid) }
+      ran_regs es x =
+          record (kernel_by t es x) { processes = map (λ (p : Proc). cond (p.pid == pid) (record p { regs = regs }) p) (Rattle.table_steps.specs.Machine.processes_of t.processes t.next_pid) }
 
   pub regs_stand : (old journal : List Entry) (a b : Bool) (n : ℕ) → Stands t old a → journal ≡ append old (Ran pid n) → b ≡ a
       → length journal ≤ t.params.journal → Stands u journal b
@@ -104,7 +110,8 @@ module _ (t u : Tables) (pid : ℕ) (regs : Regs) (left : LeftRegs t u pid regs)
       ∙ ap (λ (x : Kernel). let y : Kernel = record x { holdings = before_of t } in y) (regs_kernel old journal a b n j e) in
       record {
         runs = record {
-          sound = subst (Rattle.kernel_model.specs.Sound.Sound u.book.size) (sym is) (subst (λ (x : Tables). Rattle.kernel_model.specs.Sound.Sound x.book.size (ran_by k pid regs (Ran pid n))) (sym left.rest) (ran_sound t.book.size k pid regs (Ran pid n) s.runs.sound));
+          sound = subst (Rattle.kernel_model.specs.Sound.Sound u.book.size) (sym is)
+              (subst (λ (x : Tables). Rattle.kernel_model.specs.Sound.Sound x.book.size (ran_by k pid regs (Ran pid n))) (sym left.rest) (ran_sound t.book.size k pid regs (Ran pid n) s.runs.sound));
           numbered = subst Rattle.kernel_model.specs.Numbers.Numbered (sym is) (ran_numbered k pid regs (Ran pid n) s.runs.numbered);
           due = subst (λ (x : Lists). Rattle.page_model.specs.Dues.DueStand (placement_of x)) (sym lists_are) s.runs.due;
           tied = subst Tied (sym lists_are) s.runs.tied;
@@ -121,7 +128,8 @@ module _ (t u : Tables) (pid : ℕ) (regs : Regs) (left : LeftRegs t u pid regs)
       }
 
 pub regs_rest : (m : Inside) (s : Standing) (u : Tables) (pid : ℕ) (regs : Regs) → LeftRegs m.tables u pid regs → standing_of m ≡ s → (k : Kernel)
-    → (let z : Standing = record { kernel = k; params = u.params; images = images_of u; before = before_of u; room = None } in z) ≡ record s { kernel = k; room = None }
+    → (let z : Standing = record { kernel = k; params = u.params; images = images_of u; before = before_of u; room = None } in z)
+    ≡ record s { kernel = k; room = None }
 regs_rest m s u pid regs left e k =
     ap (λ (x : Tables). let z : Standing = record { kernel = k; params = x.params; images = images_of x; before = before_of x; room = None } in z) left.rest
     ∙ ap (λ (x : Standing). let z : Standing = record x { kernel = k; room = None } in z) e

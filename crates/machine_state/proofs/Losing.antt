@@ -67,7 +67,8 @@ module _ (t : Tables) (left rest : List Flight) (o : Flight) (ring : t.ring ≡ 
       let away : slot_at t.core.slots f ≡ tokens.Away = (one_flies (ending without o) (frames_in (transfer_shown o)) f (first_fly without o (subst Known was k)) some).away in
       let once : times f (map flown_number (flown t.ring)) ≤ 1 = flown_once (lists_of t) k f is.0 (below f is) in
       let parts : times f (map flown_number (flown t.ring)) ≡ times f (map flown_number (flown_in o)) + times f (map flown_number (flown left)) =
-      ap (λ (xs : List Flown). times f (map flown_number xs)) flown_is ∙ ap (times f) (map-append flown_number (flown_in o) (flown left)) ∙ times-append f (map flown_number (flown_in o)) (map flown_number (flown left)) in
+      ap (λ (xs : List Flown). times f (map flown_number xs)) flown_is ∙ ap (times f) (map-append flown_number (flown_in o) (flown left))
+      ∙ times-append f (map flown_number (flown_in o)) (map flown_number (flown left)) in
       let here : times f (frames_in (transfer_shown o)) ≡ times f (map flown_number (flown_in o)) = ap (times f) (one_numbers o) in
       let none : times f (map flown_number (flown left)) ≡ 0 = omega (arith, once, parts, here, some) in
       held_at (lists_of without) f is.0 (below f is)
@@ -83,9 +84,16 @@ module _ (t : Tables) (left rest : List Flight) (o : Flight) (ring : t.ring ≡ 
     rest = refl;
   }
 
-pub lost : (m : Inside) (left rest : List Flight) (o : Flight) (s : Standing) (j : List Entry) (b : Bool) (room : Option ℕ) → m.tables.ring ≡ o ∷ rest → left ≡ drop 1 m.tables.ring → Known (lists_of m.tables)
+pub lost : (m : Inside) (left rest : List Flight) (o : Flight) (s : Standing) (j : List Entry) (b : Bool) (room : Option ℕ) → m.tables.ring ≡ o ∷ rest
+    → left ≡ drop 1 m.tables.ring → Known (lists_of m.tables)
     → standing_of m ≡ s → j ≡ m.journal.items → b ≡ true
-    → HasLostOldest s (let n : Standing = record { kernel = kernel_by (record m.tables { ring = left }) j b; params = m.tables.params; images = images_of m.tables; before = before_of m.tables; room = room } in n)
+    → HasLostOldest s (let n : Standing = record {
+      kernel = kernel_by (record m.tables { ring = left }) j b;
+      params = m.tables.params;
+      images = images_of m.tables;
+      before = before_of m.tables;
+      room = room;
+    } in n)
 lost m left rest o s j b room ring dropped k view same stops =
     let u : Tables = record m.tables { ring = left } in
     let n : Standing = record { kernel = kernel_by u j b; params = m.tables.params; images = images_of m.tables; before = before_of m.tables; room = room } in

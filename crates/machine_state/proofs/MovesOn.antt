@@ -101,5 +101,6 @@ pub moving_stands : (m : Inside) (u : Tables) (p : Placement) (locked : List Pag
 moving_stands m u p locked e journal stopped g stands whole ej es within =
     let t : Tables = m.tables in
     stands_on m u journal stopped stands whole (moved_still t u p g.moved) (moving_runs m u p locked e journal stopped g ej es)
-    (added_sources (images_of t) (image_at t) (before_of t) t.book.size t.ring u.ring (subst (IsBook t.book.size) (sym whole) g.runs.sound.owner.blocks.book) (subst (λ (hs : Holdings). AddsWrite hs t.ring u.ring) (sym whole) g.moved.ring) stands.ring)
+    (added_sources (images_of t) (image_at t) (before_of t) t.book.size t.ring u.ring (subst (IsBook t.book.size) (sym whole) g.runs.sound.owner.blocks.book)
+    (subst (λ (hs : Holdings). AddsWrite hs t.ring u.ring) (sym whole) g.moved.ring) stands.ring)
     g.moved.images (appended m.journal.items journal e m.tables.params.journal ej within)

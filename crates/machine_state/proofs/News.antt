@@ -123,7 +123,8 @@ new_text_slot facts frames i v =
 new_texts : (facts : List Image) (frames n : ℕ) (more : List Image) → texts_of (new_lists facts frames) n more ≡ texts_from n more
 new_texts facts frames n [] = refl
 new_texts facts frames n (x ∷ more) =
-    ap (λ (ss : List Slot). record { image = n; text_pages = ss } ∷ texts_of (new_lists facts frames) (n + 1) more) (constant (text_slot (new_lists facts frames) n) (unfilled Zeros) 0 (text_pages_of x) (λ k l m. new_text_slot facts frames n k))
+    ap (λ (ss : List Slot). record { image = n; text_pages = ss } ∷ texts_of (new_lists facts frames) (n + 1) more)
+    (constant (text_slot (new_lists facts frames) n) (unfilled Zeros) 0 (text_pages_of x) (λ k l m. new_text_slot facts frames n k))
     ∙ ap (λ (ts : List TextPages). record { image = n; text_pages = replicate (text_pages_of x) (unfilled Zeros) } ∷ ts) (new_texts facts frames (n + 1) more)
 
 count_snoc : (a n : ℕ) → count_up a (suc n) ≡ count_up a n ++ (a + n) ∷ []
@@ -211,7 +212,14 @@ new_lists_are t facts frames n =
     ∙ ap (λ (x : List ℕ). record (lists_of t) { slots = fresh_slots frames; free = x }) n.free
     ∙ ap (λ (x : List Flight). record (lists_of t) { slots = fresh_slots frames; free = first_frames frames; transfers = map transfer_shown x; flown = flown x }) n.ring
     ∙ ap (λ (x : List Places). record (lists_of t) { slots = fresh_slots frames; free = first_frames frames; transfers = []; flown = []; spaces = x }) n.spaces
-    ∙ ap (λ (x : List Rattle.text_table.specs.Texts.Text). record (new_lists facts frames) { texts = x; facts = (lists_of t).facts; fills = t.fills.items; residents = (lists_of t).residents; front = t.front; back = t.back }) n.texts
+    ∙ ap (λ (x : List Rattle.text_table.specs.Texts.Text). record (new_lists facts frames) {
+      texts = x;
+      facts = (lists_of t).facts;
+      fills = t.fills.items;
+      residents = (lists_of t).residents;
+      front = t.front;
+      back = t.back;
+    }) n.texts
     ∙ ap (λ (x : List Image). record (new_lists facts frames) { facts = x; fills = t.fills.items; residents = (lists_of t).residents; front = t.front; back = t.back }) n.facts_are
     ∙ ap (λ (x : List DueFill). record (new_lists facts frames) { fills = x; residents = (lists_of t).residents; front = t.front; back = t.back }) n.fills
     ∙ ap (λ (x : ℕ). record (new_lists facts frames) { residents = residents_of t.processes x; front = t.front; back = t.back }) n.next_pid
@@ -259,7 +267,8 @@ new_stands t journal hs ring none size processes named pid sid r =
     }
 
 pub new_standing : (t : Tables) (params : Params) (k : Kernel) → t.book.holdings ≡ [] → (now : Kernel) → now ≡ k
-    → (let z : Standing = record { kernel = now; params = params; images = images_of t; before = before_of t; room = None } in z) ≡ record { kernel = k; params = params; images = images_of t; before = []; room = None }
+    → (let z : Standing = record { kernel = now; params = params; images = images_of t; before = before_of t; room = None } in z)
+    ≡ record { kernel = k; params = params; images = images_of t; before = []; room = None }
 new_standing t params k hs now e =
     ap (λ (x : Kernel). let z : Standing = record { kernel = x; params = params; images = images_of t; before = before_of t; room = None } in z) e
     ∙ ap (λ (x : Holdings). let z : Standing = record { kernel = k; params = params; images = images_of t; before = x; room = None } in z) (new_before t hs)

@@ -36,7 +36,8 @@ module _ (t u : Tables) (from to : ℕ) (has : HasProcesses t u t.next_pid (pass
   pub pass_kernel : (j : List Entry) (b : Bool) → kernel_by u j b ≡ pass_step (kernel_by t j b) from to
   pass_kernel j b =
       ap (λ (x : Tables). kernel_by x j b) has.rest
-      ∙ ap (λ (rs : List Residence). let x : Kernel = record (kernel_by t j b) { place = placement_of (record (lists_of t) { residents = rs }); processes = processes_in u; next_pid = u.next_pid } in x) has.residents
+      ∙ ap (λ (rs : List Residence). let x : Kernel =
+      record (kernel_by t j b) { place = placement_of (record (lists_of t) { residents = rs }); processes = processes_in u; next_pid = u.next_pid } in x) has.residents
       ∙ ap (λ (ps : List Proc). let x : Kernel = record (kernel_by t j b) { processes = ps; next_pid = u.next_pid } in x) has.processes
       ∙ ap (λ (n : ℕ). let x : Kernel = record (kernel_by t j b) { processes = passed_procs (processes_in t) from to; next_pid = n } in x) has.number
 

@@ -47,19 +47,22 @@ given_fits facts false = go (data_given facts) facts.bss_len
 
 range_read : (n : ImageNamed) (files : List NamedFile) (text : Bool) (v id offset count : ℕ) (bytes : List ℕ) → HasFile n files
     → IsRange n text v id offset count → length bytes ≡ 1024
-    → HoldsRange (Some files) id offset (take count bytes) → drop count bytes ≡ replicate (1024 - count) 0 → bytes ≡ page_at v (segment_of text (loaded n.facts (bytes_at files n.file)))
+    → HoldsRange (Some files) id offset (take count bytes) → drop count bytes ≡ replicate (1024 - count) 0
+    → bytes ≡ page_at v (segment_of text (loaded n.facts (bytes_at files n.file)))
 range_read n files text v id offset count bytes f r whole h z =
     let file : List ℕ = bytes_at files n.file in
     let small : count ≤ 1024 = let e = r.count_is in omega arith in
     let long : length (take count bytes) ≡ count = length-take count bytes ∙ (omega arith) in
-    let front : take count bytes ≡ take count (drop offset file) = h ∙ ap (λ (m : ℕ). take m (drop offset (bytes_at files id))) long ∙ ap (λ (i : ℕ). take count (drop offset (bytes_at files i))) r.file in
+    let front : take count bytes ≡ take count (drop offset file) =
+    h ∙ ap (λ (m : ℕ). take m (drop offset (bytes_at files id))) long ∙ ap (λ (i : ℕ). take count (drop offset (bytes_at files i))) r.file in
     sym (take-append-drop count bytes)
     ∙ ap (λ (xs : List ℕ). xs ++ drop count bytes) front
     ∙ ap (λ (xs : List ℕ). take count (drop offset file) ++ xs) z
     ∙ ap (λ (o : ℕ). page_from file o count) r.offset_is
     ∙ ap (page_from file (offset_of text n.facts + min (1024 * v) (given_of text n.facts))) r.count_is
     ∙ sym (ap (page_at v) (loaded_segment n.facts file text)
-    ∙ page_at-in_pages (offset_of text n.facts) (given_of text n.facts) (pages_of text n.facts) v file (let a = f.whole in let b = given_within n.facts text in omega arith) (given_fits n.facts text) r.within)
+    ∙ page_at-in_pages (offset_of text n.facts) (given_of text n.facts) (pages_of text n.facts) v file (let a = f.whole in let b = given_within n.facts text in omega arith)
+    (given_fits n.facts text) r.within)
 
 pub loaded_at : (ns : List ImageNamed) (files : List NamedFile) (images : List NamedImage) (i : ℕ) (n : ImageNamed) → AreLoaded ns files images
     → slice_get ns i ≡ Some n
@@ -72,7 +75,8 @@ loaded_at (m ∷ ms) files (x ∷ xs) (suc i) n h e = loaded_at ms files xs i n 
 text_read : (ns : List ImageNamed) (files : List NamedFile) (images : List NamedImage) (i v id offset count : ℕ) (bytes : List ℕ) (o : Option ImageNamed)
     → HaveFiles ns files
     → AreLoaded ns files images → named_at ns i ≡ o → IsRangeOf o true v id offset count → length bytes ≡ 1024
-    → HoldsRange (Some files) id offset (take count bytes) → drop count bytes ≡ replicate (1024 - count) 0 → bytes ≡ page_at v (text_of (image_numbered images i))
+    → HoldsRange (Some files) id offset (take count bytes) → drop count bytes ≡ replicate (1024 - count) 0
+    → bytes ≡ page_at v (text_of (image_numbered images i))
 text_read ns files images i v id offset count bytes None f l e r w h z = absurd r
 text_read ns files images zero v id offset count bytes (Some n) f l e r w h z = absurd cc
 text_read ns files images (suc i) v id offset count bytes (Some n) f l e r w h z =
@@ -83,7 +87,8 @@ text_read ns files images (suc i) v id offset count bytes (Some n) f l e r w h z
 data_read : (ns : List ImageNamed) (files : List NamedFile) (images : List NamedImage) (i v id offset count : ℕ) (bytes : List ℕ) (o : Option ImageNamed)
     → HaveFiles ns files
     → AreLoaded ns files images → named_at ns i ≡ o → IsRangeOf o false v id offset count → length bytes ≡ 1024
-    → HoldsRange (Some files) id offset (take count bytes) → drop count bytes ≡ replicate (1024 - count) 0 → bytes ≡ page_at v (data_of (image_numbered images i))
+    → HoldsRange (Some files) id offset (take count bytes) → drop count bytes ≡ replicate (1024 - count) 0
+    → bytes ≡ page_at v (data_of (image_numbered images i))
 data_read ns files images i v id offset count bytes None f l e r w h z = absurd r
 data_read ns files images zero v id offset count bytes (Some n) f l e r w h z = absurd cc
 data_read ns files images (suc i) v id offset count bytes (Some n) f l e r w h z =
@@ -100,8 +105,10 @@ file_read ns p files images (Stack sid v) id offset count bytes f l r w h z = ab
 file_read ns p files images (Text i v) id offset count bytes f l r w h z = text_read ns files images i v id offset count bytes (named_at ns i) f l refl r w h z
 
 -- A page that was read.
-page_read : (ns : List ImageNamed) (k : Kernel) (size : ℕ) (holds : Option (List NamedFile)) (images : List NamedImage) (image : List ℕ) (flat : FlatState) (q : Page) (x : From) (s : Source) (bytes : List ℕ)
-    → AreFiles ns holds → AreImages ns holds images → IsSourced ns (image_of k.place) k.holdings size q x → source_of x ≡ s → length bytes ≡ 1024 → HasRead holds (Some image) x bytes
+page_read : (ns : List ImageNamed) (k : Kernel) (size : ℕ) (holds : Option (List NamedFile)) (images : List NamedImage) (image : List ℕ) (flat : FlatState)
+    (q : Page) (x : From) (s : Source) (bytes : List ℕ)
+    → AreFiles ns holds → AreImages ns holds images → IsSourced ns (image_of k.place) k.holdings size q x → source_of x ≡ s → length bytes ≡ 1024
+    → HasRead holds (Some image) x bytes
     → bytes ≡ source_bytes (beside_kernel k images image flat) s q
 page_read ns k size holds images image flat q (froms.Swap block) s bytes f l r e w h =
     read_is k.holdings image bytes q block r.own h ∙ ap (λ (y : Source). source_bytes (beside_kernel k images image flat) y q) e
@@ -109,8 +116,10 @@ page_read ns k size None images image flat q (froms.File id offset count) s byte
 page_read ns k size (Some files) images image flat q (froms.File id offset count) s bytes f l r e w h =
     file_read ns k.place files images q id offset count bytes f l r w h.0 h.1 ∙ ap (λ (y : Source). source_bytes (beside_kernel k images image flat) y q) e
 
-pub pages_read : (ns : List ImageNamed) (k : Kernel) (size : ℕ) (holds : Option (List NamedFile)) (images : List NamedImage) (image : List ℕ) (flat : FlatState) (s : Source) (olds news : List Inbound)
-    → AreFiles ns holds → AreImages ns holds images → AreSourcedIn ns (image_of k.place) k.holdings size s olds → AreSameParts olds news → AreWholePages news → AreReadParts holds (Some image) news
+pub pages_read : (ns : List ImageNamed) (k : Kernel) (size : ℕ) (holds : Option (List NamedFile)) (images : List NamedImage) (image : List ℕ) (flat : FlatState)
+    (s : Source) (olds news : List Inbound)
+    → AreFiles ns holds → AreImages ns holds images → AreSourcedIn ns (image_of k.place) k.holdings size s olds → AreSameParts olds news → AreWholePages news
+    → AreReadParts holds (Some image) news
     → map (λ (x : Inbound). x.token.bytes) news ≡ map (λ (x : Part). source_bytes (beside_kernel k images image flat) s x.page) (map in_part olds)
 pages_read ns k size holds images image flat s [] [] f l r p w h = refl
 pages_read ns k size holds images image flat s [] (y ∷ ys) f l r p w h = absurd p

@@ -30,12 +30,14 @@ use Rattle.table_steps.proofs.Knows.{texts_here}
 use Rattle.table_steps.proofs.Reclaims.{Reclaiming, reclaim_kernel, reclaiming_lists, revived_mark}
 
 pub reclaim_runs : (m : Inside) (u : Tables) (q : Page) (f : ℕ) (journal : List Entry) (stopped : Bool)
-    → Runs (kernel_by m.tables m.journal.items m.stopped) (lists_of m.tables) m.tables.book.size → IsShared (placement_of (lists_of m.tables)) q → Reclaiming m.tables u q f → journal ≡ m.journal.items → stopped ≡ m.stopped
+    → Runs (kernel_by m.tables m.journal.items m.stopped) (lists_of m.tables) m.tables.book.size → IsShared (placement_of (lists_of m.tables)) q
+    → Reclaiming m.tables u q f → journal ≡ m.journal.items → stopped ≡ m.stopped
     → Runs (kernel_by u (journal ++ entries.Reclaim q ∷ []) stopped) (lists_of u) u.book.size
 reclaim_runs m u q f journal stopped r sh g ej es =
     let k : Kernel = kernel_by m.tables m.journal.items m.stopped in
     let is : kernel_by u (journal ++ entries.Reclaim q ∷ []) stopped ≡ reclaim_step k q =
-    reclaim_kernel m.tables u q f journal stopped g ∙ ap (λ (j : List Entry). reclaim_step (kernel_by m.tables j stopped) q) ej ∙ ap (λ (b : Bool). reclaim_step (kernel_by m.tables m.journal.items b) q) es in
+    reclaim_kernel m.tables u q f journal stopped g ∙ ap (λ (j : List Entry). reclaim_step (kernel_by m.tables j stopped) q) ej
+    ∙ ap (λ (b : Bool). reclaim_step (kernel_by m.tables m.journal.items b) q) es in
     let size : u.book.size ≡ m.tables.book.size = ap (λ (x : Tables). x.book.size) g.revived_it.rest in
     let s : Token = revived (slot_at m.tables.core.slots f) q (dirty_shown m.tables.spaces m.tables.texts q) in
     let ties : Ties (lists_of m.tables) (lists_of u) = subst (Ties (lists_of m.tables)) (sym (reclaiming_lists m.tables u q f g)) (record {
@@ -44,12 +46,15 @@ reclaim_runs m u q f journal stopped r sh g ej es =
       heads = placed_heads m.tables.spaces q (places.Frame f true (dirty_shown m.tables.spaces m.tables.texts q));
       entries = λ w h. still_there m.tables.spaces q w (places.Frame f true (dirty_shown m.tables.spaces m.tables.texts q)) h;
       alike = λ h. placed_alike m.tables.spaces q (places.Frame f true (dirty_shown m.tables.spaces m.tables.texts q)) h;
-      filled = λ h. placed_filled (lists_of m.tables).facts m.tables.spaces q (places.Frame f true (dirty_shown m.tables.spaces m.tables.texts q)) (frame_fits q f true (dirty_shown m.tables.spaces m.tables.texts q)) h;
+      filled = λ h. placed_filled (lists_of m.tables).facts m.tables.spaces q (places.Frame f true (dirty_shown m.tables.spaces m.tables.texts q))
+          (frame_fits q f true (dirty_shown m.tables.spaces m.tables.texts q)) h;
       counts = λ i. refl;
-      marked = λ k. marks_placed (lists_of m.tables) (reclaimed (lists_of m.tables) q f s (dirty_shown m.tables.spaces m.tables.texts q)) q f (places.Frame f true (dirty_shown m.tables.spaces m.tables.texts q))
+      marked = λ k. marks_placed (lists_of m.tables) (reclaimed (lists_of m.tables) q f s (dirty_shown m.tables.spaces m.tables.texts q)) q f
+          (places.Frame f true (dirty_shown m.tables.spaces m.tables.texts q))
           (texts_here (lists_of m.tables) g.known) (λ h d. get_or-set_other m.tables.core.slots f h s tokens.Away d) refl (λ i v d l. refl) (λ h x. g.known.core.unique h f q x g.entry.held)
           (λ a r mark h. let y = marks_revived (lists_of m.tables) f q (slot_at m.tables.core.slots f) k refl g.entry.held a r mark (set_resident m.tables.core.slots f s a r mark h) in
-          marks_here m.tables.spaces m.tables.texts (places.Frame f true (dirty_shown m.tables.spaces m.tables.texts q)) q r mark (entry_is (entry_in m.tables.spaces q) (places.Frame f false g.entry.changed) g.entry.entry) y.0
+          marks_here m.tables.spaces m.tables.texts (places.Frame f true (dirty_shown m.tables.spaces m.tables.texts q)) q r mark
+          (entry_is (entry_in m.tables.spaces q) (places.Frame f false g.entry.changed) g.entry.entry) y.0
           (y.1 ∙ revived_mark m.tables.spaces m.tables.texts f q)) k;
       whole = λ x. x;
       once = λ x. x;

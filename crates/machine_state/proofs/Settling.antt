@@ -92,7 +92,8 @@ err_same s t e = cc
 pub stopped_first : (sid : ℕ) (old new : Standing) (holds : Option (List NamedFile)) (i j : Option (List ℕ)) (stop : Stop)
     → is_settled old.kernel.place sid ≡ false
     → HasStopped old new → old.before ≡ old.kernel.holdings → StopsFor (Err stop) old.kernel.place.transfers
-    → (((let r : Result Bool Stop = Err stop in r) ≡ Err stops.JournalFull) ↔ ((0 < length old.kernel.place.transfers) × (old.params.journal ≤ length old.kernel.journal)))
+    → (((let r : Result Bool Stop = Err stop in r) ≡ Err stops.JournalFull)
+    ↔ ((0 < length old.kernel.place.transfers) × (old.params.journal ≤ length old.kernel.journal)))
     → LosesFor (Err stop) old new → SwapAfter (Err stop) old.kernel i j → StopsSettling sid old new holds i j stop
 stopped_first sid old new holds i j stop u s w c full lost a = record {
   count = 0;
@@ -117,4 +118,5 @@ stopped_first sid old new holds i j stop u s w c full lost a = record {
 pub through : (old next new : Standing) (holds later : Option (List NamedFile)) (a b c : Option (List ℕ)) → GoesOn old next → later ≡ holds
     → KeepsThrough old next holds a b → KeepsThrough next new later b c → KeepsThrough old new holds a c
 through old next new holds later a b c g e f s images flat l t h =
-    s images flat (subst (λ (ns : List ImageNamed). AreImages ns later images) (sym g.images) (subst (λ (x : Option (List NamedFile)). AreImages old.images x images) (sym e) l)) (g.fits images t) (f images flat l t h)
+    s images flat (subst (λ (ns : List ImageNamed). AreImages ns later images) (sym g.images) (subst (λ (x : Option (List NamedFile)). AreImages old.images x images) (sym e) l))
+    (g.fits images t) (f images flat l t h)

@@ -38,7 +38,8 @@ pub runs_within : (m : Inside) → m.stopped ≡ false → (m.stopped ≡ false 
 runs_within m e now = record { within = (now e).stands.within; running = now }
 
 -- the same journal is within the same bound
-pub still_within : (m n : Inside) → RunsInside m → n.journal.items ≡ m.journal.items → n.tables.params ≡ m.tables.params → length n.journal.items ≤ n.tables.params.journal
+pub still_within : (m n : Inside) → RunsInside m → n.journal.items ≡ m.journal.items → n.tables.params ≡ m.tables.params
+    → length n.journal.items ≤ n.tables.params.journal
 still_within m n h j p = subst (λ (k : List Entry). length k ≤ n.tables.params.journal) (sym j) (subst (λ (x : Params). length m.journal.items ≤ x.journal) (sym p) h.within)
 
 pub whole_now : (m : Inside) (s : Standing) → standing_of m ≡ s → s.before ≡ s.kernel.holdings → before_of m.tables ≡ m.tables.book.holdings
@@ -55,7 +56,8 @@ pub room_of : (m : Inside) (pid : ℕ) → RunsNow m → m.room ≡ Some pid →
 room_of m pid n e = subst (λ (o : Option ℕ). HasRoom o m.journal m.tables.params.journal) e n.room
 
 pub rest_of : (m : Inside) (s : Standing) (w : Tables) (k : Kernel) (now room : Option ℕ) → standing_of m ≡ s → Still m.tables w → now ≡ room
-    → (let z : Standing = record { kernel = k; params = w.params; images = images_of w; before = before_of w; room = now } in z) ≡ record s { kernel = k; room = room }
+    → (let z : Standing = record { kernel = k; params = w.params; images = images_of w; before = before_of w; room = now } in z)
+    ≡ record s { kernel = k; room = room }
 rest_of m s w k now room e z r =
     ap (λ (x : Option ℕ). let z : Standing = record { kernel = k; params = w.params; images = images_of w; before = before_of w; room = x } in z) r
     ∙ ap (λ (x : Params). let z : Standing = record { kernel = k; params = x; images = images_of w; before = before_of w; room = room } in z) z.params
@@ -67,7 +69,8 @@ rest_of m s w k now room e z r =
 
 pub stands_on : (m : Inside) (w : Tables) (j : List Entry) (b : Bool) → Stands m.tables m.journal.items m.stopped
     → before_of m.tables ≡ m.tables.book.holdings → Still m.tables w → Runs (kernel_by w j b) (lists_of w) w.book.size
-    → AreSourced (images_of m.tables) (image_at m.tables) (before_of m.tables) m.tables.book.size w.ring → ((sid : ℕ) → image_at w sid ≡ image_at m.tables sid) → Grown m.journal.items j m.tables.params.journal → Stands w j b
+    → AreSourced (images_of m.tables) (image_at m.tables) (before_of m.tables) m.tables.book.size w.ring → ((sid : ℕ) → image_at w sid ≡ image_at m.tables sid)
+    → Grown m.journal.items j m.tables.params.journal → Stands w j b
 stands_on m w j b s whole z r ring images grown =
     let t : Tables = m.tables in
     let same : w.book.holdings ≡ before_of w = ap (λ (x : Book). x.holdings) z.book ∙ sym whole ∙ sym (still_before t w z) in
@@ -90,4 +93,5 @@ pub stands_same : (m : Inside) (w : Tables) (j : List Entry) (b : Bool) → Stan
     → before_of m.tables ≡ m.tables.book.holdings → Still m.tables w → Runs (kernel_by w j b) (lists_of w) w.book.size
     → w.ring ≡ m.tables.ring → map head_of w.spaces ≡ map head_of m.tables.spaces → Grown m.journal.items j m.tables.params.journal → Stands w j b
 stands_same m w j b s whole z r ring heads grown =
-    stands_on m w j b s whole z r (subst (λ (ts : List Flight). AreSourced (images_of m.tables) (image_at m.tables) (before_of m.tables) m.tables.book.size ts) (sym ring) s.ring) (images_heads m.tables w heads) grown
+    stands_on m w j b s whole z r (subst (λ (ts : List Flight). AreSourced (images_of m.tables) (image_at m.tables) (before_of m.tables) m.tables.book.size ts) (sym ring) s.ring)
+    (images_heads m.tables w heads) grown

@@ -27,7 +27,8 @@ zero_keeps size k q ds so can due starts images image flat c = go ds due starts 
     enter = record { there = can.there; frameless = ap frame_of can.unfilled }
 
     go : (es : List DueFill) → k.place.due ≡ map due_shown es → k.starts ≡ starts_of es → IsFirstStart (map due_shown es) q → Coupled (zero_step k q) images image flat
-    go [] d s f = zero_coupled size k images image flat q so (λ r e. ap (λ (ss : List StartBytes). has_start ss r) s) enter can.writable can.frame can.unfilled (ap (λ (x : List Due). due_at x q) d) can.zeros c
+    go [] d s f =
+        zero_coupled size k images image flat q so (λ r e. ap (λ (ss : List StartBytes). has_start ss r) s) enter can.writable can.frame can.unfilled (ap (λ (x : List Due). due_at x q) d) can.zeros c
     go (fills.Start r bytes ∷ es) d s f = start_coupled size k images image flat q r so enter can.writable can.frame can.unfilled
         (ap (λ (x : List Due). due_at x q) d ∙ ap (λ (b : Bool). cond b (Some (Start r)) (due_at (map due_shown es) q)) (ap (λ (x : Page). same_page r x) (sym f) ∙ same_page_self r)) c
     go (fills.Copy child parent ∷ es) d s f = absurd f

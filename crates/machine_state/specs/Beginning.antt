@@ -90,4 +90,5 @@ pub record BeganFirst (t u : Tables) (image : ℕ) : Type 0 where
   pub is : named_at (images_of t) image ≡ Some named
   pub entered_in : Tables
   pub entered : EnteredImage t entered_in image named.facts (start_page (named.name ∷ []))
-  pub one_more : HasOneMore entered_in u (record { pid = t.next_pid; parent = 0; regs = start_regs named.facts.entry (named.name ∷ []); life = HoldsSpace t.next_sid; asleep = false }) 0
+  pub one_more : HasOneMore entered_in u
+      (record { pid = t.next_pid; parent = 0; regs = start_regs named.facts.entry (named.name ∷ []); life = HoldsSpace t.next_sid; asleep = false }) 0

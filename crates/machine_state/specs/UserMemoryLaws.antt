@@ -44,9 +44,11 @@ pub touch_state : (p : Placement) (q r : Page) (f : ℕ) → IsWritable q → st
 touch_state p q r f w e = subst (λ (s : PageState). state_of (touch_to p q s) r ≡ state_of p r) (sym e) (go q w e (page_cases q r))
   where
     go : (q : Page) → IsWritable q → state_of p q ≡ Valid f → (r ≡ q) ⊎ (r ≢ q) → state_of (touch_to p q (Valid f)) r ≡ state_of p r
-    go (pages.Data n v) w e (inl h) = subst (λ (x : Page). state_of (touch_to p (pages.Data n v) (Valid f)) x ≡ state_of p x) (sym h) (put_state p (pages.Data n v) (Valid f) true (page_in p (pages.Data n v) f (ap frame_of e)) ∙ sym e)
+    go (pages.Data n v) w e (inl h) = subst (λ (x : Page). state_of (touch_to p (pages.Data n v) (Valid f)) x ≡ state_of p x) (sym h)
+        (put_state p (pages.Data n v) (Valid f) true (page_in p (pages.Data n v) f (ap frame_of e)) ∙ sym e)
     go (pages.Data n v) w e (inr d) = put_other_state p (pages.Data n v) (Valid f) true r d
-    go (pages.Stack n v) w e (inl h) = subst (λ (x : Page). state_of (touch_to p (pages.Stack n v) (Valid f)) x ≡ state_of p x) (sym h) (put_state p (pages.Stack n v) (Valid f) true (page_in p (pages.Stack n v) f (ap frame_of e)) ∙ sym e)
+    go (pages.Stack n v) w e (inl h) = subst (λ (x : Page). state_of (touch_to p (pages.Stack n v) (Valid f)) x ≡ state_of p x) (sym h)
+        (put_state p (pages.Stack n v) (Valid f) true (page_in p (pages.Stack n v) f (ap frame_of e)) ∙ sym e)
     go (pages.Stack n v) w e (inr d) = put_other_state p (pages.Stack n v) (Valid f) true r d
     go (pages.Text n v) w e c = absurd w
 
@@ -139,7 +141,8 @@ data_names k sid j = record { within = omega arith; writable = tt; may = refl; w
     others : (f byte : ℕ) (other : Spot) → IsTouched k (pages.Data sid (j / 1024)) f (j % 1024) → other ≢ Data j
         → read_spot (write_step k (pages.Data sid (j / 1024)) f (j % 1024) byte) sid other ≡ read_spot k sid other
     others f byte (Text i) t d = text_read k sid (pages.Data sid (j / 1024)) f (j % 1024) byte i t (λ e. absurd cc)
-    others f byte (Data i) t d = read_beside k (pages.Data sid (j / 1024)) (pages.Data sid (i / 1024)) f (j % 1024) byte (i % 1024) t (λ e m. d (ap (λ (n : ℕ). Data n) (one_place i j (number_is _ _ e) m)))
+    others f byte (Data i) t d = read_beside k (pages.Data sid (j / 1024)) (pages.Data sid (i / 1024)) f (j % 1024) byte (i % 1024) t
+        (λ e m. d (ap (λ (n : ℕ). Data n) (one_place i j (number_is _ _ e) m)))
     others f byte (Stack i) t d = read_beside k (pages.Data sid (j / 1024)) (pages.Stack sid (i / 1024)) f (j % 1024) byte (i % 1024) t (λ e m. absurd cc)
     others f byte Below t d = refl
     others f byte Outside t d = refl
@@ -151,7 +154,8 @@ stack_names k sid j = record { within = omega arith; writable = tt; may = refl; 
         → read_spot (write_step k (pages.Stack sid (j / 1024)) f (j % 1024) byte) sid other ≡ read_spot k sid other
     others f byte (Text i) t d = text_read k sid (pages.Stack sid (j / 1024)) f (j % 1024) byte i t (λ e. absurd cc)
     others f byte (Data i) t d = read_beside k (pages.Stack sid (j / 1024)) (pages.Data sid (i / 1024)) f (j % 1024) byte (i % 1024) t (λ e m. absurd cc)
-    others f byte (Stack i) t d = read_beside k (pages.Stack sid (j / 1024)) (pages.Stack sid (i / 1024)) f (j % 1024) byte (i % 1024) t (λ e m. d (ap (λ (n : ℕ). Stack n) (one_place i j (number_is _ _ e) m)))
+    others f byte (Stack i) t d = read_beside k (pages.Stack sid (j / 1024)) (pages.Stack sid (i / 1024)) f (j % 1024) byte (i % 1024) t
+        (λ e m. d (ap (λ (n : ℕ). Stack n) (one_place i j (number_is _ _ e) m)))
     others f byte Below t d = refl
     others f byte Outside t d = refl
 
@@ -177,7 +181,13 @@ may_put k sid spot may owner whole = go spot may
     by : (spot : Spot) (q : Page) (at : ℕ) → Names k sid spot q at → may_write_spot k.place sid spot ≡ tests.May → MayPut k sid spot
     by spot q at n may =
         let v = may_valid (state_of k.place q) (sym n.may ∙ may) in
-        record { page = q; frame = v.0; at = at; names = n; touched = record { writable = n.writable; valid = v.1; owner = owner; whole = whole q v.0 v.1; within = n.within } }
+        record {
+          page = q;
+          frame = v.0;
+          at = at;
+          names = n;
+          touched = record { writable = n.writable; valid = v.1; owner = owner; whole = whole q v.0 v.1; within = n.within };
+        }
 
     go : (spot : Spot) → may_write_spot k.place sid spot ≡ tests.May → MayPut k sid spot
     go (Data j) may = by (Data j) (pages.Data sid (j / 1024)) (j % 1024) (data_names k sid j) may
@@ -209,7 +219,8 @@ read_after : (k : Kernel) (sid byte a b : ℕ) (m : MayPut k sid (spot_in k.plac
     → read_spot (write_step k m.page m.frame m.at byte) sid (spot_in k.place sid a) ≡ read_by (a == b) byte (read_spot k sid (spot_in k.place sid a))
 read_after k sid byte a b m may = go (cases_eq a b)
   where
-    go : (a ≡ b) ⊎ (a ≡ b → ⊥) → read_spot (write_step k m.page m.frame m.at byte) sid (spot_in k.place sid a) ≡ read_by (a == b) byte (read_spot k sid (spot_in k.place sid a))
+    go : (a ≡ b) ⊎ (a ≡ b → ⊥) → read_spot (write_step k m.page m.frame m.at byte) sid (spot_in k.place sid a)
+        ≡ read_by (a == b) byte (read_spot k sid (spot_in k.place sid a))
     go (inl e) =
         ap (λ (x : ℕ). read_spot (write_step k m.page m.frame m.at byte) sid (spot_in k.place sid x)) e
         ∙ m.names.reads (write_step k m.page m.frame m.at byte) ∙ read_there k m.page m.frame m.at byte m.touched
@@ -233,7 +244,8 @@ put_answers k sid w h =
     ap (λ (x : Kernel). kernel_answers x sid) (written_step k sid (spot_in k.place sid w.address) w.byte m)
     ∙ (λ i. record {
       read = λ a. (ap (read_spot n sid) (spot_same k.place m.page sid a) ∙ read_after k sid w.byte a w.address m h.may) i;
-      may_write = λ a. (ap (may_write_spot n.place sid) (spot_same k.place m.page sid a) ∙ may_after k sid w.byte m.page m.frame m.at (spot_in k.place sid a) m.touched) i;
+      may_write = λ a.
+          (ap (may_write_spot n.place sid) (spot_same k.place m.page sid a) ∙ may_after k sid w.byte m.page m.frame m.at (spot_in k.place sid a) m.touched) i;
     })
 
 -- so it is after writes in a row

@@ -74,7 +74,8 @@ impl Machine {
         ensures ok { OnOk result (self.new ≡ record self.old { room = Some pid }) }
         ensures stop { OnErr result (HasStopped self.old self.new) }
         ensures cause { OnErr result ((result ≡ Err Stop.JournalFull) ⊎ (result ≡ Err Stop.NoMemory)) }
-        ensures full { (result ≡ Err Stop.JournalFull) ↔ ((self.old.params.journal ≤ length self.old.kernel.journal) × (length self.old.kernel.journal < length (append self.old.kernel.journal (Ran pid 1)))) }
+        ensures full { (result ≡ Err Stop.JournalFull) ↔ ((self.old.params.journal ≤ length self.old.kernel.journal)
+            × (length self.old.kernel.journal < length (append self.old.kernel.journal (Ran pid 1)))) }
     {
         joining::make_room_to_run(
             &mut self.journal,

@@ -66,7 +66,13 @@ impl Machine {
         requires images { length images.items ≤ 16 }
         requires sound { AreSound (map (λ image. image.facts) images.items) }
         requires names { AreNames (map image_shown images.items) }
-        ensures { IfOk result (λ m. m ≡ record { kernel = fresh_kernel (map (λ image. image.facts) images.items) params.frames; params = params; images = map image_shown images.items; before = []; room = None }) }
+        ensures { IfOk result (λ m. m ≡ record {
+          kernel = fresh_kernel (map (λ image. image.facts) images.items) params.frames;
+          params = params;
+          images = map image_shown images.items;
+          before = [];
+          room = None;
+        }) }
     {
         let processes = ProcTable::new(alloc)?;
         let book = SwapBook::new(alloc, params.swap_blocks)?;
@@ -240,7 +246,8 @@ impl Machine {
         ensures stop { OnErr result (HasStopped self.old self.new) }
         ensures cause { StopsFor result self.old.kernel.place.transfers }
         ensures lost { LosesFor result self.old self.new }
-        ensures full { (result ≡ Err Stop.JournalFull) ↔ ((0 < length self.old.kernel.place.transfers) × (self.old.params.journal ≤ length self.old.kernel.journal)) }
+        ensures full { (result ≡ Err Stop.JournalFull)
+            ↔ ((0 < length self.old.kernel.place.transfers) × (self.old.params.journal ≤ length self.old.kernel.journal)) }
         ensures outside { TransfersPages F.Files D.SwapDev (stop_of result) files.old files.new swap.old swap.new }
     {
         if self.tables.ring.len() == 0 {
@@ -294,7 +301,8 @@ impl Machine {
         requires whole { self.old.before ≡ self.old.kernel.holdings }
         requires area { self.old.params.swap_blocks ≤ D.blocks swap.old }
         requires files { AreFiles self.old.images (F.holds files.old) }
-        ensures settled { OnOk result (SettledBy (sources self.old (F.holds files.old)) sid self.old.kernel self.new.kernel (D.image swap.old) (D.image swap.new)) }
+        ensures settled { OnOk result
+            (SettledBy (sources self.old (F.holds files.old)) sid self.old.kernel self.new.kernel (D.image swap.old) (D.image swap.new)) }
         ensures rest { OnOk result (IsSameBeside self.old self.new) }
         ensures keeps { OnOk result (KeepsThrough self.old self.new (F.holds files.old) (D.image swap.old) (D.image swap.new)) }
         ensures stops { IfErr result (StopsSettling sid self.old self.new (F.holds files.old) (D.image swap.old) (D.image swap.new)) }

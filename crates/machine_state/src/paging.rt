@@ -111,7 +111,8 @@ impl Machine {
         ensures same { OnOk result (SameEverywhere self.old.kernel self.new.kernel) }
         ensures stop { OnErr result (HasStopped self.old self.new) }
         ensures cause { OnErr result ((result ≡ Err Stop.JournalFull) ⊎ (result ≡ Err Stop.NoMemory)) }
-        ensures full { (result ≡ Err Stop.JournalFull) ↔ ((self.old.params.journal ≤ length self.old.kernel.journal) × (length self.old.kernel.journal < length (append self.old.kernel.journal (Hands 1)))) }
+        ensures full { (result ≡ Err Stop.JournalFull) ↔ ((self.old.params.journal ≤ length self.old.kernel.journal)
+            × (length self.old.kernel.journal < length (append self.old.kernel.journal (Hands 1)))) }
     {
         joining::make_room_to_move(
             &mut self.journal,

@@ -224,7 +224,8 @@ impl SpaceMemory<'_> {
 
     // The frame of the text page that a byte of the text is in, where the page is valid.
     fn text_frame(&self, at: u32) -> Option<u32>
-        ensures { result ≡ valid_frame (state_of self.now.machine.now.kernel.place (TextPage (image_of self.now.machine.now.kernel.place self.now.layout.sid) (at / 1024))) }
+        ensures { result
+            ≡ valid_frame (state_of self.now.machine.now.kernel.place (TextPage (image_of self.now.machine.now.kernel.place self.now.layout.sid) (at / 1024))) }
     {
         self.space().text_frame(at / PAGE)
     }

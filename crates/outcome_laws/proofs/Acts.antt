@@ -15,12 +15,14 @@ repeated_none : (test : Entry → Bool) (u : Entry) (n : ℕ) (us : List Entry) 
 repeated_none test u zero us h k = k
 repeated_none test u (suc n) us h k = (h, repeated_none test u n us h k)
 
-with_none : (test : Entry → Bool) (e : Entry) (us : List Entry) → ((p : ℕ) → test (Ran p 1) ≡ false) → test (Hands 1) ≡ false → test e ≡ false → HasNo test us → HasNo test (units_with e us)
+with_none : (test : Entry → Bool) (e : Entry) (us : List Entry) → ((p : ℕ) → test (Ran p 1) ≡ false) → test (Hands 1) ≡ false → test e ≡ false → HasNo test us
+    → HasNo test (units_with e us)
 with_none test (Ran p n) us ran hands h k = repeated_none test (Ran p 1) n us (ran p) k
 with_none test (Hands n) us ran hands h k = repeated_none test (Hands 1) n us hands k
 with_none test _ us ran hands h k = (h, k)
 
-units_none : (test : Entry → Bool) (journal : List Entry) → ((p : ℕ) → test (Ran p 1) ≡ false) → test (Hands 1) ≡ false → HasNo test journal → HasNo test (units_of journal)
+units_none : (test : Entry → Bool) (journal : List Entry) → ((p : ℕ) → test (Ran p 1) ≡ false) → test (Hands 1) ≡ false → HasNo test journal
+    → HasNo test (units_of journal)
 units_none test [] ran hands h = tt
 units_none test (e ∷ journal) ran hands h = with_none test e (units_of journal) ran hands h.0 (units_none test journal ran hands h.1)
 
@@ -64,7 +66,8 @@ seen_units [] = refl
 seen_units (e ∷ journal) =
     seen_with e (units_of journal) ∙ ap (λ (xs : List Entry). cond (is_visible e) (e ∷ xs) xs) (seen_units journal)
 
-act_seen : (u : Entry) (us seen : List Entry) → filter is_visible us ≡ seen → filter is_visible (cond (is_act u) (u ∷ us) us) ≡ cond (is_visible u) (u ∷ seen) seen
+act_seen : (u : Entry) (us seen : List Entry) → filter is_visible us ≡ seen
+    → filter is_visible (cond (is_act u) (u ∷ us) us) ≡ cond (is_visible u) (u ∷ seen) seen
 act_seen (Out p bytes) us seen h = ap (λ (xs : List Entry). Out p bytes ∷ xs) h
 act_seen (Call p n c r0 r1) us seen h = ap (λ (xs : List Entry). Call p n c r0 r1 ∷ xs) h
 act_seen (Ended p status) us seen h = ap (λ (xs : List Entry). Ended p status ∷ xs) h

@@ -58,7 +58,8 @@ run_spares call memory (Tests a next) h = go (run_spares call memory next h) (me
 
 -- The calls.
 
-forks_spare : (F : FlatState) (b : Bool) (regs : Regs) (child : ℕ) → Spares calls.Fork (child_by b regs child (Fork F.next_pid)) × Spares calls.Vfork (child_by b regs child (Lend F.next_pid))
+forks_spare : (F : FlatState) (b : Bool) (regs : Regs) (child : ℕ) → Spares calls.Fork (child_by b regs child (Fork F.next_pid))
+    × Spares calls.Vfork (child_by b regs child (Lend F.next_pid))
 forks_spare F true regs child = ((λ h. absurd cc), (λ h. absurd cc))
 forks_spare F false regs child = (tt, tt)
 
@@ -84,7 +85,8 @@ wait_spares None zombie regs = tt
 wait_spares (Some child) None regs = tt
 wait_spares (Some child) (Some z) regs = λ h. tt
 
-all_spare : (images : List NamedImage) (F : FlatState) (p : Process) (s : Space) (call : SystemCall) (regs : Regs) → AllSpare call (reply_of images F p s call regs)
+all_spare : (images : List NamedImage) (F : FlatState) (p : Process) (s : Space) (call : SystemCall) (regs : Regs)
+    → AllSpare call (reply_of images F p s call regs)
 unfolding reply_of exit_reply write_reply break_reply execve_reply
 all_spare images F p s calls.Exit regs = all_bind calls.Exit (argument regs 1) (λ code. Gives (Exits (code % 256 * 256))) (λ code. tt)
 all_spare images F p s calls.Fork regs = (forks_spare F (nat_lt (length F.processes) process_limit) regs F.next_pid).0

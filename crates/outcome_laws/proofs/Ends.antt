@@ -33,7 +33,8 @@ EndsWith (e ∷ f ∷ es) Over = (is_end e ≡ false) × EndsWith (f ∷ es) Ove
 abbrev Stops : ℕ → Step → Type 0
 Stops pid step = EndsWith step.entries (can_step step.after pid ≡ false)
 
-stops_ended : (n : ℕ) (images : List NamedImage) (F : FlatState) (p : Process) (ws : List ByteWrite) (status : ℕ) → Only n F.processes → Stops p.pid (ended_step images F p ws status)
+stops_ended : (n : ℕ) (images : List NamedImage) (F : FlatState) (p : Process) (ws : List ByteWrite) (status : ℕ) → Only n F.processes
+    → Stops p.pid (ended_step images F p ws status)
 stops_ended n images F p ws status k = λ h. end_applied n images (apply_writes F p.pid ws) p.pid p.regs status (only_written n F p.pid ws k)
 
 stops_replied : (n : ℕ) (images : List NamedImage) (F : FlatState) (p : Process) (call : SystemCall) (effect : Effect) (reply : Reply) → Only n F.processes
@@ -43,12 +44,14 @@ stops_replied n images F p call effect (replies.Writes (byte ∷ bytes)) k = (re
 stops_replied n images F p call effect (replies.Exits status) k = stops_ended n images F p effect.writes status k
 stops_replied n images F p call effect _ k = λ h. absurd cc
 
-stops_called : (n : ℕ) (images : List NamedImage) (F : FlatState) (p : Process) (s : Space) (refused : Bool) (effect : Effect) (call : Option SystemCall) → Only n F.processes
+stops_called : (n : ℕ) (images : List NamedImage) (F : FlatState) (p : Process) (s : Space) (refused : Bool) (effect : Effect)
+    (call : Option SystemCall) → Only n F.processes
     → Stops p.pid (called_step images F p s refused effect call)
 stops_called n images F p s refused effect None k = stops_ended n images F p effect.writes 12 k
 stops_called n images F p s refused effect (Some call) k = stops_replied n images F p call effect (reply_behind images F p s refused call effect) k
 
-stops_behind : (n : ℕ) (images : List NamedImage) (F : FlatState) (p : Process) (s : Space) (refused : Bool) (effect : Effect) (number : Option ℤ) → Only n F.processes
+stops_behind : (n : ℕ) (images : List NamedImage) (F : FlatState) (p : Process) (s : Space) (refused : Bool) (effect : Effect)
+    (number : Option ℤ) → Only n F.processes
     → Stops p.pid (step_behind images F p s refused effect number)
 stops_behind n images F p s refused effect None k = λ h. absurd cc
 stops_behind n images F p s refused effect (Some number) k = stops_called n images F p s refused effect (call_of number) k
@@ -105,7 +108,8 @@ stops_point n point after true (f ∷ []) e same end h = h (end_same f e same en
 stops_point n point after true (f ∷ g ∷ es) e same end h = let both : true ≡ false = sym (end_same f e same end) ∙ h.0 in absurd cc
 stops_point n point after false es e same end h = absurd cc
 
-stops_entry_of : (n : ℕ) (A : Inputs) (point q : Point) (pid : ℕ) (e : Entry) → flat_entry_of A point pid e ≡ Some q → is_end e ≡ true → Only n point.flat.processes
+stops_entry_of : (n : ℕ) (A : Inputs) (point q : Point) (pid : ℕ) (e : Entry) → flat_entry_of A point pid e ≡ Some q → is_end e ≡ true
+    → Only n point.flat.processes
     → can_step q.flat n ≡ false
 stops_entry_of n A point q pid (entries.Ended p status) h end k =
     let e : Entry = entries.Ended p status in
@@ -128,7 +132,8 @@ stops_entry n A point q pid e of h end k =
 -- Acts.
 
 -- after acts with an end among them the process can't step
-pub end_stops : (A : Inputs) (xs : List Entry) (point p : Point) → Only 1 point.flat.processes → ArePlainActs xs → flat_units A (Some point) xs ≡ Some p → has_end xs ≡ true
+pub end_stops : (A : Inputs) (xs : List Entry) (point p : Point) → Only 1 point.flat.processes → ArePlainActs xs
+    → flat_units A (Some point) xs ≡ Some p → has_end xs ≡ true
     → can_step p.flat 1 ≡ false
 unfolding flat_units
 end_stops A [] point p only plain h end = absurd cc

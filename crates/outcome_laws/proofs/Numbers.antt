@@ -94,7 +94,8 @@ only_ended n F p s status h k =
     only_left n (p.parent == 0) (orphaned (given_back (with_process F record p { holding = Zombie status }) p.pid s) p.pid) p.pid p.parent
     (only_orphaned n F p s status h k)
 
-only_changed : (n : ℕ) (images : List NamedImage) (F : FlatState) (p : Process) (s : Space) (change : Change) → BringsNone change → IsSole n p → Only n F.processes
+only_changed : (n : ℕ) (images : List NamedImage) (F : FlatState) (p : Process) (s : Space) (change : Change) → BringsNone change
+    → IsSole n p → Only n F.processes
     → Only n (changed images F p s change).processes
 only_changed n images F p s Keep none h k = only_replaced n F.processes p h k
 only_changed n images F p s (Resize data_pages stack_pages) none h k = only_replaced n F.processes (record p { holding = Holds (resized s data_pages stack_pages) }) h k

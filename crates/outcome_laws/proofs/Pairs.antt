@@ -20,12 +20,14 @@ start_same : (A B : Inputs) → B.images ≡ A.images → B.first ≡ A.first �
 start_same A B images first =
     ap (λ (named : List NamedImage). start_point record A { images = named; first = B.first }) images ∙ ap (λ (ns : List ℕ). start_point record A { first = ns }) first
 
-leads_first : (A B : Inputs) (journal other : List Entry) (p q : Point) → IsPair A B journal other p q → flat_units A (Some (start_point A)) (acts_of journal) ≡ Some p
+leads_first : (A B : Inputs) (journal other : List Entry) (p q : Point) → IsPair A B journal other p q
+    → flat_units A (Some (start_point A)) (acts_of journal) ≡ Some p
 leads_first A B journal other p q pair =
     let one : IsSingle A journal p = pair.one in
     sym (acts_lead A (units_of journal) (Some (start_point A))) ∙ one.runs
 
-leads_second : (A B : Inputs) (journal other : List Entry) (p q : Point) → IsPair A B journal other p q → flat_units A (Some (start_point A)) (acts_of other) ≡ Some q
+leads_second : (A B : Inputs) (journal other : List Entry) (p q : Point) → IsPair A B journal other p q
+    → flat_units A (Some (start_point A)) (acts_of other) ≡ Some q
 leads_second A B journal other p q pair =
     let two : IsSingle B other q = pair.two in
     sym (acts_lead A (units_of other) (Some (start_point A))) ∙ sym (units_same A B (units_of other) (Some (start_point A)) pair.images)
@@ -73,7 +75,8 @@ end_is_last A journal p one end =
     (sym (acts_lead A (units_of journal) (Some (start_point A))) ∙ one.runs)
     (end_among (acts_of journal) (ap has_end (visible_acts journal) ∙ end))
 
-pub over_is_all : (A B : Inputs) (journal other : List Entry) (p q : Point) → IsPair A B journal other p q → can_step p.flat 1 ≡ false → Begins (visible_of other) (visible_of journal)
+pub over_is_all : (A B : Inputs) (journal other : List Entry) (p q : Point) → IsPair A B journal other p q → can_step p.flat 1 ≡ false
+    → Begins (visible_of other) (visible_of journal)
 over_is_all A B journal other p q pair over = go (compare_runs A B journal other p q pair)
   where
     go : Compared (acts_of journal) (acts_of other) p q → Begins (visible_of other) (visible_of journal)

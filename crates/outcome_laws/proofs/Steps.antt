@@ -34,25 +34,29 @@ ends_in_fork (e ∷ f ∷ es) = ends_in_fork (f ∷ es)
 
 -- Steps.
 
-only_after : (n : ℕ) (images : List NamedImage) (F : FlatState) (pid : ℕ) (ws : List ByteWrite) (regs : Regs) (change : Change) → BringsNone change → Only n F.processes
+only_after : (n : ℕ) (images : List NamedImage) (F : FlatState) (pid : ℕ) (ws : List ByteWrite) (regs : Regs) (change : Change)
+    → BringsNone change → Only n F.processes
     → Only n (apply_change images (apply_writes F pid ws) pid regs change).processes
 only_after n images F pid ws regs change none k = only_applied n images (apply_writes F pid ws) pid regs change none (only_written n F pid ws k)
 
-only_replied : (n : ℕ) (images : List NamedImage) (F : FlatState) (p : Process) (call : SystemCall) (effect : Effect) (reply : Reply) → Spares call reply → Only n F.processes
+only_replied : (n : ℕ) (images : List NamedImage) (F : FlatState) (p : Process) (call : SystemCall) (effect : Effect) (reply : Reply)
+    → Spares call reply → Only n F.processes
     → ends_in_fork (replied_step images F p call effect reply).entries ≡ false → Only n (replied_step images F p call effect reply).after.processes
 only_replied n images F p call effect (replies.Does regs change) spares k none = only_after n images F p.pid effect.writes regs change (spares none) k
 only_replied n images F p call effect replies.Waits spares k none = only_after n images F p.pid effect.writes p.regs Sleep tt k
 only_replied n images F p call effect (replies.Exits status) spares k none = only_after n images F p.pid effect.writes p.regs (End status) tt k
 only_replied n images F p call effect _ spares k none = only_after n images F p.pid effect.writes _ Keep tt k
 
-only_called : (n : ℕ) (images : List NamedImage) (F : FlatState) (p : Process) (s : Space) (refused : Bool) (effect : Effect) (call : Option SystemCall) → Only n F.processes
+only_called : (n : ℕ) (images : List NamedImage) (F : FlatState) (p : Process) (s : Space) (refused : Bool) (effect : Effect)
+    (call : Option SystemCall) → Only n F.processes
     → ends_in_fork (called_step images F p s refused effect call).entries ≡ false → Only n (called_step images F p s refused effect call).after.processes
 only_called n images F p s refused effect None k none = only_after n images F p.pid effect.writes p.regs (End 12) tt k
 only_called n images F p s refused effect (Some call) k none =
     only_replied n images F p call effect (reply_behind images F p s refused call effect)
     (reply_spares images (apply_writes F p.pid effect.writes) (answers_of (puts s effect.writes)) (written_process p s effect.writes) (puts s effect.writes) call effect.regs refused) k none
 
-only_behind : (n : ℕ) (images : List NamedImage) (F : FlatState) (p : Process) (s : Space) (refused : Bool) (effect : Effect) (number : Option ℤ) → Only n F.processes
+only_behind : (n : ℕ) (images : List NamedImage) (F : FlatState) (p : Process) (s : Space) (refused : Bool) (effect : Effect)
+    (number : Option ℤ) → Only n F.processes
     → ends_in_fork (step_behind images F p s refused effect number).entries ≡ false → Only n (step_behind images F p s refused effect number).after.processes
 only_behind n images F p s refused effect None k none = only_after n images F p.pid effect.writes effect.regs Keep tt k
 only_behind n images F p s refused effect (Some number) k none = only_called n images F p s refused effect (call_of number) k none
@@ -121,7 +125,8 @@ only_point : (n : ℕ) (point : Point) (after : FlatState) (es : List Entry) →
 only_point n point after (e ∷ []) k next = next e refl
 only_point n point after _ k next = k
 
-only_entry_of : (n : ℕ) (A : Inputs) (point q : Point) (pid : ℕ) (e : Entry) → flat_entry_of A point pid e ≡ Some q → is_fork e ≡ false → Only n point.flat.processes → Only n q.flat.processes
+only_entry_of : (n : ℕ) (A : Inputs) (point q : Point) (pid : ℕ) (e : Entry) → flat_entry_of A point pid e ≡ Some q → is_fork e ≡ false
+    → Only n point.flat.processes → Only n q.flat.processes
 only_entry_of n A point q pid (entries.Refused p) h none k =
     subst (λ (x : Point). Only n x.flat.processes) (point_where (can_step point.flat pid) (record point { last = Some (entries.Refused p) }) q h) k
 only_entry_of n A point q pid e h none k =
@@ -132,12 +137,14 @@ only_entry_of n A point q pid e h none k =
     let is : same_entry f e ≡ true = first_same (can_step point.flat pid) f e (subst (λ (es : List Entry). same_as (first_if (can_step point.flat pid) es) e ≡ true) one same) in
     only_stepped n A point.flat pid (is_refused point.last pid) k (last_due point.last pid (step_at A point pid).entries f one ∙ fork_same f e is none)))
 
-only_entry_if : (n : ℕ) (b : Bool) (A : Inputs) (point q : Point) (pid : ℕ) (e : Entry) → flat_entry_if b A point pid e ≡ Some q → is_fork e ≡ false → Only n point.flat.processes
+only_entry_if : (n : ℕ) (b : Bool) (A : Inputs) (point q : Point) (pid : ℕ) (e : Entry) → flat_entry_if b A point pid e ≡ Some q → is_fork e ≡ false
+    → Only n point.flat.processes
     → Only n q.flat.processes
 only_entry_if n true A point q pid e h none k = only_entry_of n A point q pid e h none k
 only_entry_if n false A point q pid e h none k = absurd cc
 
-pub only_entry : (n : ℕ) (A : Inputs) (point q : Point) (e : Entry) → flat_entry A point e ≡ Some q → is_fork e ≡ false → Only n point.flat.processes → Only n q.flat.processes
+pub only_entry : (n : ℕ) (A : Inputs) (point q : Point) (e : Entry) → flat_entry A point e ≡ Some q → is_fork e ≡ false → Only n point.flat.processes
+    → Only n q.flat.processes
 unfolding flat_entry
 only_entry n A point q e h none k = go (process_of_entry e) h
   where
@@ -156,7 +163,8 @@ of_steps A point q pid (entries.Refused p) h = of_where (can_step point.flat pid
 of_steps A point q pid e h = first_steps (can_step point.flat pid) (due_at A point pid) e (of_where (same_as (act A point pid) e) (point_after A point pid) q h)
 
 -- the process of a flat entry can step
-pub entry_steps : (A : Inputs) (point q : Point) (pid : ℕ) (e : Entry) → process_of_entry e ≡ Some pid → flat_entry A point e ≡ Some q → can_step point.flat pid ≡ true
+pub entry_steps : (A : Inputs) (point q : Point) (pid : ℕ) (e : Entry) → process_of_entry e ≡ Some pid → flat_entry A point e ≡ Some q
+    → can_step point.flat pid ≡ true
 unfolding flat_entry
 entry_steps A point q pid e of h =
     go (may_follow point.last e) (subst (λ (o : Option ℕ). flat_entry_by A point o e ≡ Some q) of h)

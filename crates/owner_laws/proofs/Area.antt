@@ -32,7 +32,8 @@ abbrev pub extents_from : ℕ → ℕ → Holdings → List Extent
 extents_from size b [] = gap b size ++ []
 extents_from size b (h ∷ hs) = gap b h.start ++ row h ∷ extents_from size (h.start + h.length) hs
 
-gap_spelled : (c : Bool) (b end : ℕ) (xs : List Extent) → word_if c (swap_line b (end - b) (codes " free")) ++ flat_map extent_text xs ≡ flat_map extent_text (gap_if c b end ++ xs)
+gap_spelled : (c : Bool) (b end : ℕ) (xs : List Extent)
+    → word_if c (swap_line b (end - b) (codes " free")) ++ flat_map extent_text xs ≡ flat_map extent_text (gap_if c b end ++ xs)
 gap_spelled true b end xs = refl
 gap_spelled false b end xs = refl
 
@@ -88,7 +89,8 @@ none_below b c (h ∷ hs) f l =
     ap (λ (k : Bool). cond k (Some h.owner) (holder_of c hs)) (in_outside h c (inl (omega (arith, l, start))))
     ∙ none_below (h.start + h.length) c hs f.2 (omega (arith, l, start))
 
-gap_told : (k : Bool) (c b mid : ℕ) (xs : List Extent) (o : Option Owner) → ltb b mid ≡ k → (c < mid → None ≡ o) → told_holder c xs ≡ o → told_holder c (gap_if k b mid ++ xs) ≡ o
+gap_told : (k : Bool) (c b mid : ℕ) (xs : List Extent) (o : Option Owner) → ltb b mid ≡ k → (c < mid → None ≡ o) → told_holder c xs ≡ o
+    → told_holder c (gap_if k b mid ++ xs) ≡ o
 gap_told false c b mid xs o e none rest = rest
 gap_told true c b mid xs o e none rest = elim (cases_Bool (nat_le b c && nat_lt c (b + (mid - b)))) [
   | inl inside ↦
@@ -155,7 +157,8 @@ holder_placed c h (g ∷ gs) apart = elim (cases_Bool (ltb g.start h.start)) [
   | inr high ↦ ap (λ (k : Bool). holder_of c (cond k (g ∷ placed h gs) (h ∷ g ∷ gs))) high
 ]
 
-holder_rising : (c : ℕ) (hs : Holdings) → ((i j : ℕ) (d : Held) → i < j → j < length hs → IsApart (get_or hs i d) (get_or hs j d)) → holder_of c (rising hs) ≡ holder_of c hs
+holder_rising : (c : ℕ) (hs : Holdings) → ((i j : ℕ) (d : Held) → i < j → j < length hs → IsApart (get_or hs i d) (get_or hs j d))
+    → holder_of c (rising hs) ≡ holder_of c hs
 holder_rising c [] apart = refl
 holder_rising c (h ∷ hs) apart =
     holder_placed c h (rising hs) (each_rising (IsApart h) hs (each_from (IsApart h) hs (λ j d l. apart 0 (suc j) d (omega arith) (omega arith))))

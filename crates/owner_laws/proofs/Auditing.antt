@@ -25,7 +25,8 @@ told_there A hs journal s entries over can reaches =
     let sound : Sound A.swap_blocks (machine_of s.point.flat s.place s.holdings) = placed.sound in
     owners_told_so entries A.swap_blocks over (lives (machine_of s.point.flat s.place s.holdings).processes) s.place s.holdings (map kept_of s.point.flat.processes) sound.owner
 
-pub audit_there : (A : Inputs) (hs : Holdings) (journal : List Entry) (s : State) → CanRun A hs → Reaches A journal s → s.mark ≡ Audit → next_unit A s ≡ Some (owners_of s.place s.holdings)
+pub audit_there : (A : Inputs) (hs : Holdings) (journal : List Entry) (s : State) → CanRun A hs → Reaches A journal s → s.mark ≡ Audit
+    → next_unit A s ≡ Some (owners_of s.place s.holdings)
 unfolding next_unit
 audit_there A hs journal s can reaches mark =
     let run : IsRun A s = reached_run A hs journal s can reaches in

@@ -31,7 +31,8 @@ join_two (Hands m) (Ran q n) long = refl
 join_two _ _ long = refl
 
 -- a unit that makes a journal longer stands behind it
-after_two : (e : Entry) (journal : List Entry) (u : Entry) → suc (length journal) < length (append_after e journal u) → append_after e journal u ≡ (e ∷ journal) ++ u ∷ []
+after_two : (e : Entry) (journal : List Entry) (u : Entry) → suc (length journal) < length (append_after e journal u)
+    → append_after e journal u ≡ (e ∷ journal) ++ u ∷ []
 after_two e [] u long = join_two e u long
 after_two e (f ∷ journal) u long = ap (λ (js : List Entry). e ∷ js) (after_two f journal u (omega (arith, long)))
 
@@ -88,7 +89,8 @@ all_behind [] journal more h = h
 all_behind (u ∷ us) journal more h = all_behind us journal (append more u) (stays_behind journal more u h)
 
 -- a unit that makes a journal longer, and others
-goes_behind : (journal : List Entry) (u : Entry) (us : List Entry) → length journal < length (append journal u) → Behind journal (appended (append journal u) us)
+goes_behind : (journal : List Entry) (u : Entry) (us : List Entry) → length journal < length (append journal u)
+    → Behind journal (appended (append journal u) us)
 goes_behind journal u us long = all_behind us journal (append journal u) (u, [], stands_behind journal u long)
 
 -- No unit makes a journal shorter.
@@ -151,7 +153,8 @@ apart A (u ∷ us) (v ∷ vs) r s t k journal f g e whole =
 
 -- Of journals that reach states.
 
-reach_apart : (A : Inputs) (journal more : List Entry) (s t : State) → Reaches A journal s → Reaches A more t → HasWholeEntries A journal s → Apart A journal more s t
+reach_apart : (A : Inputs) (journal more : List Entry) (s t : State) → Reaches A journal s → Reaches A more t → HasWholeEntries A journal s
+    → Apart A journal more s t
 reach_apart A journal more s t a b whole =
     let one : a.holdings ≡ b.holdings = let f = a.found in let g = b.found in cc in
     let follows : Follows A (start A a.holdings) b.units t = subst (λ (hs : Holdings). Follows A (start A hs) b.units t) (sym one) b.follows in
@@ -180,7 +183,8 @@ first_of_finished A journal more s t a b whole none = elim (reach_apart A journa
   | before u next short ↦ absurd (let no : Some u ≡ None = sym next ∙ none in cc)
 ]
 
-pub one_of_length : (A : Inputs) (journal more : List Entry) (s t : State) → Reaches A journal s → Reaches A more t → HasWholeEntries A journal s → HasWholeEntries A more t
+pub one_of_length : (A : Inputs) (journal more : List Entry) (s t : State) → Reaches A journal s → Reaches A more t → HasWholeEntries A journal s
+    → HasWholeEntries A more t
     → length journal ≡ length more → (journal ≡ more) × (s ≡ t)
 one_of_length A journal more s t a b whole entire equal = elim (reach_apart A journal more s t a b whole) [
   | behind h ↦ absurd (let long = behind_longer journal more h in omega (arith, long, equal))

@@ -95,7 +95,8 @@ other_or_noted A s u (PutsOut pid e j i) = inr (subst IsOther (sym i) (unit_case
 other_or_noted A s u (Notes e j i) = inl i
 other_or_noted A s u (Begins e j i) = inr (begins_is IsOther A s u i mark_other)
 
-pub noted_are : (A : Inputs) (s : State) (free used moving held : ℕ) → next_unit A s ≡ Some (entries.Owners free used moving held) → entries.Owners free used moving held ≡ owners_of s.place s.holdings
+pub noted_are : (A : Inputs) (s : State) (free used moving held : ℕ) → next_unit A s ≡ Some (entries.Owners free used moving held)
+    → entries.Owners free used moving held ≡ owners_of s.place s.holdings
 noted_are A s free used moving held next = elim (other_or_noted A s (entries.Owners free used moving held) (kind_of A s (entries.Owners free used moving held) next)) [
   | inl same ↦ same
   | inr other ↦ absurd other

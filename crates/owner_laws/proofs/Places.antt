@@ -33,7 +33,8 @@ told_here p k g f (Free n page) once at so = elim (cases_eq n k) [
 told_here p k g f (Used valid q dirty) once at so = sym (times_other g f [] (other_frame p f g once so.off))
 told_here p k g f (InTransfer write n q) once at so = sym (times_other g f [] (other_frame p f g once so.off))
 
-told_there : (p : Placement) (k g : ℕ) (xs : List FrameLine) → times g p.free ≡ 1 → in_place p.free k ≡ Some g → AreSo p xs → times k (places_told xs) ≡ times g (frames_told xs)
+told_there : (p : Placement) (k g : ℕ) (xs : List FrameLine) → times g p.free ≡ 1 → in_place p.free k ≡ Some g → AreSo p xs
+    → times k (places_told xs) ≡ times g (frames_told xs)
 told_there p k g [] once at so = refl
 told_there p k g (x ∷ xs) once at so =
     let split = times-append k (place_told x.said) (places_told xs) in

@@ -48,7 +48,8 @@ found_tail : {A : Type 0} (number : A → ℕ) (x : A) (xs : List A) (n : ℕ) �
 found_tail number x xs n d = ap (λ (b : Bool). cond b (Some x) (numbered number n xs)) (ne_eqb (number x) n d)
 
 -- registers that are one, unless the process is out
-said : (out : Bool) (pid : ℕ) (regs other : Regs) (life : Life) → (out ≡ false → regs ≡ other) → registers_text out pid regs life ≡ registers_text out pid other life
+said : (out : Bool) (pid : ℕ) (regs other : Regs) (life : Life) → (out ≡ false → regs ≡ other)
+    → registers_text out pid regs life ≡ registers_text out pid other life
 said true pid regs other life same = go life
   where
     go : (l : Life) → registers_text true pid regs l ≡ registers_text true pid other l
@@ -65,7 +66,8 @@ one_process p k q same regs =
     ap (λ (o : Outline). codes "process" ++ parts (o.pid ∷ []) ++ life_text (is_out p o.pid) o.asleep o.life ++ codes "\n" ++ registers_text (is_out p o.pid) o.pid k.regs o.life) same
     ∙ ap (λ (t : List ℕ). process_line p (kept_of q) ++ t) (said (is_out p q.pid) q.pid k.regs q.regs (life_of q.holding) regs)
 
-all_processes : (p : Placement) (ks : List Proc) (qs : List Process) → map outline_kept ks ≡ map outline_of qs → AllDistinct (map kept_pid ks) → Registered p ks qs
+all_processes : (p : Placement) (ks : List Proc) (qs : List Process) → map outline_kept ks ≡ map outline_of qs
+    → AllDistinct (map kept_pid ks) → Registered p ks qs
     → flat_map (process_lines p) ks ≡ flat_map (process_lines p) (map kept_of qs)
 all_processes p [] [] same distinct regs = refl
 all_processes p [] (q ∷ qs) same distinct regs = absurd cc
@@ -87,7 +89,8 @@ all_processes p (k ∷ ks) (q ∷ qs) same distinct regs =
     rest z x a b h =
         regs z x (found_tail pid_of q qs z.pid (λ e. other z.pid x b (pid ∙ e)) ∙ a) (found_tail kept_pid k ks z.pid (other z.pid x b) ∙ b) h
 
-same_all : {P H X Y : Type 0} (f : P → H → ℕ → X → Y) (p p' : P) (hs hs' : H) (size size' : ℕ) (x x' : X) → p ≡ p' → hs ≡ hs' → size ≡ size' → x ≡ x' → f p hs size x ≡ f p' hs' size' x'
+same_all : {P H X Y : Type 0} (f : P → H → ℕ → X → Y) (p p' : P) (hs hs' : H) (size size' : ℕ) (x x' : X) → p ≡ p' → hs ≡ hs' → size ≡ size' → x ≡ x'
+    → f p hs size x ≡ f p' hs' size' x'
 same_all f p p' hs hs' size size' x x' place holdings sizes texts = cc
 
 -- the text, by what the lines of its processes are
@@ -111,11 +114,11 @@ machine_told A s m over is =
     let qs = s.point.flat.processes in
     let regs : Registered m.kernel.place ks qs = λ q k a b h. in_record m.kernel is.image q k.regs (space_of_holding q.holding) (is_out m.kernel.place q.pid) h (keeps.coupled.regs q k a b) in
     let lines : flat_map (process_lines m.kernel.place) ks ≡ flat_map (process_lines s.place) (map kept_of qs)
-          = all_processes m.kernel.place ks qs keeps.coupled.tables.processes keeps.numbered.pids_differ regs
-            ∙ ap (λ (p : Placement). flat_map (process_lines p) (map kept_of qs)) at.place in
+    = all_processes m.kernel.place ks qs keeps.coupled.tables.processes keeps.numbered.pids_differ regs
+    ∙ ap (λ (p : Placement). flat_map (process_lines p) (map kept_of qs)) at.place in
     spelled n over m.kernel.place m.before m.params.swap_blocks ks
     ∙ same_all (text_with n over) m.kernel.place s.place m.before s.holdings m.params.swap_blocks A.swap_blocks
-      (flat_map (process_lines m.kernel.place) ks) (flat_map (process_lines s.place) (map kept_of qs)) at.place (is.whole ∙ at.holdings) is.size lines
+    (flat_map (process_lines m.kernel.place) ks) (flat_map (process_lines s.place) (map kept_of qs)) at.place (is.whole ∙ at.holdings) is.size lines
     ∙ sym (spelled n over s.place s.holdings A.swap_blocks (map kept_of qs))
   where
     in_record : (k : Kernel) (image : List ℕ) (q : Process) (kept : Regs) (sid : ℕ) (out : Bool) → out ≡ false → KeepsRegs k image out q kept sid → kept ≡ q.regs

@@ -64,7 +64,8 @@ movings p owns all = sym (length_flying (parts_of p.transfers)) ∙ sym (all.mov
         let c : IsCarried p 1 f p.transfers = carried p 1 f p.transfers owns.moves l in
         in_row p f (frame_in p.holds f c.page (owns.names c.page f (ap frame_of c.state ∙ moving_frame c.transfer.errand f)))
 
-numbered : (p : Placement) (hs : Holdings) (free used moving held : ℕ) → length p.free ≡ free → length p.holds - (length p.free + length (parts_of p.transfers)) ≡ used
+numbered : (p : Placement) (hs : Holdings) (free used moving held : ℕ) → length p.free ≡ free
+    → length p.holds - (length p.free + length (parts_of p.transfers)) ≡ used
     → length (parts_of p.transfers) ≡ moving → blocks_held hs ≡ held → owners_of p hs ≡ noted.Owners free used moving held
 numbered p hs free used moving held a b c d =
     ap (λ (n : ℕ). noted.Owners n (length p.holds - (length p.free + length (parts_of p.transfers))) (length (parts_of p.transfers)) (blocks_held hs)) a

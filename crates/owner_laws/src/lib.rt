@@ -10,4 +10,7 @@
 
 mod laws;
 
-pub use laws::{entries_are_first, frames_are_told, machines_are_told, owners_are_told, runs_are_told, swap_is_told};
+pub use laws::{
+    entries_are_first, frames_are_told, machines_are_told, owners_are_told, runs_are_told,
+    swap_is_told,
+};

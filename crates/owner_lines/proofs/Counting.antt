@@ -28,7 +28,8 @@ drop_more : {A : Type 0} (x : A) (xs : List A) (i : ℕ) → drop (i + 1) xs ≡
 drop_more {A} x xs i = let e : suc (i + 1) ≡ suc i + 1 = omega arith in ap (λ (k : ℕ). drop k (x ∷ xs)) e
 
 -- the transfers from a place on
-pub transfers_more : (hs : Holdings) (n i : ℕ) (ts : List Transfer) → transfers_from hs n (drop i ts) ≡ transfer_if hs n (slice_get ts i) ++ transfers_from hs (n + 1) (drop (i + 1) ts)
+pub transfers_more : (hs : Holdings) (n i : ℕ) (ts : List Transfer)
+    → transfers_from hs n (drop i ts) ≡ transfer_if hs n (slice_get ts i) ++ transfers_from hs (n + 1) (drop (i + 1) ts)
 transfers_more hs n zero [] = refl
 transfers_more hs n (suc i) [] = ap (transfers_from hs (n + 1)) (sym (drop_none (suc i + 1)))
 transfers_more hs n zero (t ∷ ts) = refl
@@ -56,7 +57,8 @@ carried_here n f (suc i) [] c h = absurd cc
 carried_here n f zero (t ∷ ts) c h = carried_by_some n t.errand (page_in f t.parts) (carried_from (n + 1) f ts) c (sym h)
 carried_here n f (suc i) (t ∷ ts) c h = carried_here n f i ts c h
 
-pub carried_behind : (n f i : ℕ) (ts : List Transfer) → None ≡ carried_if n f (slice_get ts i) → carried_from n f (drop i ts) ≡ carried_from (n + 1) f (drop (i + 1) ts)
+pub carried_behind : (n f i : ℕ) (ts : List Transfer) → None ≡ carried_if n f (slice_get ts i)
+    → carried_from n f (drop i ts) ≡ carried_from (n + 1) f (drop (i + 1) ts)
 carried_behind n f zero [] h = refl
 carried_behind n f (suc i) [] h = ap (carried_from (n + 1) f) (sym (drop_none (suc i + 1)))
 carried_behind n f zero (t ∷ ts) h = carried_by_none n t.errand (page_in f t.parts) (carried_from (n + 1) f ts) (sym h)

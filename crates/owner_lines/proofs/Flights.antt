@@ -17,20 +17,24 @@ use Rattle.owner_lines.specs.Owners.{source_word, block_moved, moved_line, part_
 use Rattle.owner_lines.specs.Carried.{block_read, inbound_line, outbound_line, flight_text}
 use Rattle.run_text.specs.Text.{parts, page_text}
 
-read_block : (ns : List ImageNamed) (f : ℕ → ℕ) (hs : Holdings) (size : ℕ) (source : Source) (demanded q : Page) (from : From) → source_of from ≡ source → IsSourced ns f hs size q from → block_read from ≡ block_moved hs (Reads source demanded) q
+read_block : (ns : List ImageNamed) (f : ℕ → ℕ) (hs : Holdings) (size : ℕ) (source : Source) (demanded q : Page) (from : From) → source_of from ≡ source
+    → IsSourced ns f hs size q from → block_read from ≡ block_moved hs (Reads source demanded) q
 read_block ns f hs size source demanded q (froms.Swap block) e h = sym h.own ∙ ap (λ (s : Source). block_moved hs (Reads s demanded) q) e
 read_block ns f hs size source demanded q (froms.File id offset count) e h = ap (λ (s : Source). block_moved hs (Reads s demanded) q) e
 
-read_lines : (ns : List ImageNamed) (f : ℕ → ℕ) (hs : Holdings) (size : ℕ) (source : Source) (demanded : Page) (xs : List Inbound) → AreSourcedIn ns f hs size source xs → flat_map inbound_line xs ≡ flat_map (part_line hs (Reads source demanded)) (map in_part xs)
+read_lines : (ns : List ImageNamed) (f : ℕ → ℕ) (hs : Holdings) (size : ℕ) (source : Source) (demanded : Page) (xs : List Inbound)
+    → AreSourcedIn ns f hs size source xs → flat_map inbound_line xs ≡ flat_map (part_line hs (Reads source demanded)) (map in_part xs)
 read_lines ns f hs size source demanded [] h = refl
 read_lines ns f hs size source demanded (x ∷ xs) h =
     ap₂ ◌++◌ (ap (moved_line x.page x.token.number) (read_block ns f hs size source demanded x.page x.source h.0 h.1)) (read_lines ns f hs size source demanded xs h.2)
 
-written_lines : (hs : Holdings) (size : ℕ) (xs : List Outbound) → AreOwnBlocks hs size xs → flat_map outbound_line xs ≡ flat_map (part_line hs Writes) (map out_part xs)
+written_lines : (hs : Holdings) (size : ℕ) (xs : List Outbound) → AreOwnBlocks hs size xs
+    → flat_map outbound_line xs ≡ flat_map (part_line hs Writes) (map out_part xs)
 written_lines hs size [] h = refl
 written_lines hs size (x ∷ xs) h = ap₂ ◌++◌ (ap (moved_line x.page x.token.number) (sym h.0.own)) (written_lines hs size xs h.1)
 
-pub flight_lines : (ns : List ImageNamed) (f : ℕ → ℕ) (hs : Holdings) (size n : ℕ) (t : Flight) → IsFlightSourced ns f hs size t → codes "transfer" ++ parts (n ∷ []) ++ flight_text t ≡ transfer_lines hs n (transfer_shown t)
+pub flight_lines : (ns : List ImageNamed) (f : ℕ → ℕ) (hs : Holdings) (size n : ℕ) (t : Flight) → IsFlightSourced ns f hs size t
+    → codes "transfer" ++ parts (n ∷ []) ++ flight_text t ≡ transfer_lines hs n (transfer_shown t)
 flight_lines ns f hs size n (flights.Read demanded xs) h =
     let head = codes "transfer" ++ parts (n ∷ []) in
     let errand = source_word (source_shown xs.items) ++ page_text demanded in

@@ -93,7 +93,8 @@ has_some f t q h = go t.parts h
     ]
 
 -- the page that a transfer has in a frame is on its way
-moving_in : (p : Placement) (f : ℕ) (e : Errand) (xs : List Part) (rest : List Moving) (q : Page) → Each (IsMoving p) (map (moving e) xs ++ rest) → page_in f xs ≡ Some q → state_of p q ≡ moving_state e f
+moving_in : (p : Placement) (f : ℕ) (e : Errand) (xs : List Part) (rest : List Moving) (q : Page) → Each (IsMoving p) (map (moving e) xs ++ rest)
+    → page_in f xs ≡ Some q → state_of p q ≡ moving_state e f
 moving_in p f e [] rest q m h = absurd cc
 moving_in p f e (x ∷ xs) rest q m h = elim (cases_Bool (eqb x.frame f)) [
   | inl hit ↦
@@ -148,7 +149,8 @@ moving_frame : (e : Errand) (f : ℕ) → frame_of (moving_state e f) ≡ Some f
 moving_frame Writes f = refl
 moving_frame (Reads source demanded) f = refl
 
-moved_state : (p : Placement) (f : ℕ) (q : Page) (e : Errand) → used_by p q (moving_state e f) ≡ carried_text (Some (let c : Carried = record { number = carrier p f; is_write = is_write e; page = q } in c))
+moved_state : (p : Placement) (f : ℕ) (q : Page) (e : Errand)
+    → used_by p q (moving_state e f) ≡ carried_text (Some (let c : Carried = record { number = carrier p f; is_write = is_write e; page = q } in c))
 moved_state p f q Writes = refl
 moved_state p f q (Reads source demanded) = refl
 
@@ -233,7 +235,8 @@ module _ (p : Placement) (core : Frames) (owns : OwnsFrames p) (shows : ShowsCor
           let list : times f p.free ≡ 0 = ap (times f) shows.free ∙ free in
           omega (arith, once, seat, list, fly, none)
 
-      by : (s : PageState) → state_of p q ≡ s → is_unsaved p q ≡ is_marked_dirty q (is_dirty (slot_at core.slots f)) → times f core.free ≡ 0 → times f (flying (parts_of p.transfers)) ≡ 0 → page_of p f ≡ Some q → Goal
+      by : (s : PageState) → state_of p q ≡ s → is_unsaved p q ≡ is_marked_dirty q (is_dirty (slot_at core.slots f)) → times f core.free ≡ 0 → times f (flying (parts_of p.transfers)) ≡ 0
+          → page_of p f ≡ Some q → Goal
       by Unfilled s d free fly page = absurd (unseated 0 free fly page refl (ap (seats (times f p.free)) s))
       by (Valid g) s d free fly page =
           ap (used_by p q) s ∙ ap (kept_text (codes " valid") q) d

@@ -66,7 +66,8 @@ abbrev pub records_over : List Record → ℕ → ℕ → List Record
 records_over ps v next = over (λ n. find n ps) v next
 
 -- the lines of all are those of the records
-pub lines_of_all : (p : Placement) (ps : List Record) (next : ℕ) (qs : List Proc) → p.residents ≡ residents_of ps next → AreRecords ps next → qs ≡ processes_of ps next
+pub lines_of_all : (p : Placement) (ps : List Record) (next : ℕ) (qs : List Proc) → p.residents ≡ residents_of ps next → AreRecords ps next
+    → qs ≡ processes_of ps next
     → flat_map (process_lines p) qs ≡ flat_map record_lines (records_over ps 1 next)
 lines_of_all p ps next qs residents known e =
     ap (λ (qs : List Proc). flat_map (process_lines p) qs) e ∙ lines_over p ps next residents known (range_with_len 1 (next - 1))
@@ -80,7 +81,8 @@ next_there ps last pid low e = go (find pid ps) e low.0.1
     go (Some x) h s = cc
 
 -- a step from a pid to the next one skips no record
-records_next : (ps : List Record) (next last pid : ℕ) (x : Record) → AreRecords ps next → Lowest (λ q. (last < q) × IsSome (find q ps)) (Some pid) → find pid ps ≡ Some x
+records_next : (ps : List Record) (next last pid : ℕ) (x : Record) → AreRecords ps next
+    → Lowest (λ q. (last < q) × IsSome (find q ps)) (Some pid) → find pid ps ≡ Some x
     → records_over ps (last + 1) next ≡ x ∷ records_over ps (pid + 1) next
 records_next ps next last pid x h low e =
     next_follows (λ (o : Option Record). o) ps next last pid refl h low ∙ over_some (λ n. find n ps) pid next x (let k = h.known pid x e in k.1) e

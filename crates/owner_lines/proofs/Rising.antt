@@ -70,7 +70,8 @@ next_is_first b (h ∷ hs) =
     ap (λ (o : Option Held). cond (ltb h.start b) o (Some (nearer h o))) (next_is_first b hs) ∙ sym (first_placed b h (rising hs))
 
 -- the next of the pieces from a place on
-pub next_more : (b : ℕ) (hs : Holdings) (i : ℕ) (d : Held) (o : Option Held) → i < length hs → o ≡ next_from b (drop (i + 1) hs) → nearer_from b (get_or hs i d) o ≡ next_from b (drop i hs)
+pub next_more : (b : ℕ) (hs : Holdings) (i : ℕ) (d : Held) (o : Option Held) → i < length hs → o ≡ next_from b (drop (i + 1) hs)
+    → nearer_from b (get_or hs i d) o ≡ next_from b (drop i hs)
 next_more b hs i d o below rest = ap (nearer_from b (get_or hs i d)) rest ∙ sym (at_drop_more (next_from b) hs i d below)
 
 -- each piece has blocks, and begins after the end of the one before it
@@ -155,7 +156,8 @@ all_step a b (g ∷ gs) h f e = elim (cases_Bool (ltb g.start b)) [
       let same : g ≡ h = same_Some g h (sym (ap (λ (c : Bool). cond c (first_from b gs) (Some g)) high) ∙ e) in
       let under : g.start < g.start + g.length = let x = f.1 in omega (arith, x) in
       ap (λ (c : Bool). cond c (all_from b gs) (g ∷ gs)) high
-      ∙ ap (λ (xs : Holdings). g ∷ xs) (sym (ap (λ (c : Bool). cond c (all_from (g.start + g.length) gs) (g ∷ gs)) (is_below g.start (g.start + g.length) under) ∙ all_follow (g.start + g.length) gs f.2))
+      ∙ ap (λ (xs : Holdings). g ∷ xs)
+      (sym (ap (λ (c : Bool). cond c (all_from (g.start + g.length) gs) (g ∷ gs)) (is_below g.start (g.start + g.length) under) ∙ all_follow (g.start + g.length) gs f.2))
       ∙ ap (λ (x : Held). x ∷ all_from (x.start + x.length) (g ∷ gs)) same
 ]
 
@@ -174,7 +176,8 @@ text_from size b hs = blocks_from size b (all_from b (rising hs))
 pub text_start : (size : ℕ) (hs : Holdings) → IsBook size hs → blocks_from size 0 (rising hs) ≡ text_from size 0 hs
 text_start size hs b = ap (blocks_from size 0) (sym (all_follow 0 (rising hs) (follow_rising size hs b)))
 
-pub text_step : (size b : ℕ) (hs : Holdings) (h : Held) → IsBook size hs → Some h ≡ next_from b hs → text_from size b hs ≡ gap_line b h.start ++ piece_line h ++ text_from size (h.start + h.length) hs
+pub text_step : (size b : ℕ) (hs : Holdings) (h : Held) → IsBook size hs → Some h ≡ next_from b hs
+    → text_from size b hs ≡ gap_line b h.start ++ piece_line h ++ text_from size (h.start + h.length) hs
 text_step size b hs h book e =
     ap (blocks_from size b) (all_step 0 b (rising hs) h (follow_rising size hs book) (sym (e ∙ next_is_first b hs)))
 
@@ -199,7 +202,8 @@ next_of P b (g ∷ gs) h k e = elim (cases_Bool (ltb g.start b)) [
       subst P same (nearer_of P g (next_from b gs) k.0 (λ x f. next_of P b gs x k.1 f))
 ]
 
-pub next_piece_is : (size b : ℕ) (hs : Holdings) (h : Held) → IsBook size hs → Some h ≡ next_from b hs → (b ≤ h.start) × (0 < h.length) × (h.start + h.length ≤ size)
+pub next_piece_is : (size b : ℕ) (hs : Holdings) (h : Held) → IsBook size hs → Some h ≡ next_from b hs
+    → (b ≤ h.start) × (0 < h.length) × (h.start + h.length ≤ size)
 next_piece_is size b hs h book e =
     let piece = next_of (IsPiece size) b hs h (each_from (IsPiece size) hs book.pieces) (sym e) in
     (first_above b (rising hs) h (sym (e ∙ next_is_first b hs)), piece.not_empty, piece.within)

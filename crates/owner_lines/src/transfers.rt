@@ -109,7 +109,8 @@ fn put_read<S: Sink>(
     demanded: &Page,
     parts: &[Inbound],
 ) -> Result<(), Failed>
-    ensures { PutsText S.Sink result (source_word (source_shown parts.now) ++ page_text demanded.now ++ codes "\n" ++ flat_map inbound_line parts.now) out.old out.new }
+    ensures { PutsText S.Sink result
+        (source_word (source_shown parts.now) ++ page_text demanded.now ++ codes "\n" ++ flat_map inbound_line parts.now) out.old out.new }
 {
     out.put(source_word(parts))?;
     put_page(out, demanded)?;

@@ -77,7 +77,8 @@ sized (suc n) (x ∷ xs) = x ∷ sized n xs
 -- other sizes for a space; the pages that go were dropped before
 abbrev pub cut_space : Placement → ℕ → ℕ → ℕ → Placement
 cut_space p sid data_count stack_count = record p {
-  spaces = changed space_number sid (λ (s : SpacePages). record s { data_pages = sized data_count s.data_pages; stack_pages = sized stack_count s.stack_pages }) p.spaces;
+  spaces = changed space_number sid
+      (λ (s : SpacePages). record s { data_pages = sized data_count s.data_pages; stack_pages = sized stack_count s.stack_pages }) p.spaces;
 }
 
 -- how many data pages a space has; 0 where there is no such space
@@ -91,7 +92,8 @@ stack_count p sid = length (slots_of p (Stack sid 0))
 -- Growth and break: the frames of the pages that go are at the head of the free list, rising one after another.
 abbrev pub resize : Placement → ℕ → ℕ → ℕ → Placement
 resize p sid data_now stack_now =
-    cut_space (drop_all p (data_from sid data_now (data_count p sid - data_now) ++ stack_from sid stack_now (stack_count p sid - stack_now))) sid data_now stack_now
+    cut_space (drop_all p (data_from sid data_now (data_count p sid - data_now) ++ stack_from sid stack_now (stack_count p sid - stack_now))) sid data_now
+    stack_now
 
 -- the child's page: unfilled as its parent's is; else it has zeros till it is copied
 abbrev pub child_slot_by : Slot → PageState → Slot

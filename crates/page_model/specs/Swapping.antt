@@ -38,7 +38,8 @@ larger_count p x (r ∷ rs) = cond (may_go_out p r && is_larger p r x) 1 0 + lar
 abbrev pub IsPick : Placement → List Runner → Runner → Bool → Type 0
 IsPick p rs r true = (x : Runner) → OneOf x rs → MayGo p x → x.asleep ≡ true → IsFirst p r x
 IsPick p rs r false =
-    ((x : Runner) → OneOf x rs → MayGo p x → x.asleep ≡ false) × (larger_count p r rs < 4) × ((x : Runner) → OneOf x rs → MayGo p x → larger_count p x rs < 4 → IsFirst p r x)
+    ((x : Runner) → OneOf x rs → MayGo p x → x.asleep ≡ false) × (larger_count p r rs < 4)
+    × ((x : Runner) → OneOf x rs → MayGo p x → larger_count p x rs < 4 → IsFirst p r x)
 
 -- A process that goes out may go, it is the one to pick, and too few frames are free.
 pub record GoesOut (p : Placement) (rs : List Runner) (pid : ℕ) : Type 0 where

@@ -135,7 +135,8 @@ chosen_served n at p future cache vs faults c (inr (inr f)) =
     ap (λ (b : Bool). served n p b (choice n p future cache) (record { cache = cache; victims = listed at (choice n p future cache) ++ vs; faults = faults })) f.away ∙
     ap (λ (o : Option ℕ). served n p false o (record { cache = cache; victims = listed at o ++ vs; faults = faults })) f.some ∙
     ap (λ (b : Bool). then (entered n p) (cond b (Some (record { cache = without_first f.victim cache; victims = vs; faults = faults })) None)) f.furthest.there ∙
-    ap (λ (b : Bool). cond b (Some (record { cache = p ∷ without_first f.victim cache; victims = vs; faults = faults + 1 })) None) (lt-ltb (length (without_first f.victim cache)) n (let l = length-without f.victim cache f.furthest.there in let s = c.small in omega arith)) ∙
+    ap (λ (b : Bool). cond b (Some (record { cache = p ∷ without_first f.victim cache; victims = vs; faults = faults + 1 })) None)
+    (lt-ltb (length (without_first f.victim cache)) n (let l = length-without f.victim cache f.furthest.there in let s = c.small in omega arith)) ∙
     ap (λ (o : Option ℕ). Some (record { cache = cached p false o cache; victims = vs; faults = faults + 1 })) (sym f.some) ∙
     ap (λ (b : Bool). Some (record { cache = cached p b (choice n p future cache) cache; victims = vs; faults = counted b faults })) (sym f.away)
 

@@ -185,7 +185,8 @@ spent_furthest v at future cache awaited spent h s lowest =
     }
 
 pub awaited_furthest : (v at : ℕ) (future cache : List ℕ) (awaited spent : ℕ → Bool) → Held future at (λ q. has q cache) awaited spent
-    → has v cache ≡ true → next_use v future < length future → ((q : ℕ) → spent q ≡ false) → ((k : ℕ) → awaited k ≡ true → k ≤ at + next_use v future) → IsFurthest future cache v
+    → has v cache ≡ true → next_use v future < length future → ((q : ℕ) → spent q ≡ false) → ((k : ℕ) → awaited k ≡ true → k ≤ at + next_use v future)
+    → IsFurthest future cache v
 awaited_furthest v at future cache awaited spent h there n none last = record {
   there = there;
   first = λ q i. elim (cases_lt (next_use q future) (length future)) [

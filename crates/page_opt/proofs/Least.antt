@@ -29,7 +29,8 @@ pub record BestMiss (n p : ℕ) (xs best later : List ℕ) (b b' : ℕ) : Type 0
 
 -- where the furthest page has left
 full_kept : (n p : ℕ) (xs ys cache : List ℕ) → IsCache n cache → (f : IsFull n p (xs ++ ys) cache)
-    → (bit (has p xs) + count xs (without_first f.victim cache) ≡ count xs cache + bit (has p xs)) ⊎ (bit (has p xs) + count xs (without_first f.victim cache) + 1 ≡ n + bit (has p xs))
+    → (bit (has p xs) + count xs (without_first f.victim cache) ≡ count xs cache + bit (has p xs))
+    ⊎ (bit (has p xs) + count xs (without_first f.victim cache) + 1 ≡ n + bit (has p xs))
 full_kept n p xs ys cache c f =
     let one = tally-without (λ q. has q xs) f.victim cache f.furthest.there in
     elim (cases_Bool (has f.victim xs)) [
@@ -43,7 +44,8 @@ full_kept n p xs ys cache c f =
     ]
 
 pub best_moves : (n p : ℕ) (xs ys cache : List ℕ) (b : ℕ) → IsCache n cache → Chosen n p (xs ++ ys) cache
-    → BestHit p xs cache (after n p (xs ++ ys) cache) b (counted (has p cache) b) ⊎ BestMiss n p xs cache (after n p (xs ++ ys) cache) b (counted (has p cache) b)
+    → BestHit p xs cache (after n p (xs ++ ys) cache) b (counted (has p cache) b)
+    ⊎ BestMiss n p xs cache (after n p (xs ++ ys) cache) b (counted (has p cache) b)
 best_moves n p xs ys cache b c (inl h) = inl (record {
   there = c.once p;
   same = ap (λ (qs : List ℕ). count xs qs) (after_hit n p (xs ++ ys) cache h);
@@ -170,7 +172,8 @@ least n at (p ∷ ps) best b b' c c' some cache l a s t =
     (ap (λ (o : Option Run). runs n (at + 1) ps o) (sym (chosen_serves n at p ps best b some cache)) ∙ s)
     r)
   where
-    go : (o : Option Run) → serve n at p c ≡ o → runs n (at + 1) ps o ≡ Some c' → ((d : Run) → serve n at p c ≡ Some d → runs n (at + 1) ps (Some d) ≡ Some c' → b'.faults ≤ c'.faults) → b'.faults ≤ c'.faults
+    go : (o : Option Run) → serve n at p c ≡ o → runs n (at + 1) ps o ≡ Some c'
+        → ((d : Run) → serve n at p c ≡ Some d → runs n (at + 1) ps (Some d) ≡ Some c' → b'.faults ≤ c'.faults) → b'.faults ≤ c'.faults
     go None e r rest = let stays = runs_none n (at + 1) ps in cc
     go (Some d) e r rest = rest d e r
 

@@ -83,7 +83,8 @@ stands_next refs n i r s victims later faults more some l st held room used new_
       room = room;
       used = used;
       run =
-          ap (λ (m : ℕ). runs n (i + 1 + 1) future (Some (record { cache = after n p future st.cache; victims = victims_from n (i + 1 + 1) future (after n p future st.cache); faults = m }))) new_faults ∙
+          ap (λ (m : ℕ). runs n (i + 1 + 1) future (Some (record { cache = after n p future st.cache; victims = victims_from n (i + 1 + 1) future (after n p future st.cache); faults = m })))
+          new_faults ∙
           sym (ap (λ (o : Option Run). runs n (i + 1 + 1) future o) (chosen_serves n (i + 1) p future st.cache faults some st.is_cache)) ∙
           whole;
       made =

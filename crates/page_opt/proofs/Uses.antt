@@ -98,7 +98,8 @@ not_further_gives future p q h =
       ]
     ]
   where
-    go : next_use p future ≤ next_use q future → (next_use p future ≡ next_use q future) ⊎ (next_use p future ≡ next_use q future → ⊥) → (next_use p future == next_use q future) ≡ false → Before future q p
+    go : next_use p future ≤ next_use q future → (next_use p future ≡ next_use q future) ⊎ (next_use p future ≡ next_use q future → ⊥)
+        → (next_use p future == next_use q future) ≡ false → Before future q p
     go least (inl same) apart = absurd (true≢false (sym (eq-eqb (next_use p future) (next_use q future) same) ∙ apart))
     go least (inr other) apart = inl (omega arith)
 

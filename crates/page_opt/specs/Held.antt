@@ -110,6 +110,7 @@ pub record Stands (refs : List ℕ) (n i : ℕ) (r : Resident) (victims : List V
   pub held : Held (drop i refs) i (λ q. has q cache) (has_place r.awaited) (in_set r.spent)
   pub room : length refs ≤ capacity r.awaited
   pub used : r.used ≡ length cache
-  pub run : runs n (i + 1) (drop i refs) (Some (record { cache = cache; victims = victims_from n (i + 1) (drop i refs) cache; faults = faults })) ≡ runs n 1 refs (Some (record { cache = []; victims = furthest_victims refs n; faults = 0 }))
+  pub run : runs n (i + 1) (drop i refs) (Some (record { cache = cache; victims = victims_from n (i + 1) (drop i refs) cache; faults = faults }))
+      ≡ runs n 1 refs (Some (record { cache = []; victims = furthest_victims refs n; faults = 0 }))
   pub made : victims ++ victims_from n (i + 1) (drop i refs) cache ≡ furthest_victims refs n
   pub few : faults ≤ i

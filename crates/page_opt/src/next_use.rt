@@ -10,7 +10,8 @@ use std::collections::HashMap;
 pub(crate) fn next_uses(alloc: Global, refs: &[u32]) -> Result<Vec<Option<u32>>, NoMemory>
     requires { length refs.now ≤ 4000000 }
     ensures len { IfOk result (λ next. vec_len next ≡ length refs.now) }
-    ensures next { IfOk result (λ next. (i : ℕ) (d : Option ℕ) → i < length refs.now → slice_index_or next.items i d ≡ next_at (i + 1) (slice_index refs.now i) (drop (i + 1) refs.now)) }
+    ensures next { IfOk result (λ next. (i : ℕ) (d : Option ℕ) → i < length refs.now
+        → slice_index_or next.items i d ≡ next_at (i + 1) (slice_index refs.now i) (drop (i + 1) refs.now)) }
 {
     let mut next = vec![in alloc; None; refs.len()]?;
     let mut seen = HashMap::new(alloc);

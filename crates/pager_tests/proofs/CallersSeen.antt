@@ -48,7 +48,8 @@ is_in (n ∷ ns) ps pid p f o = go (residence_of (find n ps)) refl (is_in ns ps 
     own : (r : Residence) → residence_of (find n ps) ≡ Some r → r.pid ≡ pid → r.out ≡ false
     own r e h = residence_out p p.state r (sym (ap residence_of (ap (λ (k : ℕ). find k ps) (sym (found_residence n ps r e) ∙ h) ∙ f)) ∙ e) ∙ o
 
-    go : (x : Option Residence) → residence_of (find n ps) ≡ x → (swapper.residence_of rs pid).out ≡ false → (swapper.residence_of (filter_map (λ k. residence_of (find k ps)) (n ∷ ns)) pid).out ≡ false
+    go : (x : Option Residence) → residence_of (find n ps) ≡ x → (swapper.residence_of rs pid).out ≡ false
+        → (swapper.residence_of (filter_map (λ k. residence_of (find k ps)) (n ∷ ns)) pid).out ≡ false
     go None e more = ap (λ (l : List Residence). (swapper.residence_of l pid).out) (keeps_none (λ k. residence_of (find k ps)) n ns e) ∙ more
     go (Some r) e more = ap (λ (l : List Residence). (swapper.residence_of l pid).out) (keeps_some (λ k. residence_of (find k ps)) n ns r e) ∙ elim (cases_eq r.pid pid) [
       | inl h ↦ ap (λ (y : Residence). y.out) (first_hit pid r rs h) ∙ own r e h

@@ -198,14 +198,17 @@ can_zero p t b d f = record {
 
 -- After each call.
 
-pub served_ready : (r : Result (Unit {0}) Stop) (S : Stop → Type 0) (q : Page) (old new : Standing) (i j : Option (List ℕ)) (holds later : Option (List NamedFile)) (blocks more : ℕ)
+pub served_ready : (r : Result (Unit {0}) Stop) (S : Stop → Type 0) (q : Page) (old new : Standing) (i j : Option (List ℕ))
+    (holds later : Option (List NamedFile)) (blocks more : ℕ)
     → MatchResult r (λ u. ServedNow [] q old new holds i j) S → later ≡ holds → more ≡ blocks → IsReady old holds blocks → OnOk r (IsReady new later more)
 served_ready (Ok u) S q old new i j holds later blocks more s e f r =
     makes_ready (ground old holds []) s.0.serves.units old new i j holds later blocks more s.0.serves.makes e f r
 served_ready (Err stop) S q old new i j holds later blocks more s e f r = tt
 
-pub came_ready : (r : Result Served Stop) (S : Stop → Type 0) (q : Page) (old new : Standing) (i j : Option (List ℕ)) (holds later : Option (List NamedFile)) (blocks more : ℕ)
-    → MatchResult r (λ answer. ServedAs answer q old new holds i j) S → later ≡ holds → more ≡ blocks → IsReady old holds blocks → OnOk r (IsReady new later more)
+pub came_ready : (r : Result Served Stop) (S : Stop → Type 0) (q : Page) (old new : Standing) (i j : Option (List ℕ))
+    (holds later : Option (List NamedFile)) (blocks more : ℕ)
+    → MatchResult r (λ answer. ServedAs answer q old new holds i j) S → later ≡ holds → more ≡ blocks → IsReady old holds blocks
+    → OnOk r (IsReady new later more)
 came_ready (Ok u) S q old new i j holds later blocks more s e f r =
     makes_ready (ground old holds []) s.0.serves.units old new i j holds later blocks more s.0.serves.makes e f r
 came_ready (Err stop) S q old new i j holds later blocks more s e f r = tt
@@ -222,13 +225,15 @@ forced_ready (Err stop) old new i j holds later blocks more s e f r = tt
 
 pub landed_ready : (old new : Standing) (i j : Option (List ℕ)) (holds later : Option (List NamedFile)) (blocks more : ℕ)
     → IsDone (sources old holds) i old.kernel new.kernel
-    → new ≡ record old { kernel = new.kernel; room = None } → ImageAfter old.kernel i j → later ≡ holds → more ≡ blocks → IsReady old holds blocks → IsReady new later more
+    → new ≡ record old { kernel = new.kernel; room = None } → ImageAfter old.kernel i j → later ≡ holds → more ≡ blocks → IsReady old holds blocks
+    → IsReady new later more
 landed_ready old new i j holds later blocks more d b a = unit_ready (ground old holds []) entries.Done old new i j holds later blocks more
     (record { made = d; told = a; beside = beside_of old new b })
 
 pub started_ready : (m : Standing) (facts : Image) (holds : Option (List NamedFile)) (blocks : ℕ) → HasStarted m facts → file_length_of facts ≤ 32768
     → blocks ≡ 260
-    → ((images : List ImageNamed) → ((files : List NamedFile) → 0 < length files → 32768 ≤ length (bytes_at files 0) → HaveFiles images files) → AreFiles images holds) → IsReady m holds blocks
+    → ((images : List ImageNamed) → ((files : List NamedFile) → 0 < length files → 32768 ≤ length (bytes_at files 0) → HaveFiles images files)
+    → AreFiles images holds) → IsReady m holds blocks
 started_ready m facts holds blocks s l b f = record {
   running = s.running;
   whole = s.whole;

@@ -133,9 +133,11 @@ mark_names A s _ k = tt
 
 kind_names : (A : Inputs) (s : State) (u : Entry) → Kind A s u → Names A s u
 kind_names A s u (Fills q due e i) = subst (Names A s) (sym i) (fill_names A s (entries.Zero q) (inl (inr (record { rest = due; first = e }))))
-kind_names A s u (Brings q parent due e i) = subst (Names A s) (sym (unit_is s.place parent true u i).1) (parent_names A s parent (serve_entry s.place parent) (record { child = q; rest = due; first = e }) (serve_served s.place parent))
+kind_names A s u (Brings q parent due e i) =
+    subst (Names A s) (sym (unit_is s.place parent true u i).1) (parent_names A s parent (serve_entry s.place parent) (record { child = q; rest = due; first = e }) (serve_served s.place parent))
 kind_names A s u (Copies q parent due e j i) = subst (Names A s) (sym i) (fill_names A s (entries.Copy q) (record { parent = parent; rest = due; first = e; source = served_valid s.place parent j }))
-kind_names A s u (Serves pid now q r w i) = subst (Names A s) (sym (unit_is s.place q now u i).1) (wanted_names A s q (serve_entry s.place q) (record { pid = pid; now = now; runs = r; wanted = w }) (serve_served s.place q))
+kind_names A s u (Serves pid now q r w i) =
+    subst (Names A s) (sym (unit_is s.place q now u i).1) (wanted_names A s q (serve_entry s.place q) (record { pid = pid; now = now; runs = r; wanted = w }) (serve_served s.place q))
 kind_names A s u (Acts pid now r w a) = by (acted A s pid u a)
   where
     by : Acted A s pid u → Names A s u

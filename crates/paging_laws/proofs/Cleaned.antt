@@ -75,9 +75,11 @@ plain_dirty A s u q f r h n d = elim (unit_written A s u q f r h n (must_write s
 
 stepped_dirty : (A : Inputs) (s : State) (u : Entry) (q : Page) (f pid at : ℕ) (qs : List Page) → IsRun A s → process_of_entry u ≡ Some pid
     → IsDirtyIn s.place q f
-    → IsDirtyIn (place_change (facts_of A.images) (touch_all s.place qs) pid (space_held s pid) (is_borrower s.point.flat.processes pid) s.point.flat.next_sid at (step_at A s.point pid).change) q f ⊎ IsCleaned A s u q f
+    → IsDirtyIn (place_change (facts_of A.images) (touch_all s.place qs) pid (space_held s pid)
+    (is_borrower s.point.flat.processes pid) s.point.flat.next_sid at (step_at A s.point pid).change) q f ⊎ IsCleaned A s u q f
 stepped_dirty A s u q f pid at qs r e d =
-    elim (change_dirty (facts_of A.images) (touch_all s.place qs) pid (space_held s pid) (is_borrower s.point.flat.processes pid) s.point.flat.next_sid at (step_at A s.point pid).change q f (touched_new A s qs r) (touch_all_dirty qs s.place q f d)) [
+    elim (change_dirty (facts_of A.images) (touch_all s.place qs) pid (space_held s pid) (is_borrower s.point.flat.processes pid) s.point.flat.next_sid at (step_at A s.point pid).change q f
+    (touched_new A s qs r) (touch_all_dirty qs s.place q f d)) [
       | inl k ↦ inl k
       | inr k ↦ inr (WasGivenUp pid e k)
     ]
@@ -87,7 +89,8 @@ flat_dirty : (A : Inputs) (s : State) (u : Entry) (q : Page) (f pid : ℕ) → I
 unfolding after
 flat_dirty A s (entries.Ran p n) q f pid r e d = stepped_dirty A s (entries.Ran p n) q f p (place_at s (entries.Ran p n)) (pages_written s.point.flat p (step_at A s.point p)) r refl d
 flat_dirty A s (entries.Grew p n) q f pid r e d = stepped_dirty A s (entries.Grew p n) q f p (place_at s (entries.Grew p n)) (pages_written s.point.flat p (step_at A s.point p)) r refl d
-flat_dirty A s (entries.Call p n b r0 r1) q f pid r e d = stepped_dirty A s (entries.Call p n b r0 r1) q f p (place_at s (entries.Call p n b r0 r1)) (pages_written s.point.flat p (step_at A s.point p)) r refl d
+flat_dirty A s (entries.Call p n b r0 r1) q f pid r e d =
+    stepped_dirty A s (entries.Call p n b r0 r1) q f p (place_at s (entries.Call p n b r0 r1)) (pages_written s.point.flat p (step_at A s.point p)) r refl d
 flat_dirty A s (entries.Sleeps p) q f pid r e d = stepped_dirty A s (entries.Sleeps p) q f p (place_at s (entries.Sleeps p)) (pages_written s.point.flat p (step_at A s.point p)) r refl d
 flat_dirty A s (entries.Ended p n) q f pid r e d = stepped_dirty A s (entries.Ended p n) q f p (place_at s (entries.Ended p n)) (pages_written s.point.flat p (step_at A s.point p)) r refl d
 flat_dirty A s (entries.Out p bytes) q f pid r e d = inl d

@@ -66,7 +66,8 @@ touched_new A s qs r =
 
 stepped_lost : (A : Inputs) (s : State) (u : Entry) (q : Page) (f pid at : ℕ) (qs : List Page) → IsRun A s → process_of_entry u ≡ Some pid
     → frame_of (state_of s.place q) ≡ Some f
-    → frame_of (state_of (place_change (facts_of A.images) (touch_all s.place qs) pid (space_held s pid) (is_borrower s.point.flat.processes pid) s.point.flat.next_sid at (step_at A s.point pid).change) q) ≢ Some f → IsLost A s u q f
+    → frame_of (state_of (place_change (facts_of A.images) (touch_all s.place qs) pid (space_held s pid)
+    (is_borrower s.point.flat.processes pid) s.point.flat.next_sid at (step_at A s.point pid).change) q) ≢ Some f → IsLost A s u q f
 stepped_lost A s u q f pid at qs r e h k =
     let p : Placement = touch_all s.place qs in
     let t : Steady s.place p = touch_all_steady qs s.place in
@@ -80,7 +81,8 @@ flat_lost : (A : Inputs) (s : State) (u : Entry) (q : Page) (f pid : ℕ) → Is
 unfolding after
 flat_lost A s (entries.Ran p n) q f pid r e h k = stepped_lost A s (entries.Ran p n) q f p (place_at s (entries.Ran p n)) (pages_written s.point.flat p (step_at A s.point p)) r refl h k
 flat_lost A s (entries.Grew p n) q f pid r e h k = stepped_lost A s (entries.Grew p n) q f p (place_at s (entries.Grew p n)) (pages_written s.point.flat p (step_at A s.point p)) r refl h k
-flat_lost A s (entries.Call p n b r0 r1) q f pid r e h k = stepped_lost A s (entries.Call p n b r0 r1) q f p (place_at s (entries.Call p n b r0 r1)) (pages_written s.point.flat p (step_at A s.point p)) r refl h k
+flat_lost A s (entries.Call p n b r0 r1) q f pid r e h k =
+    stepped_lost A s (entries.Call p n b r0 r1) q f p (place_at s (entries.Call p n b r0 r1)) (pages_written s.point.flat p (step_at A s.point p)) r refl h k
 flat_lost A s (entries.Sleeps p) q f pid r e h k = stepped_lost A s (entries.Sleeps p) q f p (place_at s (entries.Sleeps p)) (pages_written s.point.flat p (step_at A s.point p)) r refl h k
 flat_lost A s (entries.Ended p n) q f pid r e h k = stepped_lost A s (entries.Ended p n) q f p (place_at s (entries.Ended p n)) (pages_written s.point.flat p (step_at A s.point p)) r refl h k
 flat_lost A s (entries.Out p bytes) q f pid r e h k = absurd (k h)

@@ -16,7 +16,8 @@ pub data IsCleaned (A : Inputs) (s : State) (u : Entry) (q : Page) (f : ℕ) : T
   -- the write of the page from its frame completed
   WasWritten : u ≡ entries.Done → IsWritten s.place (after A s u).place q f → IsCleaned A s u q f
   -- the step of a process gave the page up
-  WasGivenUp : (pid : ℕ) → process_of_entry u ≡ Some pid → IsGivenUp (space_held s pid) (is_borrower s.point.flat.processes pid) (step_at A s.point pid).change q → IsCleaned A s u q f
+  WasGivenUp : (pid : ℕ) → process_of_entry u ≡ Some pid
+      → IsGivenUp (space_held s pid) (is_borrower s.point.flat.processes pid) (step_at A s.point pid).change q → IsCleaned A s u q f
 
 -- one of these units, from this state on, did so
 abbrev pub CleanedIn : Inputs → State → List Entry → Page → ℕ → Type 0

@@ -26,8 +26,10 @@ pub data IsLost (A : Inputs) (s : State) (u : Entry) (q : Page) (f : ℕ) : Type
   -- the frame was free, and a fill or a read took it
   WasFree : takes_frames u ≡ true → IsTaken s.place (after A s u).place q f → IsLost A s u q f
   -- a break or a growth of the process's space gave it other sizes, and the page is beyond them
-  WasCutOff : (pid data_pages stack_pages : ℕ) → process_of_entry u ≡ Some pid → (step_at A s.point pid).change ≡ Resize data_pages stack_pages → IsCutOff (space_held s pid) data_pages stack_pages q → IsLost A s u q f
+  WasCutOff : (pid data_pages stack_pages : ℕ) → process_of_entry u ≡ Some pid → (step_at A s.point pid).change ≡ Resize data_pages stack_pages
+      → IsCutOff (space_held s pid) data_pages stack_pages q → IsLost A s u q f
   -- a new image came in place of the process's own space
-  WasReplaced : (pid image : ℕ) (top : List ℕ) → process_of_entry u ≡ Some pid → (step_at A s.point pid).change ≡ Exec image top → IsOwnPage s pid q → IsLost A s u q f
+  WasReplaced : (pid image : ℕ) (top : List ℕ) → process_of_entry u ≡ Some pid → (step_at A s.point pid).change ≡ Exec image top
+      → IsOwnPage s pid q → IsLost A s u q f
   -- the process ended, with its own space
   HasEnded : (pid status : ℕ) → process_of_entry u ≡ Some pid → (step_at A s.point pid).change ≡ End status → IsOwnPage s pid q → IsLost A s u q f

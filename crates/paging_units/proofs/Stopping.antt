@@ -29,11 +29,13 @@ err_same : {A : Type 0} (s t : Stop) → (let r : Result A Stop = Err s in r) �
 err_same s t e = cc
 
 -- a machine in which no pieces wait runs on after a call that stopped, as it was but for pieces that were found
-pub stays_starved : (old new : Standing) → HasStopped old new → old.before ≡ old.kernel.holdings → new.kernel.stopped ≡ old.kernel.stopped → StaysStarved old.kernel new
+pub stays_starved : (old new : Standing) → HasStopped old new → old.before ≡ old.kernel.holdings → new.kernel.stopped ≡ old.kernel.stopped
+    → StaysStarved old.kernel new
 stays_starved old new s w running = s.held running ∙ ap (λ (hs : Holdings). record old.kernel { holdings = hs }) w
 
 -- at the journal's bound it is as it was
-pub full_here : (old new : Standing) → HasStopped old new → old.before ≡ old.kernel.holdings → old.params.journal ≤ length old.kernel.journal → StaysPut old.kernel new
+pub full_here : (old new : Standing) → HasStopped old new → old.before ≡ old.kernel.holdings → old.params.journal ≤ length old.kernel.journal
+    → StaysPut old.kernel new
 full_here old new s w bound =
     let same = s.full bound in
     let kernel : new.kernel ≡ old.kernel = ap (λ (m : Standing). m.kernel) same in
@@ -43,7 +45,8 @@ full_here old new s w bound =
     }
 
 -- a call that stops for want of memory, or at the journal's bound
-pub held_here : (stop : Stop) (old new : Standing) → HasStopped old new → old.before ≡ old.kernel.holdings → (stop ≡ stops.JournalFull) ⊎ (stop ≡ stops.NoMemory)
+pub held_here : (stop : Stop) (old new : Standing) → HasStopped old new → old.before ≡ old.kernel.holdings
+    → (stop ≡ stops.JournalFull) ⊎ (stop ≡ stops.NoMemory)
     → (stop ≡ stops.JournalFull → old.params.journal ≤ length old.kernel.journal)
     → LeftBy stop old.kernel new
 held_here stop old new s w cause full = elim cause [
@@ -70,7 +73,8 @@ stops_put old new w l = record {
 }
 
 -- at the end of the oldest transfer
-pub ending_left : (stop : Stop) (old new : Standing) → HasStopped old new → old.before ≡ old.kernel.holdings → (stop ≡ stops.JournalFull → old.params.journal ≤ length old.kernel.journal)
+pub ending_left : (stop : Stop) (old new : Standing) → HasStopped old new → old.before ≡ old.kernel.holdings
+    → (stop ≡ stops.JournalFull → old.params.journal ≤ length old.kernel.journal)
     → LosesFor (Err stop) old new → LeftBy stop old.kernel new
 ending_left stops.JournalFull old new s w full lost = full_here old new s w (full refl)
 ending_left stops.NoMemory old new s w full lost = λ running. inl (stays_starved old new s w running)
@@ -79,7 +83,8 @@ ending_left stops.SwapReadFault old new s w full lost = inl (stops_less old new 
 ending_left stops.SwapWriteFault old new s w full lost = inl (stops_less old new w lost)
 
 -- at the writing or the reading of a u page
-pub moved_left : (stop : Stop) (old new : Standing) → HasStopped old new → old.before ≡ old.kernel.holdings → (stop ≡ stops.JournalFull → old.params.journal ≤ length old.kernel.journal)
+pub moved_left : (stop : Stop) (old new : Standing) → HasStopped old new → old.before ≡ old.kernel.holdings
+    → (stop ≡ stops.JournalFull → old.params.journal ≤ length old.kernel.journal)
     → (stop ≡ stops.FileFault → ⊥) → FailsFor (Err stop) old new → LeftBy stop old.kernel new
 moved_left stops.JournalFull old new s w full never failed = full_here old new s w (full refl)
 moved_left stops.NoMemory old new s w full never failed = λ running. inl (stays_starved old new s w running)
@@ -87,7 +92,8 @@ moved_left stops.FileFault old new s w full never failed = absurd (never refl)
 moved_left stops.SwapReadFault old new s w full never failed = inr (stops_put old new w failed)
 moved_left stops.SwapWriteFault old new s w full never failed = inr (stops_put old new w failed)
 
-err_cause : {A : Type 0} (stop : Stop) → (let r : Result A Stop = Err stop in (r ≡ Err stops.JournalFull) ⊎ (r ≡ Err stops.NoMemory)) → (stop ≡ stops.JournalFull) ⊎ (stop ≡ stops.NoMemory)
+err_cause : {A : Type 0} (stop : Stop) → (let r : Result A Stop = Err stop in (r ≡ Err stops.JournalFull) ⊎ (r ≡ Err stops.NoMemory))
+    → (stop ≡ stops.JournalFull) ⊎ (stop ≡ stops.NoMemory)
 err_cause {A} stop c = elim c [
   | inl h ↦ inl (err_same {A = A} stop stops.JournalFull h)
   | inr h ↦ inr (err_same {A = A} stop stops.NoMemory h)
@@ -137,14 +143,19 @@ stops_some ts stops.SwapWriteFault h = some_writes ts h
 
 -- the call that ends the oldest transfer
 pub done_stops : (stop : Stop) (old new : Standing) (i j : Option (List ℕ)) → HasStopped old new → StopsFor (Err stop) old.kernel.place.transfers
-    → (((let r : Result Bool Stop = Err stop in r) ≡ Err stops.JournalFull) ↔ ((0 < length old.kernel.place.transfers) × (old.params.journal ≤ length old.kernel.journal)))
+    → (((let r : Result Bool Stop = Err stop in r) ≡ Err stops.JournalFull)
+    ↔ ((0 < length old.kernel.place.transfers) × (old.params.journal ≤ length old.kernel.journal)))
     → LosesFor (Err stop) old new → SwapAfter (Err stop) old.kernel i j
     → old.before ≡ old.kernel.holdings → StopsAt entries.Done old.kernel i stop new j
 done_stops stop old new i j s c full lost image w = record {
   journal = s.journal;
   held = ending_left stop old new s w (λ h. (full.0 (ap (λ (t : Stop). let r : Result Bool Stop = Err t in r) h)).1) lost;
   full = (
-    (λ h. (subst (λ (p : Params). p.journal ≤ length old.kernel.journal) (sym s.params) (full.0 (ap (λ (t : Stop). let r : Result Bool Stop = Err t in r) h)).1, plain_longer old.kernel.journal entries.Done tt)),
+    (λ h. (
+      subst (λ (p : Params).
+          p.journal ≤ length old.kernel.journal) (sym s.params) (full.0 (ap (λ (t : Stop). let r : Result Bool Stop = Err t in r) h)).1,
+      plain_longer old.kernel.journal entries.Done tt,
+    )),
     (λ h. err_same {A = Bool} stop stops.JournalFull (full.1 (stops_some old.kernel.place.transfers stop c, subst (λ (p : Params). p.journal ≤ length old.kernel.journal) s.params h.0))),
   );
   cause = c;

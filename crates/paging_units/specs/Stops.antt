@@ -57,7 +57,8 @@ abbrev pub StaysReturned : Kernel → Standing → Type 0
 StaysReturned k new = (pid lender : ℕ) × StaysStarved (pass_step k pid lender) new
 
 -- How the machine is left, by the cause. Where the journal is full it stays there, and runs on. Where it wants memory and runs on, it
--- stays there too, but for pieces that were found; it doesn't run on where it broke off within an entry of a process. Where the end of the oldest transfer failed that
+-- stays there too, but for pieces that were found; it doesn't run on where it broke off within an entry of a process. Where the end of the oldest transfer
+-- failed that
 -- is lost, and where a u page failed nothing is.
 abbrev pub LeftBy : Stop → Kernel → Standing → Type 0
 LeftBy stops.JournalFull k new = StaysPut k new

@@ -33,8 +33,10 @@ record IsWritten (words : List (List ℕ)) (files : List NamedFile) (traced : Bo
   pub runs : flat_run inputs journal ≡ Some point
   pub wrote : written ≡ Some (text_of traced journal)
 
-run_written : (request : Request) (files : List NamedFile) (zero_blocks one_blocks : ℕ) (swap written : Option (List ℕ)) (faults : ℕ) (image : List ℕ) (status : ℕ)
-    → RunsTold request (seen_of files zero_blocks one_blocks swap written faults) files image status → status ≡ 0 → IsWritten request.words files request.traced written
+run_written : (request : Request) (files : List NamedFile) (zero_blocks one_blocks : ℕ) (swap written : Option (List ℕ)) (faults : ℕ)
+    (image : List ℕ) (status : ℕ)
+    → RunsTold request (seen_of files zero_blocks one_blocks swap written faults) files image status → status ≡ 0
+    → IsWritten request.words files request.traced written
 run_written request files zero_blocks one_blocks swap written faults image status told zero = go told.ending told.writes told.told
   where
     go : (ending : Result (Unit {0}) Fault) → Writing request.traced (seen_of files zero_blocks one_blocks swap written faults) told.journal ending status
@@ -63,7 +65,8 @@ asked_written asked files zero_blocks one_blocks zero one written faults status 
 same_images : (xs ys : List NamedImage) → ◌≡◌ {A = Result (List NamedImage) Why} (Ok xs) (Ok ys) → xs ≡ ys
 same_images xs ys h = cc
 
-pair : (words : List (List ℕ)) (files others : List NamedFile) (traced also_traced : Bool) (written beside : Option (List ℕ)) (one : IsWritten words files traced written)
+pair : (words : List (List ℕ)) (files others : List NamedFile) (traced also_traced : Bool) (written beside : Option (List ℕ))
+    (one : IsWritten words files traced written)
     (two : IsWritten words others also_traced beside) → StartAlike words files others → IsServedAlone one.journal → IsServedAlone two.journal
     → IsPair one.inputs two.inputs one.journal two.journal one.point two.point
 pair words files others traced also_traced written beside one two alike alone also = record {
@@ -73,7 +76,8 @@ pair words files others traced also_traced written beside one two alike alone al
   two = record { image = alike.image; first = two.first ∙ alike.first; runs = two.runs; childless = also.childless; served = also.served };
 }
 
-wrote_alike : (words : List (List ℕ)) (files others : List NamedFile) (traced also_traced : Bool) (written beside : Option (List ℕ)) → IsWritten words files traced written
+wrote_alike : (words : List (List ℕ)) (files others : List NamedFile) (traced also_traced : Bool) (written beside : Option (List ℕ))
+    → IsWritten words files traced written
     → IsWritten words others also_traced beside → StartAlike words files others → WroteAlike traced also_traced written beside
 wrote_alike words files others traced also_traced written beside one two alike = record {
   journal = one.journal;
@@ -97,7 +101,8 @@ wrote_alike words files others traced also_traced written beside one two alike =
 
 -- two calls in memory: what they wrote is alike
 pub paging_is_unseen : (asked : Option Asked) (files : List NamedFile) (zero_blocks one_blocks : ℕ) (zero one written : Option (List ℕ)) (faults status : ℕ)
-    (also_asked : Option Asked) (others : List NamedFile) (also_zero_blocks also_one_blocks : ℕ) (also_zero also_one beside : Option (List ℕ)) (also_faults also_status : ℕ)
+    (also_asked : Option Asked) (others : List NamedFile) (also_zero_blocks also_one_blocks : ℕ) (also_zero also_one beside : Option (List ℕ))
+    (also_faults also_status : ℕ)
     → DoesInMemory asked files zero_blocks one_blocks zero one written faults status
     → DoesInMemory also_asked others also_zero_blocks also_one_blocks also_zero also_one beside also_faults also_status
     → PagingIsUnseen asked files status written also_asked others also_status beside

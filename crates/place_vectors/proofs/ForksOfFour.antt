@@ -30,7 +30,8 @@ operations =
     Step 5 5 false 8 35 [] (Exec 1 []) ∷ Fixed [] 36 (entries.Zero (Stack 8 0)) ∷ Step 5 8 false 9 38 [] (Fork 10) ∷
     Fixed (Stack 8 0 ∷ []) 39 (entries.Copy (Stack 9 0)) ∷ Step 5 8 false 10 41 [] (Lend 11) ∷
     Step 1 1 false 10 46 [] (Lend 12) ∷
-    replicate 3 (Choose (runner 4 4 false false ∷ runner 6 2 true false ∷ runner 7 6 false false ∷ runner 8 3 true false ∷ runner 9 7 false false ∷ runner 10 9 false false ∷ runner 11 8 true false ∷ runner 12 1 true false ∷ [])) ++
+    replicate 3 (Choose (runner 4 4 false false ∷ runner 6 2 true false ∷ runner 7 6 false false ∷ runner 8 3 true false ∷ runner 9 7 false false ∷ runner 10 9 false false ∷ runner 11 8 true false
+    ∷ runner 12 1 true false ∷ [])) ++
     Step 4 4 false 10 54 [] (Fork 13) ∷ Fixed (Stack 4 0 ∷ []) 55 (entries.Copy (Stack 10 0)) ∷
     Step 4 4 false 11 57 [] (Lend 14) ∷ Serve (Text 1 0 ∷ []) 60 (Data 2 0) true ∷
     Step 6 2 true 11 62 [] (Resize 4 18) ∷ Serve (Text 1 0 ∷ []) 63 (Stack 2 17) true ∷

@@ -44,14 +44,16 @@ write_of numbers = record { errand = Writes; parts = map part numbers } ∷ []
 -- the page that the front hand has just made invalid is written with the page of the back hand
 front_hand_first :
     move [] 2 1
-    ≡ Ends (held (slot (Going 1) true Zeros ∷ slot (Going 2) true Zeros ∷ slot (Going 3) true Zeros ∷ slot (Invalid 4) false Zeros ∷ slot (Invalid 5) true Zeros ∷ []) (frames 5 4) (write_of (0 ∷ 1 ∷ 2 ∷ [])) 3 2) ∷ []
+    ≡ Ends (held (slot (Going 1) true Zeros ∷ slot (Going 2) true Zeros ∷ slot (Going 3) true Zeros ∷ slot (Invalid 4) false Zeros ∷ slot (Invalid 5) true Zeros ∷ []) (frames 5 4)
+    (write_of (0 ∷ 1 ∷ 2 ∷ [])) 3 2) ∷ []
 unfolding held pages move part write_of spot chunk_reached lowest chunk_start chunk counted_from text_spot
 front_hand_first = refl
 
 -- a locked page of the front hand stays valid, and ends the run
 front_locked :
     move (Data 1 1 ∷ []) 2 1
-    ≡ Ends (held (slot (Going 1) true Zeros ∷ slot (Valid 2) true Zeros ∷ slot (Invalid 3) true Zeros ∷ slot (Invalid 4) false Zeros ∷ slot (Invalid 5) true Zeros ∷ []) (frames 5 4) (write_of (0 ∷ [])) 3 2) ∷ []
+    ≡ Ends (held (slot (Going 1) true Zeros ∷ slot (Valid 2) true Zeros ∷ slot (Invalid 3) true Zeros ∷ slot (Invalid 4) false Zeros ∷ slot (Invalid 5) true Zeros ∷ []) (frames 5 4)
+    (write_of (0 ∷ [])) 3 2) ∷ []
 unfolding held pages move part write_of spot chunk_reached lowest chunk_start chunk counted_from text_spot
 front_locked = refl
 
@@ -65,7 +67,8 @@ back_locked = refl
 -- a locked neighbour isn't written either
 neighbour_locked :
     move (Data 1 2 ∷ []) 2 1
-    ≡ Ends (held (slot (Going 1) true Zeros ∷ slot (Going 2) true Zeros ∷ slot (Invalid 3) true Zeros ∷ slot (Invalid 4) false Zeros ∷ slot (Invalid 5) true Zeros ∷ []) (frames 5 4) (write_of (0 ∷ 1 ∷ [])) 3 2) ∷ []
+    ≡ Ends (held (slot (Going 1) true Zeros ∷ slot (Going 2) true Zeros ∷ slot (Invalid 3) true Zeros ∷ slot (Invalid 4) false Zeros ∷ slot (Invalid 5) true Zeros ∷ []) (frames 5 4)
+    (write_of (0 ∷ 1 ∷ [])) 3 2) ∷ []
 unfolding held pages move part write_of spot chunk_reached lowest chunk_start chunk counted_from text_spot
 neighbour_locked = refl
 

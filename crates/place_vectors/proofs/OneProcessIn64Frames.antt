@@ -185,6 +185,7 @@ put_units : ℕ → ℕ → Placement → List Entry
 put_units zero at p = []
 put_units (suc n) at p = put_out_unit p 1 1 ∷ put_units n (at + 1) (place_entry [] (at + 1) p (put_out_unit p 1 1))
 
-eleven_units : put_units 11 4 filled_up ≡ entries.Put (Data 1 0) 16 ∷ entries.Done ∷ entries.Put (Data 1 16) 16 ∷ entries.Done ∷ entries.Put (Data 1 32) 16 ∷ entries.Done ∷ entries.Put (Data 1 48) 8 ∷ entries.Done ∷ entries.Put (Stack 1 0) 1 ∷ entries.Done ∷ entries.SwapOut 1 ∷ []
+eleven_units : put_units 11 4 filled_up ≡ entries.Put (Data 1 0) 16 ∷ entries.Done ∷ entries.Put (Data 1 16) 16 ∷ entries.Done ∷ entries.Put (Data 1 32) 16
+    ∷ entries.Done ∷ entries.Put (Data 1 48) 8 ∷ entries.Done ∷ entries.Put (Stack 1 0) 1 ∷ entries.Done ∷ entries.SwapOut 1 ∷ []
 unfolding put_units filled_up walked data_slots held slot spot chunk_reached lowest chunk_start chunk counted_from
 eleven_units = refl

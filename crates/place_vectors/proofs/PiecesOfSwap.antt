@@ -34,7 +34,8 @@ first_pieces : List Held
 first_pieces = piece (owners.Text 1) 0 2 ∷ piece (owners.Data 1) 2 32 ∷ piece (owners.Stack 1) 34 32 ∷ piece (owners.U 1) 66 2 ∷ []
 
 start_finds_its_pieces : place_all 256 [] (start_asks begun [] 1 (record { image = 1; facts = breaking } ∷ [])) ≡ Ok first_pieces
-unfolding begun breaking first_pieces piece place_all fit lowest_room Rattle.resource_map.specs.Room.lowest has_room all_pass is_held is_in pieces chunks_holding lowest chunk_start chunk text_pieces last_piece
+unfolding begun breaking first_pieces piece place_all fit lowest_room Rattle.resource_map.specs.Room.lowest has_room all_pass is_held is_in pieces chunks_holding lowest chunk_start
+    chunk text_pieces last_piece
 start_finds_its_pieces = refl
 
 break_takes_a_chunk : place_all 256 first_pieces (change_asks [] begun 1 2 (Resize 17 1)) ≡ Ok (first_pieces ++ piece (owners.Data 1) 68 64 ∷ [])
@@ -52,7 +53,8 @@ smaller_break_gives_back = refl
 
 -- a piece lies in one unit of 1,024 blocks: 32 blocks after the 1,000 first begin the next unit, which is the other
 -- device's
-unit_is_not_crossed : place_all 1056 (piece (owners.Data 1) 0 1000 ∷ []) (record { owner = owners.Data 2; length = 32 } ∷ []) ≡ Ok (piece (owners.Data 1) 0 1000 ∷ piece (owners.Data 2) 1024 32 ∷ [])
+unit_is_not_crossed : place_all 1056 (piece (owners.Data 1) 0 1000 ∷ []) (record { owner = owners.Data 2; length = 32 } ∷ [])
+    ≡ Ok (piece (owners.Data 1) 0 1000 ∷ piece (owners.Data 2) 1024 32 ∷ [])
 unfolding piece place_all fit lowest_room Rattle.resource_map.specs.Room.lowest has_room all_pass is_held is_in
 unit_is_not_crossed = refl
 

@@ -11,7 +11,8 @@ use Rattle.command_ending.proofs.Makings.{made_by, made_nothing}
 use Rattle.policy_command.specs.Command.{references_told, EndsText, EndsPolicies}
 
 -- what the bytes give is what the file gives
-text_ends : (frames : ℕ) (name bytes : List ℕ) (f : Faults) (ending : Ending) → NoFaults f → EndsText frames bytes ending → EndsPolicies frames name (Ok (Some bytes)) f ending
+text_ends : (frames : ℕ) (name bytes : List ℕ) (f : Faults) (ending : Ending) → NoFaults f → EndsText frames bytes ending
+    → EndsPolicies frames name (Ok (Some bytes)) f ending
 text_ends frames name bytes f (Ok text) none ends = (none, ends)
 text_ends frames name bytes f (Err faults.NoMemory) none ends = tt
 text_ends frames name bytes f (Err (faults.BadReferences line)) none ends = ends
@@ -24,7 +25,8 @@ file_ends frames name bytes holds f ending told none ends =
     made_by (EndsPolicies frames name) (references_told name) holds f ending (Ok (Some bytes)) told (text_ends frames name bytes f ending none ends)
 
 pub too_long : (frames : ℕ) (name : List ℕ) (holds : Option (List NamedFile)) (f : Faults)
-    → ((files : List NamedFile) → holds ≡ Some files → references_told name files ≡ Ok None) → Made (EndsPolicies frames name) (references_told name) holds f (Err faults.ReferencesTooLong)
+    → ((files : List NamedFile) → holds ≡ Some files → references_told name files ≡ Ok None)
+    → Made (EndsPolicies frames name) (references_told name) holds f (Err faults.ReferencesTooLong)
 too_long frames name holds f told = made_by (EndsPolicies frames name) (references_told name) holds f (Err faults.ReferencesTooLong) (Ok None) told refl
 
 -- a file that wasn't read

@@ -50,7 +50,12 @@ fn text_from<'a, F: Files>(
 ) -> Result<Vec<u8>, Fault<'a>>
     requires { 1 ≤ frames }
     ensures made { Made (EndsPolicies frames name.now) (references_told name.now) (F.holds files.old)
-        (record { open_before = F.open_faults files.old; open_after = F.open_faults files.new; page_before = F.page_faults files.old; page_after = F.page_faults files.new }) (ending_of result) }
+        (record {
+          open_before = F.open_faults files.old;
+          open_after = F.open_faults files.new;
+          page_before = F.page_faults files.old;
+          page_after = F.page_faults files.new;
+        }) (ending_of result) }
     ensures kept { KeepsFiles F.Files files.old files.new }
 {
     match read_whole(alloc, files, name, REFERENCES_BYTES) {
@@ -73,7 +78,12 @@ pub fn compare_policies<F: Files, S: Sink>(
 ) -> u8
     requires { 1 ≤ frames }
     ensures compares { Compares frames name.now (F.holds files.old)
-        (record { open_before = F.open_faults files.old; open_after = F.open_faults files.new; page_before = F.page_faults files.old; page_after = F.page_faults files.new })
+        (record {
+          open_before = F.open_faults files.old;
+          open_after = F.open_faults files.new;
+          page_before = F.page_faults files.old;
+          page_after = F.page_faults files.new;
+        })
         (S.written sink.old) (S.written sink.new) (S.faults sink.old) (S.faults sink.new) result }
     ensures kept { KeepsFiles F.Files files.old files.new }
     ensures sink_leads { S.leads sink.old sink.new }

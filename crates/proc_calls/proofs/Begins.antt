@@ -47,7 +47,8 @@ use Rattle.proc_calls.proofs.Leaving.{GoesOn, settled_goes, space_stays, lender_
 
 -- Once its space is settled.
 
-can_start_settled : (m b : Standing) (hs : Holdings) (pid image : ℕ) (regs : Regs) (top : List ℕ) (holds : Option (List NamedFile)) (before after : Option (List ℕ))
+can_start_settled : (m b : Standing) (hs : Holdings) (pid image : ℕ) (regs : Regs) (top : List ℕ) (holds : Option (List NamedFile))
+    (before after : Option (List ℕ))
     → IsCaller m pid → has_lender m.kernel.processes pid ≡ false → HasSettled m b (space_held m.kernel pid) holds before after → image_found image b ≡ Ok hs
     → 0 < image → image ≤ length m.images → length top ≡ 1024 → CanApply (with_pieces b hs) pid (call_entry pid Execve regs) (Exec image top)
 can_start_settled m b hs pid image regs top holds before after c alone s found above within page = record {
@@ -155,8 +156,10 @@ pub found_of : (fits b : Bool) (m n : Standing) (pid image : ℕ) (holds : Optio
     → Finds (image_found image) fits m n pid holds before after → FindsBy b (image_found image) m n pid holds before after
 found_of fits b m n pid image holds before after e f = subst (λ (x : Bool). FindsBy x (image_found image) m n pid holds before after) e f.finds
 
-pub start_filled : (fits : Bool) (m asked between new : Standing) (pid image : ℕ) (regs after : Regs) (top : List ℕ) (page : Page) (holds : Option (List NamedFile)) (i told j : Option (List ℕ))
-    → fits ≡ true → page ≡ Stack m.kernel.next_sid 0 → Finds (image_found image) fits m asked pid holds i told → Answered asked between pid Execve after (Exec image top)
+pub start_filled : (fits : Bool) (m asked between new : Standing) (pid image : ℕ) (regs after : Regs) (top : List ℕ) (page : Page)
+    (holds : Option (List NamedFile)) (i told j : Option (List ℕ))
+    → fits ≡ true → page ≡ Stack m.kernel.next_sid 0 → Finds (image_found image) fits m asked pid holds i told
+    → Answered asked between pid Execve after (Exec image top)
     → FillsStart page between new holds told j → Starts m new pid regs after image top holds i j
 start_filled fits m asked between new pid image regs after top page holds i told j e is f a fills =
     subst (λ (b : Bool). StartsBy b m new pid regs after image top holds i j) (sym e ∙ f.answer) (record {
@@ -166,7 +169,8 @@ start_filled fits m asked between new pid image regs after top page holds i told
       fills = subst (λ (q : Page). FillsStart q between new holds told j) is fills;
     })
 
-pub fail_ok : (r : Result Called Stop) (fits : Bool) (m asked new : Standing) (pid image : ℕ) (regs after : Regs) (top : List ℕ) (holds : Option (List NamedFile)) (i j : Option (List ℕ))
+pub fail_ok : (r : Result Called Stop) (fits : Bool) (m asked new : Standing) (pid image : ℕ) (regs after : Regs) (top : List ℕ)
+    (holds : Option (List NamedFile)) (i j : Option (List ℕ))
     → fits ≡ false → Finds (image_found image) fits m asked pid holds i j → IfOk r (Replied asked new pid Execve regs (Fails no_memory))
     → OnOk r (Starts m new pid regs after image top holds i j)
 fail_ok (Err stop) fits m asked new pid image regs after top holds i j e f a = tt
@@ -193,7 +197,8 @@ exec_ok (Ok called) old m new pid image regs after top asked holds i j same e re
 same_stop : (s t : Stop) → (let r : Result Called Stop = Err s in r) ≡ Err t → s ≡ t
 same_stop s t e = cc
 
-pub stops_before : (old new : Standing) (stop : Stop) → HasStopped old new → old.before ≡ old.kernel.holdings → ((let r : Result Called Stop = Err stop in r) ≡ Err stops.JournalFull) ⊎ ((let r : Result Called Stop = Err stop in r) ≡ Err stops.NoMemory)
+pub stops_before : (old new : Standing) (stop : Stop) → HasStopped old new → old.before ≡ old.kernel.holdings
+    → ((let r : Result Called Stop = Err stop in r) ≡ Err stops.JournalFull) ⊎ ((let r : Result Called Stop = Err stop in r) ≡ Err stops.NoMemory)
     → ((let r : Result Called Stop = Err stop in r) ≡ Err stops.JournalFull → old.params.journal ≤ length old.kernel.journal) → StopsBefore old new stop
 stops_before old new stop s w c f = record {
   stopped = s;
@@ -205,10 +210,13 @@ stops_before old new stop s w c f = record {
   full = λ e. f (ap (λ (t : Stop). let r : Result Called Stop = Err t in r) e);
 }
 
-pub reply_stops : (stop : Stop) (fits : Bool) (m asked new : Standing) (pid image : ℕ) (after : Regs) (top : List ℕ) (holds : Option (List NamedFile)) (i j : Option (List ℕ))
-    → fits ≡ true → Finds (image_found image) fits m asked pid holds i j → m.before ≡ m.kernel.holdings → length asked.kernel.journal < asked.params.journal → HasStopped asked new
+pub reply_stops : (stop : Stop) (fits : Bool) (m asked new : Standing) (pid image : ℕ) (after : Regs) (top : List ℕ)
+    (holds : Option (List NamedFile)) (i j : Option (List ℕ))
+    → fits ≡ true → Finds (image_found image) fits m asked pid holds i j → m.before ≡ m.kernel.holdings
+    → length asked.kernel.journal < asked.params.journal → HasStopped asked new
     → ((let r : Result Called Stop = Err stop in r) ≡ Err stops.JournalFull) ⊎ ((let r : Result Called Stop = Err stop in r) ≡ Err stops.NoMemory)
-    → ((let r : Result Called Stop = Err stop in r) ≡ Err stops.JournalFull → asked.params.journal ≤ length asked.kernel.journal) → StopsImage m new pid after image top holds i j stop
+    → ((let r : Result Called Stop = Err stop in r) ≡ Err stops.JournalFull → asked.params.journal ≤ length asked.kernel.journal)
+    → StopsImage m new pid after image top holds i j stop
 reply_stops stop fits m asked new pid image after top holds i j e f w room s cause full =
     let l : LeavesFor (image_found image) m asked pid holds i j = found_of fits true m asked pid image holds i j e f in
     inl (inl (inr (
@@ -223,9 +231,11 @@ reply_stops stop fits m asked new pid image after top holds i j e f w room s cau
       }),
     )))
 
-pub fill_stops : (stop : Stop) (fits : Bool) (m asked between new : Standing) (pid image : ℕ) (after : Regs) (top : List ℕ) (page : Page) (holds later : Option (List NamedFile)) (i told j : Option (List ℕ))
+pub fill_stops : (stop : Stop) (fits : Bool) (m asked between new : Standing) (pid image : ℕ) (after : Regs) (top : List ℕ) (page : Page)
+    (holds later : Option (List NamedFile)) (i told j : Option (List ℕ))
     → later ≡ holds → fits ≡ true → page ≡ Stack m.kernel.next_sid 0 → Finds (image_found image) fits m asked pid holds i told
-    → Answered asked between pid Execve after (Exec image top) → StopsStart page between new later told j stop → StopsImage m new pid after image top holds i j stop
+    → Answered asked between pid Execve after (Exec image top) → StopsStart page between new later told j stop
+    → StopsImage m new pid after image top holds i j stop
 fill_stops stop fits m asked between new pid image after top page holds later i told j same e is f a s =
     inr (record {
       between = between;
@@ -234,7 +244,8 @@ fill_stops stop fits m asked between new pid image after top page holds later i 
       stops = subst (λ (q : Page). StopsStart q between new holds told j stop) is (subst (λ (h : Option (List NamedFile)). StopsStart page between new h told j stop) same s);
     })
 
-pub fail_stops : (r : Result Called Stop) (fits : Bool) (m asked new : Standing) (pid image : ℕ) (after : Regs) (top : List ℕ) (holds : Option (List NamedFile)) (i j : Option (List ℕ))
+pub fail_stops : (r : Result Called Stop) (fits : Bool) (m asked new : Standing) (pid image : ℕ) (after : Regs) (top : List ℕ)
+    (holds : Option (List NamedFile)) (i j : Option (List ℕ))
     → fits ≡ false → Finds (image_found image) fits m asked pid holds i j → m.before ≡ m.kernel.holdings → OnErr r (HasStopped asked new)
     → OnErr r ((r ≡ Err stops.JournalFull) ⊎ (r ≡ Err stops.NoMemory)) → (r ≡ Err stops.JournalFull → asked.params.journal ≤ length asked.kernel.journal)
     → IfErr r (StopsImage m new pid after image top holds i j)
@@ -248,8 +259,10 @@ fail_stops (Err stop) fits m asked new pid image after top holds i j e f whole s
       image_same = w.image;
     }))
 
-pub exec_stops : (r : Result Called Stop) (old m new : Standing) (pid image : ℕ) (after : Regs) (top : List ℕ) (asked : Result Reply Refused) (holds : Option (List NamedFile)) (i j : Option (List ℕ))
-    → m ≡ old → asked ≡ Ok (Does after (Exec image top)) → IfErr r (StopsImage m new pid after image top holds i j) → IfErr r (StopsExec old new pid asked holds i j)
+pub exec_stops : (r : Result Called Stop) (old m new : Standing) (pid image : ℕ) (after : Regs) (top : List ℕ) (asked : Result Reply Refused)
+    (holds : Option (List NamedFile)) (i j : Option (List ℕ))
+    → m ≡ old → asked ≡ Ok (Does after (Exec image top)) → IfErr r (StopsImage m new pid after image top holds i j)
+    → IfErr r (StopsExec old new pid asked holds i j)
 exec_stops (Ok called) old m new pid image after top asked holds i j same e s = tt
 exec_stops (Err stop) old m new pid image after top asked holds i j same e s =
     subst (λ (a : Result Reply Refused). StopsExec old new pid a holds i j stop) (sym e)

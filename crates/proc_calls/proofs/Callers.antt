@@ -26,7 +26,8 @@ use Rattle.proc_calls.specs.Answered.{Entered, GoneOut}
 use Rattle.proc_calls.specs.Callers.{proc_in, regs_of, IsCaller}
 
 -- its record shows it
-pub record_shown : (k : Kernel) (ps : List Record) (pid : ℕ) → k.processes ≡ processes_of ps k.next_pid → AreRecords ps k.next_pid → proc_in k pid ≡ proc_of (find pid ps)
+pub record_shown : (k : Kernel) (ps : List Record) (pid : ℕ) → k.processes ≡ processes_of ps k.next_pid → AreRecords ps k.next_pid
+    → proc_in k pid ≡ proc_of (find pid ps)
 record_shown k ps pid e h = ap (λ (qs : List Proc). numbered pid_of pid qs) e ∙ process_is ps k.next_pid pid h
 
 pub not_there : (o : Option Proc) → IsSome o → o ≡ None → ⊥
@@ -101,7 +102,8 @@ can_reap m pid child e whole clear lends entry ended = record {
 
 -- After an entry that changes nothing the process may go on.
 
-other_regs : (k : Kernel) (pid : ℕ) (p : Proc) (regs : Regs) → proc_in k pid ≡ Some p → numbered pid_of pid (with_proc k.processes (record p { regs = regs })) ≡ Some (record p { regs = regs })
+other_regs : (k : Kernel) (pid : ℕ) (p : Proc) (regs : Regs) → proc_in k pid ≡ Some p
+    → numbered pid_of pid (with_proc k.processes (record p { regs = regs })) ≡ Some (record p { regs = regs })
 other_regs k pid p regs e =
     let is : p.pid ≡ pid = found_number k.processes pid p e in
     let there : numbered pid_of p.pid k.processes ≡ Some p = ap (λ (n : ℕ). numbered pid_of n k.processes) is ∙ e in
@@ -127,7 +129,8 @@ calls_on m pid regs e n (Some p) f step whole c = record {
 pub still_calls : (m : Standing) (pid : ℕ) (regs : Regs) (e : Entry) (n : Standing) → Entered m n pid regs e Keep → IsCaller m pid → IsCaller n pid
 still_calls m pid regs e n h c = calls_on m pid regs e n (proc_in m.kernel pid) refl h.step (ap (λ (s : Standing). s.before) h.rest) c
 
-pub gone_out : (m n : Standing) (pid : ℕ) (bytes : List ℕ) → bytes ≢ [] → Entered m n pid (regs_of m.kernel pid) (entries.Out pid bytes) Keep → GoneOut m n pid bytes
+pub gone_out : (m n : Standing) (pid : ℕ) (bytes : List ℕ) → bytes ≢ []
+    → Entered m n pid (regs_of m.kernel pid) (entries.Out pid bytes) Keep → GoneOut m n pid bytes
 gone_out m n pid [] some h = absurd (some refl)
 gone_out m n pid (b ∷ bs) some h = h
 

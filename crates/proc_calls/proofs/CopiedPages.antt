@@ -55,7 +55,8 @@ pub served_stay : (child parent : Page) (old served : Standing) (holds : Option 
 served_stay child parent old served holds i h o d f s =
     serves_stay s.0.units old.kernel.place served.kernel.place (parent ∷ []) parent o (can_serve old.kernel.place child parent d f) s.0.leads
 
-pub forced_stay : (parent : Page) (old served roomy : Standing) (holds : Option (List NamedFile)) (h j : Option (List ℕ)) → Stay old.kernel.place served.kernel.place
+pub forced_stay : (parent : Page) (old served roomy : Standing) (holds : Option (List NamedFile)) (h j : Option (List ℕ))
+    → Stay old.kernel.place served.kernel.place
     → Forced (parent ∷ []) served roomy holds h j → Stay old.kernel.place roomy.kernel.place
 forced_stay parent old served roomy holds h j s f =
     stay_both old.kernel.place served.kernel.place roomy.kernel.place s
@@ -80,7 +81,8 @@ forcing_stops parent served new stop holds later h j e f = subst (λ (x : Option
 
 pub copied_by : {A : Type 0} (r : Result A Stop) (child parent : Page) (old served roomy new : Standing) (holds later : Option (List NamedFile))
     (i h j : Option (List ℕ)) → later ≡ holds → ServesNow (parent ∷ []) parent old served holds i h → Forced (parent ∷ []) served roomy later h j
-    → KeepsThrough served roomy later h j → OnOk r (new.kernel ≡ copy_step roomy.kernel child) → OnOk r (new ≡ record roomy { kernel = new.kernel; room = None })
+    → KeepsThrough served roomy later h j → OnOk r (new.kernel ≡ copy_step roomy.kernel child)
+    → OnOk r (new ≡ record roomy { kernel = new.kernel; room = None })
     → OnOk r (KeepsFlat roomy.kernel new.kernel) → IfErr r (λ stop. StopsAt (entries.Copy child) roomy.kernel j stop new j)
     → OnErr r (HasStopped roomy new)
     → MatchResult r (λ x. CopiesPage child parent old new holds i j) (StopsPage child parent old new holds i j)
@@ -98,7 +100,8 @@ copied_by (Ok x) child parent old served roomy new holds later i h j e s f keeps
 copied_by (Err stop) child parent old served roomy new holds later i h j e s f keeps step rest flat stops stopped =
     inr (record { served = served; behind = h; serves = s; stops = inr (roomy, same_files parent served roomy holds later h j e f, stops, stopped.params, stopped.images) })
 
-pub goes_on : {A : Type 0} (r : Result A Stop) (child parent : Page) (old served roomy new : Standing) (holds later : Option (List NamedFile)) (i h j : Option (List ℕ))
+pub goes_on : {A : Type 0} (r : Result A Stop) (child parent : Page) (old served roomy new : Standing) (holds later : Option (List NamedFile))
+    (i h j : Option (List ℕ))
     → IsOn roomy → Stay old.kernel.place roomy.kernel.place → ServesNow (parent ∷ []) parent old served holds i h → Forced (parent ∷ []) served roomy later h j
     → OnOk r (new.kernel ≡ copy_step roomy.kernel child) → OnOk r (new ≡ record roomy { kernel = new.kernel; room = None }) → OnOk r (GoesOn child old new)
 goes_on (Err stop) child parent old served roomy new holds later i h j o stay s f step rest = tt
@@ -148,7 +151,8 @@ pub stops_first : (ds others : List Due) (child parent : Page) (old new : Standi
 stops_first ds others child parent old new holds i j stop e s =
     subst (λ (xs : List Due). StopsCopying xs old new holds i j stop) (sym e) (inl s)
 
-pub copies_more : {A : Type 0} (r : Result A Stop) (ds others dues : List Due) (child parent : Page) (old next new : Standing) (holds later : Option (List NamedFile))
+pub copies_more : {A : Type 0} (r : Result A Stop) (ds others dues : List Due) (child parent : Page) (old next new : Standing)
+    (holds later : Option (List NamedFile))
     (i h j : Option (List ℕ)) → ds ≡ CopyOf child parent ∷ others → dues ≡ others → later ≡ holds → CopiesPage child parent old next holds i h
     → MatchResult r (λ x. CopiesAll dues next new later h j) (StopsCopying dues next new later h j)
     → MatchResult r (λ x. CopiesAll ds old new holds i j) (StopsCopying ds old new holds i j)
@@ -166,7 +170,8 @@ copies_more (Err stop) ds others dues child parent old next new holds later i h 
     ))
 
 -- the machine goes on after them
-pub copied_on : {A : Type 0} (r : Result A Stop) (child : Page) (old next new : Standing) → GoesOn child old next → OnOk r (HasCopied next new) → OnOk r (HasCopied old new)
+pub copied_on : {A : Type 0} (r : Result A Stop) (child : Page) (old next new : Standing) → GoesOn child old next → OnOk r (HasCopied next new)
+    → OnOk r (HasCopied old new)
 copied_on (Ok x) child old next new g h = record {
   params = h.params ∙ g.params;
   images = h.images ∙ g.images;
@@ -197,14 +202,16 @@ files_next old next a b r e f =
 
 pub record CopiesSoFar (old now : Standing) (holds later : Option (List NamedFile)) (i h : Option (List ℕ)) : Type 0 where
   pub more : (new : Standing) (j : Option (List ℕ)) → CopiesAll now.kernel.place.due now new later h j → CopiesAll old.kernel.place.due old new holds i j
-  pub stops : (stop : Stop) (new : Standing) (j : Option (List ℕ)) → StopsCopying now.kernel.place.due now new later h j stop → StopsCopying old.kernel.place.due old new holds i j stop
+  pub stops : (stop : Stop) (new : Standing) (j : Option (List ℕ)) → StopsCopying now.kernel.place.due now new later h j stop
+      → StopsCopying old.kernel.place.due old new holds i j stop
   pub on : (new : Standing) → HasCopied now new → HasCopied old new
 
 pub copies_none : (old : Standing) (holds : Option (List NamedFile)) (i : Option (List ℕ)) → CopiesSoFar old old holds holds i i
 copies_none old holds i = record { more = λ new j c. c; stops = λ stop new j s. s; on = λ new h. h }
 
 pub copies_one : (old now next : Standing) (others : List Due) (child parent : Page) (holds later latest : Option (List NamedFile)) (i h k : Option (List ℕ))
-    → now.kernel.place.due ≡ CopyOf child parent ∷ others → next.kernel.place.due ≡ others → latest ≡ later → CopiesPage child parent now next later h k → GoesOn child now next
+    → now.kernel.place.due ≡ CopyOf child parent ∷ others → next.kernel.place.due ≡ others → latest ≡ later
+    → CopiesPage child parent now next later h k → GoesOn child now next
     → CopiesSoFar old now holds later i h → CopiesSoFar old next holds latest i k
 copies_one old now next others child parent holds later latest i h k e d same page on so =
     let done : Result (Unit {0}) Stop = Ok tt in

@@ -122,7 +122,8 @@ valid_in OnSwap e = absurd cc
 pub is_alone : (q : Page) → is_among q (q ∷ []) ≡ true
 is_alone q = ap (λ (b : Bool). b || false) (same_page_self q)
 
-pub can_copy : (p r : Placement) (child parent : Page) → DueStand r → IsCopyFirst r child parent → Spares p r (parent ∷ []) → is_valid (state_of p parent) ≡ true
+pub can_copy : (p r : Placement) (child parent : Page) → DueStand r → IsCopyFirst r child parent → Spares p r (parent ∷ [])
+    → is_valid (state_of p parent) ≡ true
     → 0 < length r.free → CanCopy r child parent
 can_copy p r child parent d f spares valid free =
     let due : IsDue r child (CopyOf child parent) = first_due r child parent d f in

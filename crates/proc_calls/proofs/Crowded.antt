@@ -46,7 +46,8 @@ none_over g a zero e = refl
 none_over g a (suc k) e = keeps_none g a (range_with_len (a + 1) k) (e a) ∙ none_over g (a + 1) k e
 
 -- each record's number is below the next
-pub crowd : (ps : List Record) (next : ℕ) → ArePidsApart ps → ((pid : ℕ) (p : Record) → find pid ps ≡ Some p → (1 ≤ pid) × (pid < next)) → length (processes_of ps next) ≡ length ps
+pub crowd : (ps : List Record) (next : ℕ) → ArePidsApart ps → ((pid : ℕ) (p : Record) → find pid ps ≡ Some p → (1 ≤ pid) × (pid < next))
+    → length (processes_of ps next) ≡ length ps
 crowd [] next apart known = ap (λ (xs : List Proc). length xs) (none_over (λ pid. proc_of (find pid [])) 1 (next - 1) (λ m. refl))
 crowd (p ∷ ps) next apart known =
     let range : (1 ≤ p.pid) × (p.pid < next) = known p.pid p (find_hit p.pid p ps refl) in

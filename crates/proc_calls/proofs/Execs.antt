@@ -20,7 +20,8 @@ all_shown [] (s ∷ shown) h = absurd h
 all_shown (n ∷ known) [] h = absurd h
 all_shown (n ∷ known) (s ∷ shown) h = (h.0, h.1, all_shown known shown h.2)
 
-pub shown_by : (known : List NamedImage) (m n : Standing) (shown : List Named) → n ≡ m → map image_shown shown ≡ n.images → AreNamed known m.images → AreShown known shown
+pub shown_by : (known : List NamedImage) (m n : Standing) (shown : List Named) → n ≡ m → map image_shown shown ≡ n.images
+    → AreNamed known m.images → AreShown known shown
 shown_by known m n shown same are named = all_shown known shown (subst (AreNamed known) (sym (are ∙ ap (λ (s : Standing). s.images) same)) named)
 
 fits : (i : Image) → IsSound i → i.entry + 2 < 2 ^ 32

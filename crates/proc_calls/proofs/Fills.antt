@@ -43,7 +43,8 @@ pub forced_whole : (locked : List Page) (old roomy : Standing) (holds : Option (
     → old.before ≡ old.kernel.holdings → roomy.before ≡ roomy.kernel.holdings
 forced_whole locked old roomy holds i j f w = makes_whole (ground old holds locked) f.units old roomy i j f.makes w
 
-pub can_fill : (page : Page) (old roomy : Standing) (holds : Option (List NamedFile)) (i j : Option (List ℕ)) → OwnsFrames old.kernel.place → DueStand roomy.kernel.place
+pub can_fill : (page : Page) (old roomy : Standing) (holds : Option (List NamedFile)) (i j : Option (List ℕ)) → OwnsFrames old.kernel.place
+    → DueStand roomy.kernel.place
     → IsStartFirst old.kernel.place page → Forced [] old roomy holds i j → CanZero roomy.kernel.place page
 can_fill page old roomy holds i j o d s f =
     let e : roomy.kernel.place.due ≡ Start page ∷ s.others = due_stays f.units old.kernel.place roomy.kernel.place [] o f.forces ∙ s.first in
@@ -57,7 +58,8 @@ can_fill page old roomy holds i j o d s f =
       frame = f.free;
     }
 
-pub filled_by : {A : Type 0} (r : Result A Stop) (page : Page) (old roomy new : Standing) (holds later : Option (List NamedFile)) (i j : Option (List ℕ)) → later ≡ holds
+pub filled_by : {A : Type 0} (r : Result A Stop) (page : Page) (old roomy new : Standing) (holds later : Option (List NamedFile)) (i j : Option (List ℕ))
+    → later ≡ holds
     → Forced [] old roomy holds i j → KeepsThrough old roomy holds i j → OnOk r (new.kernel ≡ zero_step roomy.kernel page)
     → OnOk r (new ≡ record roomy { kernel = new.kernel; room = None }) → OnOk r (KeepsFlat roomy.kernel new.kernel)
     → IfErr r (λ stop. StopsAt (entries.Zero page) roomy.kernel j stop new j) → OnErr r (HasStopped roomy new)

@@ -88,7 +88,8 @@ module _ (k : Kernel) (size : ℕ) (s : Sound size k) (n : Numbered k) (parent :
       ∙ ap (λ (xs : List Wanted). data_pieces ++ (xs ++ wanted_of k.holdings (u_want k.next_pid ∷ [])))
       (all_pieces k.holdings (owners.Stack k.next_sid) (2 * stack_count k.place parent) (no_stack size k k.holdings s n))
 
-pub fork_asks : (m : Standing) (pid child parent : ℕ) (ws : List Want) → ws ≡ fork_wants m.kernel parent → parent ≡ space_held m.kernel pid → child ≡ m.kernel.next_pid
+pub fork_asks : (m : Standing) (pid child parent : ℕ) (ws : List Want) → ws ≡ fork_wants m.kernel parent → parent ≡ space_held m.kernel pid
+    → child ≡ m.kernel.next_pid
     → m.before ≡ m.kernel.holdings → Sound m.params.swap_blocks (record m.kernel { holdings = m.before }) → Numbered m.kernel
     → wanted_of m.kernel.holdings ws ≡ asked (facts_named m.images) m.kernel pid (Fork child)
 fork_asks m pid child parent ws wants held named whole s n =
@@ -146,7 +147,8 @@ one_copy sid child parent (Coming f) e = (e, tt)
 one_copy sid child parent (Going f) e = (e, tt)
 one_copy sid child parent OnSwap e = (e, tt)
 
-are_copies : (sid : ℕ) (child parent : ℕ → Page) (v : ℕ) (xs : List Slot) → ((n : ℕ) → parent n ≡ in_space sid (child n)) → AreCopiesFrom sid (copies_from child parent v xs)
+are_copies : (sid : ℕ) (child parent : ℕ → Page) (v : ℕ) (xs : List Slot) → ((n : ℕ) → parent n ≡ in_space sid (child n))
+    → AreCopiesFrom sid (copies_from child parent v xs)
 are_copies sid child parent v [] e = tt
 are_copies sid child parent v (x ∷ xs) e =
     copies_both sid (copy_due (child v) (parent v) x.state) (copies_from child parent (v + 1) xs) (one_copy sid (child v) (parent v) x.state (e v))
@@ -179,7 +181,8 @@ forked_by images k child regs e (Some p) s =
     }
 
 -- of machines, where the pieces of the child were found before
-behind_fork : (m new : Standing) (pid child : ℕ) (regs : Regs) (hs : Holdings) → IsCaller m pid → Answered (with_pieces m hs) new pid calls.Fork regs (Fork child)
+behind_fork : (m new : Standing) (pid child : ℕ) (regs : Regs) (hs : Holdings) → IsCaller m pid
+    → Answered (with_pieces m hs) new pid calls.Fork regs (Fork child)
     → HasDue m.kernel new.kernel (space_held m.kernel pid) (call_entry pid calls.Fork regs)
 behind_fork m new pid child regs hs c answer =
     let e : Entry = call_entry pid calls.Fork regs in
@@ -190,7 +193,8 @@ behind_fork m new pid child regs hs c answer =
     subst (λ (l : Kernel). HasDue m.kernel l sid e) (sym answer.step)
     (record { behind = record { frames = b.behind.frames; journal = b.behind.journal }; due = b.due; copies = b.copies })
 
-has_new_space : (old new : Standing) (pid child : ℕ) (regs : Regs) → IsCaller old pid → HasChild old new pid calls.Fork regs child (Fork child) → HasNewSpace old new pid regs child
+has_new_space : (old new : Standing) (pid child : ℕ) (regs : Regs) → IsCaller old pid → HasChild old new pid calls.Fork regs child (Fork child)
+    → HasNewSpace old new pid regs child
 has_new_space old new pid child regs c made =
     let b = behind_fork old new pid child (replied_both regs child 0) made.found c made.answer in
     record { made = made; due = b.due; copies = b.copies }
@@ -257,14 +261,16 @@ fork_low old new pid regs c h = low_by (is_below_limit old.kernel) (finds_pieces
 abbrev answers_as : Standing → Standing → ℕ → Regs → ℕ → Type 0
 answers_as old new pid regs child = MakesChild old new pid calls.Fork regs (Fork child) (HasNewSpace old new pid regs child)
 
-pub fork_refused : (r : Result Called Stop) (old between new : Standing) (pid child : ℕ) (regs : Regs) → between ≡ without_pieces old pid → KeepsFlat old.kernel between.kernel
+pub fork_refused : (r : Result Called Stop) (old between new : Standing) (pid child : ℕ) (regs : Regs) → between ≡ without_pieces old pid
+    → KeepsFlat old.kernel between.kernel
     → child ≡ old.kernel.next_pid → is_below_limit old.kernel ≡ true → finds_pieces old pid (Fork child) ≡ false
     → IfOk r (Replied between new pid calls.Fork regs (Fails no_memory)) → OnOk r (ForkAnswered old new pid regs)
 fork_refused (Ok called) old between new pid child regs is keeps named few none h =
     subst (answers_as old new pid regs) named (no_place old new pid calls.Fork regs (Fork child) (HasNewSpace old new pid regs child) between is keeps few none h.1)
 fork_refused (Err stop) old between new pid child regs is keeps named few none h = tt
 
-pub fork_entered : (r : Result Called Stop) (old asks new : Standing) (pid child : ℕ) (regs after : Regs) (hs : Holdings) → IsCaller old pid → asks ≡ with_pieces old hs
+pub fork_entered : (r : Result Called Stop) (old asks new : Standing) (pid child : ℕ) (regs after : Regs) (hs : Holdings) → IsCaller old pid
+    → asks ≡ with_pieces old hs
     → after ≡ replied_both regs child 0 → child ≡ old.kernel.next_pid → is_below_limit old.kernel ≡ true
     → place_all old.params.swap_blocks old.kernel.holdings (asked (facts_named old.images) old.kernel pid (Fork child)) ≡ Ok hs
     → OnOk r (Answered asks new pid calls.Fork after (Fork child)) → OnOk r (ForkAnswered old new pid regs)

@@ -83,7 +83,8 @@ none_asked size before now e = ap (λ (hs : Holdings). Ok hs) e
 
 -- Once its space is settled.
 
-pub can_end_settled : (m n : Standing) (pid status : ℕ) (holds : Option (List NamedFile)) (before after : Option (List ℕ)) → IsCaller m pid → has_lender m.kernel.processes pid ≡ false
+pub can_end_settled : (m n : Standing) (pid status : ℕ) (holds : Option (List NamedFile)) (before after : Option (List ℕ)) → IsCaller m pid
+    → has_lender m.kernel.processes pid ≡ false
     → HasSettled m n (space_held m.kernel pid) holds before after → CanApply n pid (entries.Ended pid status) (End status)
 can_end_settled m n pid status holds before after c alone s = record {
   clear = on.due ∙ c.clear;
@@ -114,7 +115,8 @@ can_end_settled m n pid status holds before after c alone s = record {
     space : space_of_life (life_in n.kernel pid) ≡ c.lends.sid
     space = ap space_of_life held
 
-pub settled_runs : (from : Sources) (sid : ℕ) (old new : Kernel) (before after : Option (List ℕ)) → old.stopped ≡ false → SettledBy from sid old new before after → new.stopped ≡ false
+pub settled_runs : (from : Sources) (sid : ℕ) (old new : Kernel) (before after : Option (List ℕ)) → old.stopped ≡ false
+    → SettledBy from sid old new before after → new.stopped ≡ false
 settled_runs from sid old new before after r s = let on = settled_goes from sid old new before after s in on.stopped ∙ r
 
 -- Once the space that it borrowed went back.
@@ -125,7 +127,8 @@ lender_lives (Some p) sid child e = ap has_life e
 
 pub can_end_returned : (m : Standing) (pid status : ℕ) → IsCaller m pid
     → HasGivenBack m.kernel (pass_step m.kernel pid (lender_among m.kernel.processes pid)) pid (lender_among m.kernel.processes pid)
-    → (let n : Standing = record m { kernel = pass_step m.kernel pid (lender_among m.kernel.processes pid) } in CanApply n pid (entries.Ended pid status) (End status))
+    → (let n : Standing = record m { kernel = pass_step m.kernel pid (lender_among m.kernel.processes pid) } in
+    CanApply n pid (entries.Ended pid status) (End status))
 can_end_returned m pid status c g = record {
   clear = c.clear;
   ready = record {

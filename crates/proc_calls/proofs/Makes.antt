@@ -50,7 +50,8 @@ use Rattle.proc_calls.proofs.Crowded.{crowd}
 
 -- There are as many processes as records.
 
-pub below_limit : (k : Kernel) (ps : List Record) → k.processes ≡ processes_of ps k.next_pid → AreRecords ps k.next_pid → nat_lt (length ps) 64 ≡ is_below_limit k
+pub below_limit : (k : Kernel) (ps : List Record) → k.processes ≡ processes_of ps k.next_pid → AreRecords ps k.next_pid
+    → nat_lt (length ps) 64 ≡ is_below_limit k
 below_limit k ps e h = ap (λ (n : ℕ). nat_lt n 64) (sym (crowd ps k.next_pid h.table.apart h.known) ∙ sym (ap (λ (qs : List Proc). length qs) e))
 
 -- The next process has no number yet, and no pieces.
@@ -166,7 +167,8 @@ behind_found m asked new pid regs e hs is c n child named step =
 -- What is found for the u page.
 
 -- the pieces that are looked for are those that the change asks for
-pub u_pieces_asked : (m : Standing) (pid : ℕ) → m.before ≡ m.kernel.holdings → Sound m.params.swap_blocks (record m.kernel { holdings = m.before }) → Numbered m.kernel
+pub u_pieces_asked : (m : Standing) (pid : ℕ) → m.before ≡ m.kernel.holdings
+    → Sound m.params.swap_blocks (record m.kernel { holdings = m.before }) → Numbered m.kernel
     → wanted_of m.kernel.holdings (u_want m.kernel.next_pid ∷ []) ≡ asked (facts_named m.images) m.kernel pid (Lend m.kernel.next_pid)
 u_pieces_asked m pid whole s n =
     u_asked m.kernel.holdings m.kernel.next_pid
@@ -182,12 +184,14 @@ vfork_asks m pid child w wants named whole s n =
 
 -- What an answer of `ask` says of the pieces that a change asks for.
 
-pub asked_found : (m : Standing) (pid : ℕ) (change : Change) (ws : List Want) (hs : Holdings) → wanted_of m.kernel.holdings ws ≡ asked (facts_named m.images) m.kernel pid change
+pub asked_found : (m : Standing) (pid : ℕ) (change : Change) (ws : List Want) (hs : Holdings)
+    → wanted_of m.kernel.holdings ws ≡ asked (facts_named m.images) m.kernel pid change
     → found_for m.params.swap_blocks m.kernel.holdings ws ≡ Ok hs
     → place_all m.params.swap_blocks m.kernel.holdings (asked (facts_named m.images) m.kernel pid change) ≡ Ok hs
 asked_found m pid change ws hs asks e = ap (λ (xs : List Wanted). place_all m.params.swap_blocks m.kernel.holdings xs) (sym asks) ∙ e
 
-pub asked_fits : (m : Standing) (pid : ℕ) (change : Change) (ws : List Want) (fits : Bool) → wanted_of m.kernel.holdings ws ≡ asked (facts_named m.images) m.kernel pid change
+pub asked_fits : (m : Standing) (pid : ℕ) (change : Change) (ws : List Want) (fits : Bool)
+    → wanted_of m.kernel.holdings ws ≡ asked (facts_named m.images) m.kernel pid change
     → fits ≡ fits_for m.params.swap_blocks m.kernel.holdings ws → finds_pieces m pid change ≡ fits
 asked_fits m pid change ws fits asks e = ap (λ (xs : List Wanted). is_ok (place_all m.params.swap_blocks m.kernel.holdings xs)) (sym asks) ∙ sym e
 
@@ -221,7 +225,8 @@ has_child old asks new pid child call regs after change hs is reply found answer
 abbrev lends_as : Standing → Standing → ℕ → Regs → ℕ → Type 0
 lends_as old new pid regs child = MakesChild old new pid Vfork regs (Lend child) (HasLentSpace old new pid regs child)
 
-pub refused_ok : (r : Result Called Stop) (old between new : Standing) (pid child : ℕ) (regs : Regs) → between ≡ without_pieces old pid → KeepsFlat old.kernel between.kernel
+pub refused_ok : (r : Result Called Stop) (old between new : Standing) (pid child : ℕ) (regs : Regs) → between ≡ without_pieces old pid
+    → KeepsFlat old.kernel between.kernel
     → child ≡ old.kernel.next_pid → is_below_limit old.kernel ≡ true → finds_pieces old pid (Lend child) ≡ false
     → IfOk r (Replied between new pid Vfork regs (Fails no_memory)) → OnOk r (Vforked old new pid regs)
 refused_ok (Ok called) old between new pid child regs is keeps named few none h =
@@ -233,9 +238,11 @@ same_stop : (s t : Stop) → (let r : Result Called Stop = Err s in r) ≡ Err t
 same_stop s t e = cc
 
 -- the run stops after the entry that says so
-pub stops_refused : (r : Result Called Stop) (old between new : Standing) (pid child : ℕ) (change : ℕ → Change) → between ≡ without_pieces old pid → child ≡ old.kernel.next_pid
+pub stops_refused : (r : Result Called Stop) (old between new : Standing) (pid child : ℕ) (change : ℕ → Change) → between ≡ without_pieces old pid
+    → child ≡ old.kernel.next_pid
     → is_below_limit old.kernel ≡ true → finds_pieces old pid (change child) ≡ false → old.before ≡ old.kernel.holdings → OnErr r (HasStopped between new)
-    → OnErr r ((r ≡ Err stops.JournalFull) ⊎ (r ≡ Err stops.NoMemory)) → ((r ≡ Err stops.JournalFull) ↔ (between.params.journal ≤ length between.kernel.journal))
+    → OnErr r ((r ≡ Err stops.JournalFull) ⊎ (r ≡ Err stops.NoMemory))
+    → ((r ≡ Err stops.JournalFull) ↔ (between.params.journal ≤ length between.kernel.journal))
     → StopsMakingBy old new pid (change old.kernel.next_pid) r
 stops_refused (Ok called) old between new pid child change is named few none whole stopped cause full = tt
 stops_refused (Err stop) old between new pid child change is named few none whole stopped cause full = record {

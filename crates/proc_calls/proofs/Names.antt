@@ -98,8 +98,10 @@ ExecveBy memory images shown argv (Ok None) asked = asked ≡ Ok (Fails 2)
 ExecveBy memory images shown argv (Ok (Some number)) asked =
     (x : NamedImage) (s : Named) → slice_get shown (number - 1) ≡ Some s → x.image.facts ≡ s.facts → asked ≡ run memory (execve_of argv (Some (number, x)))
 
-pub execve_is : (memory : Answers) (images : List NamedImage) (shown : List Named) (path argv : ℕ) (p : Result (Option ℕ) Refused) (asked : Result Reply Refused)
-    → IsPathImage images shown (run memory (string_from string_limit path)) p → ExecveBy memory images shown argv p asked → asked ≡ run memory (execve_from images path argv)
+pub execve_is : (memory : Answers) (images : List NamedImage) (shown : List Named) (path argv : ℕ) (p : Result (Option ℕ) Refused)
+    (asked : Result Reply Refused)
+    → IsPathImage images shown (run memory (string_from string_limit path)) p → ExecveBy memory images shown argv p asked
+    → asked ≡ run memory (execve_from images path argv)
 execve_is memory images shown path argv p asked h x =
     go (run memory (string_from string_limit path)) p h x ∙ sym (run_bind memory (string_from string_limit path) (λ name. execve_of argv (path_image images name)))
   where
@@ -129,9 +131,11 @@ starts_is memory argv image entry x arguments regs top e r t is =
     )
 
 -- so it is where the image starts
-pub started : (memory : Answers) (images : List NamedImage) (shown : List Named) (path argv number : ℕ) (p : Result (Option ℕ) Refused) (r : Result (Result Reply Refused) NoMemory)
+pub started : (memory : Answers) (images : List NamedImage) (shown : List Named) (path argv number : ℕ) (p : Result (Option ℕ) Refused)
+    (r : Result (Result Reply Refused) NoMemory)
     → p ≡ Ok (Some number) → IsPathImage images shown (run memory (string_from string_limit path)) p
-    → ((x : NamedImage) (s : Named) → slice_get shown (number - 1) ≡ Some s → x.image.facts ≡ s.facts → IfOk r (λ asked. asked ≡ run memory (execve_of argv (Some (number, x)))))
+    → ((x : NamedImage) (s : Named) → slice_get shown (number - 1) ≡ Some s → x.image.facts ≡ s.facts
+    → IfOk r (λ asked. asked ≡ run memory (execve_of argv (Some (number, x)))))
     → IfOk r (λ asked. asked ≡ run memory (execve_from images path argv))
 started memory images shown path argv number p (Ok asked) e h f =
     execve_is memory images shown path argv p asked h (subst (λ (q : Result (Option ℕ) Refused). ExecveBy memory images shown argv q asked) (sym e) f)

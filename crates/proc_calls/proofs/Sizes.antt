@@ -122,7 +122,8 @@ same_stack : (sid n : ℕ) → further (owners.Stack sid) n n ≡ []
 same_stack sid n = ap (wanted (owners.Stack sid)) (drop_past (length (pieces (2 * n))) (pieces (2 * n)) (omega arith))
 
 -- with the stack's pages as they are and no more data none
-pub none_asked : (images : List Image) (p : Placement) (sid next pages : ℕ) → pages ≤ data_count p sid → change_asks images p sid next (Resize pages (stack_count p sid)) ≡ []
+pub none_asked : (images : List Image) (p : Placement) (sid next pages : ℕ) → pages ≤ data_count p sid
+    → change_asks images p sid next (Resize pages (stack_count p sid)) ≡ []
 none_asked images p sid next pages l =
     ap (λ (xs : List Wanted). xs ++ further (owners.Stack sid) (stack_count p sid) (stack_count p sid)) (none_further sid (data_count p sid) pages l)
     ∙ same_stack sid (stack_count p sid)
@@ -214,7 +215,8 @@ module _ (m : Standing) (pid : ℕ) (regs : Regs) (c : IsCaller m pid) (wanted s
 further_by : (owner : Owner) (a b new : ℕ) → pieces (2 * a) ≡ pieces (2 * b) → further owner a new ≡ further owner b new
 further_by owner a b new e = ap (λ (xs : List ℕ). wanted owner (drop (length xs) (pieces (2 * new)))) e
 
-module _ (m n : Standing) (pid : ℕ) (regs : Regs) (c : IsCaller m pid) (holds : Option (List NamedFile)) (before after : Option (List ℕ)) (s : HasSettled m n (space_held m.kernel pid) holds before after) where
+module _ (m n : Standing) (pid : ℕ) (regs : Regs) (c : IsCaller m pid) (holds : Option (List NamedFile)) (before after : Option (List ℕ))
+    (s : HasSettled m n (space_held m.kernel pid) holds before after) where
   on : GoesOn m.kernel n.kernel
   on = settled_goes (sources m holds) (space_held m.kernel pid) m.kernel n.kernel before after s.settled
 

@@ -77,7 +77,8 @@ none_shares image (s ∷ ss) d h =
       | inr apart ↦ h sid x (numbered_miss space_number sid s ss apart ∙ e) i
     ]))
 
-pub shared_by : (p : Placement) (image : ℕ) (o : Option ℕ) → AllDistinct (map space_number p.spaces) → Lowest (IsSharer p image) o → is_some o ≡ is_shared p image
+pub shared_by : (p : Placement) (image : ℕ) (o : Option ℕ) → AllDistinct (map space_number p.spaces) → Lowest (IsSharer p image) o
+    → is_some o ≡ is_shared p image
 shared_by p image None d l =
     sym (ap (λ (n : ℕ). nat_lt 0 n) (none_shares image p.spaces d (λ sid x e i. l sid (record { space = x; there = e; shares = i }))))
 shared_by p image (Some sid) d l = sym (lt-ltb 0 (sharers p image) (some_shares image sid p.spaces l.0.space l.0.there l.0.shares))
@@ -106,7 +107,8 @@ facts_at [] i n e = none_some n e
 facts_at (x ∷ xs) zero n e = ap (λ (o : ImageNamed). Some o.facts) (same_Some x n e)
 facts_at (x ∷ xs) (suc i) n e = facts_at xs i n e
 
-pub facts_of_named : (images : List ImageNamed) (image : ℕ) (n : ImageNamed) → named_at images image ≡ Some n → facts_numbered (facts_named images) image ≡ Some n.facts
+pub facts_of_named : (images : List ImageNamed) (image : ℕ) (n : ImageNamed) → named_at images image ≡ Some n
+    → facts_numbered (facts_named images) image ≡ Some n.facts
 facts_of_named images zero n e = none_some n e
 facts_of_named images (suc i) n e = facts_at images i n e
 
@@ -181,7 +183,8 @@ nil_of : {A : Type 0} (xs : List A) → length xs ≡ 0 → xs ≡ []
 nil_of [] e = refl
 nil_of (x ∷ xs) e = absurd (omega (arith, e))
 
-can_three : (p : Placement) (hs : Holdings) (sid image : ℕ) (facts : Image) → HoldsNone p hs sid image → sharers p image ≡ 0 → CanAsk hs (three_wants sid image facts)
+can_three : (p : Placement) (hs : Holdings) (sid image : ℕ) (facts : Image) → HoldsNone p hs sid image → sharers p image ≡ 0
+    → CanAsk hs (three_wants sid image facts)
 can_three p hs sid image facts h none = record {
   differ = (((λ e. cc), ((λ e. cc), tt)), (((λ e. cc), tt), (tt, tt)));
   each = ((mul-mod_right 2 (text_pages_of facts), nil_of (of_owner (owners.Text image) hs) (none_held hs (owners.Text image) (h.of_text none))), (tt, (tt, tt)));
@@ -224,7 +227,8 @@ wanted_by p n t sid image None = []
 wanted_by p n t sid image (Some facts) =
     text_asked n image (2 * t) ++ (wanted (owners.Data sid) (pieces (2 * data_pages_of facts)) ++ wanted (owners.Stack sid) (pieces 2))
 
-by_counts : (p : Placement) (sid image : ℕ) (o : Option Image) → image_asked p sid image o ≡ wanted_by p (sharers p image) (length (slots_of p (Text image 0))) sid image o
+by_counts : (p : Placement) (sid image : ℕ) (o : Option Image)
+    → image_asked p sid image o ≡ wanted_by p (sharers p image) (length (slots_of p (Text image 0))) sid image o
 by_counts p sid image None = refl
 by_counts p sid image (Some facts) = refl
 
@@ -245,7 +249,8 @@ wanted_stays m n image r =
     ∙ sym (by_counts p m.kernel.next_sid image o)
 
 by_wants : (fits : Bool) (m n : Standing) (pid image : ℕ) (ws : List Want) (holds : Option (List NamedFile)) (before after : Option (List ℕ))
-    → wanted_of m.kernel.holdings ws ≡ image_wanted m image → FindsBy fits (wants_found ws) m n pid holds before after → FindsBy fits (image_found image) m n pid holds before after
+    → wanted_of m.kernel.holdings ws ≡ image_wanted m image → FindsBy fits (wants_found ws) m n pid holds before after
+    → FindsBy fits (image_found image) m n pid holds before after
 by_wants false m n pid image ws holds before after e f = f
 by_wants true m n pid image ws holds before after e f =
     let r : IsReady m f.between = is_ready m f.between pid holds before after f.left in

@@ -37,7 +37,8 @@ header_at [] place l = absurd (omega arith)
 header_at (n ∷ images) zero l = (n.facts, refl)
 header_at (n ∷ images) (suc place) l = header_at images place (omega arith)
 
-has_header : (images : List ImageNamed) (image : ℕ) → 0 < image → image ≤ length images → (facts : Image) × (facts_numbered (facts_named images) image ≡ Some facts)
+has_header : (images : List ImageNamed) (image : ℕ) → 0 < image → image ≤ length images
+    → (facts : Image) × (facts_numbered (facts_named images) image ≡ Some facts)
 has_header images zero l m = absurd (omega arith)
 has_header images (suc place) l m = header_at images place (omega arith)
 
@@ -49,7 +50,8 @@ pub record HasNewStack (k l : Kernel) (e : Entry) : Type 0 where
   pub journal : l.journal ≡ append k.journal e
   pub stopped : l.stopped ≡ k.stopped
 
-entered_due : (p : Placement) (next image : ℕ) (o : Option Image) (facts : Image) → o ≡ Some facts → (enter_image p next image o).due ≡ Start (Stack next 0) ∷ []
+entered_due : (p : Placement) (next image : ℕ) (o : Option Image) (facts : Image) → o ≡ Some facts
+    → (enter_image p next image o).due ≡ Start (Stack next 0) ∷ []
 entered_due p next image o facts e = ap (λ (x : Option Image). (enter_image p next image x).due) e
 
 image_by : (images : List Image) (k : Kernel) (p : Proc) (e : Entry) (image : ℕ) (top : List ℕ) (facts : Image) → facts_numbered images image ≡ Some facts
@@ -66,7 +68,8 @@ image_by images k p e image top facts h =
       stopped = refl;
     }
 
-image_if : (images : List Image) (k : Kernel) (regs : Regs) (e : Entry) (image : ℕ) (top : List ℕ) (facts : Image) (o : Option Proc) → facts_numbered images image ≡ Some facts
+image_if : (images : List Image) (k : Kernel) (regs : Regs) (e : Entry) (image : ℕ) (top : List ℕ) (facts : Image) (o : Option Proc)
+    → facts_numbered images image ≡ Some facts
     → lives_in o ≡ true → HasNewStack k (change_if images k regs e (Exec image top) o) e
 image_if images k regs e image top facts None h alive = absurd cc
 image_if images k regs e image top facts (Some p) h alive = image_by images k (record p { regs = regs }) e image top facts h

@@ -80,7 +80,8 @@ pub record IsReady (old new : Standing) : Type 0 where
   pub images : new.images ≡ old.images
   pub before : new.before ≡ old.before
 
-ready_by : (lent : Bool) (m n : Standing) (pid : ℕ) (holds : Option (List NamedFile)) (before after : Option (List ℕ)) → HasLeftBy lent m n pid holds before after → IsReady m n
+ready_by : (lent : Bool) (m n : Standing) (pid : ℕ) (holds : Option (List NamedFile)) (before after : Option (List ℕ))
+    → HasLeftBy lent m n pid holds before after → IsReady m n
 ready_by true m n pid holds before after h = subst (IsReady m) (sym h.step) (record {
   kernel = record { holdings = refl; stopped = refl; number = refl; sharing = λ i. refl; texts = λ i. refl; frames = refl };
   params = refl;
@@ -97,7 +98,8 @@ ready_by false m n pid holds before after h = record {
 pub is_ready : (m n : Standing) (pid : ℕ) (holds : Option (List NamedFile)) (before after : Option (List ℕ)) → HasLeft m n pid holds before after → IsReady m n
 is_ready m n pid holds before after h = ready_by (has_lender m.kernel.processes pid) m n pid holds before after h
 
-same_fits : (m n : Standing) (wants : List Want) → IsReady m n → fits_for n.params.swap_blocks n.kernel.holdings wants ≡ fits_for m.params.swap_blocks m.kernel.holdings wants
+same_fits : (m n : Standing) (wants : List Want) → IsReady m n
+    → fits_for n.params.swap_blocks n.kernel.holdings wants ≡ fits_for m.params.swap_blocks m.kernel.holdings wants
 same_fits m n wants r =
     ap (λ (hs : Holdings). fits_for n.params.swap_blocks hs wants) r.kernel.holdings
     ∙ ap (λ (p : Params). fits_for p.swap_blocks m.kernel.holdings wants) r.params
@@ -107,8 +109,10 @@ differs e = absurd cc
 
 -- The pieces find no place.
 
-pub none_found : (r : Result Bool Stop) (old between new : Standing) (pid : ℕ) (wants : List Want) (holds : Option (List NamedFile)) (before : Option (List ℕ)) → between ≡ old
-    → fits_for old.params.swap_blocks old.kernel.holdings wants ≡ false → IfOk r (λ fits. fits ≡ fits_for between.params.swap_blocks between.kernel.holdings wants)
+pub none_found : (r : Result Bool Stop) (old between new : Standing) (pid : ℕ) (wants : List Want) (holds : Option (List NamedFile)) (before : Option (List ℕ))
+    → between ≡ old
+    → fits_for old.params.swap_blocks old.kernel.holdings wants ≡ false
+    → IfOk r (λ fits. fits ≡ fits_for between.params.swap_blocks between.kernel.holdings wants)
     → (r ≡ Ok false → new ≡ without_pieces between pid) → (r ≡ Ok false → KeepsFlat between.kernel new.kernel)
     → IfOk r (λ fits. Finds (wants_found wants) fits old new pid holds before before)
 none_found (Err stop) old between new pid wants holds before e none answer refused keeps = tt
@@ -125,7 +129,8 @@ none_found (Ok false) old between new pid wants holds before e none answer refus
 
 -- They find their places, and the process left its space.
 
-pub left_found : (r : Result Bool Stop) (old between new : Standing) (pid : ℕ) (wants : List Want) (holds : Option (List NamedFile)) (before after : Option (List ℕ))
+pub left_found : (r : Result Bool Stop) (old between new : Standing) (pid : ℕ) (wants : List Want) (holds : Option (List NamedFile))
+    (before after : Option (List ℕ))
     → HasLeft old between pid holds before after → fits_for old.params.swap_blocks old.kernel.holdings wants ≡ true
     → IfOk r (λ fits. fits ≡ fits_for between.params.swap_blocks between.kernel.holdings wants)
     → (r ≡ Ok true → (hs : Holdings) × (found_for between.params.swap_blocks between.kernel.holdings wants ≡ Ok hs) × (new ≡ with_pieces between hs))

@@ -27,23 +27,28 @@ pub whole_stops : (m new : Standing) (stop : Stop) → m.before ≡ m.kernel.hol
 whole_stops m new stop w s = record { stopped = s.stopped; whole = w; cause = s.cause; full = s.full }
 
 -- before the entry that takes the pieces
-pub found_stops : (m asked new : Standing) (hs : Holdings) (stop : Stop) → asked ≡ with_pieces m hs → m.before ≡ m.kernel.holdings → length m.kernel.journal < m.params.journal → StopsEntering asked new stop
+pub found_stops : (m asked new : Standing) (hs : Holdings) (stop : Stop) → asked ≡ with_pieces m hs → m.before ≡ m.kernel.holdings
+    → length m.kernel.journal < m.params.journal → StopsEntering asked new stop
     → StopsBefore m new stop
 found_stops m asked new hs stop e w room s =
     let t : StopsEntering (with_pieces m hs) new stop = subst (λ (x : Standing). StopsEntering x new stop) e s in
     record { stopped = stopped_found m asked new hs e room s.stopped; whole = w; cause = t.cause; full = t.full }
 
-pub grown_stops : {A : Type 0} (r : Result A Stop) (m asked new : Standing) (pid pages : ℕ) (hs : Holdings) → asked ≡ with_pieces m hs → m.before ≡ m.kernel.holdings → length m.kernel.journal < m.params.journal
+pub grown_stops : {A : Type 0} (r : Result A Stop) (m asked new : Standing) (pid pages : ℕ) (hs : Holdings) → asked ≡ with_pieces m hs
+    → m.before ≡ m.kernel.holdings → length m.kernel.journal < m.params.journal
     → IfErr r (StopsEntering asked new) → IfErr r (StopsPlain m new pid pages)
 grown_stops (Ok x) m asked new pid pages hs e w room s = tt
 grown_stops (Err stop) m asked new pid pages hs e w room s = inl (found_stops m asked new hs stop e w room s)
 
 -- transfers that end take no pieces
-settled_whole : (m b : Standing) (sid : ℕ) (holds : Option (List NamedFile)) (i j : Option (List ℕ)) → HasSettled m b sid holds i j → m.before ≡ m.kernel.holdings → b.before ≡ b.kernel.holdings
+settled_whole : (m b : Standing) (sid : ℕ) (holds : Option (List NamedFile)) (i j : Option (List ℕ)) → HasSettled m b sid holds i j
+    → m.before ≡ m.kernel.holdings → b.before ≡ b.kernel.holdings
 settled_whole m b sid holds i j h w = h.rest.before ∙ w ∙ sym (settled_goes (sources m holds) sid m.kernel b.kernel i j h.settled).holdings
 
-pub cut_stops : {A : Type 0} (r : Result A Stop) (m b new : Standing) (pid pages : ℕ) (holds : Option (List NamedFile)) (i j : Option (List ℕ)) → pages < data_pages_of m.kernel pid
-    → HasSettled m b (space_held m.kernel pid) holds i j → m.before ≡ m.kernel.holdings → IfErr r (StopsEntering b new) → IfErr r (StopsCutting m new pid pages holds i j)
+pub cut_stops : {A : Type 0} (r : Result A Stop) (m b new : Standing) (pid pages : ℕ) (holds : Option (List NamedFile)) (i j : Option (List ℕ))
+    → pages < data_pages_of m.kernel pid
+    → HasSettled m b (space_held m.kernel pid) holds i j → m.before ≡ m.kernel.holdings → IfErr r (StopsEntering b new)
+    → IfErr r (StopsCutting m new pid pages holds i j)
 cut_stops (Ok x) m b new pid pages holds i j l h w s = tt
 cut_stops (Err stop) m b new pid pages holds i j l h w s = record {
   fewer = l;
@@ -51,13 +56,15 @@ cut_stops (Err stop) m b new pid pages holds i j l h w s = record {
 }
 
 -- as many pages as before need no pieces
-pub moved_stops : {A : Type 0} (r : Result A Stop) (m new : Standing) (pid pages : ℕ) (holds : Option (List NamedFile)) (i : Option (List ℕ)) → m.before ≡ m.kernel.holdings → IfErr r (StopsEntering m new)
+pub moved_stops : {A : Type 0} (r : Result A Stop) (m new : Standing) (pid pages : ℕ) (holds : Option (List NamedFile)) (i : Option (List ℕ))
+    → m.before ≡ m.kernel.holdings → IfErr r (StopsEntering m new)
     → IfErr r (StopsMoving m new pid pages holds i i)
 moved_stops (Ok x) m new pid pages holds i w s = tt
 moved_stops (Err stop) m new pid pages holds i w s = inl (inl (whole_stops m new stop w s), refl)
 
 -- a process that leaves its space takes no pieces
-pub left_whole : (lent : Bool) (m b : Standing) (pid : ℕ) (holds : Option (List NamedFile)) (i j : Option (List ℕ)) → HasLeftBy lent m b pid holds i j → m.before ≡ m.kernel.holdings → b.before ≡ b.kernel.holdings
+pub left_whole : (lent : Bool) (m b : Standing) (pid : ℕ) (holds : Option (List NamedFile)) (i j : Option (List ℕ)) → HasLeftBy lent m b pid holds i j
+    → m.before ≡ m.kernel.holdings → b.before ≡ b.kernel.holdings
 left_whole true m b pid holds i j left w = ap (λ (s : Standing). s.before) left.step ∙ w ∙ sym (ap (λ (s : Standing). s.kernel.holdings) left.step)
 left_whole false m b pid holds i j left w = settled_whole m b (space_held m.kernel pid) holds i j left w
 
@@ -65,8 +72,10 @@ same_stop : {A : Type 0} (s t : Stop) → (let r : Result A Stop = Err s in r) �
 same_stop s t e = cc
 
 -- a call that stops once the process has left its space
-pub once_left : {A : Type 0} (r : Result A Stop) (m b new : Standing) (pid : ℕ) (holds : Option (List NamedFile)) (i j : Option (List ℕ)) → m.before ≡ m.kernel.holdings → HasLeft m b pid holds i j
-    → OnErr r (HasStopped b new) → OnErr r ((r ≡ Err stops.JournalFull) ⊎ (r ≡ Err stops.NoMemory)) → (r ≡ Err stops.JournalFull → b.params.journal ≤ length b.kernel.journal)
+pub once_left : {A : Type 0} (r : Result A Stop) (m b new : Standing) (pid : ℕ) (holds : Option (List NamedFile)) (i j : Option (List ℕ))
+    → m.before ≡ m.kernel.holdings → HasLeft m b pid holds i j
+    → OnErr r (HasStopped b new) → OnErr r ((r ≡ Err stops.JournalFull) ⊎ (r ≡ Err stops.NoMemory))
+    → (r ≡ Err stops.JournalFull → b.params.journal ≤ length b.kernel.journal)
     → IfErr r (StopsAlive m new pid holds i j)
 once_left (Ok x) m b new pid holds i j w left s c f = tt
 once_left {A} (Err stop) m b new pid holds i j w left s c f = inr (record {
@@ -86,14 +95,16 @@ once_left {A} (Err stop) m b new pid holds i j w left s c f = inr (record {
 -- Where a process leaves its space.
 
 -- a space of its own that doesn't settle
-pub own_stops : {A : Type 0} (r : Result A Stop) (m new : Standing) (pid sid : ℕ) (holds : Option (List NamedFile)) (i j : Option (List ℕ)) → has_lender m.kernel.processes pid ≡ false
+pub own_stops : {A : Type 0} (r : Result A Stop) (m new : Standing) (pid sid : ℕ) (holds : Option (List NamedFile)) (i j : Option (List ℕ))
+    → has_lender m.kernel.processes pid ≡ false
     → sid ≡ space_held m.kernel pid → IfErr r (StopsSettling sid m new holds i j) → IfErr r (StopsLeaving m new pid holds i j)
 own_stops (Ok x) m new pid sid holds i j e held s = tt
 own_stops (Err stop) m new pid sid holds i j e held s = inl (record { own = e; settling = subst (λ (n : ℕ). StopsSettling n m new holds i j stop) held s })
 
 -- a space that it borrowed goes back
 pub lent_left : (m b new : Standing) (pid : ℕ) (holds : Option (List NamedFile)) (i : Option (List ℕ)) → has_lender m.kernel.processes pid ≡ true → b ≡ m
-    → length m.kernel.journal < m.params.journal → new ≡ record b { kernel = pass_step b.kernel pid (lender_among b.kernel.processes pid) } → HasLeft m new pid holds i i
+    → length m.kernel.journal < m.params.journal → new ≡ record b { kernel = pass_step b.kernel pid (lender_among b.kernel.processes pid) }
+    → HasLeft m new pid holds i i
 lent_left m b new pid holds i e same room step =
     subst (λ (lent : Bool). HasLeftBy lent m new pid holds i i) (sym e) (record {
       room = room;
@@ -105,7 +116,8 @@ lent_left m b new pid holds i e same room step =
 pub lent_stops : (stop : Stop) (m new : Standing) (pid : ℕ) (holds : Option (List NamedFile)) (i : Option (List ℕ)) → has_lender m.kernel.processes pid ≡ true
     → m.before ≡ m.kernel.holdings → HasStopped m new
     → (let r : Result (Unit {0}) Stop = Err stop in (r ≡ Err stops.JournalFull) ⊎ (r ≡ Err stops.NoMemory))
-    → (let r : Result (Unit {0}) Stop = Err stop in r ≡ Err stops.JournalFull → m.params.journal ≤ length m.kernel.journal) → StopsLeaving m new pid holds i i stop
+    → (let r : Result (Unit {0}) Stop = Err stop in r ≡ Err stops.JournalFull → m.params.journal ≤ length m.kernel.journal)
+    → StopsLeaving m new pid holds i i stop
 lent_stops stop m new pid holds i e w s c f = inr (record {
   lent = e;
   stops = record {
@@ -133,7 +145,8 @@ starved_before m new stop e w c = record {
   full = λ h. absurd (let z : stops.NoMemory ≡ stops.JournalFull = sym c ∙ h in cc);
 }
 
-pub out_starved : (m new : Standing) (pid : ℕ) (read : Result Reply Refused) (stop : Stop) → new ≡ m → m.before ≡ m.kernel.holdings → stop ≡ stops.NoMemory → StopsOut m new pid read stop
+pub out_starved : (m new : Standing) (pid : ℕ) (read : Result Reply Refused) (stop : Stop) → new ≡ m → m.before ≡ m.kernel.holdings → stop ≡ stops.NoMemory
+    → StopsOut m new pid read stop
 out_starved m new pid (Ok reply) stop e w c =
     let b : StopsBefore m new stop = starved_before m new stop e w c in
     record { between = m; reached = inl refl; stopped = b.stopped; whole = w; cause = b.cause; full = b.full }
@@ -144,8 +157,10 @@ out_starved m new pid (Err (Signal number)) stop e w c = starved_before m new st
 -- Where pieces are asked for.
 
 -- before the process has left its space
-pub asked_before : {A : Type 0} (r : Result A Stop) (pieces : Standing → Result Holdings ℕ) (m b new : Standing) (pid : ℕ) (holds : Option (List NamedFile)) (i : Option (List ℕ)) → b ≡ m
-    → m.before ≡ m.kernel.holdings → OnErr r (HasStopped b new) → OnErr r ((r ≡ Err stops.JournalFull) ⊎ (r ≡ Err stops.NoMemory)) → (r ≡ Err stops.JournalFull → b.params.journal ≤ length b.kernel.journal)
+pub asked_before : {A : Type 0} (r : Result A Stop) (pieces : Standing → Result Holdings ℕ) (m b new : Standing) (pid : ℕ) (holds : Option (List NamedFile))
+    (i : Option (List ℕ)) → b ≡ m
+    → m.before ≡ m.kernel.holdings → OnErr r (HasStopped b new) → OnErr r ((r ≡ Err stops.JournalFull) ⊎ (r ≡ Err stops.NoMemory))
+    → (r ≡ Err stops.JournalFull → b.params.journal ≤ length b.kernel.journal)
     → IfErr r (StopsFinding pieces m new pid holds i i)
 asked_before (Ok x) pieces m b new pid holds i e w s c f = tt
 asked_before {A} (Err stop) pieces m b new pid holds i e w s c f = inl (
@@ -162,7 +177,8 @@ asked_before {A} (Err stop) pieces m b new pid holds i e w s c f = inl (
 )
 
 -- once it has, since they find their places
-pub asked_alive : {A : Type 0} (r : Result A Stop) (pieces : Standing → Result Holdings ℕ) (m new : Standing) (pid : ℕ) (holds : Option (List NamedFile)) (i j : Option (List ℕ)) → is_ok (pieces m) ≡ true
+pub asked_alive : {A : Type 0} (r : Result A Stop) (pieces : Standing → Result Holdings ℕ) (m new : Standing) (pid : ℕ) (holds : Option (List NamedFile))
+    (i j : Option (List ℕ)) → is_ok (pieces m) ≡ true
     → IfErr r (StopsAlive m new pid holds i j) → IfErr r (StopsFinding pieces m new pid holds i j)
 asked_alive (Ok x) pieces m new pid holds i j fit s = tt
 asked_alive (Err stop) pieces m new pid holds i j fit s = inr (fit, s)

@@ -151,7 +151,8 @@ pub wait_is : (k : Kernel) (ps : List Record) (parent : ℕ) (c : Children) (reg
     → FoundAmong (λ n. 0 < n) ps parent c → wait_reply k parent regs ≡ reply_by c regs
 wait_is k ps parent c regs e h found = ap (λ (qs : List Proc). wait_among qs parent regs) e ∙ waits ps k.next_pid parent h c found regs
 
-pub zombie_ended : (k : Kernel) (ps : List Record) (parent child status : ℕ) (c : Children) → k.processes ≡ processes_of ps k.next_pid → AreRecords ps k.next_pid
+pub zombie_ended : (k : Kernel) (ps : List Record) (parent child status : ℕ) (c : Children) → k.processes ≡ processes_of ps k.next_pid
+    → AreRecords ps k.next_pid
     → FoundAmong (λ n. 0 < n) ps parent c → c ≡ children.Zombie child status → lives k.processes child ≡ false
 zombie_ended k ps parent child status c e h found is =
     ap (λ (qs : List Proc). lives qs child) e ∙ subst (λ (x : Children). HasEnded (processes_of ps k.next_pid) x) is (ended ps k.next_pid parent h c found)

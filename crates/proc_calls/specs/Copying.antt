@@ -45,7 +45,8 @@ pub record CopiesPage (child parent : Page) (old new : Standing) (holds : Option
   pub keeps : KeepsThrough old new holds before after
 
 -- the run stops once the parent's page was served, as a frame is forced, or at the copy
-pub record StopsBehind (child parent : Page) (old new : Standing) (holds : Option (List NamedFile)) (before after : Option (List ℕ)) (stop : Stop) : Type 0 where
+pub record StopsBehind (child parent : Page) (old new : Standing) (holds : Option (List NamedFile)) (before after : Option (List ℕ))
+    (stop : Stop) : Type 0 where
   pub served : Standing
   pub behind : Option (List ℕ)
   pub serves : ServesNow (parent ∷ []) parent old served holds before behind

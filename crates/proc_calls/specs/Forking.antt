@@ -39,7 +39,8 @@ pub record Forked (old new : Standing) (pid : ℕ) (regs : Regs) (holds : Option
   pub copies : CopiesAll between.kernel.place.due between new holds before after
 
 -- the call answers, and the run stops as a page is copied
-pub record StopsBehindFork (old new : Standing) (pid : ℕ) (regs : Regs) (holds : Option (List NamedFile)) (before after : Option (List ℕ)) (stop : Stop) : Type 0 where
+pub record StopsBehindFork (old new : Standing) (pid : ℕ) (regs : Regs) (holds : Option (List NamedFile)) (before after : Option (List ℕ))
+    (stop : Stop) : Type 0 where
   pub between : Standing
   pub answer : ForkAnswered old between pid regs
   pub stops : StopsCopying between.kernel.place.due between new holds before after stop

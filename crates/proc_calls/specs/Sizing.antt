@@ -137,7 +137,8 @@ pub record StopsOnceSettled (old new : Standing) (sid : ℕ) (holds : Option (Li
 -- with fewer pages: while the space settles, or so
 pub record StopsCutting (old new : Standing) (pid pages : ℕ) (holds : Option (List NamedFile)) (before after : Option (List ℕ)) (stop : Stop) : Type 0 where
   pub fewer : pages < data_pages_of old.kernel pid
-  pub stops : StopsSettling (space_held old.kernel pid) old new holds before after stop ⊎ StopsOnceSettled old new (space_held old.kernel pid) holds before after stop
+  pub stops : StopsSettling (space_held old.kernel pid) old new holds before after stop
+      ⊎ StopsOnceSettled old new (space_held old.kernel pid) holds before after stop
 
 -- a break stops with no call of a device, or as it cuts the data
 abbrev pub StopsMoving : Standing → Standing → ℕ → ℕ → Option (List NamedFile) → Option (List ℕ) → Option (List ℕ) → Stop → Type 0

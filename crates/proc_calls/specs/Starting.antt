@@ -73,7 +73,8 @@ pub record AreNextWants (m : Standing) (image : ℕ) (wants : List Want) : Type 
 -- What becomes of the machine.
 
 -- a process left its space, and then pieces were found
-pub record LeavesFor (pieces : Standing → Result Holdings ℕ) (old new : Standing) (pid : ℕ) (holds : Option (List NamedFile)) (before after : Option (List ℕ)) : Type 0 where
+pub record LeavesFor (pieces : Standing → Result Holdings ℕ) (old new : Standing) (pid : ℕ) (holds : Option (List NamedFile))
+    (before after : Option (List ℕ)) : Type 0 where
   pub between : Standing
   pub left : HasLeft old between pid holds before after
   pub found : Holdings
@@ -92,18 +93,21 @@ FindsBy true pieces old new pid holds before after = LeavesFor pieces old new pi
 FindsBy false pieces old new pid holds before after = StaysWithout old new pid before after
 
 -- Pieces are looked for, and where they find their places the process leaves its space before they are found.
-pub record Finds (pieces : Standing → Result Holdings ℕ) (fits : Bool) (old new : Standing) (pid : ℕ) (holds : Option (List NamedFile)) (before after : Option (List ℕ)) : Type 0 where
+pub record Finds (pieces : Standing → Result Holdings ℕ) (fits : Bool) (old new : Standing) (pid : ℕ) (holds : Option (List NamedFile))
+    (before after : Option (List ℕ)) : Type 0 where
   pub answer : fits ≡ is_ok (pieces old)
   pub finds : FindsBy fits pieces old new pid holds before after
 
 -- once the process left its space and the pieces of the image were found, the call answers with the change
-pub record HasStarted (old new : Standing) (pid : ℕ) (after : Regs) (image : ℕ) (top : List ℕ) (holds : Option (List NamedFile)) (before behind : Option (List ℕ)) : Type 0 where
+pub record HasStarted (old new : Standing) (pid : ℕ) (after : Regs) (image : ℕ) (top : List ℕ) (holds : Option (List NamedFile))
+    (before behind : Option (List ℕ)) : Type 0 where
   pub asked : Standing
   pub finds : LeavesFor (image_found image) old asked pid holds before behind
   pub answer : Answered asked new pid Execve after (Exec image top)
 
 -- and then its stack page 0 is filled
-pub record HasStartedFilled (old new : Standing) (pid : ℕ) (after : Regs) (image : ℕ) (top : List ℕ) (holds : Option (List NamedFile)) (before behind : Option (List ℕ)) : Type 0 where
+pub record HasStartedFilled (old new : Standing) (pid : ℕ) (after : Regs) (image : ℕ) (top : List ℕ) (holds : Option (List NamedFile))
+    (before behind : Option (List ℕ)) : Type 0 where
   pub between : Standing
   pub told : Option (List ℕ)
   pub started : HasStarted old between pid after image top holds before told
@@ -148,7 +152,8 @@ StopsStarting old new pid image holds before after stop =
     StopsFinding (image_found image) old new pid holds before after stop ⊎ StopsWithout old new pid image before after stop
 
 -- once the call has answered, as the new stack page is filled
-pub record StopsBehindStart (old new : Standing) (pid : ℕ) (after : Regs) (image : ℕ) (top : List ℕ) (holds : Option (List NamedFile)) (before behind : Option (List ℕ)) (stop : Stop) : Type 0 where
+pub record StopsBehindStart (old new : Standing) (pid : ℕ) (after : Regs) (image : ℕ) (top : List ℕ) (holds : Option (List NamedFile))
+    (before behind : Option (List ℕ)) (stop : Stop) : Type 0 where
   pub between : Standing
   pub told : Option (List ℕ)
   pub started : HasStarted old between pid after image top holds before told

@@ -56,7 +56,8 @@ pub fn leave_space<F: Files, D: SwapDev>(
     requires area { m.old.params.swap_blocks ≤ D.blocks swap.old }
     requires files { AreFiles m.old.images (F.holds files.old) }
     ensures left { OnOk result (HasLeft m.old m.new pid (F.holds files.old) (D.image swap.old) (D.image swap.new)) }
-    ensures given { OnOk result (has_lender m.old.kernel.processes pid ≡ true → HasGivenBack m.old.kernel m.new.kernel pid (lender_among m.old.kernel.processes pid)) }
+    ensures given { OnOk result
+        (has_lender m.old.kernel.processes pid ≡ true → HasGivenBack m.old.kernel m.new.kernel pid (lender_among m.old.kernel.processes pid)) }
     ensures stops { IfErr result (StopsLeaving m.old m.new pid (F.holds files.old) (D.image swap.old) (D.image swap.new)) }
     ensures outside { TransfersPages F.Files D.SwapDev (stop_of result) files.old files.new swap.old swap.new }
 {
@@ -144,8 +145,10 @@ pub fn exit<F: Files, D: SwapDev>(
     requires calls { IsCaller m.old pid }
     requires area { m.old.params.swap_blocks ≤ D.blocks swap.old }
     requires files { AreFiles m.old.images (F.holds files.old) }
-    ensures comes { IfOk result (λ called. ExitComes m.old m.new pid regs.now (run (kernel_answers m.old.kernel (space_held m.old.kernel pid)) (exit_reply regs.now)) (F.holds files.old) (D.image swap.old) (D.image swap.new) called) }
-    ensures stops { IfErr result (StopsExit m.old m.new pid (run (kernel_answers m.old.kernel (space_held m.old.kernel pid)) (exit_reply regs.now)) (F.holds files.old) (D.image swap.old) (D.image swap.new)) }
+    ensures comes { IfOk result (λ called. ExitComes m.old m.new pid regs.now (run (kernel_answers m.old.kernel (space_held m.old.kernel pid))
+        (exit_reply regs.now)) (F.holds files.old) (D.image swap.old) (D.image swap.new) called) }
+    ensures stops { IfErr result (StopsExit m.old m.new pid (run (kernel_answers m.old.kernel (space_held m.old.kernel pid)) (exit_reply regs.now))
+        (F.holds files.old) (D.image swap.old) (D.image swap.new)) }
     ensures outside { TransfersPages F.Files D.SwapDev (stop_of result) files.old files.new swap.old swap.new }
 {
     match read_status(m, pid, regs) {

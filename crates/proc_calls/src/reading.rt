@@ -59,7 +59,8 @@ fn path_image<M: Memory>(
     path: u32,
 ) -> Result<Asked<Option<u32>>, NoMemory>
     requires { length images.now ≤ 16 }
-    ensures image { (known : List NamedImage) → AreShown known images.now → IfOk result (λ asked. IsPathImage known images.now (run (M.answers memory.now) (string_from string_limit path)) asked) }
+    ensures image { (known : List NamedImage) → AreShown known images.now
+        → IfOk result (λ asked. IsPathImage known images.now (run (M.answers memory.now) (string_from string_limit path)) asked) }
     ensures within { IfOk result (λ asked. IfOk asked (λ number. IfSome number (IsAmong images.now))) }
 {
     Ok(image_at(images, string_from(alloc, memory, path)?))
@@ -75,7 +76,8 @@ pub fn start_of<M: Memory>(
     argv: u32,
 ) -> Result<Asked<Reply>, NoMemory>
     requires { entry + 2 < 2 ^ 32 }
-    ensures value { (known : NamedImage) → known.image.facts.entry ≡ entry → IfOk result (λ asked. asked ≡ run (M.answers memory.now) (execve_of argv (Some (image, known)))) }
+    ensures value { (known : NamedImage) → known.image.facts.entry ≡ entry
+        → IfOk result (λ asked. asked ≡ run (M.answers memory.now) (execve_of argv (Some (image, known)))) }
     ensures starts { IfOk result (λ asked. IfOk asked (StartsAs (λ number. number ≡ image))) }
 {
     match arguments_at(alloc, memory, argv)? {
@@ -149,7 +151,8 @@ pub fn read_by_call<M: Memory>(
 ) -> Result<Asked<()>, NoMemory>
     requires few { length images.now ≤ 16 }
     requires entries { EntriesFit images.now }
-    ensures { (known : List NamedImage) (F : FlatState) (p : Process) (s : Space) → AreShown known images.now → IfOk result (λ asked. asked ≡ refusal_of (run (M.answers memory.now) (reply_of known F p s call regs.now))) }
+    ensures { (known : List NamedImage) (F : FlatState) (p : Process) (s : Space) → AreShown known images.now
+        → IfOk result (λ asked. asked ≡ refusal_of (run (M.answers memory.now) (reply_of known F p s call regs.now))) }
 {
     match call {
         SystemCall::Exit | SystemCall::Break => Ok(refusal_of(argument(memory, *regs, 1))),

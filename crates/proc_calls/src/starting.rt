@@ -32,7 +32,8 @@ fn find_pieces<F: Files, D: SwapDev>(
     requires files { AreFiles m.old.images (F.holds files.old) }
     requires can { CanAsk m.old.kernel.holdings wants.now }
     ensures finds { IfOk result (λ fits. Finds (wants_found wants.now) fits m.old m.new pid (F.holds files.old) (D.image swap.old) (D.image swap.new)) }
-    ensures given { result ≡ Ok true → has_lender m.old.kernel.processes pid ≡ true → HasGivenBack m.old.kernel m.new.kernel pid (lender_among m.old.kernel.processes pid) }
+    ensures given { result ≡ Ok true → has_lender m.old.kernel.processes pid ≡ true
+        → HasGivenBack m.old.kernel m.new.kernel pid (lender_among m.old.kernel.processes pid) }
     ensures has_room { result ≡ Ok true → length m.new.kernel.journal < m.new.params.journal }
     ensures stops { IfErr result (StopsFinding (wants_found wants.now) m.old m.new pid (F.holds files.old) (D.image swap.old) (D.image swap.new)) }
     ensures outside { TransfersPages F.Files D.SwapDev (stop_of result) files.old files.new swap.old swap.new }
@@ -79,7 +80,8 @@ fn find_space<F: Files, D: SwapDev>(
     requires above { 0 < image }
     requires within { image ≤ length m.old.images }
     ensures finds { IfOk result (λ fits. Finds (image_found image) fits m.old m.new pid (F.holds files.old) (D.image swap.old) (D.image swap.new)) }
-    ensures given { result ≡ Ok true → has_lender m.old.kernel.processes pid ≡ true → HasGivenBack m.old.kernel m.new.kernel pid (lender_among m.old.kernel.processes pid) }
+    ensures given { result ≡ Ok true → has_lender m.old.kernel.processes pid ≡ true
+        → HasGivenBack m.old.kernel m.new.kernel pid (lender_among m.old.kernel.processes pid) }
     ensures has_room { result ≡ Ok true → length m.new.kernel.journal < m.new.params.journal }
     ensures stops { IfErr result (StopsFinding (image_found image) m.old m.new pid (F.holds files.old) (D.image swap.old) (D.image swap.new)) }
     ensures outside { TransfersPages F.Files D.SwapDev (stop_of result) files.old files.new swap.old swap.new }

@@ -95,7 +95,8 @@ pub fn write(alloc: Global, m: &mut Machine, pid: u32, regs: &Regs) -> Result<Ca
     requires whole { m.old.before ≡ m.old.kernel.holdings }
     requires clear { m.old.kernel.place.due ≡ [] }
     requires lends { CanLend m.old.kernel pid }
-    ensures comes { IfOk result (Comes m.old m.new pid Write regs.now (run (kernel_answers m.old.kernel (space_held m.old.kernel pid)) (write_reply regs.now))) }
+    ensures comes { IfOk result
+        (Comes m.old m.new pid Write regs.now (run (kernel_answers m.old.kernel (space_held m.old.kernel pid)) (write_reply regs.now))) }
     ensures stop { IfErr result (StopsOut m.old m.new pid (run (kernel_answers m.old.kernel (space_held m.old.kernel pid)) (write_reply regs.now))) }
 {
     let asked = read_bytes(alloc, m, pid, regs);

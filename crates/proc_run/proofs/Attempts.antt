@@ -108,7 +108,8 @@ pub room_goes_on : (old mid new : Standing) (n : ℕ) → RoomOnly old mid → I
 room_goes_on old mid new n o h c =
     let e : 0 + n ≡ n = omega arith in subst (λ (k : ℕ). Continues old new k) e (continues_both old mid new 0 n (room_continues old mid o.made (ready_of old h) o.only) c)
 
-pub room_runs : (A : Inputs) (s : State) (old new : Standing) (holds : Option (List NamedFile)) (i : Option (List ℕ)) (image : List ℕ) (pid : ℕ) (now : Bool) (p : Process) (x : Space)
+pub room_runs : (A : Inputs) (s : State) (old new : Standing) (holds : Option (List NamedFile)) (i : Option (List ℕ)) (image : List ℕ) (pid : ℕ) (now : Bool)
+    (p : Process) (x : Space)
     → RoomOnly old new
     → RunsAt A s old holds i image pid now p x → RunsAt A s new holds i image pid now p x
 room_runs A s old new holds i image pid now p x o r =

@@ -194,7 +194,8 @@ module _ (m : Standing) (b : Begun) (holds : Option (List NamedFile)) (i : Optio
 
 -- The machine that it left is as it was, but for the room for one more entry.
 
-begun_again : (A : Inputs) (s : State) (old new : Standing) (b : Begun) (holds : Option (List NamedFile)) (i : Option (List ℕ)) (image : List ℕ) → RoomOnly old new
+begun_again : (A : Inputs) (s : State) (old new : Standing) (b : Begun) (holds : Option (List NamedFile)) (i : Option (List ℕ))
+    (image : List ℕ) → RoomOnly old new
     → BegunAt A s old b holds i image → BegunAt A s new b holds i image
 begun_again A s old new b holds i image o h =
     room_kernel (λ m. BegunAt A s m b holds i image) old new o

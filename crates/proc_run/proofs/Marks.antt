@@ -89,7 +89,8 @@ goes_true A s pid more until e l c =
 pub goes_false : (A : Inputs) (s : State) (pid more until : ℕ) → until ≡ min more A.limit → until ≤ s.count → goes_on A s pid more ≡ false
 goes_false A s pid more until e l =
     none_left (flat_steps s.point.flat pid) (nat_lt s.count A.limit) (nat_lt s.count more)
-    (λ x y. let a : s.count < A.limit = grind (arith, nat_tests) in let b : s.count < more = grind (arith, nat_tests) in absurd (let z : s.count < until = omega (arith, e, a, b) in omega (arith, z, l)))
+    (λ x y. let a : s.count < A.limit = grind (arith, nat_tests) in
+    let b : s.count < more = grind (arith, nat_tests) in absurd (let z : s.count < until = omega (arith, e, a, b) in omega (arith, z, l)))
 
 pub idle : (A : Inputs) (s : State) (pid more : ℕ) → flat_steps s.point.flat pid ≡ false → goes_on A s pid more ≡ false
 idle A s pid more e = ap (λ (c : Bool). c && (nat_lt s.count A.limit && nat_lt s.count more)) e

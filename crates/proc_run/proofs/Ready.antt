@@ -99,7 +99,8 @@ flat_test above q = ap (λ (b : Bool). b && nat_lt above q.pid) (ready_one q.asl
 flat_first : (above : ℕ) (qs : List Process)
     → flat_pid_if (find (λ q. is_ready q && nat_lt above q.pid) qs) ≡ outline_pid (find (outlined above) (map outline_of qs))
 flat_first above [] = refl
-flat_first above (q ∷ qs) = ap (λ (b : Bool). flat_pid_if (cond b (Some q) (find (λ x. is_ready x && nat_lt above x.pid) qs))) (flat_test above q) ∙ go (outlined above (outline_of q)) (flat_first above qs)
+flat_first above (q ∷ qs) =
+    ap (λ (b : Bool). flat_pid_if (cond b (Some q) (find (λ x. is_ready x && nat_lt above x.pid) qs))) (flat_test above q) ∙ go (outlined above (outline_of q)) (flat_first above qs)
   where
     go : (b : Bool) → flat_pid_if (find (λ x. is_ready x && nat_lt above x.pid) qs) ≡ outline_pid (find (outlined above) (map outline_of qs))
         → flat_pid_if (cond b (Some q) (find (λ x. is_ready x && nat_lt above x.pid) qs)) ≡ outline_pid (cond b (Some (outline_of q)) (find (outlined above) (map outline_of qs)))

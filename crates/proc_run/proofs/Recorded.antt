@@ -15,7 +15,8 @@ use Rattle.steady_laws.proofs.Numbers.{placed}
 use Rattle.steady_laws.specs.Callers.{regs_by, regs_of}
 use Rattle.proc_run.specs.Choosing.{holds_space, can_step, steps_by, may_run}
 
-module _ (k : Kernel) (ps : List Record) (pid : ℕ) (procs : k.processes ≡ processes_of ps k.next_pid) (residents : k.place.residents ≡ residents_of ps k.next_pid) (known : AreRecords ps k.next_pid) where
+module _ (k : Kernel) (ps : List Record) (pid : ℕ) (procs : k.processes ≡ processes_of ps k.next_pid) (residents : k.place.residents ≡ residents_of ps k.next_pid)
+    (known : AreRecords ps k.next_pid) where
   -- the process is the one of the record
   process : proc_of k pid ≡ shown_of (find pid ps)
   process = ap (λ (qs : List Proc). Rattle.page_model.specs.Pages.numbered (λ (p : Proc). p.pid) pid qs) procs ∙ process_is ps k.next_pid pid known

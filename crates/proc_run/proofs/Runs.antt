@@ -17,7 +17,8 @@ use Rattle.proc_run.specs.Runs.{RunsAt}
 use Rattle.proc_run.specs.Serving.{AreLocked}
 
 -- with the registers that the machine keeps
-pub runs_with : (A : Inputs) (s : State) (m : Standing) (holds : Option (List NamedFile)) (i : Option (List ℕ)) (image : List ℕ) (pid : ℕ) (now : Bool) (p : Process) (x : Space) (regs : Regs)
+pub runs_with : (A : Inputs) (s : State) (m : Standing) (holds : Option (List NamedFile)) (i : Option (List ℕ)) (image : List ℕ) (pid : ℕ) (now : Bool)
+    (p : Process) (x : Space) (regs : Regs)
     → regs ≡ regs_of m.kernel pid → RunsAt A s m holds i image pid now p x → RunsWith A s now m pid regs
 runs_with A s m holds i image pid now p x regs e r = record {
   image = image;
@@ -30,7 +31,8 @@ runs_with A s m holds i image pid now p x regs e r = record {
 }
 
 -- the pages that the instruction touches before the first that isn't valid are those that the run keeps
-pub kept : (m : Standing) (holds : Option (List NamedFile)) (i : Option (List ℕ)) (pid : ℕ) (regs : Regs) (r : Result (List Page) NoMemory) (touched pages : List Page)
+pub kept : (m : Standing) (holds : Option (List NamedFile)) (i : Option (List ℕ)) (pid : ℕ) (regs : Regs) (r : Result (List Page) NoMemory)
+    (touched pages : List Page)
     → regs ≡ regs_of m.kernel pid
     → pages ≡ touched → r ≡ Ok touched
     → ((A : Inputs) (s : State) (now : Bool) → RunsWith A s now m pid regs → IfOk r (λ qs. qs ≡ locked A s)) → AreLocked m holds i pid pages

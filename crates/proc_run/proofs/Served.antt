@@ -46,7 +46,8 @@ pub served_on : (now : Bool) (old new : Standing) (pid address : ℕ) (write : B
 served_on true old new pid address write holds i j answer c h = access_now_continues old new pid (access_by old.kernel pid address write) answer h.pages holds i j c h.comes
 served_on false old new pid address write holds i j answer c h = access_continues old new pid (access_by old.kernel pid address write) answer holds i j c h
 
-pub served_holders : (now : Bool) (old new : Standing) (pid address : ℕ) (write : Bool) (holds : Option (List NamedFile)) (i j : Option (List ℕ)) (answer : Served)
+pub served_holders : (now : Bool) (old new : Standing) (pid address : ℕ) (write : Bool) (holds : Option (List NamedFile))
+    (i j : Option (List ℕ)) (answer : Served)
     → ServedBy now old new pid address write holds i j answer → KeepsHolders old new
 served_holders true old new pid address write holds i j answer h = served_now_keeps h.pages (access_by old.kernel pid address write) answer pid old new holds i j h.comes
 served_holders false old new pid address write holds i j answer h = served_keeps (access_by old.kernel pid address write) answer pid old new holds i j h
@@ -64,7 +65,8 @@ module _ (A : Inputs) (s : State) (old mid : Standing) (holds : Option (List Nam
   ]
 
 -- by whether it is served by waiting
-pub served_leads : (now : Bool) (A : Inputs) (s : State) (old mid : Standing) (holds : Option (List NamedFile)) (i j : Option (List ℕ)) (image : List ℕ) (pid : ℕ) (p : Process) (x : Space)
+pub served_leads : (now : Bool) (A : Inputs) (s : State) (old mid : Standing) (holds : Option (List NamedFile)) (i j : Option (List ℕ)) (image : List ℕ)
+    (pid : ℕ) (p : Process) (x : Space)
     (address : ℕ) (write : Bool) (before : List Page) (answer : Served) → RunsAt A s old holds i image pid now p x → Waits A s old p x address write before
     → ServedBy now old mid pid address write holds i j answer → ServeLeads A s old mid holds image j pid now p x answer
 served_leads true A s old mid holds i j image pid p x address write before answer r w h =
@@ -75,7 +77,8 @@ served_leads true A s old mid holds i j image pid p x address write before answe
 served_leads false A s old mid holds i j image pid p x address write before answer r w h =
     serve_made A s old mid holds image j pid p x address write before answer r.on w (subst (λ (o : Option (List ℕ)). ServedBy false old mid pid address write holds o j answer) r.told h)
 
-pub served_stops : (now : Bool) (A : Inputs) (s : State) (old new : Standing) (holds : Option (List NamedFile)) (i j : Option (List ℕ)) (image : List ℕ) (pid : ℕ) (p : Process) (x : Space)
+pub served_stops : (now : Bool) (A : Inputs) (s : State) (old new : Standing) (holds : Option (List NamedFile)) (i j : Option (List ℕ)) (image : List ℕ)
+    (pid : ℕ) (p : Process) (x : Space)
     (address : ℕ) (write : Bool) (before : List Page) (stop : Stop) → RunsAt A s old holds i image pid now p x → Waits A s old p x address write before
     → StopsServed now old new pid address write holds i j stop → StopLeads A s old.kernel image stop new j
 served_stops true A s old new holds i j image pid p x address write before stop r w h = elim h [
@@ -142,8 +145,10 @@ ends_there false old new pid address write holds i j answer e h c =
     access_ends (λ came q from. TouchedAs came q from new holds i j) (access_by old.kernel pid address write) answer pid old new i j (λ q m number x. x) (λ q m x. x) e h c
 
 -- what serving leads to, where the process doesn't end
-pub advances_valid : (now : Bool) (A : Inputs) (s : State) (old mid : Standing) (holds : Option (List NamedFile)) (i j : Option (List ℕ)) (image : List ℕ) (pid : ℕ) (p : Process) (x : Space)
-    (address : ℕ) (write : Bool) (before : List Page) (answer : Served) → answer ≡ served.Valid → RunsAt A s old holds i image pid now p x → Waits A s old p x address write before
+pub advances_valid : (now : Bool) (A : Inputs) (s : State) (old mid : Standing) (holds : Option (List NamedFile)) (i j : Option (List ℕ)) (image : List ℕ)
+    (pid : ℕ) (p : Process) (x : Space)
+    (address : ℕ) (write : Bool) (before : List Page) (answer : Served) → answer ≡ served.Valid → RunsAt A s old holds i image pid now p x
+    → Waits A s old p x address write before
     → ServedBy now old mid pid address write holds i j answer → AdvancesTo A s old.kernel image advances.Served mid.kernel j
 advances_valid now A s old mid holds i j image pid p x address write before answer e r w h =
     let m = subst (ServeLeads A s old mid holds image j pid now p x) e (served_leads now A s old mid holds i j image pid p x address write before answer r w h) in
@@ -154,8 +159,10 @@ IsStuck (served.Asleep q) = Unit {0}
 IsStuck served.NoFrame = Unit {0}
 IsStuck _ = ⊥
 
-pub advances_stuck : (now : Bool) (A : Inputs) (s : State) (old mid : Standing) (holds : Option (List NamedFile)) (i j : Option (List ℕ)) (image : List ℕ) (pid : ℕ) (p : Process) (x : Space)
-    (address : ℕ) (write : Bool) (before : List Page) (answer : Served) → IsStuck answer → RunsAt A s old holds i image pid now p x → Waits A s old p x address write before
+pub advances_stuck : (now : Bool) (A : Inputs) (s : State) (old mid : Standing) (holds : Option (List NamedFile)) (i j : Option (List ℕ)) (image : List ℕ)
+    (pid : ℕ) (p : Process) (x : Space)
+    (address : ℕ) (write : Bool) (before : List Page) (answer : Served) → IsStuck answer → RunsAt A s old holds i image pid now p x
+    → Waits A s old p x address write before
     → ServedBy now old mid pid address write holds i j answer → AdvancesTo A s old.kernel image advances.Stuck mid.kernel j
 advances_stuck now A s old mid holds i j image pid p x address write before answer e r w h = go answer e (served_leads now A s old mid holds i j image pid p x address write before answer r w h)
   where
@@ -175,9 +182,12 @@ is_end served.NoSpace status e = tt
 is_end (served.Signal number) status e = tt
 is_end _ status e = absurd e
 
-pub advances_ended : (now : Bool) (A : Inputs) (s : State) (old mid new : Standing) (holds : Option (List NamedFile)) (i told j : Option (List ℕ)) (image : List ℕ) (pid : ℕ) (p : Process) (x : Space)
-    (address : ℕ) (write : Bool) (before : List Page) (answer : Served) (status : ℕ) → EndsBy answer status → Continues old mid 0 → RunsAt A s old holds i image pid now p x
-    → Waits A s old p x address write before → ServedBy now old mid pid address write holds i told answer → HasEnded mid new pid status holds told j → StepLeads A s old.kernel image 1 new.kernel j
+pub advances_ended : (now : Bool) (A : Inputs) (s : State) (old mid new : Standing) (holds : Option (List NamedFile)) (i told j : Option (List ℕ))
+    (image : List ℕ) (pid : ℕ) (p : Process) (x : Space)
+    (address : ℕ) (write : Bool) (before : List Page) (answer : Served) (status : ℕ) → EndsBy answer status → Continues old mid 0
+    → RunsAt A s old holds i image pid now p x
+    → Waits A s old p x address write before → ServedBy now old mid pid address write holds i told answer → HasEnded mid new pid status holds told j
+    → StepLeads A s old.kernel image 1 new.kernel j
 advances_ended now A s old mid new holds i told j image pid p x address write before answer status e c r w h d =
     go answer e (served_leads now A s old mid holds i told image pid p x address write before answer r w h)
   where
@@ -187,9 +197,12 @@ advances_ended now A s old mid new holds i told j image pid p x address write be
     go (served.Signal number) e m = absurd m
     go _ e m = absurd e
 
-pub stops_ended : (now : Bool) (A : Inputs) (s : State) (old mid new : Standing) (holds : Option (List NamedFile)) (i told j : Option (List ℕ)) (image : List ℕ) (pid : ℕ) (p : Process) (x : Space)
-    (address : ℕ) (write : Bool) (before : List Page) (answer : Served) (status : ℕ) (stop : Stop) → EndsBy answer status → Continues old mid 0 → RunsAt A s old holds i image pid now p x
-    → Waits A s old p x address write before → ServedBy now old mid pid address write holds i told answer → StopsAlive mid new pid holds told j stop → StopLeads A s old.kernel image stop new j
+pub stops_ended : (now : Bool) (A : Inputs) (s : State) (old mid new : Standing) (holds : Option (List NamedFile)) (i told j : Option (List ℕ)) (image : List ℕ)
+    (pid : ℕ) (p : Process) (x : Space)
+    (address : ℕ) (write : Bool) (before : List Page) (answer : Served) (status : ℕ) (stop : Stop) → EndsBy answer status → Continues old mid 0
+    → RunsAt A s old holds i image pid now p x
+    → Waits A s old p x address write before → ServedBy now old mid pid address write holds i told answer → StopsAlive mid new pid holds told j stop
+    → StopLeads A s old.kernel image stop new j
 stops_ended now A s old mid new holds i told j image pid p x address write before answer status stop e c r w h d =
     go answer e (served_leads now A s old mid holds i told image pid p x address write before answer r w h)
   where
@@ -205,7 +218,8 @@ Brought old new pid address write holds i j pages r =
     MatchResult r (λ answer. AccessComes (λ came q from. TouchedNow pages came q from new holds i j) (access_by old.kernel pid address write) answer pid old new i j)
     (AccessStops true pages (access_by old.kernel pid address write) pid old new holds i j)
 
-pub brought : (r : Result Served Stop) (old mid new : Standing) (pid address : ℕ) (write : Bool) (holds : Option (List NamedFile)) (i j : Option (List ℕ)) (pages : List Page)
+pub brought : (r : Result Served Stop) (old mid new : Standing) (pid address : ℕ) (write : Bool) (holds : Option (List NamedFile))
+    (i j : Option (List ℕ)) (pages : List Page)
     → mid ≡ old
     → AreLocked old holds i pid pages → Brought mid new pid address write holds i j pages r → IfOk r (ServedBy true old new pid address write holds i j)
 brought (Err stop) old mid new pid address write holds i j pages e k h = tt
@@ -215,7 +229,8 @@ brought (Ok answer) old mid new pid address write holds i j pages e k h = record
   comes = subst (λ (m : Standing). AccessComes (λ came q from. TouchedNow pages came q from new holds i j) (access_by m.kernel pid address write) answer pid m new i j) e h;
 }
 
-pub brought_stops : (r : Result Served Stop) (old mid new : Standing) (pid address : ℕ) (write : Bool) (holds : Option (List NamedFile)) (i j : Option (List ℕ)) (pages : List Page)
+pub brought_stops : (r : Result Served Stop) (old mid new : Standing) (pid address : ℕ) (write : Bool) (holds : Option (List NamedFile))
+    (i j : Option (List ℕ)) (pages : List Page)
     → mid ≡ old
     → AreLocked old holds i pid pages → Brought mid new pid address write holds i j pages r → IfErr r (StopsServed true old new pid address write holds i j)
 brought_stops (Ok answer) old mid new pid address write holds i j pages e k h = tt

@@ -39,7 +39,8 @@ use Rattle.proc_run.proofs.Marks.{runs, over_counted, over_idle}
 
 -- Next units led to a state under the same mark, at which as many instructions are counted, and at least so many pages are valid of
 -- those that the process touches first.
-pub record SoFar (A : Inputs) (s : State) (k : Kernel) (image : List ℕ) (m : Standing) (holds : Option (List NamedFile)) (j : Option (List ℕ)) (count waits : ℕ) : Type 0 where
+pub record SoFar (A : Inputs) (s : State) (k : Kernel) (image : List ℕ) (m : Standing) (holds : Option (List NamedFile)) (j : Option (List ℕ))
+    (count waits : ℕ) : Type 0 where
   pub units : List Entry
   pub state : State
   pub behind : List ℕ
@@ -79,7 +80,8 @@ asks_still : (A : Inputs) (s t : State) (pid : ℕ) (now : Bool) (until : ℕ) �
 asks_still A s t pid false until e (n, since, m, u) = (n, since, e ∙ m, u)
 asks_still A s t pid true until e (since, m, u) = (since, e ∙ m, u)
 
-module _ (old m new : Standing) (pid : ℕ) (now : Bool) (counted until : ℕ) (holds : Option (List NamedFile)) (i j h : Option (List ℕ)) (count waits : ℕ) (so_far : LedSoFar old m pid now counted until holds i j count waits) where
+module _ (old m new : Standing) (pid : ℕ) (now : Bool) (counted until : ℕ) (holds : Option (List NamedFile)) (i j h : Option (List ℕ)) (count waits : ℕ)
+    (so_far : LedSoFar old m pid now counted until holds i j count waits) where
   -- the process runs there
   runs_there : count < until → may_run m.kernel pid ≡ true → (A : Inputs) (s : State) (image : List ℕ) (u : UnderMark A s old holds i image pid now counted until)
       → (let f = so_far A s image u in (p : Process) × (x : Space) × RunsAt A f.state m holds j f.behind pid now p x)
@@ -161,7 +163,8 @@ module _ (old m new : Standing) (pid : ℕ) (now : Bool) (counted until : ℕ) (
 
 -- Where it ends.
 
-module _ (old m : Standing) (pid : ℕ) (now : Bool) (counted until : ℕ) (holds : Option (List NamedFile)) (i j : Option (List ℕ)) (count waits : ℕ) (so_far : LedSoFar old m pid now counted until holds i j count waits) where
+module _ (old m : Standing) (pid : ℕ) (now : Bool) (counted until : ℕ) (holds : Option (List NamedFile)) (i j : Option (List ℕ)) (count waits : ℕ)
+    (so_far : LedSoFar old m pid now counted until holds i j count waits) where
   ends : (A : Inputs) (s : State) (image : List ℕ) (u : UnderMark A s old holds i image pid now counted until)
       → (let f = so_far A s image u in ((now ≡ true → is_out f.state.place pid ≡ false) → under A f.state f.state.mark ≡ None) → RunLeads A s old.kernel image pid now m.kernel j count)
   ends A s image u over =
@@ -234,7 +237,8 @@ lends_there m pid s r =
 -- Instructions that were counted one after another.
 
 pub ran_far : (n pid : ℕ) (old m new : Standing) (now : Bool) (counted until : ℕ) (holds : Option (List NamedFile)) (i j : Option (List ℕ)) (count : ℕ)
-    → LedSoFar old m pid now counted until holds i j count 0 → RanOn m pid n new → count + n ≤ until → LedSoFar old new pid now counted until holds i j (count + n) 0
+    → LedSoFar old m pid now counted until holds i j count 0 → RanOn m pid n new → count + n ≤ until
+    → LedSoFar old new pid now counted until holds i j (count + n) 0
 ran_far zero pid old m new now counted until holds i j count so_far h few =
     let none : count ≡ count + 0 = omega arith in
     subst (λ (k : ℕ). LedSoFar old new pid now counted until holds i j k 0) none

@@ -19,7 +19,8 @@ use Rattle.proc_run.specs.Serving.{StopsServed}
 use Rattle.proc_run.proofs.Attempts.{RoomOnly}
 use Rattle.proc_run.proofs.Known.{known, are_known}
 
-pub call_same : (call : SystemCall) (old new : Standing) (pid : ℕ) (regs : Regs) (holds : Option (List NamedFile)) (i j : Option (List ℕ)) (stop : Stop) → CallStops call old new pid regs holds i j stop → KeptAtStop old new stop
+pub call_same : (call : SystemCall) (old new : Standing) (pid : ℕ) (regs : Regs) (holds : Option (List NamedFile)) (i j : Option (List ℕ)) (stop : Stop)
+    → CallStops call old new pid regs holds i j stop → KeptAtStop old new stop
 call_same system_calls.Exit old new pid regs holds i j stop h = exit_same old new pid (run (own_answers old pid) (exit_reply regs)) holds i j stop h
 call_same system_calls.Fork old new pid regs holds i j stop h = forking_same old new pid regs holds i j stop h
 call_same system_calls.Write old new pid regs holds i j stop h = written_same old new pid (run (own_answers old pid) (write_reply regs)) stop h.0
@@ -30,7 +31,8 @@ call_same system_calls.Execve old new pid regs holds i j stop h =
 call_same system_calls.Vfork old new pid regs holds i j stop h = making_same old new pid (Lend old.kernel.next_pid) stop h.0
 call_same system_calls.Wait old new pid regs holds i j stop h = before_same old new stop h.0
 
-pub served_same : (now : Bool) (old new : Standing) (pid address : ℕ) (write : Bool) (holds : Option (List NamedFile)) (i j : Option (List ℕ)) (stop : Stop) → StopsServed now old new pid address write holds i j stop → KeptAtStop old new stop
+pub served_same : (now : Bool) (old new : Standing) (pid address : ℕ) (write : Bool) (holds : Option (List NamedFile)) (i j : Option (List ℕ)) (stop : Stop)
+    → StopsServed now old new pid address write holds i j stop → KeptAtStop old new stop
 served_same true old new pid address write holds i j stop h = elim h [
   | inl x ↦ starved_here old new stop x.stopped x.cause
   | inr x ↦ access_same true x.pages (access_by old.kernel pid address write) pid old new holds i j stop x.stops

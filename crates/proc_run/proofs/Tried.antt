@@ -81,7 +81,8 @@ module _ (old mid new : Standing) (pid : ℕ) (before : Regs) (o : RoomOnly old 
   was r e = sym (room_answers old mid pid before o) ∙ e
 
   pub refused_room : (refused : Refused) → run (own_answers mid pid) (instruction before) ≡ Err refused → RoomOnly old new
-  refused_room refused e = wrote_none old mid new (space_held mid.kernel pid) (writes_of (run (own_answers mid pid) (instruction before))) o (refused_quiet (run (own_answers mid pid) (instruction before)) refused e) w
+  refused_room refused e =
+      wrote_none old mid new (space_held mid.kernel pid) (writes_of (run (own_answers mid pid) (instruction before))) o (refused_quiet (run (own_answers mid pid) (instruction before)) refused e) w
 
   -- it is refused in the machine after it too
   pub refused_again : (refused : Refused) → run (own_answers mid pid) (instruction before) ≡ Err refused
@@ -181,7 +182,8 @@ module _ (old at last : Standing) (pid : ℕ) (now : Bool) (holds : Option (List
 pub asked_stops : (old last : Standing) (pid : ℕ) (before : Regs) (stop : Stop) (now : Bool) (holds : Option (List NamedFile)) (i : Option (List ℕ))
     → before ≡ regs_of old.kernel pid → HasStopped old last
     → old.before ≡ old.kernel.holdings → (stop ≡ stops.JournalFull) ⊎ (stop ≡ stops.NoMemory)
-    → (stop ≡ stops.JournalFull → (old.params.journal ≤ length old.kernel.journal) × (length old.kernel.journal < length (append old.kernel.journal (Ran pid 1))))
+    → (stop ≡ stops.JournalFull → (old.params.journal ≤ length old.kernel.journal)
+    × (length old.kernel.journal < length (append old.kernel.journal (Ran pid 1))))
     → (stop ≡ stops.JournalFull → answer_of (run (own_answers old pid) (instruction before)) ≡ steps.Done)
     → StopsAdvancing old last pid now holds i i stop
 asked_stops old last pid before stop now holds i same h whole cause full done A s image p x r = elim cause [

@@ -24,7 +24,8 @@ AsksRun A s pid false until = (n : ℕ) × (since : ℕ) × (s.mark ≡ marks.Di
 AsksRun A s pid true until = (since : ℕ) × (s.mark ≡ marks.Turn pid since) × (until ≡ min (since + turn_instructions) A.limit)
 
 -- The machine stands at a state under such a mark, with nothing due and no step begun, and a swap image that is told.
-pub record UnderMark (A : Inputs) (s : State) (m : Standing) (holds : Option (List NamedFile)) (i : Option (List ℕ)) (image : List ℕ) (pid : ℕ) (now : Bool) (counted until : ℕ) : Type 0 where
+pub record UnderMark (A : Inputs) (s : State) (m : Standing) (holds : Option (List NamedFile)) (i : Option (List ℕ)) (image : List ℕ) (pid : ℕ) (now : Bool)
+    (counted until : ℕ) : Type 0 where
   pub machine : MachineAt A s m holds image
   pub named : AreNamed A.images m.images
   pub told : i ≡ Some image

@@ -37,7 +37,8 @@ is_now patience.Stops = false
 is_now patience.Waits = true
 
 -- The machine stands at a state at which a process runs, between two steps, with a swap image that is told.
-pub record RunsAt (A : Inputs) (s : State) (m : Standing) (holds : Option (List NamedFile)) (i : Option (List ℕ)) (image : List ℕ) (pid : ℕ) (now : Bool) (p : Process) (x : Space) : Type 0 where
+pub record RunsAt (A : Inputs) (s : State) (m : Standing) (holds : Option (List NamedFile)) (i : Option (List ℕ)) (image : List ℕ) (pid : ℕ) (now : Bool)
+    (p : Process) (x : Space) : Type 0 where
   pub on : RunsOn A s m holds image pid now p x
   pub named : AreNamed A.images m.images
   pub told : i ≡ Some image
@@ -54,7 +55,8 @@ AdvancesTo A s k image advances.Stuck l j = MarkEnds A s k image l j
 -- for every state at which the machine stands
 abbrev pub Advances : Standing → Standing → ℕ → Bool → Option (List NamedFile) → Option (List ℕ) → Option (List ℕ) → Advance → Type 0
 Advances old new pid now holds i j advance =
-    (A : Inputs) (s : State) (image : List ℕ) (p : Process) (x : Space) → RunsAt A s old holds i image pid now p x → AdvancesTo A s old.kernel image advance new.kernel j
+    (A : Inputs) (s : State) (image : List ℕ) (p : Process) (x : Space) → RunsAt A s old holds i image pid now p x
+    → AdvancesTo A s old.kernel image advance new.kernel j
 
 -- and where it stops, for every such state
 abbrev pub StopsAdvancing : Standing → Standing → ℕ → Bool → Option (List NamedFile) → Option (List ℕ) → Option (List ℕ) → Stop → Type 0
@@ -64,13 +66,15 @@ StopsAdvancing old new pid now holds i j stop =
 -- where it waits for the page of this byte
 abbrev pub AdvancesWaiting : Standing → Standing → ℕ → Bool → ℕ → Bool → Option (List NamedFile) → Option (List ℕ) → Option (List ℕ) → Advance → Type 0
 AdvancesWaiting old new pid now address write holds i j advance =
-    (A : Inputs) (s : State) (image : List ℕ) (p : Process) (x : Space) (before : List Page) → RunsAt A s old holds i image pid now p x → Waits A s old p x address write before
+    (A : Inputs) (s : State) (image : List ℕ) (p : Process) (x : Space) (before : List Page) → RunsAt A s old holds i image pid now p x
+    → Waits A s old p x address write before
     → AdvancesTo A s old.kernel image advance new.kernel j
 
 -- and where it stops as it waits so
 abbrev pub StopsWaiting : Standing → Standing → ℕ → Bool → ℕ → Bool → Option (List NamedFile) → Option (List ℕ) → Option (List ℕ) → Stop → Type 0
 StopsWaiting old new pid now address write holds i j stop =
-    (A : Inputs) (s : State) (image : List ℕ) (p : Process) (x : Space) (before : List Page) → RunsAt A s old holds i image pid now p x → Waits A s old p x address write before
+    (A : Inputs) (s : State) (image : List ℕ) (p : Process) (x : Space) (before : List Page) → RunsAt A s old holds i image pid now p x
+    → Waits A s old p x address write before
     → StopLeads A s old.kernel image stop new j
 
 -- the instructions that it counts

@@ -21,7 +21,8 @@ AreLocked old holds i pid pages =
     (A : Inputs) (s : State) (image : List ℕ) (p : Process) (x : Space) → RunsAt A s old holds i image pid true p x → pages ≡ locked A s
 
 -- it is served until its page is valid, by hands that pass over these
-pub record ServedNow (old new : Standing) (pid address : ℕ) (write : Bool) (holds : Option (List NamedFile)) (i j : Option (List ℕ)) (answer : Served) : Type 0 where
+pub record ServedNow (old new : Standing) (pid address : ℕ) (write : Bool) (holds : Option (List NamedFile)) (i j : Option (List ℕ))
+    (answer : Served) : Type 0 where
   pub pages : List Page
   pub kept : AreLocked old holds i pid pages
   pub comes : AccessComes (λ came q from. TouchedNow pages came q from new holds i j) (access_by old.kernel pid address write) answer pid old new i j
@@ -35,7 +36,8 @@ ServedBy false old new pid address write holds i j answer =
 -- Stops.
 
 -- as it is served until its page is valid
-pub record StopsServedNow (old new : Standing) (pid address : ℕ) (write : Bool) (holds : Option (List NamedFile)) (i j : Option (List ℕ)) (stop : Stop) : Type 0 where
+pub record StopsServedNow (old new : Standing) (pid address : ℕ) (write : Bool) (holds : Option (List NamedFile)) (i j : Option (List ℕ))
+    (stop : Stop) : Type 0 where
   pub pages : List Page
   pub kept : AreLocked old holds i pid pages
   pub stops : AccessStops true pages (access_by old.kernel pid address write) pid old new holds i j stop

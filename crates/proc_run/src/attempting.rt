@@ -36,7 +36,8 @@ pub fn last_counts(journal: &[Entry], of: u32) -> bool
 
 /// Whether the journal takes one more instruction of a process: as a further entry, or by the count of its last.
 pub fn has_room(m: &Machine, pid: u32) -> bool
-    ensures { (result ≡ false) ↔ ((m.now.params.journal ≤ length m.now.kernel.journal) × (length m.now.kernel.journal < length (append m.now.kernel.journal (Ran pid 1)))) }
+    ensures { (result ≡ false)
+        ↔ ((m.now.params.journal ≤ length m.now.kernel.journal) × (length m.now.kernel.journal < length (append m.now.kernel.journal (Ran pid 1)))) }
 {
     let journal = m.journal();
     journal.len() < m.params().journal as usize || last_counts(journal, pid)
@@ -46,7 +47,8 @@ pub fn has_room(m: &Machine, pid: u32) -> bool
 pub fn completes(alloc: Global, m: &mut Machine, pid: u32, regs: &Regs) -> Result<bool, NoMemory>
     requires running { m.old.kernel.stopped ≡ false }
     requires lends { CanLend m.old.kernel pid }
-    ensures value { IfOk result (λ done. (done ≡ true) ↔ (answer_of (run (kernel_answers m.old.kernel (space_held m.old.kernel pid)) (instruction regs.now)) ≡ Stepped.Done)) }
+    ensures value { IfOk result
+        (λ done. (done ≡ true) ↔ (answer_of (run (kernel_answers m.old.kernel (space_held m.old.kernel pid)) (instruction regs.now)) ≡ Stepped.Done)) }
     ensures same { m.new ≡ m.old }
 {
     dry_run::completes(alloc, &m.memory(pid), regs)
@@ -58,7 +60,8 @@ pub fn attempt(m: &mut Machine, pid: u32, regs: &mut Regs) -> Stepped
     requires lends { CanLend m.old.kernel pid }
     ensures answer { result ≡ answer_of (run (kernel_answers m.old.kernel (space_held m.old.kernel pid)) (instruction regs.old)) }
     ensures registers { regs.new ≡ registers_after regs.old (run (kernel_answers m.old.kernel (space_held m.old.kernel pid)) (instruction regs.old)) }
-    ensures wrote { Wrote m.old (space_held m.old.kernel pid) (writes_of (run (kernel_answers m.old.kernel (space_held m.old.kernel pid)) (instruction regs.old))) m.new }
+    ensures wrote { Wrote m.old (space_held m.old.kernel pid)
+        (writes_of (run (kernel_answers m.old.kernel (space_held m.old.kernel pid)) (instruction regs.old))) m.new }
 {
     step(regs, &mut m.memory(pid))
 }

@@ -84,7 +84,8 @@ pub numbers_next : (refs : List Page) (i : ℕ) (d : Page) → i < length refs
 numbers_next refs i d lt = sym (ap numbers_of (take_more refs i d lt) ∙ numbers_more (take i refs) (get_or refs i d))
 
 pub numbers_step : (refs pages after : List Page) (numbers : List ℕ) (i number : ℕ) (d : Page) → i < length refs
-    → pages ≡ distinct (take i refs) → numbers ≡ numbers_of (take i refs) → after ≡ with_page pages (get_or refs i d) → number ≡ number_from 1 after (get_or refs i d)
+    → pages ≡ distinct (take i refs) → numbers ≡ numbers_of (take i refs) → after ≡ with_page pages (get_or refs i d)
+    → number ≡ number_from 1 after (get_or refs i d)
     → numbers ++ number ∷ [] ≡ numbers_of (take (i + 1) refs)
 numbers_step refs pages after numbers i number d lt ps ns joined n =
     let q = get_or refs i d in

@@ -107,7 +107,8 @@ fn policy_lines(
 fn count_lines(alloc: Global, numbered: &Numbered) -> Result<Vec<u8>, AllocError>
     requires references { vec_len numbered.now.numbers ≤ 4000000 }
     requires pages { vec_len numbered.now.pages ≤ 4000000 }
-    ensures { IfOk result (λ text. text.items ≡ numbered_line (codes "references ") (vec_len numbered.now.numbers) ++ numbered_line (codes "pages ") (vec_len numbered.now.pages)) }
+    ensures { IfOk result (λ text.
+        text.items ≡ numbered_line (codes "references ") (vec_len numbered.now.numbers) ++ numbered_line (codes "pages ") (vec_len numbered.now.pages)) }
 {
     let mut text = Vec::new(alloc);
     put_numbered_line(&mut text, b"references ", numbered.numbers.len() as u32)?;

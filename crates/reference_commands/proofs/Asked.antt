@@ -63,7 +63,8 @@ abbrev Ends : Question → Subject → Option (List NamedFile) → Faults → En
 Ends question subject holds f ending = Made (EndsQuestion question subject) (read_told subject.schedule subject.words) holds f ending
 
 -- the schedule's fault is the answer's
-schedule_fault : (V : Type 0) (question : Question) (subject : Subject) (f : Faults) (fault : Fault) (read : Read) → EndsSchedule {A = V} subject.schedule read.schedule f (Err fault) → EndsQuestion question subject read f (Err fault)
+schedule_fault : (V : Type 0) (question : Question) (subject : Subject) (f : Faults) (fault : Fault) (read : Read)
+    → EndsSchedule {A = V} subject.schedule read.schedule f (Err fault) → EndsQuestion question subject read f (Err fault)
 schedule_fault V question subject f (faults.Absent absent) read ends = inl ends
 schedule_fault V question subject f faults.FileFault read ends = inl ends
 schedule_fault V question subject f faults.NoMemory read ends = tt
@@ -75,14 +76,17 @@ refused question subject holds f =
     made_nothing (EndsQuestion question subject) (record { schedule = Ok []; images = Ok [] }) (read_told subject.schedule subject.words) holds f (Err faults.NoMemory) (λ read. tt)
 
 pub schedule_ends : {V : Type 0} (question : Question) (subject : Subject) (holds : Option (List NamedFile)) (f : Faults) (fault : Fault)
-    → Made {E = Result (Vec Event V) Fault} (EndsSchedule subject.schedule) (λ list. schedule_found list subject.schedule) holds f (Err fault) → Ends question subject holds f (Err fault)
+    → Made {E = Result (Vec Event V) Fault} (EndsSchedule subject.schedule) (λ list. schedule_found list subject.schedule) holds f (Err fault)
+    → Ends question subject holds f (Err fault)
 schedule_ends {V = V} question subject holds f fault made =
     let ends_with : Result (List ℕ) Unread → Type 0 = λ found. EndsSchedule {A = V} subject.schedule found f (Err fault) in
-    made_where (λ (read : Read). ends_with read.schedule) (EndsQuestion question subject) (record { schedule = made.read; images = Ok [] }) (read_told subject.schedule subject.words) holds f (Err fault)
+    made_where (λ (read : Read). ends_with read.schedule) (EndsQuestion question subject) (record { schedule = made.read; images = Ok [] })
+    (read_told subject.schedule subject.words) holds f (Err fault)
     made.ends (λ list told. subst ends_with (made.is_told list told) made.ends)
     (schedule_fault V question subject f fault)
 
-made_read : (question : Question) (subject : Subject) (holds : Option (List NamedFile)) (f : Faults) (lines : List Event) (images : Result (List FlatFile) Why) (ending : Ending) → Reads subject holds lines images
+made_read : (question : Question) (subject : Subject) (holds : Option (List NamedFile)) (f : Faults) (lines : List Event) (images : Result (List FlatFile) Why)
+    (ending : Ending) → Reads subject holds lines images
     → ((read : Read) → HasRead lines images read → EndsQuestion question subject read f ending) → Ends question subject holds f ending
 made_read question subject holds f lines images ending reads ends =
     made_where (HasRead lines images) (EndsQuestion question subject) (record { schedule = reads.read; images = images }) (read_told subject.schedule subject.words) holds f ending
@@ -107,7 +111,8 @@ images_end question subject holds c lines (faults.NotImage file reason) made vie
     (record { read = made.read; has = made.ends.1; schedule_told = made.is_told; images_are = answers })
     (λ read has. ((lines.items, has.has), has.images_are))
 images_end question subject holds c lines faults.FileFault made view answers by =
-    made_where (λ (read : Read). HasEvents read.schedule lines.items) (EndsQuestion question subject) (record { schedule = made.read; images = Ok [] }) (read_told subject.schedule subject.words) holds (over_both c)
+    made_where (λ (read : Read). HasEvents read.schedule lines.items) (EndsQuestion question subject) (record { schedule = made.read; images = Ok [] })
+    (read_told subject.schedule subject.words) holds (over_both c)
     (Err faults.FileFault) made.ends.1 (λ list told. subst (λ (read : Result (List ℕ) Unread). HasEvents read lines.items) (made.is_told list told) made.ends.1)
     (λ read has. elim (none_first c made.ends.0 by) [ inl first ↦ inl first | inr behind ↦ inr (behind, (lines.items, has)) ])
 images_end question subject holds c lines faults.NoMemory made view answers by = refused question subject holds (over_both c)
@@ -117,7 +122,8 @@ images_end question subject holds c lines _ made view answers by = absurd by
 abbrev over : Subject → List FlatFile → List Event → Inputs
 over subject images lines = inputs_with subject.numbers images (first_images (image_names subject.words) subject.words) lines
 
-are_inputs : (subject : Subject) (lines : List Event) (images : List FlatFile) (read : Read) → HasRead lines (Ok images) read → AreInputsOf (over subject images lines) subject read
+are_inputs : (subject : Subject) (lines : List Event) (images : List FlatFile) (read : Read) → HasRead lines (Ok images) read
+    → AreInputsOf (over subject images lines) subject read
 are_inputs subject lines images read has =
     record { images = images; are = has.images_are; images_are = refl; first = refl; lines = has.has; frames = refl; blocks = refl; limit = refl }
 
@@ -144,10 +150,12 @@ answer_ends question subject f lines images (Err (faults.NoSpace pid)) read none
     (none, record { inputs = over subject images lines; are = are_inputs subject lines images read has; refused = x })
 answer_ends question subject f lines images (Err _) read none x has = absurd x
 
-pub asked_ends : {V : Type 0} (question : Question) (subject : Subject) (holds : Option (List NamedFile)) (c : Counts) (lines : Vec Event V) (images : List FlatFile) (ending : Ending)
+pub asked_ends : {V : Type 0} (question : Question) (subject : Subject) (holds : Option (List NamedFile)) (c : Counts) (lines : Vec Event V)
+    (images : List FlatFile) (ending : Ending)
     → Made {E = Result (Vec Event V) Fault} (EndsSchedule subject.schedule) (λ list. schedule_found list subject.schedule) holds (over_first c) (Ok lines)
     → ((list : List NamedFile) → holds ≡ Some list → images_told list (image_names subject.words) ≡ Ok images)
-    → NoFaults (over_second c) → EndsAnswer question (inputs_with subject.numbers images (first_images (image_names subject.words) subject.words) lines.items) ending
+    → NoFaults (over_second c)
+    → EndsAnswer question (inputs_with subject.numbers images (first_images (image_names subject.words) subject.words) lines.items) ending
     → Ends question subject holds (over_both c) ending
 asked_ends question subject holds c lines images ending made answers none x =
     made_read question subject holds (over_both c) lines.items (Ok images) ending

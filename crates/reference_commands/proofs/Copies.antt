@@ -7,7 +7,8 @@ use Rattle.io_edge.specs.Octets.{IsOctetFile, AreOctetFiles}
 use Rattle.reference_commands.specs.InMemory.{file_of}
 
 -- the files so far, and one more
-pub files_more : {X : Type 0} (view : X → NamedFile) (images : List FlatFile) (files files' : List X) (file : X) (i : ℕ) (d : FlatFile) → i < length images → view file ≡ file_of (get_or images i d)
+pub files_more : {X : Type 0} (view : X → NamedFile) (images : List FlatFile) (files files' : List X) (file : X) (i : ℕ) (d : FlatFile) → i < length images
+    → view file ≡ file_of (get_or images i d)
     → files' ≡ files ++ file ∷ [] → map view files ≡ map file_of (take i images) → map view files' ≡ map file_of (take (i + 1) images)
 files_more view images files files' file i d below is pushed so_far =
     ap (map view) pushed ∙ map-append view files (file ∷ []) ∙ ap (λ (xs : List NamedFile). xs ++ view file ∷ []) so_far ∙ ap (λ (x : NamedFile). map file_of (take i images) ++ x ∷ []) is
@@ -17,6 +18,7 @@ octets_behind : (files : List NamedFile) (file : NamedFile) → AreOctetFiles fi
 octets_behind [] file all one = (one, tt)
 octets_behind (f ∷ files) file all one = (all.0, octets_behind files file all.1 one)
 
-pub octets_more : {X : Type 0} (view : X → NamedFile) (files files' : List X) (file : X) → files' ≡ files ++ file ∷ [] → IsOctetFile (view file) → AreOctetFiles (map view files) → AreOctetFiles (map view files')
+pub octets_more : {X : Type 0} (view : X → NamedFile) (files files' : List X) (file : X) → files' ≡ files ++ file ∷ [] → IsOctetFile (view file)
+    → AreOctetFiles (map view files) → AreOctetFiles (map view files')
 octets_more view files files' file pushed one all =
     subst AreOctetFiles (sym (ap (map view) pushed ∙ map-append view files (file ∷ []))) (octets_behind (map view files) (view file) all one)

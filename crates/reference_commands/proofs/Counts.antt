@@ -60,7 +60,8 @@ none_from : (A : Inputs) (us : List Entry) → references_from A None us ≡ []
 unfolding references_from
 none_from A us = refl
 
-unit_few : (A : Inputs) (point : Point) (u : Entry) → IsUnit u → ((pid : ℕ) → length (touched A point.flat pid) ≤ 28) → length (touched_by_unit A point u) ≤ 28 * counted u
+unit_few : (A : Inputs) (point : Point) (u : Entry) → IsUnit u → ((pid : ℕ) → length (touched A point.flat pid) ≤ 28)
+    → length (touched_by_unit A point u) ≤ 28 * counted u
 unit_few A point (Ran pid n) is few = let h = few pid in omega (arith, h, is)
 unit_few A point (Call pid number carry r0 r1) is few = few pid
 unit_few A point (Ended pid status) is few = few pid

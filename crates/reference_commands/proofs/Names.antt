@@ -16,7 +16,8 @@ use Rattle.reference_commands.specs.InMemory.{file_of, DiffersFrom, AllDiffer}
 
 -- Each name stands once.
 
-differs_with : (like : Bool) (name x : List ℕ) (rest : List (List ℕ)) → bytes_eq x name ≡ like → DiffersFrom name rest → DiffersFrom name (if not like then x ∷ rest else rest)
+differs_with : (like : Bool) (name x : List ℕ) (rest : List (List ℕ)) → bytes_eq x name ≡ like → DiffersFrom name rest
+    → DiffersFrom name (if not like then x ∷ rest else rest)
 differs_with true name x rest is differs = differs
 differs_with false name x rest is differs = (is, differs)
 
@@ -24,7 +25,8 @@ differs_from : (name : List ℕ) (xs : List (List ℕ)) → DiffersFrom name (fi
 differs_from name [] = tt
 differs_from name (x ∷ xs) = differs_with (bytes_eq x name) name x (filter (λ other. not (bytes_eq other name)) xs) refl (differs_from name xs)
 
-kept_with : (keeps : Bool) (name x : List ℕ) (rest : List (List ℕ)) → bytes_eq x name ≡ false → DiffersFrom name rest → DiffersFrom name (if keeps then x ∷ rest else rest)
+kept_with : (keeps : Bool) (name x : List ℕ) (rest : List (List ℕ)) → bytes_eq x name ≡ false → DiffersFrom name rest
+    → DiffersFrom name (if keeps then x ∷ rest else rest)
 kept_with true name x rest is differs = (is, differs)
 kept_with false name x rest is differs = differs
 
@@ -66,15 +68,18 @@ abbrev AllFail : (NamedFile → Bool) → List NamedFile → Type 0
 AllFail test [] = Unit {0}
 AllFail test (file ∷ files) = (test file ≡ false) × AllFail test files
 
-differs_in : (name : List ℕ) (done : List FlatFile) (image : FlatFile) (more : List FlatFile) → DiffersFrom name (names_of (done ++ image ∷ more)) → bytes_eq image.name name ≡ false
+differs_in : (name : List ℕ) (done : List FlatFile) (image : FlatFile) (more : List FlatFile) → DiffersFrom name (names_of (done ++ image ∷ more))
+    → bytes_eq image.name name ≡ false
 differs_in name [] image more differs = differs.0
 differs_in name (d ∷ done) image more differs = differs_in name done image more differs.1
 
-others_fail : (done : List FlatFile) (image : FlatFile) (more : List FlatFile) → AllDiffer (names_of (done ++ image ∷ more)) → AllFail (λ file. bytes_eq file.name image.name) (map file_of done)
+others_fail : (done : List FlatFile) (image : FlatFile) (more : List FlatFile) → AllDiffer (names_of (done ++ image ∷ more))
+    → AllFail (λ file. bytes_eq file.name image.name) (map file_of done)
 others_fail [] image more all = tt
 others_fail (d ∷ done) image more all = (unlike image.name d.name (differs_in d.name done image more all.0), others_fail done image more all.1)
 
-first_at : (test : NamedFile → Bool) (done : List FlatFile) (image : FlatFile) (more : List FlatFile) → AllFail test (map file_of done) → test (file_of image) ≡ true
+first_at : (test : NamedFile → Bool) (done : List FlatFile) (image : FlatFile) (more : List FlatFile) → AllFail test (map file_of done)
+    → test (file_of image) ≡ true
     → position_or_len test (map file_of (done ++ image ∷ more)) ≡ length done
 first_at test [] image more fail pass = rw pass refl
 first_at test (d ∷ done) image more fail pass =
@@ -91,7 +96,8 @@ placed test files k is below = rw is (rw (lt-ltb k (length files) below) refl)
 is_itself : (name : List ℕ) → bytes_eq name name ≡ true
 is_itself name = (bytes_eq-Decides name name).1 refl
 
-found_place : (done : List FlatFile) (image : FlatFile) (more : List FlatFile) → AllDiffer (names_of (done ++ image ∷ more)) → place_of (map file_of (done ++ image ∷ more)) image.name ≡ Some (length done)
+found_place : (done : List FlatFile) (image : FlatFile) (more : List FlatFile) → AllDiffer (names_of (done ++ image ∷ more))
+    → place_of (map file_of (done ++ image ∷ more)) image.name ≡ Some (length done)
 found_place done image more all =
     placed (λ file. bytes_eq file.name image.name) (map file_of (done ++ image ∷ more)) (length done)
     (first_at (λ file. bytes_eq file.name image.name) done image more (others_fail done image more all) (is_itself image.name))
@@ -109,7 +115,8 @@ found_one done image more all =
 
 -- all of them are found
 
-one_before : (name : List ℕ) (r : Result Loaded ℕ) (images : List NamedImage) → IsTrue (is_ok r) → before (named_image name r) (Ok images) ≡ Ok (named_as name r ++ images)
+one_before : (name : List ℕ) (r : Result Loaded ℕ) (images : List NamedImage) → IsTrue (is_ok r)
+    → before (named_image name r) (Ok images) ≡ Ok (named_as name r ++ images)
 one_before name (Ok image) images good = refl
 one_before name (Err reason) images good = absurd cc
 
@@ -117,7 +124,8 @@ joined : (done : List FlatFile) (image : FlatFile) (more : List FlatFile) → (d
 joined [] image more = refl
 joined (d ∷ done) image more = ap (λ (xs : List FlatFile). d ∷ xs) (joined done image more)
 
-found_from : (done images : List FlatFile) → AllDiffer (names_of (done ++ images)) → All IsImageFile images → images_found (map file_of (done ++ images)) (names_of images) ≡ Ok (images_of images)
+found_from : (done images : List FlatFile) → AllDiffer (names_of (done ++ images)) → All IsImageFile images
+    → images_found (map file_of (done ++ images)) (names_of images) ≡ Ok (images_of images)
 found_from done [] all good = refl
 found_from done (image ∷ more) all good =
     let is = joined done image more in
@@ -128,5 +136,6 @@ found_from done (image ∷ more) all good =
     ∙ ap (before (named_image image.name (image_of image.bytes))) rest
     ∙ one_before image.name (image_of image.bytes) (images_of more) (All-head IsImageFile image more good).image
 
-pub all_found : (images : List FlatFile) → AllDiffer (names_of images) → All IsImageFile images → images_found (map file_of images) (names_of images) ≡ Ok (images_of images)
+pub all_found : (images : List FlatFile) → AllDiffer (names_of images) → All IsImageFile images
+    → images_found (map file_of images) (names_of images) ≡ Ok (images_of images)
 all_found images all good = found_from [] images all good

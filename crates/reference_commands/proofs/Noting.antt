@@ -40,7 +40,8 @@ use Rattle.reference_commands.specs.Counted.{look_at_film, Counted}
 same_look : (m m' : Mark) (p p' : Placement) (hs hs' : Holdings) → m ≡ m' → p ≡ p' → hs ≡ hs' → look_of m p hs ≡ look_of m' p' hs'
 same_look m m' p p' hs hs' a b c = ap (λ (x : Mark). look_of x p hs) a ∙ ap (λ (x : Placement). look_of m' x hs) b ∙ ap (λ (x : Holdings). look_of m' p' x) c
 
-looked_at : (A : Inputs) (s : State) (f : Filming) (h : Option (List NamedFile)) (i : Option (List ℕ)) (image : List ℕ) → FilmAt A s f h i image → look_at_film f ≡ look_at s
+looked_at : (A : Inputs) (s : State) (f : Filming) (h : Option (List NamedFile)) (i : Option (List ℕ)) (image : List ℕ) → FilmAt A s f h i image
+    → look_at_film f ≡ look_at s
 looked_at A s f h i image at =
     let stands : StandsAt A s f.machine.kernel image = at.stands.machine.at.stands in
     same_look f.mark s.mark f.machine.kernel.place s.place f.machine.kernel.holdings s.holdings (sym at.mark) stands.place stands.holdings
@@ -116,9 +117,11 @@ one_longer journal more first longer =
     let sum = length-append journal rest in
     subst (OneLonger journal) (sym first.1) (one_of journal rest (omega (arith, all, sum, longer)))
 
-pub counted_more : (A : Inputs) (old new : Filming) (lines : List Event) (h h' : Option (List NamedFile)) (i j : Option (List ℕ)) (first before : Look) (notes notes' : List Note)
+pub counted_more : (A : Inputs) (old new : Filming) (lines : List Event) (h h' : Option (List NamedFile)) (i j : Option (List ℕ)) (first before : Look)
+    (notes notes' : List Note)
     → h' ≡ h → A.lines ≡ lines → FilmGoes old new lines h i j → before ≡ look_at_film old
-    → ((so_far : List Entry) (entry : Entry) → new.machine.kernel.journal ≡ so_far ++ entry ∷ [] → notes' ≡ notes ++ note_by before entry (look_at_film new) ∷ [])
+    → ((so_far : List Entry) (entry : Entry) → new.machine.kernel.journal ≡ so_far ++ entry ∷ []
+    → notes' ≡ notes ++ note_by before entry (look_at_film new) ∷ [])
     → Counted A old h i first notes → Counted A new h' j first notes'
 counted_more A old new lines h h' i j first before notes notes' same are goes looked put was =
     let more : OneMore A was.state old new h was.image j = goes A was.state was.image are was.at in
@@ -126,7 +129,8 @@ counted_more A old new lines h h' i j first before notes notes' same are goes lo
     let now : FilmAt A more.state new h j more.behind = more.at in
     let journal = old.machine.kernel.journal in
     let wider = more.longer in
-    let come : ComeFirst journal new.machine.kernel.journal = first_of_longer A journal new.machine.kernel.journal was.state more.state at.made.lawful.reaches now.made.lawful.reaches at.complete (omega (arith, wider)) in
+    let come : ComeFirst journal new.machine.kernel.journal =
+    first_of_longer A journal new.machine.kernel.journal was.state more.state at.made.lawful.reaches now.made.lawful.reaches at.complete (omega (arith, wider)) in
     let one : OneLonger journal new.machine.kernel.journal = one_longer journal new.machine.kernel.journal come more.longer in
     let stood : StandsAt A was.state old.machine.kernel was.image = at.stands.machine.at.stands in
     let stands : StandsAt A more.state new.machine.kernel more.behind = now.stands.machine.at.stands in
@@ -159,8 +163,10 @@ same_table journal first first' notes p p' s s' n n' a b c d =
     ∙ ap (λ (k : ℕ). stats_text journal first' notes p' k n) c
     ∙ ap (λ (k : ℕ). stats_text journal first' notes p' s' k) d
 
-pub counted_said : (A : Inputs) (f : Filming) (h : Option (List NamedFile)) (i : Option (List ℕ)) (first : Look) (notes : List Note) (pids sids images : ℕ) (journal : List Entry) (text : List ℕ)
-    → Counted A f h i first notes → f.over ≡ true → length A.images ≡ images → journal ≡ f.machine.kernel.journal → pids ≡ f.machine.kernel.next_pid - 1 → sids ≡ f.machine.kernel.next_sid - 1
+pub counted_said : (A : Inputs) (f : Filming) (h : Option (List NamedFile)) (i : Option (List ℕ)) (first : Look) (notes : List Note) (pids sids images : ℕ)
+    (journal : List Entry) (text : List ℕ)
+    → Counted A f h i first notes → f.over ≡ true → length A.images ≡ images → journal ≡ f.machine.kernel.journal → pids ≡ f.machine.kernel.next_pid - 1
+    → sids ≡ f.machine.kernel.next_sid - 1
     → text ≡ stats_text journal first notes pids sids images → SaysStats A text
 counted_said A f h i first notes pids sids images journal text was over many j p s told =
     let at : FilmAt A was.state f h i was.image = was.at in
@@ -180,7 +186,8 @@ counted_said A f h i first notes pids sids images journal text was over many j p
     }
 
 -- the journal has as many entries as it may have, and the run isn't over
-pub counted_full : (A : Inputs) (f : Filming) (h : Option (List NamedFile)) (i : Option (List ℕ)) (first : Look) (notes : List Note) → Counted A f h i first notes
+pub counted_full : (A : Inputs) (f : Filming) (h : Option (List NamedFile)) (i : Option (List ℕ)) (first : Look) (notes : List Note)
+    → Counted A f h i first notes
     → not f.over && nat_lt (length f.machine.kernel.journal) journal_entries ≡ false → f.over ≡ false → HasHalted A
 counted_full A f h i first notes was ends going = go (next_unit A was.state) refl
   where

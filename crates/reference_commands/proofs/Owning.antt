@@ -15,7 +15,8 @@ use Rattle.reference_commands.specs.Answering.{blank_swap, SaysOwners}
 use Rattle.reference_commands.specs.InMemory.{HasRun, RunsOn}
 
 -- the lines of a machine that stands at a state, for which no pieces wait
-pub lines_there : (A : Inputs) (s : State) (m : Standing) (over : Bool) (image : List ℕ) → StandsAt A s m.kernel image → m.before ≡ m.kernel.holdings → m.params.swap_blocks ≡ A.swap_blocks
+pub lines_there : (A : Inputs) (s : State) (m : Standing) (over : Bool) (image : List ℕ) → StandsAt A s m.kernel image → m.before ≡ m.kernel.holdings
+    → m.params.swap_blocks ≡ A.swap_blocks
     → owners_of m over ≡ owners_text (length m.kernel.journal) over s.place s.holdings A.swap_blocks (map kept_of s.point.flat.processes)
 lines_there A s m over image at whole size = machine_told A s m over (record { image = image; at = at; whole = whole; size = size })
 

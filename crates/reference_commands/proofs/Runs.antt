@@ -36,7 +36,8 @@ use Rattle.reference_commands.proofs.Names.{all_found}
 
 -- The run is finished.
 
-pub finished : (A : Inputs) (journal : List Entry) (left : Option (List ℕ)) (pages : List Page) → A.limit ≤ 100000 → RunFinished A journal (blank_swap A.swap_blocks) left
+pub finished : (A : Inputs) (journal : List Entry) (left : Option (List ℕ)) (pages : List Page) → A.limit ≤ 100000
+    → RunFinished A journal (blank_swap A.swap_blocks) left
     → (first_bad A journal ≡ None → pages ≡ references_of A journal) → HasReferences A pages
 finished A journal left pages limit run answer =
     let below : run.state.count ≤ A.limit = units_below A run.made.units (start A run.made.holdings) run.state run.made.follows (omega arith) in
@@ -47,7 +48,8 @@ finished A journal left pages limit run answer =
 
 -- Images that were opened.
 
-pub short_opened : (opened : List OpenedImage) (names : List (Bor (List ℕ))) → map (λ (image : OpenedImage). image.name) opened ≡ names → All (λ (name : Bor (List ℕ)). IsShortName name.now) names
+pub short_opened : (opened : List OpenedImage) (names : List (Bor (List ℕ))) → map (λ (image : OpenedImage). image.name) opened ≡ names
+    → All (λ (name : Bor (List ℕ)). IsShortName name.now) names
     → All (λ (image : OpenedImage). IsShortName image.name.now) opened
 short_opened opened names are short = go opened (subst (All (λ (name : Bor (List ℕ)). IsShortName name.now)) (sym are) short)
   where
@@ -71,12 +73,14 @@ opened_count images opened names are named =
 ok_same : (some other : List NamedImage) → Path (Result (List NamedImage) Why) (Ok some) (Ok other) → some ≡ other
 ok_same some other is = cc
 
-pub are_opened : (images : List FlatFile) (opened : List OpenedImage) (names : List (Bor (List ℕ))) (holds : Option (List NamedFile)) → holds ≡ Some (map file_of images)
+pub are_opened : (images : List FlatFile) (opened : List OpenedImage) (names : List (Bor (List ℕ))) (holds : Option (List NamedFile))
+    → holds ≡ Some (map file_of images)
     → images_found (map file_of images) (map (λ (name : Bor (List ℕ)). name.now) names) ≡ Ok (images_in (map file_of images) opened)
     → All (IsIn (map file_of images)) opened → All (λ (image : OpenedImage). IsSound image.facts) opened
     → All (λ (image : OpenedImage). HasRange holds image.file 0 (file_length_of image.facts)) opened
     → map (λ (image : OpenedImage). image.name) opened ≡ names → map (λ (image : FlatFile). image.name) images ≡ map (λ (name : Bor (List ℕ)). name.now) names
-    → AllDiffer (map (λ (name : Bor (List ℕ)). name.now) names) → All IsImageFile images → All (λ (name : Bor (List ℕ)). IsShortName name.now) names → length names ≤ 16
+    → AllDiffer (map (λ (name : Bor (List ℕ)). name.now) names) → All IsImageFile images
+    → All (λ (name : Bor (List ℕ)). IsShortName name.now) names → length names ≤ 16
     → AreOpened images opened
 are_opened images opened names holds told found are_in sound ranges are named differ good short few =
     let there : images_found (map file_of images) (map (λ (name : Bor (List ℕ)). name.now) names) ≡ Ok (images_of images)

@@ -21,15 +21,18 @@ use Rattle.reference_commands.proofs.Owning.{lines_there}
 
 -- Where the entries so far end.
 
-ends_by : (A : Inputs) (s : State) (journal : List Entry) (over : Bool) (entries : ℕ) (next : Option Entry) → next_unit A s ≡ next → (over ≡ true) ↔ (next_unit A s ≡ None)
+ends_by : (A : Inputs) (s : State) (journal : List Entry) (over : Bool) (entries : ℕ) (next : Option Entry) → next_unit A s ≡ next → (over ≡ true)
+    ↔ (next_unit A s ≡ None)
     → ((u : Entry) → next_unit A s ≡ Some u → length journal < length (append journal u)) → length journal ≤ entries → (over ≡ false → length journal ≡ entries)
     → IsEnd over entries A journal s
 ends_by A s journal true entries next at says complete within reached = (says.0 refl, within)
 ends_by A s journal false entries None at says complete within reached = absurd (let never : false ≡ true = says.1 at in cc)
 ends_by A s journal false entries (Some u) at says complete within reached = (reached refl, (u, at, complete u at))
 
-end_there : (A : Inputs) (s : State) (f : Filming) (holds : Option (List NamedFile)) (i : Option (List ℕ)) (image : List ℕ) (entries : ℕ) → FilmAt A s f holds i image
-    → length f.machine.kernel.journal ≤ entries → (f.over ≡ false → length f.machine.kernel.journal ≡ entries) → IsEnd f.over entries A f.machine.kernel.journal s
+end_there : (A : Inputs) (s : State) (f : Filming) (holds : Option (List NamedFile)) (i : Option (List ℕ)) (image : List ℕ) (entries : ℕ)
+    → FilmAt A s f holds i image
+    → length f.machine.kernel.journal ≤ entries → (f.over ≡ false → length f.machine.kernel.journal ≡ entries)
+    → IsEnd f.over entries A f.machine.kernel.journal s
 end_there A s f holds i image entries at within reached = ends_by A s f.machine.kernel.journal f.over entries (next_unit A s) refl at.over at.complete within reached
 
 -- A step.
@@ -50,7 +53,8 @@ step_told A s f holds i image at = record {
   told = refl;
 }
 
-tell_more : (A : Inputs) (ns : List ℕ) (texts : List (List ℕ)) (n : ℕ) (text : List ℕ) → TellSteps A ns texts → TellsStep A n text → TellSteps A (ns ++ n ∷ []) (texts ++ text ∷ [])
+tell_more : (A : Inputs) (ns : List ℕ) (texts : List (List ℕ)) (n : ℕ) (text : List ℕ) → TellSteps A ns texts → TellsStep A n text
+    → TellSteps A (ns ++ n ∷ []) (texts ++ text ∷ [])
 tell_more A [] [] n text all one = (one, tt)
 tell_more A (m ∷ ns) (t ∷ texts) n text all one = (all.0, tell_more A ns texts n text all.1 one)
 tell_more A [] (t ∷ texts) n text all one = absurd all
@@ -62,7 +66,8 @@ record Longer (A : Inputs) (ns : List ℕ) (text : List ℕ) : Type 0 where
   pub tell : TellSteps A ns texts
   pub told : text ≡ concat texts
 
-put_one : (A : Inputs) (ns : List ℕ) (texts : List (List ℕ)) (n : ℕ) (step text : List ℕ) (here : Bool) → TellSteps A ns texts → text ≡ concat texts → TellsStep A n step
+put_one : (A : Inputs) (ns : List ℕ) (texts : List (List ℕ)) (n : ℕ) (step text : List ℕ) (here : Bool) → TellSteps A ns texts
+    → text ≡ concat texts → TellsStep A n step
     → Longer A (ns ++ cond here (n ∷ []) []) (text ++ word_if here step)
 put_one A ns texts n step text true tell told one = record {
   texts = texts ++ step ∷ [];
@@ -75,9 +80,11 @@ put_one A ns texts n step text false tell told one = record {
   told = append-nil text ∙ told;
 }
 
-put_at : (A : Inputs) (steps : FilmSteps) (s : State) (f : Filming) (holds : Option (List NamedFile)) (i : Option (List ℕ)) (image : List ℕ) (ns : List ℕ) (texts : List (List ℕ))
+put_at : (A : Inputs) (steps : FilmSteps) (s : State) (f : Filming) (holds : Option (List NamedFile)) (i : Option (List ℕ)) (image : List ℕ)
+    (ns : List ℕ) (texts : List (List ℕ))
     (text text' : List ℕ) → FilmAt A s f holds i image → TellSteps A ns texts → text ≡ concat texts
-    → step_numbers steps (length f.machine.kernel.journal) ≡ ns ++ cond (has_step steps (length f.machine.kernel.journal)) (length f.machine.kernel.journal ∷ []) []
+    → step_numbers steps (length f.machine.kernel.journal)
+    ≡ ns ++ cond (has_step steps (length f.machine.kernel.journal)) (length f.machine.kernel.journal ∷ []) []
     → text' ≡ text ++ word_if (has_step steps (length f.machine.kernel.journal)) (step_text f) → Filmed A steps f holds i text'
 put_at A steps s f holds i image ns texts text text' at tell told numbers put =
     let n : ℕ = length f.machine.kernel.journal in
@@ -114,20 +121,24 @@ some_since steps n since = let reached : nat_le steps.from n ≡ true = grind (a
 
 -- The film.
 
-pub filmed_first : (A : Inputs) (steps : FilmSteps) (s : State) (f : Filming) (holds : Option (List NamedFile)) (i : Option (List ℕ)) (image : List ℕ) (before text : List ℕ)
-    → FilmAt A s f holds i image → f.machine.kernel.journal ≡ [] → before ≡ [] → text ≡ before ++ word_if (has_step steps (length f.machine.kernel.journal)) (step_text f)
+pub filmed_first : (A : Inputs) (steps : FilmSteps) (s : State) (f : Filming) (holds : Option (List NamedFile)) (i : Option (List ℕ))
+    (image : List ℕ) (before text : List ℕ)
+    → FilmAt A s f holds i image → f.machine.kernel.journal ≡ [] → before ≡ []
+    → text ≡ before ++ word_if (has_step steps (length f.machine.kernel.journal)) (step_text f)
     → Filmed A steps f holds i text
 filmed_first A steps s f holds i image before text at first none put =
     put_at A steps s f holds i image [] [] before text at tt none (numbers_at_first steps (length f.machine.kernel.journal) (ap length first)) put
 
-pub filmed_more : (A : Inputs) (steps : FilmSteps) (old f : Filming) (h holds : Option (List NamedFile)) (i j : Option (List ℕ)) (s : State) (image : List ℕ) (text text' : List ℕ)
+pub filmed_more : (A : Inputs) (steps : FilmSteps) (old f : Filming) (h holds : Option (List NamedFile)) (i j : Option (List ℕ)) (s : State)
+    (image : List ℕ) (text text' : List ℕ)
     → Filmed A steps old h i text → FilmAt A s f holds j image → length f.machine.kernel.journal ≡ suc (length old.machine.kernel.journal)
     → text' ≡ text ++ word_if (has_step steps (length f.machine.kernel.journal)) (step_text f) → Filmed A steps f holds j text'
 filmed_more A steps old f h holds i j s image text text' filmed at longer put =
     put_at A steps s f holds j image (step_numbers steps (length old.machine.kernel.journal)) filmed.texts text text' at filmed.tell filmed.told
     (numbers_more steps (length old.machine.kernel.journal) (length f.machine.kernel.journal) longer) put
 
-pub film_said : (A : Inputs) (steps : FilmSteps) (f : Filming) (holds : Option (List NamedFile)) (i : Option (List ℕ)) (text : List ℕ) → Filmed A steps f holds i text
+pub film_said : (A : Inputs) (steps : FilmSteps) (f : Filming) (holds : Option (List NamedFile)) (i : Option (List ℕ)) (text : List ℕ)
+    → Filmed A steps f holds i text
     → length f.machine.kernel.journal ≤ steps.to → (f.over ≡ false → length f.machine.kernel.journal ≡ steps.to) → SaysFilm steps A text
 film_said A steps f holds i text filmed within reached =
     let at : FilmAt A filmed.state f holds i filmed.image = filmed.at in
@@ -144,10 +155,12 @@ film_said A steps f holds i text filmed within reached =
 
 -- The film begins.
 
-pub begun_over : (A : Inputs) (f : Filming) (h h' : Option (List NamedFile)) (i : Option (List ℕ)) (image : List ℕ) → h' ≡ h → FilmBegun A f h i image → FilmBegun A f h' i image
+pub begun_over : (A : Inputs) (f : Filming) (h h' : Option (List NamedFile)) (i : Option (List ℕ)) (image : List ℕ) → h' ≡ h → FilmBegun A f h i image
+    → FilmBegun A f h' i image
 begun_over A f h h' i image same begun = subst (λ (k : Option (List NamedFile)). FilmBegun A f k i image) (sym same) begun
 
-pub filming_begun : (old new : Filming) (first : List ℕ) (lines : List Event) (h h' : Option (List NamedFile)) (i j : Option (List ℕ)) → h' ≡ h → 64 ≤ old.machine.params.frames
+pub filming_begun : (old new : Filming) (first : List ℕ) (lines : List Event) (h h' : Option (List NamedFile)) (i j : Option (List ℕ)) → h' ≡ h
+    → 64 ≤ old.machine.params.frames
     → IsAskable old.machine first lines h i → BeginsFilm old new first lines h i j → IsFilming new lines h' j
 filming_begun old new first lines h h' i j same frames asked begins =
     let begun : FilmBegun asked.inputs new h' j asked.image
@@ -161,13 +174,15 @@ filming_begun old new first lines h h' i j same frames asked begins =
       at = begun.at;
     }
 
-pub none_so_far : (old new : Filming) (first : List ℕ) (lines : List Event) (h : Option (List NamedFile)) (i j : Option (List ℕ)) → IsAskable old.machine first lines h i
+pub none_so_far : (old new : Filming) (first : List ℕ) (lines : List Event) (h : Option (List NamedFile)) (i j : Option (List ℕ))
+    → IsAskable old.machine first lines h i
     → BeginsFilm old new first lines h i j → new.machine.kernel.journal ≡ []
 none_so_far old new first lines h i j asked begins = (begins asked.inputs asked.image asked.asked asked.told).first
 
 -- The film goes on by one entry.
 
-pub filming_on : (old new : Filming) (lines : List Event) (h h' : Option (List NamedFile)) (i j : Option (List ℕ)) → h' ≡ h → IsFilming old lines h i → FilmGoes old new lines h i j
+pub filming_on : (old new : Filming) (lines : List Event) (h h' : Option (List NamedFile)) (i j : Option (List ℕ)) → h' ≡ h → IsFilming old lines h i
+    → FilmGoes old new lines h i j
     → IsFilming new lines h' j
 filming_on old new lines h h' i j same was goes =
     let more : OneMore was.inputs was.state old new h was.image j = goes was.inputs was.state was.image was.are was.at in
@@ -180,7 +195,8 @@ filming_on old new lines h h' i j same was goes =
       at = subst (λ (k : Option (List NamedFile)). FilmAt was.inputs more.state new k j more.behind) (sym same) more.at;
     }
 
-pub filmed_on : (A : Inputs) (steps : FilmSteps) (old new : Filming) (lines : List Event) (h h' : Option (List NamedFile)) (i j : Option (List ℕ)) (text text' : List ℕ)
+pub filmed_on : (A : Inputs) (steps : FilmSteps) (old new : Filming) (lines : List Event) (h h' : Option (List NamedFile))
+    (i j : Option (List ℕ)) (text text' : List ℕ)
     → h' ≡ h → A.lines ≡ lines → FilmGoes old new lines h i j → Filmed A steps old h i text
     → text' ≡ text ++ word_if (has_step steps (length new.machine.kernel.journal)) (step_text new) → Filmed A steps new h' j text'
 filmed_on A steps old new lines h h' i j text text' same are goes filmed put =
@@ -188,7 +204,8 @@ filmed_on A steps old new lines h h' i j text text' same are goes filmed put =
     filmed_more A steps old new h h' i j more.state more.behind text text' filmed
     (subst (λ (k : Option (List NamedFile)). FilmAt A more.state new k j more.behind) (sym same) more.at) more.longer put
 
-pub longer_by_one : (old new : Filming) (lines : List Event) (h : Option (List NamedFile)) (i j : Option (List ℕ)) → IsFilming old lines h i → FilmGoes old new lines h i j
+pub longer_by_one : (old new : Filming) (lines : List Event) (h : Option (List NamedFile)) (i j : Option (List ℕ)) → IsFilming old lines h i
+    → FilmGoes old new lines h i j
     → length new.machine.kernel.journal ≡ length old.machine.kernel.journal + 1
 longer_by_one old new lines h i j was goes =
     let more : OneMore was.inputs was.state old new h was.image j = goes was.inputs was.state was.image was.are was.at in

@@ -9,7 +9,8 @@ abbrev now_of : List (Bor (List ℕ)) → List (List ℕ)
 now_of words = map (λ (word : Bor (List ℕ)). word.now) words
 
 -- names of short words are short
-pub short_names : (names words : List (Bor (List ℕ))) → now_of names ≡ image_names (now_of words) → All (λ (word : Bor (List ℕ)). IsShortName (name_in word.now)) words
+pub short_names : (names words : List (Bor (List ℕ))) → now_of names ≡ image_names (now_of words)
+    → All (λ (word : Bor (List ℕ)). IsShortName (name_in word.now)) words
     → All (λ (name : Bor (List ℕ)). IsShortName name.now) names
 short_names names words are each =
     All-of_map IsShortName (λ (name : Bor (List ℕ)). name.now) names

@@ -151,7 +151,12 @@ fn answer_from<'a, F: Files>(
     requires fits { IsFittingRun (limit_of question) numbers schedule words.now }
     ensures made { Made (EndsQuestion question (record { numbers = numbers; schedule = schedule.now; words = map (λ word. word.now) words.now }))
         (read_told schedule.now (map (λ word. word.now) words.now)) (F.holds files.old)
-        (record { open_before = F.open_faults files.old; open_after = F.open_faults files.new; page_before = F.page_faults files.old; page_after = F.page_faults files.new }) (ending_of result) }
+        (record {
+          open_before = F.open_faults files.old;
+          open_after = F.open_faults files.new;
+          page_before = F.page_faults files.old;
+          page_after = F.page_faults files.new;
+        }) (ending_of result) }
     ensures kept { KeepsFiles F.Files files.old files.new }
 {
     let lines = open_schedule(alloc, files, schedule)?;
@@ -187,7 +192,12 @@ pub fn ask_command<F: Files, S: Sink>(
     requires question { IsQuestion question }
     requires fits { IsFittingRun (limit_of question) numbers schedule words.now }
     ensures answers { Answers question (record { numbers = numbers; schedule = schedule.now; words = map (λ word. word.now) words.now }) (F.holds files.old)
-        (record { open_before = F.open_faults files.old; open_after = F.open_faults files.new; page_before = F.page_faults files.old; page_after = F.page_faults files.new })
+        (record {
+          open_before = F.open_faults files.old;
+          open_after = F.open_faults files.new;
+          page_before = F.page_faults files.old;
+          page_after = F.page_faults files.new;
+        })
         (S.written sink.old) (S.written sink.new) (S.faults sink.old) (S.faults sink.new) result }
     ensures kept { KeepsFiles F.Files files.old files.new }
     ensures sink_leads { S.leads sink.old sink.new }

@@ -56,7 +56,8 @@ fn count_entry<F: Files, D: SwapDev>(
     requires area { film.old.machine.params.swap_blocks ≤ D.blocks swap.old }
     requires files { AreFiles film.old.machine.images (F.holds files.old) }
     ensures filming { OnOk result (IsFilming film.new lines.now (F.holds files.new) (D.image swap.new)) }
-    ensures counts { OnOk result ((A : Inputs) (first : Looked) → A.lines ≡ lines.now → Counted A film.old (F.holds files.old) (D.image swap.old) first notes.old.items
+    ensures counts { OnOk result
+        ((A : Inputs) (first : Looked) → A.lines ≡ lines.now → Counted A film.old (F.holds files.old) (D.image swap.old) first notes.old.items
         → Counted A film.new (F.holds files.new) (D.image swap.new) first notes.new.items) }
     ensures longer { OnOk result (length film.new.machine.kernel.journal ≡ length film.old.machine.kernel.journal + 1) }
     ensures area { OnOk result (film.new.machine.params.swap_blocks ≤ D.blocks swap.new) }
@@ -98,7 +99,8 @@ fn count_on<F: Files, D: SwapDev>(
     requires count { length lines.now < 2 ^ 32 }
     requires area { film.old.machine.params.swap_blocks ≤ D.blocks swap.old }
     requires files { AreFiles film.old.machine.images (F.holds files.old) }
-    ensures counted { IfOk result (λ notes. (A : Inputs) (image : List ℕ) → A.lines ≡ lines.now → FilmBegun A film.old (F.holds files.old) (D.image swap.old) image
+    ensures counted { IfOk result
+        (λ notes. (A : Inputs) (image : List ℕ) → A.lines ≡ lines.now → FilmBegun A film.old (F.holds files.old) (D.image swap.old) image
         → Counted A film.new (F.holds files.new) (D.image swap.new) (look_at_film film.old) notes.items) }
     ensures ends { OnOk result (not film.new.over && nat_lt (length film.new.machine.kernel.journal) journal_entries ≡ false) }
 {

@@ -70,7 +70,8 @@ record Follows (argument : Argument) (arguments : List Argument) (rest : Option 
   number : IsDecimal (word_in text)
   more : why_numbers arguments (rest_in text) ≡ None
 
-number_follows : (argument : Argument) (arguments : List Argument) (rest : Option (List ℕ)) → why_numbers (argument ∷ arguments) rest ≡ None → Follows argument arguments rest
+number_follows : (argument : Argument) (arguments : List Argument) (rest : Option (List ℕ)) → why_numbers (argument ∷ arguments) rest ≡ None
+    → Follows argument arguments rest
 unfolding why_numbers
 number_follows argument arguments None e = absurd cc
 number_follows argument arguments (Some text) e =
@@ -143,7 +144,8 @@ lettered letter word text rest two cuts is =
     ∙ ap (λ (w : List ℕ). w ++ 32 ∷ (decimal two.owner ++ 32 ∷ decimal two.place)) is
     ∙ page_text letter two.owner two.place
 
-page_by : (word text : List ℕ) (rest : Option (List ℕ)) (d s x : Bool) → bytes_eq word (codes "d") ≡ d → bytes_eq word (codes "s") ≡ s → bytes_eq word (codes "x") ≡ x
+page_by : (word text : List ℕ) (rest : Option (List ℕ)) (d s x : Bool) → bytes_eq word (codes "d") ≡ d → bytes_eq word (codes "s") ≡ s
+    → bytes_eq word (codes "x") ≡ x
     → (d || (s || x)) ≡ true → Cuts word rest text → TwoFollow rest → (page : Page) × IsReference page text
 page_by word text rest true s x a b c one cuts two =
     (Data two.owner two.place, ((two.small_owner, (two.small_place, tt)), inl (lettered 100 word text rest two cuts (same_word word (codes "d") a))))
@@ -153,16 +155,19 @@ page_by word text rest false false true a b c one cuts two =
     (Text two.owner two.place, ((two.small_owner, (two.small_place, tt)), inl (lettered 120 word text rest two cuts (same_word word (codes "x") c))))
 page_by word text rest false false false a b c one cuts two = absurd cc
 
-page_found : (word text : List ℕ) (rest : Option (List ℕ)) → is_segment word ≡ true → Cuts word rest text → TwoFollow rest → (page : Page) × IsReference page text
+page_found : (word text : List ℕ) (rest : Option (List ℕ)) → is_segment word ≡ true → Cuts word rest text → TwoFollow rest
+    → (page : Page) × IsReference page text
 unfolding is_segment
 page_found word text rest one cuts two = page_by word text rest _ _ _ refl refl refl one cuts two
 
-plain_found : (word text : List ℕ) (rest : Option (List ℕ)) → IsDecimal word → Cuts word rest text → why_numbers [] rest ≡ None → (page : Page) × IsReference page text
+plain_found : (word text : List ℕ) (rest : Option (List ℕ)) → IsDecimal word → Cuts word rest text → why_numbers [] rest ≡ None
+    → (page : Page) × IsReference page text
 plain_found word text rest number cuts none =
     (Data 0 number.value, ((lit< tt, (number.small, tt)), inr (number.value, refl, cuts.whole (nothing_follows rest none) ∙ number.is)))
 
 reference_by : (word text : List ℕ) (rest : Option (List ℕ)) (s n : Bool) → is_segment word ≡ s → is_number word ≡ n → Cuts word rest text
-    → (if s then why_numbers (Owner ∷ Place ∷ []) rest else (if n then why_numbers [] rest else Some (NoReference word))) ≡ None → (page : Page) × IsReference page text
+    → (if s then why_numbers (Owner ∷ Place ∷ []) rest else (if n then why_numbers [] rest else Some (NoReference word))) ≡ None
+    → (page : Page) × IsReference page text
 reference_by word text rest true n a b cuts none = page_found word text rest a cuts (two_found rest none)
 reference_by word text rest false true a b cuts none = plain_found word text rest (number_read word b) cuts none
 reference_by word text rest false false a b cuts none = absurd cc
@@ -212,7 +217,8 @@ clean_more b text high clean = record { tab = (λ e. omega arith, clean.tab); re
 clean_both : (xs ys : List ℕ) → IsClean xs → IsClean ys → IsClean (xs ++ ys)
 clean_both xs ys a b = record { tab = has_no_more 9 xs ys a.tab b.tab; return = has_no_more 13 xs ys a.return b.return }
 
-clean_by : (r s t : Bool) (a b : Why) (x : Option Why) → r ≡ false → s ≡ false → t ≡ false → x ≡ None → (if r then None else (if s then Some a else (if t then Some b else x))) ≡ None
+clean_by : (r s t : Bool) (a b : Why) (x : Option Why) → r ≡ false → s ≡ false → t ≡ false → x ≡ None
+    → (if r then None else (if s then Some a else (if t then Some b else x))) ≡ None
 clean_by true s t a b x r_is s_is t_is x_is = refl
 clean_by false true t a b x r_is s_is t_is x_is = absurd cc
 clean_by false false true a b x r_is s_is t_is x_is = absurd cc

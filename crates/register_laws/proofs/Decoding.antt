@@ -117,7 +117,8 @@ unfolding fetch
 fetch_leaves zero pc bs a = omega arith
 fetch_leaves (suc more) pc bs a = go (λ byte small. fetch_leaves more pc (bs ++ byte ∷ []) (both_octets bs (byte ∷ []) a (small, tt))) (decoded bs) refl
   where
-    go : ((byte : ℕ) → byte < 256 → AllLeave IsLong (fetch more pc (bs ++ byte ∷ []))) → (d : Decoded) → decoded bs ≡ d → AllLeave IsLong (on_decoded d (Reads (past pc (length bs)) (λ byte. fetch more pc (bs ++ byte ∷ []))))
+    go : ((byte : ℕ) → byte < 256 → AllLeave IsLong (fetch more pc (bs ++ byte ∷ []))) → (d : Decoded) → decoded bs ≡ d
+        → AllLeave IsLong (on_decoded d (Reads (past pc (length bs)) (λ byte. fetch more pc (bs ++ byte ∷ []))))
     go later (decodings.Is instr) e = decoded_long bs instr a e
     go later decodings.Reserved e = omega arith
     go later decodings.NeedMore e = later

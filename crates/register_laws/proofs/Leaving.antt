@@ -74,7 +74,8 @@ number_small (suc size) address = λ byte small.
 pub pop_leaves : (regs : Regs) → AreRegs regs → AllLeave (λ (x : Regs × ℕ). AreRegs x.0 × (x.1 < 2 ^ 32)) (pop regs)
 unfolding pop
 pop_leaves regs h =
-    leave_bind (λ (n : ℕ). n < 256 ^ 4) (λ (x : Regs × ℕ). AreRegs x.0 × (x.1 < 2 ^ 32)) (number_at 4 (register regs 14)) (λ value. Gives (with_register regs 14 (past (register regs 14) 4), value)) (number_small 4 (register regs 14))
+    leave_bind (λ (n : ℕ). n < 256 ^ 4) (λ (x : Regs × ℕ). AreRegs x.0 × (x.1 < 2 ^ 32)) (number_at 4 (register regs 14)) (λ value. Gives (with_register regs 14 (past (register regs 14) 4), value))
+    (number_small 4 (register regs 14))
     (λ value k. (regs_set regs 14 (past (register regs 14) 4) (omega arith) h, omega (arith, k)))
 
 pub pop_into_leaves : (regs : Regs) (reg : ℕ) → AreRegs regs → AllLeave AreRegs (pop_into regs reg)
@@ -161,8 +162,10 @@ dropped_leaves true regs h =
 pub unwound_leaves : (state : ℕ) (regs : Regs) → AreRegs regs → AllLeave AreRegs (unwound state regs)
 unfolding unwound
 unwound_leaves state regs h =
-    leave_bind AreRegs AreRegs (linkage regs) (λ linked. restored 12 (state / 2 ^ 16) linked >>= λ with_saved. arguments_dropped (bit state 29) (with_raised_stack with_saved (state / 2 ^ 30))) (linkage_leaves regs h)
-    (λ linked k. leave_bind AreRegs AreRegs (restored 12 (state / 2 ^ 16) linked) (λ with_saved. arguments_dropped (bit state 29) (with_raised_stack with_saved (state / 2 ^ 30))) (restored_leaves 12 (state / 2 ^ 16) linked k)
+    leave_bind AreRegs AreRegs (linkage regs)
+    (λ linked. restored 12 (state / 2 ^ 16) linked >>= λ with_saved. arguments_dropped (bit state 29) (with_raised_stack with_saved (state / 2 ^ 30))) (linkage_leaves regs h)
+    (λ linked k. leave_bind AreRegs AreRegs (restored 12 (state / 2 ^ 16) linked) (λ with_saved. arguments_dropped (bit state 29) (with_raised_stack with_saved (state / 2 ^ 30)))
+    (restored_leaves 12 (state / 2 ^ 16) linked k)
     (λ with_saved m. dropped_leaves (bit state 29) (with_raised_stack with_saved (state / 2 ^ 30)) (raised_leaves with_saved (state / 2 ^ 30) m)))
 
 returned_leaves : (regs : Regs) → AreRegs regs → AllLeave AreRegs (registers_returned regs)
@@ -174,7 +177,8 @@ returned_leaves regs h =
     (λ state k. go state k.0 (state.1 / 2 ^ 4 % 2 ^ 12 == 0))
   where
     go : (state : Regs × ℕ) → AreRegs state.0 → (b : Bool) → AllLeave AreRegs (if b then (unwound state.1 state.0 >>= λ after. Gives (with_state_codes after state.1)) else Refuses sigill)
-    go state k true = leave_bind AreRegs AreRegs (unwound state.1 state.0) (λ after. Gives (with_state_codes after state.1)) (unwound_leaves state.1 state.0 k) (λ after m. record { count = m.count; each = m.each })
+    go state k true =
+        leave_bind AreRegs AreRegs (unwound state.1 state.0) (λ after. Gives (with_state_codes after state.1)) (unwound_leaves state.1 state.0 k) (λ after m. record { count = m.count; each = m.each })
     go state k false = omega arith
 
 pub procedure_return_leaves : (regs : Regs) → AreRegs regs → AllLeave EffectFits (procedure_return regs)
@@ -184,8 +188,11 @@ procedure_return_leaves regs h = leave_bind AreRegs EffectFits (registers_return
 frame_leaves : (before : Effect) (counted : Bool) (mask : ℕ) → EffectFits before → EffectFits (with_frame before counted mask)
 unfolding with_frame
 frame_leaves before counted mask h =
-    pushes_leave (record before { regs = with_aligned_stack before.regs }) (frame before.regs counted mask)
-    (regs_set before.regs 14 (register before.regs 14 / 4 * 4) (let each : AllLongwords before.regs.r = (let r : AreRegs before.regs = h.0 in r.each) in let k = index_small before.regs.r 14 each in omega (arith, k)) h.0, h.1)
+    pushes_leave (record before { regs = with_aligned_stack before.regs }) (frame before.regs counted mask) (
+      regs_set before.regs 14 (register before.regs 14 / 4 * 4) (let each : AllLongwords before.regs.r = (let r : AreRegs before.regs = h.0 in r.each) in
+          let k = index_small before.regs.r 14 each in omega (arith, k)) h.0,
+      h.1,
+    )
 
 entered_leaves : (pushed : Effect) (ap target : ℕ) → ap < 2 ^ 32 → EffectFits pushed → EffectFits (procedure_entry pushed ap target)
 entered_leaves pushed ap target small h =
@@ -314,7 +321,8 @@ address_leaves regs size (bases.AutoIncDef reg) long h =
 address_leaves regs size (bases.Absolute address) long h = (h, long)
 address_leaves regs size (bases.Disp reg by false) long h = (h, omega arith)
 address_leaves regs size (bases.Disp reg by true) long h =
-    leave_bind (λ (n : ℕ). n < 2 ^ 32) IsFound (number_at 4 (past (register regs reg) (cast_unsigned w32 by))) (λ address. Gives (regs, address)) (long_number (past (register regs reg) (cast_unsigned w32 by)))
+    leave_bind (λ (n : ℕ). n < 2 ^ 32) IsFound (number_at 4 (past (register regs reg) (cast_unsigned w32 by))) (λ address. Gives (regs, address))
+    (long_number (past (register regs reg) (cast_unsigned w32 by)))
     (λ address k. (h, k))
 
 pub at_leaves : (slot : Slot) (regs : Regs) (address : ℕ) → 256 ^ slot.size ≤ 2 ^ 32 → address < 2 ^ 32 → AreRegs regs
@@ -343,7 +351,8 @@ pub through_leaves : (slot : Slot) (regs : Regs) (base : Base) → 256 ^ slot.si
     → AllLeave IsEvaluated (evaluation_through slot regs base)
 unfolding evaluation_through
 through_leaves slot regs base few long h =
-    leave_bind IsFound IsEvaluated (address_of regs slot.size base) (λ found. evaluation_at slot found.0 found.1) (address_leaves regs slot.size base long h) (λ found k. at_leaves slot found.0 found.1 few k.1 k.0)
+    leave_bind IsFound IsEvaluated (address_of regs slot.size base) (λ found. evaluation_at slot found.0 found.1) (address_leaves regs slot.size base long h)
+    (λ found k. at_leaves slot found.0 found.1 few k.1 k.0)
 
 slot_small : (kind : Kind) → (256 ^ (slot_of kind).size ≤ 2 ^ 32) × ((x : ℕ) → x < 2 ^ 32 → x % 256 ^ (slot_of kind).size < 2 ^ 32)
 slot_small kinds.Ab = (omega arith, λ x h. omega (arith, h))
@@ -365,7 +374,8 @@ operand_leaves slot regs (operands.AutoIncDef reg) few long h = through_leaves s
 operand_leaves slot regs (operands.Absolute address) few long h = through_leaves slot regs (bases.Absolute address) few.0 long h
 operand_leaves slot regs (operands.Disp reg by deferred) few long h = through_leaves slot regs (bases.Disp reg by deferred) few.0 tt h
 operand_leaves slot regs (operands.Indexed index base) few long h =
-    leave_bind IsFound IsEvaluated (address_of regs slot.size base) (λ found. evaluation_at slot found.0 (past found.1 (slot.size * register found.0 index))) (address_leaves regs slot.size base long h)
+    leave_bind IsFound IsEvaluated (address_of regs slot.size base) (λ found. evaluation_at slot found.0 (past found.1 (slot.size * register found.0 index)))
+    (address_leaves regs slot.size base long h)
     (λ found k. at_leaves slot found.0 (past found.1 (slot.size * register found.0 index)) few.0 (omega arith) k.0)
 operand_leaves slot regs _ few long h = (h, long)
 
@@ -377,9 +387,11 @@ pub operands_leave : (row : Row) (regs : Regs) (instr : Instr) → IsLongOperand
     → AllLeave AreEvaluated (evaluations row regs instr)
 unfolding evaluations
 operands_leave row regs instr la lb lc h =
-    leave_bind IsEvaluated AreEvaluated (evaluation (slot_in row 0) regs instr.a) (λ a. evaluation (slot_in row 1) a.0 instr.b >>= λ b. evaluation (slot_in row 2) b.0 instr.c >>= λ c. Gives (c.0, a.1, b.1, c.1))
+    leave_bind IsEvaluated AreEvaluated (evaluation (slot_in row 0) regs instr.a)
+    (λ a. evaluation (slot_in row 1) a.0 instr.b >>= λ b. evaluation (slot_in row 2) b.0 instr.c >>= λ c. Gives (c.0, a.1, b.1, c.1))
     (operand_leaves (slot_in row 0) regs instr.a (row_small row 0) la h)
-    (λ a k. leave_bind IsEvaluated AreEvaluated (evaluation (slot_in row 1) a.0 instr.b) (λ b. evaluation (slot_in row 2) b.0 instr.c >>= λ c. Gives (c.0, a.1, b.1, c.1)) (operand_leaves (slot_in row 1) a.0 instr.b (row_small row 1) lb k.0)
+    (λ a k. leave_bind IsEvaluated AreEvaluated (evaluation (slot_in row 1) a.0 instr.b) (λ b. evaluation (slot_in row 2) b.0 instr.c >>= λ c. Gives (c.0, a.1, b.1, c.1))
+    (operand_leaves (slot_in row 1) a.0 instr.b (row_small row 1) lb k.0)
     (λ b m. leave_bind IsEvaluated AreEvaluated (evaluation (slot_in row 2) b.0 instr.c) (λ c. Gives (c.0, a.1, b.1, c.1)) (operand_leaves (slot_in row 2) b.0 instr.c (row_small row 2) lc m.0)
     (λ c n. (n.0, k.1, m.1, n.1))))
 
@@ -397,7 +409,8 @@ pub execution_leaves : (row : Row) (regs : Regs) (instr : Instr) → IsLongOpera
 unfolding execution
 execution_leaves row regs instr la lb lc h =
     leave_bind AreEvaluated EffectFits (evaluations row regs instr) (λ all. computation row.name all.0 all.1 all.2 all.3 >>= λ effect. tested_effect effect) (operands_leave row regs instr la lb lc h)
-    (λ all k. leave_bind EffectFits EffectFits (computation row.name all.0 all.1 all.2 all.3) (λ effect. tested_effect effect) (computation_leaves row.name all.0 all.1 all.2 all.3 k.1 k.2 k.3 k.0) (λ effect m. tested_leaves effect m))
+    (λ all k. leave_bind EffectFits EffectFits (computation row.name all.0 all.1 all.2 all.3) (λ effect. tested_effect effect) (computation_leaves row.name all.0 all.1 all.2 all.3 k.1 k.2 k.3 k.0)
+    (λ effect m. tested_leaves effect m))
 
 pub execution_by_leaves : (row : Option Row) (regs : Regs) (instr : Instr) → IsLongOperand instr.a → IsLongOperand instr.b → IsLongOperand instr.c
     → AreRegs regs → AllLeave EffectFits (execution_by row regs instr)

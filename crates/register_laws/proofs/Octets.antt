@@ -54,7 +54,8 @@ word_octets n = (omega arith, (omega arith, (omega arith, (omega arith, tt))))
 
 pointer_octets : (arguments : List (List ℕ)) (address : ℕ) → AreOctets (pointers_from address arguments)
 pointer_octets [] address = tt
-pointer_octets (argument ∷ more) address = both_octets (word_bytes address) (pointers_from (address + length argument + 1) more) (word_octets address) (pointer_octets more (address + length argument + 1))
+pointer_octets (argument ∷ more) address =
+    both_octets (word_bytes address) (pointers_from (address + length argument + 1) more) (word_octets address) (pointer_octets more (address + length argument + 1))
 
 abbrev pub AreStrings : List (List ℕ) → Type 0
 AreStrings [] = Unit {0}
@@ -77,4 +78,5 @@ area_octets arguments a =
     both_octets (front ++ word_bytes 0 ++ word_bytes 0 ++ string_area arguments) (word_bytes 0) four (word_octets 0)
 
 pub start_page_octets : (arguments : List (List ℕ)) → AreStrings arguments → AreOctets (start_page arguments)
-start_page_octets arguments a = both_octets (replicate (1024 - length (argument_area arguments)) 0) (argument_area arguments) (zero_octets (1024 - length (argument_area arguments))) (area_octets arguments a)
+start_page_octets arguments a =
+    both_octets (replicate (1024 - length (argument_area arguments)) 0) (argument_area arguments) (zero_octets (1024 - length (argument_area arguments))) (area_octets arguments a)

@@ -125,7 +125,8 @@ ended_regs F p s status k o small h =
     let gone : Process = record p { holding = Zombie status } in
     let back = returned_regs p.pid s (replaced F.processes gone) o (replaced_regs F.processes gone (k, small) h) in
     left_regs (p.parent == 0) (orphaned (given_back (with_process F gone) p.pid s) p.pid) p.pid p.parent
-    (orphans_regs p.pid (filter (λ q. not (is_zombie_child p.pid q)) (returned p.pid s (replaced F.processes gone))) (filtered_regs (λ q. not (is_zombie_child p.pid q)) (returned p.pid s (replaced F.processes gone)) back))
+    (orphans_regs p.pid (filter (λ q. not (is_zombie_child p.pid q)) (returned p.pid s (replaced F.processes gone)))
+    (filtered_regs (λ q. not (is_zombie_child p.pid q)) (returned p.pid s (replaced F.processes gone)) back))
 
 changed_regs : (images : List NamedImage) (F : FlatState) (p : Process) (s : Space) (change : Change) → AllImages images → AreRegs p.regs
     → p.holding ≡ Holds s → HasOctets s → p.pid < 2 ^ 32 → ChangeFits change
@@ -134,9 +135,11 @@ changed_regs images F p s Keep all k e o small fits h = replaced_regs F.processe
 changed_regs images F p s (Resize data_pages stack_pages) all k e o small fits h =
     replaced_regs F.processes _ (k, record { text = o.text; «data» = octets_resized data_pages s.data_bytes o.data; stack = octets_resized stack_pages s.stack_bytes o.stack }) h
 changed_regs images F p s (Fork child) all k e o small fits h =
-    pushed_regs (replaced F.processes p) _ (results_are p.regs p.pid 1 small (omega arith) k, record { text = o.text; «data» = o.data; stack = o.stack }) (replaced_regs F.processes p (k, subst HeldFits (sym e) o) h)
+    pushed_regs (replaced F.processes p) _ (results_are p.regs p.pid 1 small (omega arith) k, record { text = o.text; «data» = o.data; stack = o.stack })
+    (replaced_regs F.processes p (k, subst HeldFits (sym e) o) h)
 changed_regs images F p s (Lend child) all k e o small fits h =
-    pushed_regs (replaced F.processes record p { holding = Lends s.sid child }) _ (results_are p.regs p.pid 1 small (omega arith) k, o) (replaced_regs F.processes (record p { holding = Lends s.sid child }) (k, tt) h)
+    pushed_regs (replaced F.processes record p { holding = Lends s.sid child }) _ (results_are p.regs p.pid 1 small (omega arith) k, o)
+    (replaced_regs F.processes (record p { holding = Lends s.sid child }) (k, tt) h)
 changed_regs images F p s (Exec image top) all k e o small fits h = entered_regs images F p s image top all k o fits h
 changed_regs images F p s (Reap child) all k e o small fits h =
     replaced_regs (filter (λ q. not (q.pid == child)) F.processes) p (k, subst HeldFits (sym e) o) (filtered_regs (λ q. not (q.pid == child)) F.processes h)

@@ -55,7 +55,8 @@ run_keeps memory (Gives x) small h = h
 run_keeps memory (Refuses signal) small h = omega arith
 run_keeps memory (Reads a next) small h = go (λ byte low. run_keeps memory (next byte) small (h byte low)) (memory.read a) refl
   where
-    go : ((byte : ℕ) → byte < 256 → ReplyKeeps (or_fault (run memory (next byte)))) → (answer : ByteRead) → memory.read a ≡ answer → ReplyKeeps (or_fault (after_read answer a (λ byte. run memory (next byte))))
+    go : ((byte : ℕ) → byte < 256 → ReplyKeeps (or_fault (run memory (next byte)))) → (answer : ByteRead) → memory.read a ≡ answer
+        → ReplyKeeps (or_fault (after_read answer a (λ byte. run memory (next byte))))
     go later (bytes.Is byte) e = later byte (small a byte e)
     go later bytes.Miss e = omega arith
     go later bytes.Below e = omega arith
@@ -142,7 +143,8 @@ bytes_long : (count address : ℕ) → AllLeave (λ (bs : List ℕ). length bs �
 unfolding bytes_from
 bytes_long zero address = refl
 bytes_long (suc count) address = λ byte small.
-    leave_bind (λ (bs : List ℕ). length bs ≡ count) (λ (bs : List ℕ). length bs ≡ suc count) (bytes_from count (past address 1)) (λ more. Gives (byte ∷ more)) (bytes_long count (past address 1)) (λ bs e. ap suc e)
+    leave_bind (λ (bs : List ℕ). length bs ≡ count) (λ (bs : List ℕ). length bs ≡ suc count) (bytes_from count (past address 1)) (λ more. Gives (byte ∷ more))
+    (bytes_long count (past address 1)) (λ bs e. ap suc e)
 
 written_keeps : (b : Bool) (buffer count : ℕ) → AllLeave ReplyKeeps (written_to b buffer count)
 unfolding written_to
@@ -172,7 +174,8 @@ starts_keeps found (Some arguments) fits a = (start_are found.1.image.facts.entr
 execve_keeps : (argv : ℕ) (found : Option (ℕ × NamedImage)) → ((x : ℕ × NamedImage) → found ≡ Some x → ImageFits x.1)
     → AllLeave ReplyKeeps (execve_of argv found)
 execve_keeps argv None h = omega arith
-execve_keeps argv (Some found) h = leave_bind AreAll ReplyKeeps (arguments_at argv) (λ arguments. Gives (starts found arguments)) (all_arguments argv) (λ arguments k. starts_keeps found arguments (h found refl) k)
+execve_keeps argv (Some found) h =
+    leave_bind AreAll ReplyKeeps (arguments_at argv) (λ arguments. Gives (starts found arguments)) (all_arguments argv) (λ arguments k. starts_keeps found arguments (h found refl) k)
 
 path_keeps : (images : List NamedImage) (argv : ℕ) (path : Option (List ℕ)) → AllImages images → AllLeave ReplyKeeps (execve_of argv (path_image images path))
 path_keeps images argv None h = execve_keeps argv None (λ x e. absurd cc)
@@ -207,8 +210,11 @@ wait_keeps F pid regs all low h = go (find (λ q. q.parent == pid) F.processes) 
     go None zombie e = omega arith
     go (Some child) None e = tt
     go (Some child) (Some z) e =
-        let now = found_regs (is_zombie_child pid) F.processes z e all in
-        (let r = results_are regs z.pid (status_of z.holding) (found_below (is_zombie_child pid) F.processes (2 ^ 32) z e low) (status_small z.holding now.1) h in record { count = r.count; each = r.each }, tt)
+        let now = found_regs (is_zombie_child pid) F.processes z e all in (
+          let r = results_are regs z.pid (status_of z.holding) (found_below (is_zombie_child pid) F.processes
+              (2 ^ 32) z e low) (status_small z.holding now.1) h in record { count = r.count; each = r.each },
+          tt,
+        )
 
 -- what the reply of a call may leave in registers is longwords
 pub record RepliesFit (images : List NamedImage) (F : FlatState) (p : Process) : Type 0 where
@@ -225,14 +231,17 @@ unfolding reply_of exit_reply write_reply break_reply execve_reply
 all_keep images F p s calls.Exit regs f h = leave_bind (λ (n : ℕ). n < 2 ^ 32) ReplyKeeps (argument regs 1) (λ code. Gives (Exits (code % 256 * 256))) (argument_leaves regs 1) (λ code k. omega arith)
 all_keep images F p s calls.Fork regs f h = child_keeps (nat_lt (length F.processes) process_limit) regs F.next_pid (Fork F.next_pid) f.next tt h
 all_keep images F p s calls.Write regs f h =
-    leave_bind (λ (x : ℕ × ℕ × ℕ). Unit {0}) ReplyKeeps (three_arguments regs) (λ asked. written_to (asked.0 == 1 || asked.0 == 2) asked.1 asked.2) (three_leave regs) (λ asked k. written_keeps (asked.0 == 1 || asked.0 == 2) asked.1 asked.2)
+    leave_bind (λ (x : ℕ × ℕ × ℕ). Unit {0}) ReplyKeeps (three_arguments regs) (λ asked. written_to (asked.0 == 1 || asked.0 == 2) asked.1 asked.2) (three_leave regs)
+    (λ asked k. written_keeps (asked.0 == 1 || asked.0 == 2) asked.1 asked.2)
 all_keep images F p s calls.Break regs f h =
-    leave_bind (λ (n : ℕ). n < 2 ^ 32) ReplyKeeps (argument regs 1) (λ address. Gives (break_by (nat_le (pages_up_to s address) data_limit) regs (pages_up_to s address) (stack_pages_of s))) (argument_leaves regs 1)
+    leave_bind (λ (n : ℕ). n < 2 ^ 32) ReplyKeeps (argument regs 1) (λ address. Gives (break_by (nat_le (pages_up_to s address) data_limit) regs (pages_up_to s address) (stack_pages_of s)))
+    (argument_leaves regs 1)
     (λ address k. break_keeps (nat_le (pages_up_to s address) data_limit) regs (pages_up_to s address) (stack_pages_of s) h)
 all_keep images F p s calls.Getpid regs f h = (let r = results_are regs p.pid p.parent f.own f.parent h in record { count = r.count; each = r.each }, tt)
 all_keep images F p s calls.Execve regs f h =
     leave_bind (λ (x : ℕ × ℕ × ℕ). Unit {0}) ReplyKeeps (three_arguments regs) (λ asked. string_from string_limit asked.0 >>= λ path. execve_of asked.1 (path_image images path)) (three_leave regs)
-    (λ asked k. leave_bind IsString ReplyKeeps (string_from string_limit asked.0) (λ path. execve_of asked.1 (path_image images path)) (string_leaves string_limit asked.0) (λ path m. path_keeps images asked.1 path f.every))
+    (λ asked k. leave_bind IsString ReplyKeeps (string_from string_limit asked.0) (λ path. execve_of asked.1 (path_image images path)) (string_leaves string_limit asked.0)
+    (λ path m. path_keeps images asked.1 path f.every))
 all_keep images F p s calls.Vfork regs f h = child_keeps (nat_lt (length F.processes) process_limit) regs F.next_pid (Lend F.next_pid) f.next tt h
 all_keep images F p s calls.Wait regs f h = wait_keeps F p.pid regs f.regs f.numbers h
 

@@ -121,7 +121,8 @@ replied_few : (images : List NamedImage) (F : FlatState) (p : Process) (call : S
 replied_few images F p call effect (Fails error) = let a = after_next images F p effect.writes (replied effect.regs true error) Keep in omega (arith, a)
 replied_few images F p call effect (Does regs change) = let a = after_next images F p effect.writes regs change in let b = made_one change in omega (arith, a, b)
 replied_few images F p call effect (Writes bytes) =
-    out_few F.next_pid (apply_change images (apply_writes F p.pid effect.writes) p.pid (replied effect.regs false (length bytes)) Keep).next_pid p.pid bytes (call_entry p.pid call (replied effect.regs false (length bytes)))
+    out_few F.next_pid (apply_change images (apply_writes F p.pid effect.writes) p.pid (replied effect.regs false (length bytes)) Keep).next_pid p.pid bytes
+    (call_entry p.pid call (replied effect.regs false (length bytes)))
     (let a = after_next images F p effect.writes (replied effect.regs false (length bytes)) Keep in omega (arith, a))
 replied_few images F p call effect Waits = after_next images F p effect.writes p.regs Sleep
 replied_few images F p call effect (Exits status) = let a = after_next images F p effect.writes p.regs (End status) in omega (arith, a)
@@ -234,7 +235,8 @@ unfolding flat_units
 units_fit A [] point q w l h k = let same : point ≡ q = cc in subst (λ (x : Point). Fits x.flat) same k
 units_fit A (u ∷ us) point q w l h k = go (λ next m. units_fit A us next q w m) (flat_entry A point u) refl h
   where
-    go : ((next : Point) → next.flat.next_pid + instructions_of us < 2 ^ 32 → flat_units A (Some next) us ≡ Some q → Fits next.flat → Fits q.flat) → (o : Option Point) → flat_entry A point u ≡ o → flat_units A o us ≡ Some q → Fits q.flat
+    go : ((next : Point) → next.flat.next_pid + instructions_of us < 2 ^ 32 → flat_units A (Some next) us ≡ Some q → Fits next.flat → Fits q.flat) → (o : Option Point) → flat_entry A point u ≡ o
+        → flat_units A o us ≡ Some q → Fits q.flat
     go later None e m = absurd cc
     go later (Some next) e m =
         later next (let a = entry_next A point next u e in omega arith) m

@@ -95,7 +95,8 @@ entry_taken A point pid (entries.Ran p n) next ends h =
 entry_taken A point pid (entries.Grew p n) next ends h =
     so_taken _ _ next (if_taken _ A point pid (entries.Grew p n) next (subst (λ (q : ℕ). flat_entry_if (may_follow point.last (entries.Grew p n)) A point q (entries.Grew p n) ≡ Some next) ends h))
 entry_taken A point pid (entries.Call p n c r0 r1) next ends h =
-    so_taken _ _ next (if_taken _ A point pid (entries.Call p n c r0 r1) next (subst (λ (q : ℕ). flat_entry_if (may_follow point.last (entries.Call p n c r0 r1)) A point q (entries.Call p n c r0 r1) ≡ Some next) ends h))
+    so_taken _ _ next (if_taken _ A point pid (entries.Call p n c r0 r1) next
+    (subst (λ (q : ℕ). flat_entry_if (may_follow point.last (entries.Call p n c r0 r1)) A point q (entries.Call p n c r0 r1) ≡ Some next) ends h))
 entry_taken A point pid (entries.Sleeps p) next ends h =
     so_taken _ _ next (if_taken _ A point pid (entries.Sleeps p) next (subst (λ (q : ℕ). flat_entry_if (may_follow point.last (entries.Sleeps p)) A point q (entries.Sleeps p) ≡ Some next) ends h))
 entry_taken A point pid (entries.Ended p n) next ends h =
@@ -132,7 +133,8 @@ beyond A point pid u next ends h =
 
 stays_by : (can : Bool) (p : ℕ) (bytes : List ℕ) (point : Point) (after : FlatState) (es left : List Entry) → Shape p es
     → (left ≡ es) ⊎ (left ≡ behind_first es)
-    → same_as (first_if can left) (entries.Out p bytes) ≡ true → ((behind point after left).flat ≡ point.flat) × ((q : ℕ) → is_refused (behind point after left).last q ≡ false)
+    → same_as (first_if can left) (entries.Out p bytes) ≡ true → ((behind point after left).flat ≡ point.flat)
+    × ((q : ℕ) → is_refused (behind point after left).last q ≡ false)
 stays_by can p bytes point after es left (Empty e) (inl d) h = absurd (none_first can left _ (d ∙ e) h)
 stays_by can p bytes point after es left (Empty e) (inr d) h = absurd (none_first can left _ (d ∙ ap behind_first e) h)
 stays_by can p bytes point after es left (One x done e) (inl d) h = absurd (end_differs p p bytes x done (begins_so can left [] x _ (d ∙ e) h))
@@ -163,7 +165,8 @@ next_of A point u us h = go (flat_entry A point u) refl h
     go None e k = absurd cc
     go (Some next) e k = (next, e, k)
 
-moved : (A : Inputs) (F G : FlatState) (refused behind : Option ℕ) (pages more : List Page) (u : Entry) (us : List Entry) (whole : List Page) (h : IsOnWay A F refused pages (u ∷ us) whole)
+moved : (A : Inputs) (F G : FlatState) (refused behind : Option ℕ) (pages more : List Page) (u : Entry) (us : List Entry) (whole : List Page)
+    (h : IsOnWay A F refused pages (u ∷ us) whole)
     → ((next : Point) → flat_entry A h.point u ≡ Some next → (next.flat ≡ G) × ((q : ℕ) → is_refused next.last q ≡ is_this behind q))
     → more ≡ pages ++ touched_by_unit A h.point u → IsOnWay A G behind more us whole
 unfolding references_from
@@ -207,10 +210,12 @@ on_one (Ok x) f p = f p
 on_one (Err e) f p = tt
 
 -- by an entry whose instruction counts, where a step was made
-pub counted_on : {X E : Type 0} (A : Inputs) (F G : FlatState) (refused behind : Option ℕ) (pages more : List Page) (e u : Entry) (us : List Entry) (whole : List Page) (pid : ℕ) (r : Result X E)
+pub counted_on : {X E : Type 0} (A : Inputs) (F G : FlatState) (refused behind : Option ℕ) (pages more : List Page) (e u : Entry) (us : List Entry)
+    (whole : List Page) (pid : ℕ) (r : Result X E)
     → e ≡ u → IsStepEnd pid u → units_with u us ≡ u ∷ us → ((point : Point) → touched_by_unit A point u ≡ touched A point.flat pid)
     → IsOnWay A F refused pages (units_with e us) whole → behind ≡ None
-    → OnOk r (G ≡ state_if (can_step F pid) F (flat_step A F pid (is_this refused pid))) → OnOk r (more ≡ pages ++ touched A F pid) → OnOk r (IsOnWay A G behind more us whole)
+    → OnOk r (G ≡ state_if (can_step F pid) F (flat_step A F pid (is_this refused pid))) → OnOk r (more ≡ pages ++ touched A F pid)
+    → OnOk r (IsOnWay A G behind more us whole)
 counted_on A F G refused behind pages more e u us whole pid r is ends one touches way none =
     let here = subst (λ (vs : List Entry). IsOnWay A F refused pages vs whole) (ap (λ (x : Entry). units_with x us) is ∙ one) way in
     on_both r (λ after list. subst (λ (o : Option ℕ). IsOnWay A G o more us whole) (sym none) (
@@ -219,7 +224,8 @@ counted_on A F G refused behind pages more e u us whole pid r is ends one touche
     ))
 
 -- by another entry that completes a step
-pub stepped_on : {X E : Type 0} (A : Inputs) (F G : FlatState) (refused behind : Option ℕ) (pages more : List Page) (e u : Entry) (us : List Entry) (whole : List Page) (pid : ℕ) (r : Result X E)
+pub stepped_on : {X E : Type 0} (A : Inputs) (F G : FlatState) (refused behind : Option ℕ) (pages more : List Page) (e u : Entry) (us : List Entry)
+    (whole : List Page) (pid : ℕ) (r : Result X E)
     → e ≡ u → IsStepEnd pid u → units_with u us ≡ u ∷ us → ((point : Point) → touched_by_unit A point u ≡ [])
     → IsOnWay A F refused pages (units_with e us) whole → behind ≡ None → more ≡ pages
     → OnOk r (G ≡ state_if (can_step F pid) F (flat_step A F pid (is_this refused pid))) → OnOk r (IsOnWay A G behind more us whole)
@@ -259,8 +265,10 @@ one_skipped A F refused pages u us whole same none h =
 -- by an entry that no process made
 pub skip_on : (A : Inputs) (F : FlatState) (refused : Option ℕ) (pages : List Page) (e : Entry) (us : List Entry) (whole : List Page)
     → ((p n : ℕ) → e ≡ entries.Ran p n → ⊥) → ((p : ℕ) (bytes : List ℕ) → e ≡ entries.Out p bytes → ⊥)
-    → ((p n : ℕ) → e ≡ entries.Grew p n → ⊥) → ((p n : ℕ) (carry : Bool) (r0 r1 : ℕ) → e ≡ entries.Call p n carry r0 r1 → ⊥) → ((p : ℕ) → e ≡ entries.Refused p → ⊥)
-    → ((p : ℕ) → e ≡ entries.Sleeps p → ⊥) → ((p n : ℕ) → e ≡ entries.Ended p n → ⊥) → IsOnWay A F refused pages (units_with e us) whole → IsOnWay A F refused pages us whole
+    → ((p n : ℕ) → e ≡ entries.Grew p n → ⊥) → ((p n : ℕ) (carry : Bool) (r0 r1 : ℕ) → e ≡ entries.Call p n carry r0 r1 → ⊥)
+    → ((p : ℕ) → e ≡ entries.Refused p → ⊥)
+    → ((p : ℕ) → e ≡ entries.Sleeps p → ⊥) → ((p n : ℕ) → e ≡ entries.Ended p n → ⊥) → IsOnWay A F refused pages (units_with e us) whole
+    → IsOnWay A F refused pages us whole
 unfolding flat_entry
 skip_on A F refused pages (entries.Ran pid n) us whole ran out grew call held sleeps ended h = absurd (ran pid n refl)
 skip_on A F refused pages (entries.Out pid bytes) us whole ran out grew call held sleeps ended h = absurd (out pid bytes refl)

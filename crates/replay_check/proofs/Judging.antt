@@ -128,7 +128,8 @@ blocked A point G new pid e owner follows = subst (λ (o : Option Point). IsVerd
 
 made : (A : Inputs) (point : Point) (F : FlatState) (pid : ℕ) (refused : Bool) (e : Entry) → Opens F pid refused point
     → where_so (same_as (act A point pid) e) (point_after A point pid)
-    ≡ where_so (same_as (first_if (can_step F pid) (flat_step A F pid refused).entries) e) (behind point (flat_step A F pid refused).after (flat_step A F pid refused).entries)
+    ≡ where_so (same_as (first_if (can_step F pid) (flat_step A F pid refused).entries) e)
+    (behind point (flat_step A F pid refused).after (flat_step A F pid refused).entries)
 made A point F pid refused e opens =
     let step : step_at A point pid ≡ flat_step A F pid refused =
     ap (λ (b : Bool). flat_step A point.flat pid b) opens.refuses ∙ ap (λ (G : FlatState). flat_step A G pid refused) opens.flat in
@@ -138,7 +139,8 @@ made A point F pid refused e opens =
     ∙ ap (λ (s : Step). where_so (same_as (first_if (can_step F pid) (flat_step A F pid refused).entries) e) (behind point s.after (flat_step A F pid refused).entries)) step
 
 if_made : (point : Point) (F : FlatState) (c : Bool) (step : Step) (e : Entry)
-    → where_so (same_as (first_if c step.entries) e) (behind point step.after step.entries) ≡ where_so (same_as (first_if true (entries_if c step)) e) (behind point (state_if c F step) (entries_if c step))
+    → where_so (same_as (first_if c step.entries) e) (behind point step.after step.entries)
+    ≡ where_so (same_as (first_if true (entries_if c step)) e) (behind point (state_if c F step) (entries_if c step))
 if_made point F true step e = refl
 if_made point F false step e = refl
 
@@ -149,7 +151,8 @@ pub entry_of : (A : Inputs) (point : Point) (F G : FlatState) (pid : ℕ) (refus
     → flat_entry A point e ≡ where_so (begins pid did e) (behind point G (entries_of pid did))
 entry_of A point F G pid refused e did opens of es after =
     followed A point pid e true of.owner opens.1 ∙ of.made A point ∙ made A point F pid refused e opens.0 ∙ if_made point F (can_step F pid) (flat_step A F pid refused) e
-    ∙ sym (ap (λ (H : FlatState). where_so (same_as (first_if true (entries_if (can_step F pid) (flat_step A F pid refused))) e) (behind point H (entries_if (can_step F pid) (flat_step A F pid refused)))) after)
+    ∙ sym (ap (λ (H : FlatState). where_so (same_as (first_if true (entries_if (can_step F pid) (flat_step A F pid refused))) e)
+    (behind point H (entries_if (can_step F pid) (flat_step A F pid refused)))) after)
     ∙ sym (ap (λ (xs : List Entry). where_so (same_as (first_if true xs) e) (behind point G xs)) es)
 
 -- the verdict on the last entry of a step
@@ -176,7 +179,8 @@ sole_verdict A point pid e (deeds.Ended status) F b sole is = last_verdict A F (
 pub sole_at : (A : Inputs) (point : Point) (F G : FlatState) (new : Last) (pid : ℕ) (refused : Bool) (e : Entry) (did : Did) (b : Bool)
     → Opens F pid refused point × (may_follow point.last e ≡ true) → IsOf pid e
     → ((bytes : List ℕ) → same_entry (entries.Out pid bytes) e ≡ false) → new ≡ lasts.Other
-    → entries_of pid did ≡ entries_if (can_step F pid) (flat_step A F pid refused) → G ≡ state_if (can_step F pid) F (flat_step A F pid refused) → b ≡ begins pid did e
+    → entries_of pid did ≡ entries_if (can_step F pid) (flat_step A F pid refused)
+    → G ≡ state_if (can_step F pid) F (flat_step A F pid refused) → b ≡ begins pid did e
     → IsVerdict A b G new (flat_entry A point e)
 sole_at A point F G new pid refused e did b opens of sole other es after is =
     subst (λ (l : Last). IsVerdict A b G l (flat_entry A point e)) (sym other)

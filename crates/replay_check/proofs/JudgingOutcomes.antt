@@ -36,7 +36,8 @@ ended_shut A point F G last new pid status taken at =
 
 -- the reply that registers say, of a call of this number
 pub answer_same : (pid number r0 r1 : ℕ) (carry : Bool) (call : SystemCall) (regs : Regs)
-    → (number_of call == number && (same_carry regs.c carry && (register regs 0 == r0 && register regs 1 == r1))) ≡ same_entry (call_entry pid call regs) (entries.Call pid number carry r0 r1)
+    → (number_of call == number && (same_carry regs.c carry && (register regs 0 == r0 && register regs 1 == r1)))
+    ≡ same_entry (call_entry pid call regs) (entries.Call pid number carry r0 r1)
 answer_same pid number r0 r1 carry call regs =
     sym (ap (λ (b : Bool). b && (number_of call == number && (same_carry regs.c carry && (register regs 0 == r0 && register regs 1 == r1)))) (eq_self pid))
 

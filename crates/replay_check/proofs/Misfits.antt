@@ -102,7 +102,8 @@ one_begins pid o (deeds.Ended status) = refl
 pub one_verdict : (A : Inputs) (point : Point) (F G : FlatState) (last new : Last) (pid : ℕ) (refused : Bool) (did : Did)
     → refused_in pid last ≡ Some refused → last ≡ lasts.Other → new ≡ last → IsAt A F last point
     → entries_of pid did ≡ entries_if (can_step F pid) (flat_step A F pid refused) → G ≡ state_if (can_step F pid) F (flat_step A F pid refused)
-    → IsVerdict A (is_one (comes_or refused pid (first_if true (entries_of pid did)) (missing pid (process_of F pid)))) G new (flat_entry A point (entries.Ran pid 1))
+    → IsVerdict A (is_one (comes_or refused pid (first_if true (entries_of pid did)) (missing pid (process_of F pid)))) G new
+    (flat_entry A point (entries.Ran pid 1))
 one_verdict A point F G last new pid refused did taken other same at es after =
     let free : is_other last ≡ true = ap is_other other in
     let taken_free : refused_in pid last ≡ Some false = ap (refused_in pid) other in
@@ -126,7 +127,8 @@ verdict_some A F last (Some point) h = refl
 pub runs_all : (A : Inputs) (F : FlatState) (last : Last) (point : Point) (pid count ran : ℕ) → ran ≡ count
     → IsVerdict A true F last (flat_units A (Some point) (units_with (entries.Ran pid ran) []))
     → RunsOnly A point pid count ran
-runs_all A F last point pid count ran all h = record { few = omega arith; runs = verdict_some A F last (flat_units A (Some point) (units_with (entries.Ran pid ran) [])) h; stops = λ less. absurd (omega arith) }
+runs_all A F last point pid count ran all h =
+    record { few = omega arith; runs = verdict_some A F last (flat_units A (Some point) (units_with (entries.Ran pid ran) [])) h; stops = λ less. absurd (omega arith) }
 
 pub runs_some : (A : Inputs) (F G : FlatState) (last new : Last) (point : Point) (pid count ran : ℕ) → ran ≤ count
     → IsVerdict A true F last (flat_units A (Some point) (units_with (entries.Ran pid ran) []))
@@ -270,7 +272,8 @@ refused_self pid last is = ap (refused_in pid) is ∙ ap (λ (b : Bool). if b th
 
 pub behind_few : (A : Inputs) (F : FlatState) (last : Last) (count : ℕ) (good : List Entry) (bad : Entry) (expected : Option Expected)
     → HasTaken A F last count good
-    → count + counted bad ≤ instruction_limit → ((point : Point) → IsAt A F last point → IsExpectedAt A point bad expected) → IsExpectedBehind A good bad expected
+    → count + counted bad ≤ instruction_limit → ((point : Point) → IsAt A F last point → IsExpectedAt A point bad expected)
+    → IsExpectedBehind A good bad expected
 behind_few A F last count good bad expected h few told = record {
   point = h.point;
   run = h.run;
@@ -332,7 +335,8 @@ good_first A entries number index first is = good_before A entries number index 
 
 pub misfit_is : (A : Inputs) (entries : List Entry) (number index : ℕ) (e : Entry) (expected : Expected) → first_bad A entries ≡ Some number
     → number ≡ index + 1 → index < length entries
-    → e ≡ get_or entries index e → IsExpectedBehind A (take index entries) e (Some expected) → IsMisfit A entries (record { number = number; expected = expected })
+    → e ≡ get_or entries index e → IsExpectedBehind A (take index entries) e (Some expected)
+    → IsMisfit A entries (record { number = number; expected = expected })
 misfit_is A entries number index e expected first is below here told = record {
   good = take index entries;
   bad = e;

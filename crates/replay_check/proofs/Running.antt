@@ -97,7 +97,8 @@ ran_fails A o F G last new pid n count few h =
 
 -- an entry that no process made leaves the point as it is
 pub skipped : (A : Inputs) (point : Point) (e : Entry) → ((p n : ℕ) → e ≡ entries.Ran p n → ⊥) → ((p : ℕ) (bytes : List ℕ) → e ≡ entries.Out p bytes → ⊥)
-    → ((p n : ℕ) → e ≡ entries.Grew p n → ⊥) → ((p n : ℕ) (carry : Bool) (r0 r1 : ℕ) → e ≡ entries.Call p n carry r0 r1 → ⊥) → ((p : ℕ) → e ≡ entries.Refused p → ⊥)
+    → ((p n : ℕ) → e ≡ entries.Grew p n → ⊥) → ((p n : ℕ) (carry : Bool) (r0 r1 : ℕ) → e ≡ entries.Call p n carry r0 r1 → ⊥)
+    → ((p : ℕ) → e ≡ entries.Refused p → ⊥)
     → ((p : ℕ) → e ≡ entries.Sleeps p → ⊥) → ((p n : ℕ) → e ≡ entries.Ended p n → ⊥) → flat_units A (Some point) (units_with e []) ≡ Some point
 unfolding flat_entry flat_units
 skipped A point (entries.Ran pid n) ran out grew call refused sleeps ended = absurd (ran pid n refl)

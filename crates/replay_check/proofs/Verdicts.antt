@@ -39,7 +39,8 @@ too_many A F last count journal e h many =
     go false = refl
 
 -- with an entry that is judged, the entries are
-pub judged_more : (A : Inputs) (F G : FlatState) (last new : Last) (count more : ℕ) (journal : List Entry) (e : Entry) (b : Bool) (h : HasTaken A F last count journal)
+pub judged_more : (A : Inputs) (F G : FlatState) (last new : Last) (count more : ℕ) (journal : List Entry) (e : Entry) (b : Bool)
+    (h : HasTaken A F last count journal)
     → more ≡ count + counted e → more ≤ instruction_limit → IsVerdict A b G new (flat_units A (Some h.point) (units_with e []))
     → HasJudged A b G new more (journal ++ e ∷ [])
 judged_more A F G last new count more journal e b h is few verdict =

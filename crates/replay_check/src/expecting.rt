@@ -170,8 +170,10 @@ impl<'a> Judge<'a> {
     fn next_of(&mut self, pid: u32, refused: bool) -> Result<Expected, NoMemory>
         ensures expected { (A : Inputs) (point : Point) → A.images ≡ self.old.programs.now → refused_in pid self.old.last ≡ Some refused
             → IsAt A self.old.machine self.old.last point → IfOk result (λ expected. expected ≡ expected_of A point pid) }
-        ensures verdict { (A : Inputs) (point : Point) → A.images ≡ self.old.programs.now → refused_in pid self.old.last ≡ Some refused → self.old.last ≡ Last.Other
-            → IsAt A self.old.machine self.old.last point → IfOk result (λ expected. IsVerdict A (is_one expected) self.new.machine self.new.last (flat_entry A point (Ran pid 1))) }
+        ensures verdict { (A : Inputs) (point : Point) → A.images ≡ self.old.programs.now → refused_in pid self.old.last ≡ Some refused
+            → self.old.last ≡ Last.Other
+            → IsAt A self.old.machine self.old.last point
+            → IfOk result (λ expected. IsVerdict A (is_one expected) self.new.machine self.new.last (flat_entry A point (Ran pid 1))) }
         ensures programs { self.new.programs ≡ self.old.programs }
     {
         let absent = self.missing(pid);
@@ -229,7 +231,8 @@ impl<'a> Judge<'a> {
 
     // Takes these entries, which are the first and a run.
     fn follow(&mut self, entries: &[Entry]) -> Result<(), NoMemory>
-        ensures taken { (A : Inputs) → A.images ≡ self.old.programs.now → HasTaken A self.old.machine self.old.last self.old.count [] → first_bad A entries.now ≡ None
+        ensures taken { (A : Inputs) → A.images ≡ self.old.programs.now → HasTaken A self.old.machine self.old.last self.old.count []
+            → first_bad A entries.now ≡ None
             → OnOk result (HasTaken A self.new.machine self.new.last self.new.count entries.now) }
         ensures programs { self.new.programs ≡ self.old.programs }
     {

@@ -335,7 +335,8 @@ impl<'a> Judge<'a> {
 
     // The instructions counted with those of an entry; None where they are too many.
     pub fn counted(&self, entry: &Entry) -> Option<u32>
-        ensures { MatchOption result (instruction_limit < self.now.count + counted entry.now) (λ count. (count ≡ self.now.count + counted entry.now) × (count ≤ instruction_limit)) }
+        ensures { MatchOption result (instruction_limit < self.now.count + counted entry.now)
+            (λ count. (count ≡ self.now.count + counted entry.now) × (count ≤ instruction_limit)) }
     {
         let count = u64::from(self.count) + u64::from(counted(entry));
         if count > u64::from(INSTRUCTION_LIMIT) {
@@ -346,7 +347,8 @@ impl<'a> Judge<'a> {
 
     // Whether an entry is the next of a run that may have its instructions.
     pub fn accepts(&mut self, entry: &Entry) -> Result<bool, NoMemory>
-        ensures judged { (A : Inputs) (journal : List Entry) → A.images ≡ self.old.programs.now → HasTaken A self.old.machine self.old.last self.old.count journal
+        ensures judged { (A : Inputs) (journal : List Entry) → A.images ≡ self.old.programs.now
+            → HasTaken A self.old.machine self.old.last self.old.count journal
             → IfOk result (λ ok. HasJudged A ok self.new.machine self.new.last self.new.count (journal ++ entry.now ∷ [])) }
         ensures programs { self.new.programs ≡ self.old.programs }
     {

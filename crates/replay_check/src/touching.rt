@@ -42,7 +42,8 @@ fn is_this(refused: Option<u32>, pid: u32) -> bool
 impl<'a> Follower<'a> {
     // A step of a process.
     fn step(&mut self, pid: u32) -> Result<(), NoMemory>
-        ensures after { (A : Inputs) → A.images ≡ self.old.programs.now → OnOk result (self.new.machine ≡ state_if (can_step self.old.machine pid) self.old.machine (flat_step A self.old.machine pid (is_this self.old.refused pid))) }
+        ensures after { (A : Inputs) → A.images ≡ self.old.programs.now → OnOk result
+            (self.new.machine ≡ state_if (can_step self.old.machine pid) self.old.machine (flat_step A self.old.machine pid (is_this self.old.refused pid))) }
         ensures pages { self.new.pages.items ≡ self.old.pages.items }
         ensures refused { self.new.refused ≡ None }
         ensures programs { self.new.programs ≡ self.old.programs }
@@ -70,7 +71,8 @@ impl<'a> Follower<'a> {
 
     // A step of a process whose instruction counts.
     fn count(&mut self, pid: u32) -> Result<(), NoMemory>
-        ensures after { (A : Inputs) → A.images ≡ self.old.programs.now → OnOk result (self.new.machine ≡ state_if (can_step self.old.machine pid) self.old.machine (flat_step A self.old.machine pid (is_this self.old.refused pid))) }
+        ensures after { (A : Inputs) → A.images ≡ self.old.programs.now → OnOk result
+            (self.new.machine ≡ state_if (can_step self.old.machine pid) self.old.machine (flat_step A self.old.machine pid (is_this self.old.refused pid))) }
         ensures pages { (A : Inputs) → A.images ≡ self.old.programs.now
             → OnOk result (self.new.pages.items ≡ self.old.pages.items ++ touched A self.old.machine pid) }
         ensures refused { self.new.refused ≡ None }
@@ -85,7 +87,8 @@ impl<'a> Follower<'a> {
     }
 
     fn ran(&mut self, pid: u32, count: u32) -> Result<(), NoMemory>
-        ensures way { (A : Inputs) (units : List Unit) (whole : List PageName) → A.images ≡ self.old.programs.now → IsOnWay A self.old.machine self.old.refused self.old.pages.items (repeated (Ran pid 1) count units) whole
+        ensures way { (A : Inputs) (units : List Unit) (whole : List PageName) → A.images ≡ self.old.programs.now
+            → IsOnWay A self.old.machine self.old.refused self.old.pages.items (repeated (Ran pid 1) count units) whole
             → OnOk result (IsOnWay A self.new.machine self.new.refused self.new.pages.items units whole) }
         ensures programs { self.new.programs ≡ self.old.programs }
     {
@@ -97,7 +100,8 @@ impl<'a> Follower<'a> {
 
     // Goes on by an entry.
     fn follow(&mut self, entry: &Entry) -> Result<(), NoMemory>
-        ensures way { (A : Inputs) (units : List Unit) (whole : List PageName) → A.images ≡ self.old.programs.now → IsOnWay A self.old.machine self.old.refused self.old.pages.items (units_with entry.now units) whole
+        ensures way { (A : Inputs) (units : List Unit) (whole : List PageName) → A.images ≡ self.old.programs.now
+            → IsOnWay A self.old.machine self.old.refused self.old.pages.items (units_with entry.now units) whole
             → OnOk result (IsOnWay A self.new.machine self.new.refused self.new.pages.items units whole) }
         ensures programs { self.new.programs ≡ self.old.programs }
     {
@@ -122,7 +126,8 @@ impl<'a> Follower<'a> {
 
 // The pages of the entries that follow.
 fn follow_all(follower: Follower<'_>, entries: &[Entry]) -> Result<Vec<Page>, NoMemory>
-    ensures { (A : Inputs) (whole : List PageName) → A.images ≡ follower.entry.programs.now → IsOnWay A follower.entry.machine follower.entry.refused follower.entry.pages.items (units_of entries.now) whole
+    ensures { (A : Inputs) (whole : List PageName) → A.images ≡ follower.entry.programs.now
+        → IsOnWay A follower.entry.machine follower.entry.refused follower.entry.pages.items (units_of entries.now) whole
         → IfOk result (λ pages. pages.items ≡ whole) }
 {
     let mut follower = follower;

@@ -75,7 +75,8 @@ last_line bytes start some begins =
     (λ k within. subst (λ (b : ℕ). b ≢ 10) (sym (get_or-drop start bytes k 0)) (begins.last (start + k) (omega arith) (omega (arith, within, length-drop start bytes, below)))))
 
 -- a last line that is the line of a fault is left out, and another one stays
-pub fault_left_out : (bytes : List ℕ) (start : ℕ) → IsLastStart bytes start → is_fault_line (drop start bytes) ≡ true → lines_in (take start bytes) ≡ without_fault_line (lines_in bytes)
+pub fault_left_out : (bytes : List ℕ) (start : ℕ) → IsLastStart bytes start → is_fault_line (drop start bytes) ≡ true
+    → lines_in (take start bytes) ≡ without_fault_line (lines_in bytes)
 fault_left_out [] start begins fault = absurd (no_fault start fault)
   where
     no_fault : (start : ℕ) → is_fault_line (drop start []) ≡ true → ⊥
@@ -87,7 +88,8 @@ fault_left_out (b ∷ bs) start begins fault =
     sym (ap without_fault_line (last_line bytes start (omega arith) begins) ∙ leaves_last front (drop start bytes)
     ∙ ap (λ (t : Bool). front ++ unless_fault t (drop start bytes)) fault ∙ append-nil front)
 
-pub other_stays : (bytes : List ℕ) (start : ℕ) → IsLastStart bytes start → is_fault_line (drop start bytes) ≡ false → lines_in bytes ≡ without_fault_line (lines_in bytes)
+pub other_stays : (bytes : List ℕ) (start : ℕ) → IsLastStart bytes start → is_fault_line (drop start bytes) ≡ false
+    → lines_in bytes ≡ without_fault_line (lines_in bytes)
 unfolding lines_in
 other_stays [] start begins other = refl
 other_stays (b ∷ bs) start begins other =

@@ -4,7 +4,8 @@ use Rattle.std.proofs.lemmas.List.{map-append, take_more}
 use Rattle.replay_check.specs.Images.{FlatFile}
 
 -- the names so far, and one more
-pub names_more : (names : List (Bor (List ℕ))) (images images' : List FlatFile) (image : FlatFile) (i : ℕ) (d : Bor (List ℕ)) → i < length names → image.name ≡ (get_or names i d).now
+pub names_more : (names : List (Bor (List ℕ))) (images images' : List FlatFile) (image : FlatFile) (i : ℕ) (d : Bor (List ℕ)) → i < length names
+    → image.name ≡ (get_or names i d).now
     → images' ≡ images ++ image ∷ [] → map (λ (x : FlatFile). x.name) images ≡ map (λ (name : Bor (List ℕ)). name.now) (take i names)
     → map (λ (x : FlatFile). x.name) images' ≡ map (λ (name : Bor (List ℕ)). name.now) (take (i + 1) names)
 names_more names images images' image i d below is pushed so_far =

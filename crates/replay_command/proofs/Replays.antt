@@ -21,7 +21,8 @@ abbrev whole : List ℕ → List NamedFile → Result (Option (List ℕ)) Unread
 whole name list = whole_told list name 67108864
 
 -- the transcript's fault is that of the replay
-transcript_fault : (name : List ℕ) (words : List (List ℕ)) (f : Faults) (fault : Fault) (read : Read) → EndsTranscript name read.transcript f (Err fault) → EndsReplay name words read f (Err fault)
+transcript_fault : (name : List ℕ) (words : List (List ℕ)) (f : Faults) (fault : Fault) (read : Read) → EndsTranscript name read.transcript f (Err fault)
+    → EndsReplay name words read f (Err fault)
 transcript_fault name words f (faults.Absent absent) read ends = inl ends
 transcript_fault name words f faults.FileFault read ends = inl ends
 transcript_fault name words f faults.NoMemory read ends = tt
@@ -30,13 +31,16 @@ transcript_fault name words f faults.TooLong read ends = ends
 transcript_fault name words f _ read ends = absurd ends
 
 pub transcript_ends : (name : List ℕ) (words : List (List ℕ)) (holds : Option (List NamedFile)) (f : Faults) (fault : Fault)
-    → Made {E = Result (List Entry) Fault} (EndsTranscript name) (whole name) holds f (Err fault) → Made (EndsReplay name words) (read_told name words) holds f (Err fault)
+    → Made {E = Result (List Entry) Fault} (EndsTranscript name) (whole name) holds f (Err fault)
+    → Made (EndsReplay name words) (read_told name words) holds f (Err fault)
 transcript_ends name words holds f fault made =
-    made_where (λ (read : Read). EndsTranscript name read.transcript f (Err fault)) (EndsReplay name words) (record { transcript = made.read; images = Ok [] }) (read_told name words) holds f (Err fault)
+    made_where (λ (read : Read). EndsTranscript name read.transcript f (Err fault)) (EndsReplay name words) (record { transcript = made.read; images = Ok [] })
+    (read_told name words) holds f (Err fault)
     made.ends (λ list told. subst (λ (read : Result (Option (List ℕ)) Unread). EndsTranscript name read f (Err fault)) (made.is_told list told) made.ends)
     (transcript_fault name words f fault)
 
-pub refused : (name : List ℕ) (words : List (List ℕ)) (holds : Option (List NamedFile)) (f : Faults) → Made (EndsReplay name words) (read_told name words) holds f (Err faults.NoMemory)
+pub refused : (name : List ℕ) (words : List (List ℕ)) (holds : Option (List NamedFile)) (f : Faults)
+    → Made (EndsReplay name words) (read_told name words) holds f (Err faults.NoMemory)
 refused name words holds f =
     made_nothing (EndsReplay name words) (record { transcript = Ok None; images = Ok [] }) (read_told name words) holds f (Err faults.NoMemory) (λ read. tt)
 
@@ -51,7 +55,8 @@ none_before open_before open_between open_after page_before page_between page_af
     inr (failed.0 ∙ none.open_same, subst (λ (n : ℕ). Rose n page_after) none.page_same failed.1)
 
 -- the transcript's entries were read, and this of the images
-record Reads (name : List ℕ) (words : List (List ℕ)) (holds : Option (List NamedFile)) (entries : List Entry) (images : Result (List FlatFile) Why) : Type 0 where
+record Reads (name : List ℕ) (words : List (List ℕ)) (holds : Option (List NamedFile)) (entries : List Entry)
+    (images : Result (List FlatFile) Why) : Type 0 where
   pub read : Result (Option (List ℕ)) Unread
   pub has : HasEntries read entries
   pub transcript_told : (list : List NamedFile) → holds ≡ Some list → read ≡ whole name list
@@ -61,7 +66,8 @@ record HasRead (entries : List Entry) (images : Result (List FlatFile) Why) (rea
   pub has : HasEntries read.transcript entries
   pub images_are : read.images ≡ images
 
-made_read : (name : List ℕ) (words : List (List ℕ)) (holds : Option (List NamedFile)) (f : Faults) (entries : List Entry) (images : Result (List FlatFile) Why) (ending : Ending) → Reads name words holds entries images
+made_read : (name : List ℕ) (words : List (List ℕ)) (holds : Option (List NamedFile)) (f : Faults) (entries : List Entry) (images : Result (List FlatFile) Why)
+    (ending : Ending) → Reads name words holds entries images
     → ((read : Read) → HasRead entries images read → EndsReplay name words read f ending) → Made (EndsReplay name words) (read_told name words) holds f ending
 made_read name words holds f entries images ending reads ends =
     made_where (HasRead entries images) (EndsReplay name words) (record { transcript = reads.read; images = images }) (read_told name words) holds f ending
@@ -73,11 +79,15 @@ made_read name words holds f entries images ending reads ends =
     ends
 
 -- an image's fault is that of the replay
-pub images_end : (name : List ℕ) (words : List (List ℕ)) (holds : Option (List NamedFile)) (open_before open_between open_after page_before page_between page_after : ℕ) (entries : List Entry) (fault : Fault)
-    → Made {E = Result (List Entry) Fault} (EndsTranscript name) (whole name) holds (record { open_before = open_before; open_after = open_between; page_before = page_before; page_after = page_between }) (Ok entries)
-    → {A : Type 0} → (view : A → List FlatFile) → ((list : List NamedFile) → holds ≡ Some list → AnswersNamed view (images_told list (image_names words)) (Err fault))
+pub images_end : (name : List ℕ) (words : List (List ℕ)) (holds : Option (List NamedFile))
+    (open_before open_between open_after page_before page_between page_after : ℕ) (entries : List Entry) (fault : Fault)
+    → Made {E = Result (List Entry) Fault} (EndsTranscript name) (whole name) holds
+    (record { open_before = open_before; open_after = open_between; page_before = page_before; page_after = page_between }) (Ok entries)
+    → {A : Type 0} → (view : A → List FlatFile)
+    → ((list : List NamedFile) → holds ≡ Some list → AnswersNamed view (images_told list (image_names words)) (Err fault))
     → FaultsBy {A = A} (Err fault) (record { open_before = open_between; open_after = open_after; page_before = page_between; page_after = page_after })
-    → Made (EndsReplay name words) (read_told name words) holds (record { open_before = open_before; open_after = open_after; page_before = page_before; page_after = page_after }) (Err fault)
+    → Made (EndsReplay name words) (read_told name words) holds
+    (record { open_before = open_before; open_after = open_after; page_before = page_before; page_after = page_after }) (Err fault)
 images_end name words holds open_before open_between open_after page_before page_between page_after entries (faults.Absent absent) made view answers by =
     made_read name words holds _ entries (Err (absent.now, unreads.Absent)) (Err (faults.Absent absent))
     (record { read = made.read; has = made.ends.1; transcript_told = made.is_told; images_are = answers })
@@ -95,7 +105,8 @@ images_end name words holds open_before open_between open_after page_before page
 
 -- the verdict is that of the replay
 verdict_ends : (name : List ℕ) (words : List (List ℕ)) (f : Faults) (entries : List Entry) (images : List FlatFile) (ending : Ending) (read : Read)
-    → NoFaults f → EndsVerdict images (first_images (image_names words) words) entries ending → HasRead entries (Ok images) read → EndsReplay name words read f ending
+    → NoFaults f → EndsVerdict images (first_images (image_names words) words) entries ending → HasRead entries (Ok images) read
+    → EndsReplay name words read f ending
 verdict_ends name words f entries images (Ok output) read none verdict has =
     (none, (entries, record { has = has.has; images = images; are = has.images_are; verdict = verdict.0 }, verdict.1))
 verdict_ends name words f entries images (Err faults.NoMemory) read none verdict has = tt
@@ -103,12 +114,15 @@ verdict_ends name words f entries images (Err (faults.NotFlatRun line)) read non
     (entries, record { has = has.has; images = images; are = has.images_are; verdict = verdict })
 verdict_ends name words f entries images (Err _) read none verdict has = absurd verdict
 
-pub judged_ends : (name : List ℕ) (words : List (List ℕ)) (holds : Option (List NamedFile)) (open_before open_between open_after page_before page_between page_after : ℕ) (entries : List Entry) (images : List FlatFile) (ending : Ending)
-    → Made {E = Result (List Entry) Fault} (EndsTranscript name) (whole name) holds (record { open_before = open_before; open_after = open_between; page_before = page_before; page_after = page_between }) (Ok entries)
+pub judged_ends : (name : List ℕ) (words : List (List ℕ)) (holds : Option (List NamedFile))
+    (open_before open_between open_after page_before page_between page_after : ℕ) (entries : List Entry) (images : List FlatFile) (ending : Ending)
+    → Made {E = Result (List Entry) Fault} (EndsTranscript name) (whole name) holds
+    (record { open_before = open_before; open_after = open_between; page_before = page_before; page_after = page_between }) (Ok entries)
     → ((list : List NamedFile) → holds ≡ Some list → images_told list (image_names words) ≡ Ok images)
     → NoFaults (record { open_before = open_between; open_after = open_after; page_before = page_between; page_after = page_after })
     → EndsVerdict images (first_images (image_names words) words) entries ending
-    → Made (EndsReplay name words) (read_told name words) holds (record { open_before = open_before; open_after = open_after; page_before = page_before; page_after = page_after }) ending
+    → Made (EndsReplay name words) (read_told name words) holds
+    (record { open_before = open_before; open_after = open_after; page_before = page_before; page_after = page_after }) ending
 judged_ends name words holds open_before open_between open_after page_before page_between page_after entries images ending made answers none verdict =
     made_read name words holds _ entries (Ok images) ending
     (record { read = made.read; has = made.ends.1; transcript_told = made.is_told; images_are = answers })

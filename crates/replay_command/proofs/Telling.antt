@@ -17,15 +17,18 @@ use Rattle.command_ending.specs.Named.{Why}
 use Rattle.replay_command.specs.Reading.{Read, EndsTranscript, FaultsBy, images_told, read_told}
 use Rattle.replay_command.specs.Explaining.{explanation, Explained, IsUnjudged}
 
-pub told_some : (A : Inputs) (entries : List Entry) (r : Result (Option Misfit) NoMemory) (misfit : Misfit) (text : List ℕ) → IfOk r (λ (m : Option Misfit). IsExplained A entries m) → r ≡ Ok (Some misfit)
+pub told_some : (A : Inputs) (entries : List Entry) (r : Result (Option Misfit) NoMemory) (misfit : Misfit) (text : List ℕ)
+    → IfOk r (λ (m : Option Misfit). IsExplained A entries m) → r ≡ Ok (Some misfit)
     → text ≡ explanation misfit → Explained A entries (Some text)
 told_some A entries r misfit text h e is = (misfit, subst (λ (s : Result (Option Misfit) NoMemory). IfOk s (λ (m : Option Misfit). IsExplained A entries m)) e h, is)
 
-pub told_none : (A : Inputs) (entries : List Entry) (r : Result (Option Misfit) NoMemory) → IfOk r (λ (m : Option Misfit). IsExplained A entries m) → r ≡ Ok None → Explained A entries None
+pub told_none : (A : Inputs) (entries : List Entry) (r : Result (Option Misfit) NoMemory) → IfOk r (λ (m : Option Misfit). IsExplained A entries m)
+    → r ≡ Ok None → Explained A entries None
 told_none A entries r h e = subst (λ (s : Result (Option Misfit) NoMemory). IfOk s (λ (m : Option Misfit). IsExplained A entries m)) e h
 
 -- the transcript and the images that were read are the told ones
-pub read_is : (name : List ℕ) (words : List (List ℕ)) (files : List NamedFile) (transcript : Result (Option (List ℕ)) Unread) (images : Result (List FlatFile) Why)
+pub read_is : (name : List ℕ) (words : List (List ℕ)) (files : List NamedFile) (transcript : Result (Option (List ℕ)) Unread)
+    (images : Result (List FlatFile) Why)
     → transcript ≡ whole_told files name 67108864 → images_told files (image_names words) ≡ images
     → (let read : Read = record { transcript = transcript; images = images } in read) ≡ read_told name words files
 read_is name words files transcript images t i =
@@ -33,7 +36,8 @@ read_is name words files transcript images t i =
     ∙ ap (λ (y : Result (List FlatFile) Why). let read : Read = record { transcript = whole_told files name 67108864; images = y } in read) (sym i)
 
 -- the fault of a transcript that isn't read, or of images that aren't, is no verdict
-pub transcript_unjudged : (name : List ℕ) (read : Result (Option (List ℕ)) Unread) (f : Faults) (fault : Fault) → EndsTranscript name read f (Err fault) → IsUnjudged fault
+pub transcript_unjudged : (name : List ℕ) (read : Result (Option (List ℕ)) Unread) (f : Faults) (fault : Fault)
+    → EndsTranscript name read f (Err fault) → IsUnjudged fault
 transcript_unjudged name read f (faults.NotFlatRun line) ends = absurd ends
 transcript_unjudged name read f _ ends = tt
 

@@ -59,8 +59,14 @@ fn line_from<'a, F: Files>(
 ) -> Result<Vec<u8>, Fault<'a>>
     requires few { length words.now < 2 ^ 31 }
     requires names { All (λ word. length (name_in word.now) < 64) words.now }
-    ensures made { Made (EndsReplay transcript.now (map (λ word. word.now) words.now)) (read_told transcript.now (map (λ word. word.now) words.now)) (F.holds files.old)
-        (record { open_before = F.open_faults files.old; open_after = F.open_faults files.new; page_before = F.page_faults files.old; page_after = F.page_faults files.new }) (ending_of result) }
+    ensures made { Made (EndsReplay transcript.now (map (λ word. word.now) words.now))
+        (read_told transcript.now (map (λ word. word.now) words.now)) (F.holds files.old)
+        (record {
+          open_before = F.open_faults files.old;
+          open_after = F.open_faults files.new;
+          page_before = F.page_faults files.old;
+          page_after = F.page_faults files.new;
+        }) (ending_of result) }
     ensures kept { KeepsFiles F.Files files.old files.new }
 {
     let entries = read_entries(alloc, files, transcript)?;
@@ -90,7 +96,12 @@ pub fn replay_file<F: Files, S: Sink>(
     requires few { length words.now < 2 ^ 31 }
     requires names { All (λ word. length (name_in word.now) < 64) words.now }
     ensures replays { Replays transcript.now (map (λ word. word.now) words.now) (F.holds files.old)
-        (record { open_before = F.open_faults files.old; open_after = F.open_faults files.new; page_before = F.page_faults files.old; page_after = F.page_faults files.new })
+        (record {
+          open_before = F.open_faults files.old;
+          open_after = F.open_faults files.new;
+          page_before = F.page_faults files.old;
+          page_after = F.page_faults files.new;
+        })
         (S.written sink.old) (S.written sink.new) (S.faults sink.old) (S.faults sink.new) result }
     ensures kept { KeepsFiles F.Files files.old files.new }
     ensures sink_leads { S.leads sink.old sink.new }

@@ -91,7 +91,8 @@ fn explained(
     requires images { AreImageFiles images.now }
     requires first { AreNumbers (length images.now) first.now }
     requires entries { length entries.now < 2 ^ 32 }
-    ensures { (A : Inputs) → A.images ≡ images_of images.now → A.first ≡ first.now → IfOk result (λ text. Explained A entries.now (option_map (λ line. line.items) text)) }
+    ensures { (A : Inputs) → A.images ≡ images_of images.now → A.first ≡ first.now
+        → IfOk result (λ text. Explained A entries.now (option_map (λ line. line.items) text)) }
 {
     match explain(alloc, images, first, entries)? {
         Some(misfit) => Ok(Some(explanation(alloc, &misfit)?)),
@@ -111,7 +112,8 @@ pub fn explain_transcript<'a, F: Files>(
 ) -> Result<Option<Vec<u8>>, Fault<'a>>
     requires few { length words.now < 2 ^ 31 }
     requires names { All (λ word. length (name_in word.now) < 64) words.now }
-    ensures explains { IfOk result (λ text. ExplainsTranscript transcript.now (map (λ word. word.now) words.now) (F.holds files.old) (option_map (λ line. line.items) text)) }
+    ensures explains { IfOk result
+        (λ text. ExplainsTranscript transcript.now (map (λ word. word.now) words.now) (F.holds files.old) (option_map (λ line. line.items) text)) }
     ensures lacks { IfErr result (LacksTranscript transcript.now (map (λ word. word.now) words.now) (F.holds files.old)
         (record {
           open_before = F.open_faults files.old;

@@ -21,7 +21,12 @@ fn load_flat<'a, F: Files>(alloc: Global, files: &mut F, name: &'a str) -> Resul
     ensures image { IfOk result IsImageFile }
     ensures named { IfOk result (λ flat. flat.name ≡ name.now) }
     ensures kept { KeepsFiles F.Files files.old files.new }
-    ensures faults { FaultsBy result (record { open_before = F.open_faults files.old; open_after = F.open_faults files.new; page_before = F.page_faults files.old; page_after = F.page_faults files.new }) }
+    ensures faults { FaultsBy result (record {
+      open_before = F.open_faults files.old;
+      open_after = F.open_faults files.new;
+      page_before = F.page_faults files.old;
+      page_after = F.page_faults files.new;
+    }) }
 {
     let loaded = match load_image(alloc, files, name) {
         Ok(loaded) => loaded,
@@ -50,7 +55,12 @@ pub fn load_images<'a, F: Files>(
     ensures count { IfOk result (λ images. length images.items ≡ length names.now) }
     ensures named { IfOk result (λ images. map (λ image. image.name) images.items ≡ map (λ name. name.now) names.now) }
     ensures kept { KeepsFiles F.Files files.old files.new }
-    ensures faults { FaultsBy result (record { open_before = F.open_faults files.old; open_after = F.open_faults files.new; page_before = F.page_faults files.old; page_after = F.page_faults files.new }) }
+    ensures faults { FaultsBy result (record {
+      open_before = F.open_faults files.old;
+      open_after = F.open_faults files.new;
+      page_before = F.page_faults files.old;
+      page_after = F.page_faults files.new;
+    }) }
 {
     let mut images = Vec::new(alloc);
     for &name in names {

@@ -20,7 +20,8 @@ pub fn name_images<'a>(alloc: Global, words: &[&'a str]) -> Result<Naming<'a>, F
     requires few { length words.now < 2 ^ 31 }
     requires names { All (λ word. length (name_in word.now) < 64) words.now }
     ensures names { IfOk result (λ naming. map (λ name. name.now) naming.names.items ≡ image_names (map (λ word. word.now) words.now)) }
-    ensures first { IfOk result (λ naming. naming.first.items ≡ first_images (image_names (map (λ word. word.now) words.now)) (map (λ word. word.now) words.now)) }
+    ensures first { IfOk result
+        (λ naming. naming.first.items ≡ first_images (image_names (map (λ word. word.now) words.now)) (map (λ word. word.now) words.now)) }
     ensures few { IfOk result (λ naming. length naming.names.items < 2 ^ 31) }
     ensures count { IfOk result (λ naming. length naming.names.items ≤ length words.now) }
     ensures short { IfOk result (λ naming. All (λ name. length name.now < 64) naming.names.items) }

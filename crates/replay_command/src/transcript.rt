@@ -37,7 +37,12 @@ pub fn read_entries<'a, F: Files>(
     name: &'a str,
 ) -> Result<Vec<Entry>, Fault<'a>>
     ensures ends { Made (EndsTranscript name.now) (λ list. whole_told list name.now 67108864) (F.holds files.old)
-        (record { open_before = F.open_faults files.old; open_after = F.open_faults files.new; page_before = F.page_faults files.old; page_after = F.page_faults files.new }) (items_of result) }
+        (record {
+          open_before = F.open_faults files.old;
+          open_after = F.open_faults files.new;
+          page_before = F.page_faults files.old;
+          page_after = F.page_faults files.new;
+        }) (items_of result) }
     ensures few { IfOk result (λ entries. length entries.items ≤ 67108864) }
     ensures kept { KeepsFiles F.Files files.old files.new }
 {

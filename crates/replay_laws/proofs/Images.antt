@@ -23,7 +23,8 @@ found_at : (files : List NamedFile) (name : List ℕ) (image : NamedImage) (o : 
 found_at files name image None h = absurd cc
 found_at files name image (Some place) h = judged name (bytes_at files place) image (image_of (bytes_at files place)) refl h
 
-both : (files : List NamedFile) (name : List ℕ) (names : List (List ℕ)) (images : List NamedImage) (r : Result NamedImage Why) (rs : Result (List NamedImage) Why)
+both : (files : List NamedFile) (name : List ℕ) (names : List (List ℕ)) (images : List NamedImage) (r : Result NamedImage Why)
+    (rs : Result (List NamedImage) Why)
     → image_found files name ≡ r → images_found files names ≡ rs → before r rs ≡ Ok images
     → ((more : List NamedImage) → images_found files names ≡ Ok more → (read : List FlatFile) × (images_told files names ≡ Ok read) × (more ≡ images_of read))
     → (read : List FlatFile) × (images_told files (name ∷ names) ≡ Ok read) × (images ≡ images_of read)

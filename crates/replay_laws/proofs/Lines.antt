@@ -63,7 +63,8 @@ none_behind : (ls : List (List ℕ)) → ls ++ [] ≡ ls
 none_behind [] = refl
 none_behind (l ∷ ls) = ap (λ (xs : List (List ℕ)). l ∷ xs) (none_behind ls)
 
-pub lines_left : (es : List Entry) (ls : List (List ℕ)) (line : List ℕ) → AreLines IsEntryLine es ls → IsLastLine line → without_fault_line (ls ++ lines_in line) ≡ ls
+pub lines_left : (es : List Entry) (ls : List (List ℕ)) (line : List ℕ) → AreLines IsEntryLine es ls → IsLastLine line
+    → without_fault_line (ls ++ lines_in line) ≡ ls
 lines_left es ls line are (inl none) =
     ap (λ (l : List ℕ). without_fault_line (ls ++ lines_in l)) none ∙ ap (λ (xs : List (List ℕ)). without_fault_line (ls ++ xs)) no_lines
     ∙ ap without_fault_line (none_behind ls) ∙ all_kept es ls are
@@ -95,9 +96,256 @@ fixed : (text : List ℕ) → HasNo 10 text → is_fault_line (text ++ 10 ∷ []
 fixed text none is = inr (one_line text none, is)
 
 pub plain_lines : (fault : Fault) → HasPlainLine fault → IsLastLine (fault_line fault)
-plain_lines faults.FileFault h = fixed (codes "vmrun: file fault") (λ e. omega arith, (λ e. omega arith, (λ e. omega arith, (λ e. omega arith, (λ e. omega arith, (λ e. omega arith, (λ e. omega arith, (λ e. omega arith, (λ e. omega arith, (λ e. omega arith, (λ e. omega arith, (λ e. omega arith, (λ e. omega arith, (λ e. omega arith, (λ e. omega arith, (λ e. omega arith, (λ e. omega arith, tt))))))))))))))))) refl
-plain_lines faults.NoMemory h = fixed (codes "vmrun: no memory") (λ e. omega arith, (λ e. omega arith, (λ e. omega arith, (λ e. omega arith, (λ e. omega arith, (λ e. omega arith, (λ e. omega arith, (λ e. omega arith, (λ e. omega arith, (λ e. omega arith, (λ e. omega arith, (λ e. omega arith, (λ e. omega arith, (λ e. omega arith, (λ e. omega arith, (λ e. omega arith, tt)))))))))))))))) refl
-plain_lines faults.JournalFull h = fixed (codes "vmrun: journal full") (λ e. omega arith, (λ e. omega arith, (λ e. omega arith, (λ e. omega arith, (λ e. omega arith, (λ e. omega arith, (λ e. omega arith, (λ e. omega arith, (λ e. omega arith, (λ e. omega arith, (λ e. omega arith, (λ e. omega arith, (λ e. omega arith, (λ e. omega arith, (λ e. omega arith, (λ e. omega arith, (λ e. omega arith, (λ e. omega arith, (λ e. omega arith, tt))))))))))))))))))) refl
-plain_lines (faults.SwapReadFault device) h = numbered (codes "vmrun: swap read fault on device ") device h (λ e. omega arith, (λ e. omega arith, (λ e. omega arith, (λ e. omega arith, (λ e. omega arith, (λ e. omega arith, (λ e. omega arith, (λ e. omega arith, (λ e. omega arith, (λ e. omega arith, (λ e. omega arith, (λ e. omega arith, (λ e. omega arith, (λ e. omega arith, (λ e. omega arith, (λ e. omega arith, (λ e. omega arith, (λ e. omega arith, (λ e. omega arith, (λ e. omega arith, (λ e. omega arith, (λ e. omega arith, (λ e. omega arith, (λ e. omega arith, (λ e. omega arith, (λ e. omega arith, (λ e. omega arith, (λ e. omega arith, (λ e. omega arith, (λ e. omega arith, (λ e. omega arith, (λ e. omega arith, (λ e. omega arith, tt))))))))))))))))))))))))))))))))) refl
-plain_lines (faults.SwapWriteFault device) h = numbered (codes "vmrun: swap write fault on device ") device h (λ e. omega arith, (λ e. omega arith, (λ e. omega arith, (λ e. omega arith, (λ e. omega arith, (λ e. omega arith, (λ e. omega arith, (λ e. omega arith, (λ e. omega arith, (λ e. omega arith, (λ e. omega arith, (λ e. omega arith, (λ e. omega arith, (λ e. omega arith, (λ e. omega arith, (λ e. omega arith, (λ e. omega arith, (λ e. omega arith, (λ e. omega arith, (λ e. omega arith, (λ e. omega arith, (λ e. omega arith, (λ e. omega arith, (λ e. omega arith, (λ e. omega arith, (λ e. omega arith, (λ e. omega arith, (λ e. omega arith, (λ e. omega arith, (λ e. omega arith, (λ e. omega arith, (λ e. omega arith, (λ e. omega arith, (λ e. omega arith, tt)))))))))))))))))))))))))))))))))) refl
+plain_lines faults.FileFault h =
+    fixed (codes "vmrun: file fault") (
+      λ e. omega arith,
+      (
+        λ e. omega arith,
+        (
+          λ e. omega arith,
+          (
+            λ e. omega arith,
+            (
+              λ e. omega arith,
+              (
+                λ e. omega arith,
+                (
+                  λ e. omega arith,
+                  (
+                    λ e. omega arith,
+                    (
+                      λ e. omega arith,
+                      (λ e. omega arith, (λ e. omega arith, (λ e. omega arith, (λ e. omega arith, (λ e. omega arith, (λ e. omega arith, (λ e. omega arith, (λ e. omega arith, tt)))))))),
+                    ),
+                  ),
+                ),
+              ),
+            ),
+          ),
+        ),
+      ),
+    ) refl
+plain_lines faults.NoMemory h = fixed (codes "vmrun: no memory") (
+  λ e. omega arith,
+  (
+    λ e. omega arith,
+    (
+      λ e. omega arith,
+      (
+        λ e. omega arith,
+        (
+          λ e. omega arith,
+          (
+            λ e. omega arith,
+            (
+              λ e. omega arith,
+              (λ e. omega arith, (λ e. omega arith, (λ e. omega arith, (λ e. omega arith, (λ e. omega arith, (λ e. omega arith, (λ e. omega arith, (λ e. omega arith, (λ e. omega arith, tt))))))))),
+            ),
+          ),
+        ),
+      ),
+    ),
+  ),
+) refl
+plain_lines faults.JournalFull h = fixed (codes "vmrun: journal full") (
+  λ e. omega arith,
+  (
+    λ e. omega arith,
+    (
+      λ e. omega arith,
+      (
+        λ e. omega arith,
+        (
+          λ e. omega arith,
+          (
+            λ e. omega arith,
+            (
+              λ e. omega arith,
+              (
+                λ e. omega arith,
+                (
+                  λ e. omega arith,
+                  (
+                    λ e. omega arith,
+                    (
+                      λ e.
+                          omega arith,
+                      (λ e. omega arith, (λ e. omega arith, (λ e. omega arith, (λ e. omega arith, (λ e. omega arith, (λ e. omega arith, (λ e. omega arith, (λ e. omega arith, tt)))))))),
+                    ),
+                  ),
+                ),
+              ),
+            ),
+          ),
+        ),
+      ),
+    ),
+  ),
+) refl
+plain_lines (faults.SwapReadFault device) h = numbered (codes "vmrun: swap read fault on device ") device h (
+  λ e. omega arith,
+  (
+    λ e. omega arith,
+    (
+      λ e. omega arith,
+      (
+        λ e. omega arith,
+        (
+          λ e. omega
+              arith,
+          (
+            λ e. omega arith,
+            (
+              λ e. omega arith,
+              (
+                λ e. omega arith,
+                (
+                  λ e. omega arith,
+                  (
+                    λ e. omega arith,
+                    (
+                      λ e. omega arith,
+                      (
+                        λ e. omega arith,
+                        (
+                          λ e. omega arith,
+                          (
+                            λ e. omega arith,
+                            (
+                              λ e. omega arith,
+                              (
+                                λ e. omega arith,
+                                (
+                                  λ e. omega arith,
+                                  (
+                                    λ e. omega arith,
+                                    (
+                                      λ e. omega arith,
+                                      (
+                                        λ e. omega arith,
+                                        (
+                                          λ e. omega arith,
+                                          (
+                                            λ e. omega arith,
+                                            (
+                                              λ e. omega arith,
+                                              (
+                                                λ e. omega arith,
+                                                (
+                                                  λ e. omega arith,
+                                                  (
+                                                    λ e. omega arith,
+                                                    (λ e. omega arith, (λ e. omega arith, (λ e. omega arith, (λ e. omega arith, (λ e. omega arith, (λ e. omega arith, (λ e. omega arith, tt))))))),
+                                                  ),
+                                                ),
+                                              ),
+                                            ),
+                                          ),
+                                        ),
+                                      ),
+                                    ),
+                                  ),
+                                ),
+                              ),
+                            ),
+                          ),
+                        ),
+                      ),
+                    ),
+                  ),
+                ),
+              ),
+            ),
+          ),
+        ),
+      ),
+    ),
+  ),
+) refl
+plain_lines (faults.SwapWriteFault device) h =
+    numbered (codes "vmrun: swap write fault on device ") device h (
+      λ e. omega arith,
+      (
+        λ e. omega arith,
+        (
+          λ e. omega arith,
+          (
+            λ e. omega arith,
+            (
+              λ e. omega arith,
+              (
+                λ e. omega arith,
+                (
+                  λ e. omega arith,
+                  (
+                    λ e. omega arith,
+                    (
+                      λ e. omega arith,
+                      (
+                        λ e. omega arith,
+                        (
+                          λ e. omega arith,
+                          (
+                            λ e. omega arith,
+                            (
+                              λ e. omega arith,
+                              (
+                                λ e. omega arith,
+                                (
+                                  λ e. omega arith,
+                                  (
+                                    λ e. omega arith,
+                                    (
+                                      λ e. omega arith,
+                                      (
+                                        λ e. omega arith,
+                                        (
+                                          λ e. omega arith,
+                                          (
+                                            λ e. omega arith,
+                                            (
+                                              λ e. omega arith,
+                                              (
+                                                λ e. omega arith,
+                                                (
+                                                  λ e. omega arith,
+                                                  (
+                                                    λ e. omega arith,
+                                                    (
+                                                      λ e. omega arith,
+                                                      (
+                                                        λ e. omega arith,
+                                                        (
+                                                          λ e. omega arith,
+                                                          (
+                                                            λ e. omega arith,
+                                                            (λ e. omega arith, (λ e. omega arith, (λ e. omega arith, (λ e. omega arith, (λ e. omega arith, (λ e. omega arith, tt)))))),
+                                                          ),
+                                                        ),
+                                                      ),
+                                                    ),
+                                                  ),
+                                                ),
+                                              ),
+                                            ),
+                                          ),
+                                        ),
+                                      ),
+                                    ),
+                                  ),
+                                ),
+                              ),
+                            ),
+                          ),
+                        ),
+                      ),
+                    ),
+                  ),
+                ),
+              ),
+            ),
+          ),
+        ),
+      ),
+    ) refl
 plain_lines _ h = absurd h

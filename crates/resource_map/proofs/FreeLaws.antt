@@ -349,12 +349,14 @@ put_covers true true es size (suc k) start n b g l r =
     or_swap (is_in (get_or es k e) b) (is_in e b) (is_in a b)))
 
 pub put_in_order : (es : List Extent) (size at start n : ℕ) → Gap es size at start n
-    → InOrder 0 (put_in (joins_left es at (record { start = start; length = n })) (joins_right es at (record { start = start; length = n })) es at (record { start = start; length = n })) size
+    → InOrder 0 (put_in (joins_left es at (record { start = start; length = n })) (joins_right es at (record { start = start; length = n })) es at
+    (record { start = start; length = n })) size
 put_in_order es size at start n g =
     put_order (joins_left es at (extent start n)) (joins_right es at (extent start n)) es size at start n g refl refl
 
 pub put_in_is_marked : (es : List Extent) (size at start n : ℕ) → Gap es size at start n
-    → free_blocks size (put_in (joins_left es at (record { start = start; length = n })) (joins_right es at (record { start = start; length = n })) es at (record { start = start; length = n }))
+    → free_blocks size (put_in (joins_left es at (record { start = start; length = n })) (joins_right es at (record { start = start; length = n })) es at
+    (record { start = start; length = n }))
     ≡ marked (free_blocks size es) start n true
 put_in_is_marked es size at start n g =
     let e = extent start n in

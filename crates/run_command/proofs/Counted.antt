@@ -19,20 +19,23 @@ pub is_load : (number : ℕ) → IsLoad number (load_inputs number)
 unfolding load_images
 is_load number = record { images = refl; first = refl; swap = refl; limit = refl }
 
-finished : (number : ℕ) (journal : List Entry) (image : List ℕ) (after : Option (List ℕ)) → RunFinished (load_inputs number) journal image after → counts_of 4 journal ≡ load_counts number
+finished : (number : ℕ) (journal : List Entry) (image : List ℕ) (after : Option (List ℕ)) → RunFinished (load_inputs number) journal image after
+    → counts_of 4 journal ≡ load_counts number
 finished number journal image after f =
     let m : IsJournalOf (load_inputs number) journal f.state = f.made in
     finished_counts number (load_inputs number) m.holdings journal f.state (is_load number) m.can
     (record { holdings = m.holdings; found = (let can = m.can in can.pieces); units = m.units; follows = m.follows; joined = m.joined }) f.none
 
 ended : (number : ℕ) (seen : Seen) (image : List ℕ) (journal : List Entry) (ending : Ending) → 0 ≡ status_of ending → LoadEnded number seen journal image ending
-    → Appends seen.written_before (load_written number journal ending) seen.written_after → Appends seen.written_before (load_text number (load_counts number)) seen.written_after
+    → Appends seen.written_before (load_written number journal ending) seen.written_after
+    → Appends seen.written_before (load_text number (load_counts number)) seen.written_after
 ended number seen image journal (Ok done) e f w = subst (λ (c : Counts). Appends seen.written_before (load_text number c) seen.written_after) (finished number journal image seen.swap_after f) w
 ended number seen image journal (Err fault) e f w = absurd (status_is_not_0 fault (sym e))
 
 -- with status 0 the six lines are those of the number's counts
 pub counted_by : (number : ℕ) (seen : Seen) (status : ℕ) (journal : List Entry) (ending : Ending)
-    → Writes seen.written_before seen.written_after seen.sink_faults_before seen.sink_faults_after (load_written number journal ending) (status_of ending) status
+    → Writes seen.written_before seen.written_after seen.sink_faults_before seen.sink_faults_after (load_written number journal ending)
+    (status_of ending) status
     → ((image : List ℕ) → seen.swap_before ≡ Some image → LoadEnded number seen journal image ending)
     → (image : List ℕ) → seen.swap_before ≡ Some image → status ≡ 0
     → Appends seen.written_before (load_text number (load_counts number)) seen.written_after

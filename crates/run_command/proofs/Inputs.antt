@@ -59,7 +59,8 @@ inputs_of request files opening = record {
   limit = request.numbers.limit;
 }
 
-pub asks_for : (request : Request) (files : List NamedFile) (opening : Opening) → KnownOpening request files opening → AsksFor (inputs_of request files opening) request files
+pub asks_for : (request : Request) (files : List NamedFile) (opening : Opening) → KnownOpening request files opening
+    → AsksFor (inputs_of request files opening) request files
 asks_for request files opening k = record { images = k.found; first = k.first; lines = k.lines; frames = refl; blocks = refl; limit = refl }
 
 module _ (request : Request) (files : List NamedFile) (opening : Opening) (k : KnownOpening request files opening) (ranges : AreAllowed request.numbers) where

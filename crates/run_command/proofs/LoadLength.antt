@@ -71,7 +71,8 @@ ending_fits number seen journal image (Err _) caused ended e = absurd cc
 
 -- so its status is never 10
 pub load_fits : (number : ℕ) (seen : Seen) (status : ℕ) (journal : List Entry) (ending : Ending)
-    → Writes seen.written_before seen.written_after seen.sink_faults_before seen.sink_faults_after (load_written number journal ending) (status_of ending) status
+    → Writes seen.written_before seen.written_after seen.sink_faults_before seen.sink_faults_after (load_written number journal ending)
+    (status_of ending) status
     → IsLoadCaused seen journal ending
     → ((image : List ℕ) → seen.swap_before ≡ Some image → LoadEnded number seen journal image ending)
     → (image : List ℕ) → seen.swap_before ≡ Some image → status ≡ 10 → ⊥

@@ -41,7 +41,8 @@ fresh_core c numbers images is none =
 -- Writing.
 
 -- six lines that were made
-pub counts_written : (number : ℕ) (journal : List Entry) (done : Unit {0}) (text : List ℕ) (before after : Option (List ℕ)) (old new status : ℕ) → text ≡ load_written number journal (Ok done)
+pub counts_written : (number : ℕ) (journal : List Entry) (done : Unit {0}) (text : List ℕ) (before after : Option (List ℕ)) (old new status : ℕ)
+    → text ≡ load_written number journal (Ok done)
     → WritesSome before after old new (Ok text) status → WritesCounts number journal (Ok done) before after old new status
 counts_written number journal done text before after old new status is (inl w) = inl (subst (λ (t : List ℕ). Writes before after old new t 0 status) is w)
 counts_written number journal done text before after old new status is (inr lost) = absurd lost.0
@@ -85,8 +86,10 @@ as_run (Err (faults.NoSpace pid)) began = tt
 as_run (Err faults.NoMemory) began = tt
 as_run (Err _) began = absurd began
 
-load_stops : (seen : Seen) (journal : List Entry) (r : Ending) → IsRunEnding r → NoFaults seen.faults → ReadsFail r seen.reads → WritesFail r seen.writes → ((pid : ℕ) → r ≡ Err (faults.NoSpace pid) → journal ≡ [])
-    → ((pid : ℕ) → r ≡ Err (faults.NoSpace pid) → seen.swap_after ≡ seen.swap_before) → (r ≡ Err faults.JournalFull → length journal ≡ journal_entries) → StopCaused seen journal r
+load_stops : (seen : Seen) (journal : List Entry) (r : Ending) → IsRunEnding r → NoFaults seen.faults → ReadsFail r seen.reads → WritesFail r seen.writes
+    → ((pid : ℕ) → r ≡ Err (faults.NoSpace pid) → journal ≡ [])
+    → ((pid : ℕ) → r ≡ Err (faults.NoSpace pid) → seen.swap_after ≡ seen.swap_before) → (r ≡ Err faults.JournalFull → length journal ≡ journal_entries)
+    → StopCaused seen journal r
 load_stops seen journal (Ok done) began files reads writes none same full = record { files = files; reads = reads; writes = writes }
 load_stops seen journal (Err faults.FileFault) began files reads writes none same full = absurd began
 load_stops seen journal (Err (faults.SwapReadFault device)) began files reads writes none same full = record { files = files; read = reads; writes = writes }
@@ -99,7 +102,8 @@ load_stops seen journal (Err _) began files reads writes none same full = absurd
 
 -- The lines of an ending found no memory: that is want of memory, also of a run that is finished.
 
-counts_lost_caused : (seen : Seen) (journal : List Entry) (r : Ending) → IsRunEnding r → CountsBeLost r → StopCaused seen journal r → RunCaused seen journal (Err faults.NoMemory)
+counts_lost_caused : (seen : Seen) (journal : List Entry) (r : Ending) → IsRunEnding r → CountsBeLost r → StopCaused seen journal r
+    → RunCaused seen journal (Err faults.NoMemory)
 counts_lost_caused seen journal (Ok done) began lost c = inl c
 counts_lost_caused seen journal (Err fault) began lost c = lost_caused seen journal (Err fault) (as_run (Err fault) began) lost c
 
@@ -112,10 +116,12 @@ other_fault : (pid : ℕ) → (let r : Ending = Err faults.NoMemory in r) ≡ Er
 other_fault pid e = cc
 
 -- the run of a machine, as it was written
-load_runs : (IsOf : Inputs → List ℕ → Type 0) (Starts : Inputs → Type 0) (number : ℕ) (seen : Seen) (status : ℕ) (journal : List Entry) (r : Ending) → IsRunEnding r → length journal ≤ journal_entries → StopCaused seen journal r
+load_runs : (IsOf : Inputs → List ℕ → Type 0) (Starts : Inputs → Type 0) (number : ℕ) (seen : Seen) (status : ℕ) (journal : List Entry) (r : Ending)
+    → IsRunEnding r → length journal ≤ journal_entries → StopCaused seen journal r
     → ((A : Inputs) → Starts A → (pid : ℕ) → r ≡ Err (faults.NoSpace pid) → start_held A ≡ Err pid)
     → ((A : Inputs) (image : List ℕ) → IsOf A image → seen.swap_before ≡ Some image → RunEnded seen A journal image r)
-    → WritesCounts number journal r seen.written_before seen.written_after seen.sink_faults_before seen.sink_faults_after status → LoadRuns IsOf Starts number seen status
+    → WritesCounts number journal r seen.written_before seen.written_after seen.sink_faults_before seen.sink_faults_after status
+    → LoadRuns IsOf Starts number seen status
 load_runs IsOf Starts number seen status journal r began within caused space ended (inl w) =
     record { ending = r; journal = journal; writes = w; within = within; caused = caused_as seen journal r (as_run r began) caused; began = began; space = space; ended = ended }
 load_runs IsOf Starts number seen status journal r began within caused space ended (inr (lost, w)) = record {
@@ -129,28 +135,34 @@ load_runs IsOf Starts number seen status journal r began within caused space end
   ended = λ A image is told. counts_starve seen A journal image r began lost caused (ended A image is told);
 }
 
-pub load_ran : (IsOf : Inputs → List ℕ → Type 0) (Starts : Inputs → Type 0) (number : ℕ) (seen : Seen) (status : ℕ) (journal : List Entry) (r : Ending) → IfErr r IsRunFault → CountsFileFaults (stop_of (stopped_as (unfinished_of r))) 0 0
+pub load_ran : (IsOf : Inputs → List ℕ → Type 0) (Starts : Inputs → Type 0) (number : ℕ) (seen : Seen) (status : ℕ) (journal : List Entry) (r : Ending)
+    → IfErr r IsRunFault → CountsFileFaults (stop_of (stopped_as (unfinished_of r))) 0 0
     → NoFaults seen.faults
-    → ReadsFail r seen.reads → WritesFail r seen.writes → ((pid : ℕ) → r ≡ Err (faults.NoSpace pid) → journal ≡ []) → ((pid : ℕ) → r ≡ Err (faults.NoSpace pid) → seen.swap_after ≡ seen.swap_before)
+    → ReadsFail r seen.reads → WritesFail r seen.writes → ((pid : ℕ) → r ≡ Err (faults.NoSpace pid) → journal ≡ [])
+    → ((pid : ℕ) → r ≡ Err (faults.NoSpace pid) → seen.swap_after ≡ seen.swap_before)
     → (r ≡ Err faults.JournalFull → length journal ≡ journal_entries) → length journal ≤ journal_entries
     → ((A : Inputs) → Starts A → (pid : ℕ) → r ≡ Err (faults.NoSpace pid) → start_held A ≡ Err pid)
     → ((A : Inputs) (image : List ℕ) → IsOf A image → seen.swap_before ≡ Some image → RunEnds A journal image (unfinished_of r) seen.swap_after)
-    → WritesCounts number journal r seen.written_before seen.written_after seen.sink_faults_before seen.sink_faults_after status → LoadRuns IsOf Starts number seen status
+    → WritesCounts number journal r seen.written_before seen.written_after seen.sink_faults_before seen.sink_faults_after status
+    → LoadRuns IsOf Starts number seen status
 load_ran IsOf Starts number seen status journal r kind pages files reads writes none same full within space ends w =
     let began = files_hold r kind pages in
     let caused = load_stops seen journal r began files reads writes none same full in
     load_runs IsOf Starts number seen status journal r began within caused space (λ A image is told. run_ended seen A journal image r kind caused (ends A image is told)) w
 
 -- a machine that wasn't made
-pub load_unmade : (IsOf : Inputs → List ℕ → Type 0) (Starts : Inputs → Type 0) (number : ℕ) (seen : Seen) (status : ℕ) → seen.swap_after ≡ seen.swap_before → NoneFaulted seen
-    → WritesCounts number [] (Err faults.NoMemory) seen.written_before seen.written_after seen.sink_faults_before seen.sink_faults_after status → LoadRuns IsOf Starts number seen status
+pub load_unmade : (IsOf : Inputs → List ℕ → Type 0) (Starts : Inputs → Type 0) (number : ℕ) (seen : Seen) (status : ℕ)
+    → seen.swap_after ≡ seen.swap_before → NoneFaulted seen
+    → WritesCounts number [] (Err faults.NoMemory) seen.written_before seen.written_after seen.sink_faults_before seen.sink_faults_after status
+    → LoadRuns IsOf Starts number seen status
 load_unmade IsOf Starts number seen status same none w =
     load_runs IsOf Starts number seen status [] (Err faults.NoMemory) tt (omega arith) none (λ A starts pid e. absurd (other_fault pid e)) (λ A image is told. inl (none, inl (refl, same ∙ told))) w
 
 -- Loads.
 
 -- the devices were judged to be long enough
-load_caused : (seen : Seen) (journal : List Entry) (r : Ending) → IsRunEnding r → ((pid : ℕ) → r ≡ Err (faults.NoSpace pid) → ⊥) → RunCaused seen journal r → DevicesSuffice load_numbers.swap seen
+load_caused : (seen : Seen) (journal : List Entry) (r : Ending) → IsRunEnding r → ((pid : ℕ) → r ≡ Err (faults.NoSpace pid) → ⊥) → RunCaused seen journal r
+    → DevicesSuffice load_numbers.swap seen
     → IsLoadCaused seen journal r
 load_caused seen journal (Ok done) began never c d = (c, d)
 load_caused seen journal (Err faults.FileFault) began never c d = absurd began
@@ -162,7 +174,8 @@ load_caused seen journal (Err faults.NoMemory) began never (inl none) d = inl no
 load_caused seen journal (Err faults.NoMemory) began never (inr lost) d = inr (lost, d)
 load_caused seen journal (Err _) began never c d = absurd began
 
-load_ended : (number : ℕ) (seen : Seen) (journal : List Entry) (image : List ℕ) (r : Ending) → IsRunEnding r → RunEnded seen (load_inputs number) journal image r → LoadEnded number seen journal image r
+load_ended : (number : ℕ) (seen : Seen) (journal : List Entry) (image : List ℕ) (r : Ending) → IsRunEnding r
+    → RunEnded seen (load_inputs number) journal image r → LoadEnded number seen journal image r
 load_ended number seen journal image (Ok done) began e = e
 load_ended number seen journal image (Err faults.FileFault) began e = e
 load_ended number seen journal image (Err (faults.SwapReadFault device)) began e = e
@@ -172,8 +185,10 @@ load_ended number seen journal image (Err (faults.NoSpace pid)) began e = e
 load_ended number seen journal image (Err faults.NoMemory) began e = e
 load_ended number seen journal image (Err _) began e = absurd began
 
-pub loads_run : (IsOf : Inputs → List ℕ → Type 0) (Starts : Inputs → Type 0) (number : ℕ) (seen : Seen) (status : ℕ) → DevicesSuffice load_numbers.swap seen → NoFaults seen.faults
-    → Starts (load_inputs number) → ((image : List ℕ) → seen.swap_before ≡ Some image → IsOf (load_inputs number) image) → LoadRuns IsOf Starts number seen status → Loads number seen status
+pub loads_run : (IsOf : Inputs → List ℕ → Type 0) (Starts : Inputs → Type 0) (number : ℕ) (seen : Seen) (status : ℕ)
+    → DevicesSuffice load_numbers.swap seen → NoFaults seen.faults
+    → Starts (load_inputs number) → ((image : List ℕ) → seen.swap_before ≡ Some image → IsOf (load_inputs number) image)
+    → LoadRuns IsOf Starts number seen status → Loads number seen status
 loads_run IsOf Starts number seen status long files starts is_of x =
     let ends : (image : List ℕ) → seen.swap_before ≡ Some image → LoadEnded number seen x.journal image x.ending
     = λ image told. load_ended number seen x.journal image x.ending x.began (x.ended (load_inputs number) image (is_of image told) told) in
@@ -192,7 +207,8 @@ loads_run IsOf Starts number seen status long files starts is_of x =
 
 -- no memory before the run
 pub loads_unmade : (number : ℕ) (seen : Seen) (status : ℕ) → seen.swap_after ≡ seen.swap_before → NoneFaulted seen
-    → WritesCounts number [] (Err faults.NoMemory) seen.written_before seen.written_after seen.sink_faults_before seen.sink_faults_after status → Loads number seen status
+    → WritesCounts number [] (Err faults.NoMemory) seen.written_before seen.written_after seen.sink_faults_before seen.sink_faults_after status
+    → Loads number seen status
 loads_unmade number seen status same none (inl w) =
     let ends : (image : List ℕ) → seen.swap_before ≡ Some image → LoadEnded number seen [] image (Err faults.NoMemory)
     = λ image told. inl (none, inl (refl, same ∙ told)) in
@@ -223,7 +239,8 @@ is_short false false z zn o on fault e = absurd cc
 as_faulted : (seen : Seen) (journal : List Entry) → Unbegun seen journal → NoneFaulted seen
 as_faulted seen journal u = let n : NothingDone seen journal = u.nothing in record { files = u.files; reads = n.reads; writes = n.writes }
 
-loads_short : (number : ℕ) (seen : Seen) (status : ℕ) (fault : Fault) → IsShort fault → device_fault load_numbers.swap seen.zero_blocks seen.one_blocks ≡ Some fault → Unbegun seen []
+loads_short : (number : ℕ) (seen : Seen) (status : ℕ) (fault : Fault) → IsShort fault
+    → device_fault load_numbers.swap seen.zero_blocks seen.one_blocks ≡ Some fault → Unbegun seen []
     → WritesCounts number [] (Err fault) seen.written_before seen.written_after seen.sink_faults_before seen.sink_faults_after status → Loads number seen status
 loads_short number seen status (faults.ShortDevice device blocks needed) short is done (inl w) =
     let ends : (image : List ℕ) → seen.swap_before ≡ Some image → LoadEnded number seen [] image (Err (faults.ShortDevice device blocks needed))
@@ -243,11 +260,13 @@ loads_short number seen status (faults.ShortDevice device blocks needed) short i
     loads_unmade number seen status (let n : NothingDone seen [] = done.nothing in n.swap) (as_faulted seen [] done) (inl w)
 loads_short number seen status _ short is done w = absurd short
 
-pub loads_judged : (number : ℕ) (seen : Seen) (status : ℕ) (fault : Fault) → device_fault load_numbers.swap seen.zero_blocks seen.one_blocks ≡ Some fault → Unbegun seen []
+pub loads_judged : (number : ℕ) (seen : Seen) (status : ℕ) (fault : Fault)
+    → device_fault load_numbers.swap seen.zero_blocks seen.one_blocks ≡ Some fault → Unbegun seen []
     → WritesCounts number [] (Err fault) seen.written_before seen.written_after seen.sink_faults_before seen.sink_faults_after status → Loads number seen status
 loads_judged number seen status fault is done w =
     loads_short number seen status fault
-    (is_short (nat_lt seen.zero_blocks (zero_needs load_numbers.swap)) (nat_lt seen.one_blocks (one_needs load_numbers.swap)) seen.zero_blocks (zero_needs load_numbers.swap) seen.one_blocks (one_needs load_numbers.swap) fault is)
+    (is_short (nat_lt seen.zero_blocks (zero_needs load_numbers.swap)) (nat_lt seen.one_blocks (one_needs load_numbers.swap)) seen.zero_blocks (zero_needs load_numbers.swap) seen.one_blocks
+    (one_needs load_numbers.swap) fault is)
     is done w
 
 -- devices that are long enough
@@ -262,7 +281,8 @@ meets_needs z o long =
     long_enough (nat_lt z (zero_needs load_numbers.swap)) (nat_lt o (one_needs load_numbers.swap)) z (zero_needs load_numbers.swap) o (one_needs load_numbers.swap) refl refl long
 
 -- Images that are found in files that never fail are opened, unless memory is wanted.
-pub only_memory : {X : Type 0} (view : X → List NamedImage) (found : Result (List NamedImage) Why) (images : List NamedImage) (fault : Fault) → found ≡ Ok images → AnswersNamed view found (Err fault)
+pub only_memory : {X : Type 0} (view : X → List NamedImage) (found : Result (List NamedImage) Why) (images : List NamedImage) (fault : Fault)
+    → found ≡ Ok images → AnswersNamed view found (Err fault)
     → CountsAt fault 0 0 → IsImageFault fault → fault ≡ faults.NoMemory
 only_memory view found images (faults.Absent name) is answers counts kind = absurd cc
 only_memory view found images (faults.NotImage name reason) is answers counts kind = absurd cc

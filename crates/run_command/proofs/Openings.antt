@@ -68,7 +68,8 @@ loaded_images files [] = tt
 loaded_images files (o ∷ os) = (refl, loaded_images files os)
 
 -- each image is that of a file
-pub filed_at : (files : List NamedFile) (os : List OpenedImage) (number : ℕ) (named : NamedImage) → All (IsIn files) os → All (λ (o : OpenedImage). IsShortName o.name.now) os
+pub filed_at : (files : List NamedFile) (os : List OpenedImage) (number : ℕ) (named : NamedImage) → All (IsIn files) os
+    → All (λ (o : OpenedImage). IsShortName o.name.now) os
     → image_numbered (images_in files os) number ≡ Some named → IsFiled named
 filed_at files os zero named are short at = absurd cc
 filed_at files os (suc place) named are short at = go os place are short at
@@ -76,7 +77,8 @@ filed_at files os (suc place) named are short at = go os place are short at
     go : (xs : List OpenedImage) (k : ℕ) → All (IsIn files) xs → All (λ (o : OpenedImage). IsShortName o.name.now) xs → slice_get (images_in files xs) k ≡ Some named → IsFiled named
     go [] k a n e = absurd cc
     go (x ∷ xs) zero a n e =
-        subst IsFiled (same_Some (image_in files x) named e) (record { file = bytes_at files x.file; is = (All-head (IsIn files) x xs a).is; name = (All-head (λ (o : OpenedImage). IsShortName o.name.now) x xs n).1 })
+        subst IsFiled (same_Some (image_in files x) named e)
+        (record { file = bytes_at files x.file; is = (All-head (IsIn files) x xs a).is; name = (All-head (λ (o : OpenedImage). IsShortName o.name.now) x xs n).1 })
     go (x ∷ xs) (suc k) a n e = go xs k (All-tail (IsIn files) x xs a) (All-tail (λ (o : OpenedImage). IsShortName o.name.now) x xs n) e
 
 pub are_numbers : (images : List NamedImage) (ns : List ℕ) → All (λ (n : ℕ). (1 ≤ n) × (n ≤ length images)) ns → AreNumbers images ns
@@ -104,5 +106,8 @@ name_octets files name k at all =
 pub all_images : (files : List NamedFile) (os : List OpenedImage) → All (IsIn files) os → AreOctetFiles files → AllImages (images_in files os)
 all_images files [] are octets = tt
 all_images files (o ∷ os) are octets =
-    let h : IsIn files o = All-head (IsIn files) o os are in
-    (file_fits (image_in files o) (bytes_at files o.file) h.is (octets_at files o.file octets).0 (name_octets files o.name.now o.file h.place octets), all_images files os (All-tail (IsIn files) o os are) octets)
+    let h : IsIn files o = All-head (IsIn files) o os are in (
+      file_fits (image_in files o) (bytes_at files o.file) h.is (octets_at files o.file octets).0 (name_octets files o.name.now o.file h.place
+          octets),
+      all_images files os (All-tail (IsIn files) o os are) octets,
+    )

@@ -15,16 +15,19 @@ use Rattle.command_ending.specs.declared.fault.Fault.TheVariants.{FileFault, Swa
 use Rattle.run_command.specs.Seen.{DeviceFaults, NoneFailed, DeviceFailed}
 use Rattle.run_command.specs.Paired.{unfinished_by, IsFaultOf, IsRunFault, ReadsFail, WritesFail}
 
-pub stopped_ends : (A : Inputs) (es : List Entry) (image : List ℕ) (j : Option (List ℕ)) (stop : Stop) (fault : Fault) → IsFaultOf stop fault → RunEnds A es image (Err (ends.Stopped stop)) j
+pub stopped_ends : (A : Inputs) (es : List Entry) (image : List ℕ) (j : Option (List ℕ)) (stop : Stop) (fault : Fault) → IsFaultOf stop fault
+    → RunEnds A es image (Err (ends.Stopped stop)) j
     → RunEnds A es image (Err (unfinished_by fault)) j
 stopped_ends A es image j stop fault e x = subst (λ (u : Unfinished). RunEnds A es image (Err u) j) (sym e) x
 
 -- while a pair that counted no failed call counts none, no device does
-pub none_failed : (f : DeviceFaults) (old new : ℕ) (before after : Option ℕ) → AddsFailures old new before after f.zero_before f.zero_after f.one_before f.one_after → old ≡ 0 → new ≡ old → NoneFailed f
+pub none_failed : (f : DeviceFaults) (old new : ℕ) (before after : Option ℕ)
+    → AddsFailures old new before after f.zero_before f.zero_after f.one_before f.one_after → old ≡ 0 → new ≡ old → NoneFailed f
 none_failed f old new before after a none same = let both = a.still same (omega arith) in record { zero = both.0; one = both.1 }
 
 -- the device that is named failed
-pub device_failed : (f : DeviceFaults) (old new : ℕ) (before after : Option ℕ) (device : ℕ) → AddsFailures old new before after f.zero_before f.zero_after f.one_before f.one_after → before ≡ None
+pub device_failed : (f : DeviceFaults) (old new : ℕ) (before after : Option ℕ) (device : ℕ)
+    → AddsFailures old new before after f.zero_before f.zero_after f.one_before f.one_after → before ≡ None
     → ForSome after (λ (d : ℕ). d < 2) → after ≡ Some device → DeviceFailed device f
 device_failed f old new before after device a none low named =
     (low device named, elim (a.named device named) [ inl e ↦ absurd cc | inr rose ↦ rose ])
@@ -34,7 +37,8 @@ stop_of : (stop : Stop) (fault : Fault) (other : Stop) → IsFaultOf stop fault 
 stop_of stop fault other e never same = never (e ∙ ap (λ (s : Stop). ends.Stopped s) same)
 
 -- what a run whose journal is full has of the bound
-pub full_at : (stop : Stop) (fault : Fault) (few many : ℕ) → IsFaultOf stop fault → many ≤ few → (stop ≡ stops.JournalFull → few ≤ many) → fault ≡ JournalFull → many ≡ few
+pub full_at : (stop : Stop) (fault : Fault) (few many : ℕ) → IsFaultOf stop fault → many ≤ few → (stop ≡ stops.JournalFull → few ≤ many)
+    → fault ≡ JournalFull → many ≡ few
 full_at stop fault few many e within full is =
     let same : ends.Stopped stops.JournalFull ≡ ends.Stopped stop = ap unfinished_by (sym is) ∙ e in
     let bound : few ≤ many = full (let s : stop ≡ stops.JournalFull = cc in s) in
@@ -54,14 +58,16 @@ writes_stay stops.JournalFull old new other c = c
 writes_stay stops.FileFault old new other c = c
 writes_stay stops.SwapReadFault old new other c = c
 
-module _ (f : DeviceFaults) (old new : ℕ) (before after : Option ℕ) (a : AddsFailures old new before after f.zero_before f.zero_after f.one_before f.one_after) (zero : old ≡ 0) (none : before ≡ None) (low : ForSome after (λ (d : ℕ). d < 2)) (stop : Stop) where
+module _ (f : DeviceFaults) (old new : ℕ) (before after : Option ℕ) (a : AddsFailures old new before after f.zero_before f.zero_after f.one_before f.one_after) (zero : old ≡ 0) (none : before ≡ None)
+    (low : ForSome after (λ (d : ℕ). d < 2)) (stop : Stop) where
   reads_none : (fault : Fault) → CountsReadFaults (Some stop) old new → IsFaultOf stop fault → (unfinished_by fault ≡ ends.Stopped stops.SwapReadFault → ⊥) → NoneFailed f
   reads_none fault c is never = none_failed f old new before after a zero (reads_stay stop old new (stop_of stop fault stops.SwapReadFault is never) c)
 
   writes_none : (fault : Fault) → CountsWriteFaults (Some stop) old new → IsFaultOf stop fault → (unfinished_by fault ≡ ends.Stopped stops.SwapWriteFault → ⊥) → NoneFailed f
   writes_none fault c is never = none_failed f old new before after a zero (writes_stay stop old new (stop_of stop fault stops.SwapWriteFault is never) c)
 
-  pub reads_fail : (fault : Fault) → CountsReadFaults (Some stop) old new → IsFaultOf stop fault → IsRunFault fault → ((device : ℕ) → fault ≡ SwapReadFault device → after ≡ Some device) → ReadsFail (Err fault) f
+  pub reads_fail : (fault : Fault) → CountsReadFaults (Some stop) old new → IsFaultOf stop fault → IsRunFault fault → ((device : ℕ) → fault ≡ SwapReadFault device → after ≡ Some device)
+      → ReadsFail (Err fault) f
   reads_fail (SwapReadFault device) c is kind named = device_failed f old new before after device a none low (named device refl)
   reads_fail FileFault c is kind named = reads_none FileFault c is (λ e. cc)
   reads_fail (SwapWriteFault device) c is kind named = reads_none (SwapWriteFault device) c is (λ e. cc)
@@ -70,7 +76,8 @@ module _ (f : DeviceFaults) (old new : ℕ) (before after : Option ℕ) (a : Add
   reads_fail (NoSpace pid) c is kind named = reads_none (NoSpace pid) c is (λ e. cc)
   reads_fail _ c is kind named = absurd kind
 
-  pub writes_fail : (fault : Fault) → CountsWriteFaults (Some stop) old new → IsFaultOf stop fault → IsRunFault fault → ((device : ℕ) → fault ≡ SwapWriteFault device → after ≡ Some device) → WritesFail (Err fault) f
+  pub writes_fail : (fault : Fault) → CountsWriteFaults (Some stop) old new → IsFaultOf stop fault → IsRunFault fault → ((device : ℕ) → fault ≡ SwapWriteFault device → after ≡ Some device)
+      → WritesFail (Err fault) f
   writes_fail (SwapWriteFault device) c is kind named = device_failed f old new before after device a none low (named device refl)
   writes_fail FileFault c is kind named = writes_none FileFault c is (λ e. cc)
   writes_fail (SwapReadFault device) c is kind named = writes_none (SwapReadFault device) c is (λ e. cc)

@@ -38,11 +38,25 @@ use Rattle.run_command.proofs.Endings.{StopCaused, caused_as, lost_caused, lost_
 
 -- The machine of what was opened.
 
-pub fresh_machine : (entries : ℕ) (numbers : Numbers) (facts : List Image) (shown : List ImageNamed) (images : List OpenedImage) → facts ≡ map (λ (o : OpenedImage). o.facts) images → shown ≡ map shown_as images
-    → (let m : Standing = record { kernel = fresh_kernel facts numbers.frames; params = params_up_to entries numbers; images = shown; before = []; room = None } in m) ≡ machine_up_to entries numbers (map shown_as images)
+pub fresh_machine : (entries : ℕ) (numbers : Numbers) (facts : List Image) (shown : List ImageNamed) (images : List OpenedImage)
+    → facts ≡ map (λ (o : OpenedImage). o.facts) images → shown ≡ map shown_as images
+    → (let m : Standing = record {
+      kernel = fresh_kernel facts numbers.frames;
+      params = params_up_to entries numbers;
+      images = shown;
+      before = [];
+      room = None;
+    } in m) ≡ machine_up_to entries numbers (map shown_as images)
 fresh_machine entries numbers facts shown images same_facts same_images =
-    ap (λ (fs : List Image). let m : Standing = record { kernel = fresh_kernel fs numbers.frames; params = params_up_to entries numbers; images = shown; before = []; room = None } in m) (same_facts ∙ sym (shown_facts images))
-    ∙ ap (λ (ns : List ImageNamed). let m : Standing = record { kernel = fresh_kernel (facts_named (map shown_as images)) numbers.frames; params = params_up_to entries numbers; images = ns; before = []; room = None } in m) same_images
+    ap (λ (fs : List Image). let m : Standing = record { kernel = fresh_kernel fs numbers.frames; params = params_up_to entries numbers; images = shown; before = []; room = None } in m)
+    (same_facts ∙ sym (shown_facts images))
+    ∙ ap (λ (ns : List ImageNamed). let m : Standing = record {
+      kernel = fresh_kernel (facts_named (map shown_as images)) numbers.frames;
+      params = params_up_to entries numbers;
+      images = ns;
+      before = [];
+      room = None;
+    } in m) same_images
 
 pub if_ok : {T E : Type 0} (r : Result T E) (P Q : T → Type 0) → ((x : T) → P x → Q x) → IfOk r P → IfOk r Q
 if_ok (Ok x) P Q f p = f x p
@@ -59,7 +73,8 @@ needs_met swap zero_size one_size none = go (nat_lt zero_size (zero_needs swap))
     go false true fits short e = absurd cc
     go false false zero_fits one_fits e = (grind (arith, nat_tests), grind (arith, nat_tests))
 
-pub room_told : (zero_size one_size swap : ℕ) (zero one : Option (List ℕ)) (image : List ℕ) → ((bytes : List ℕ) → zero ≡ Some bytes → length bytes ≡ 512 * zero_size) → ((bytes : List ℕ) → one ≡ Some bytes → length bytes ≡ 512 * one_size)
+pub room_told : (zero_size one_size swap : ℕ) (zero one : Option (List ℕ)) (image : List ℕ)
+    → ((bytes : List ℕ) → zero ≡ Some bytes → length bytes ≡ 512 * zero_size) → ((bytes : List ℕ) → one ≡ Some bytes → length bytes ≡ 512 * one_size)
     → MeetsNeeds zero_size one_size swap → swap ≤ most_blocks → image_together zero_size one_size zero one ≡ Some image → 512 * swap ≤ length image
 room_told zero_size one_size swap zero one image zero_whole one_whole meets most told =
     let long = pair_whole (pair_blocks zero_size one_size) zero one image (tell_blocks zero_size one_size zero one zero_whole one_whole) told in
@@ -70,7 +85,8 @@ room_told zero_size one_size swap zero one image zero_whole one_whole meets most
 
 pub run_caused : (seen : Seen) (es : List Entry) (r : Ending) → IfErr r IsRunFault → seen.faults.open_after ≡ seen.faults.open_before
     → CountsFileFaults (stop_of (stopped_as (unfinished_of r))) seen.faults.page_before seen.faults.page_after
-    → ReadsFail r seen.reads → WritesFail r seen.writes → ((pid : ℕ) → r ≡ Err (NoSpace pid) → es ≡ []) → ((pid : ℕ) → r ≡ Err (NoSpace pid) → seen.swap_after ≡ seen.swap_before)
+    → ReadsFail r seen.reads → WritesFail r seen.writes → ((pid : ℕ) → r ≡ Err (NoSpace pid) → es ≡ [])
+    → ((pid : ℕ) → r ≡ Err (NoSpace pid) → seen.swap_after ≡ seen.swap_before)
     → (r ≡ Err JournalFull → length es ≡ journal_entries) → StopCaused seen es r
 run_caused seen es (Ok done) kind opens pages reads writes none same full =
     record { files = record { open_same = opens; page_same = pages }; reads = reads; writes = writes }
@@ -91,9 +107,11 @@ run_caused seen es (Err _) kind opens pages reads writes none same full = absurd
 -- A run over a machine, as it was written.
 
 pub opened_runs : (IsOf : Inputs → List ℕ → Type 0) (traced : Bool) (seen : Seen) (es : List Entry) (r : Ending) (status : ℕ)
-    → WritesSome traced es r seen.written_before seen.written_after seen.sink_faults_before seen.sink_faults_after status → HaveNumbers es → length es ≤ journal_entries → StopCaused seen es r → IfErr r IsRunFault
+    → WritesSome traced es r seen.written_before seen.written_after seen.sink_faults_before seen.sink_faults_after status → HaveNumbers es
+    → length es ≤ journal_entries → StopCaused seen es r → IfErr r IsRunFault
     → ((A : Inputs) (image : List ℕ) → IsOf A image → seen.swap_before ≡ Some image → RunEnded seen A es image r) → RunsOpened IsOf traced seen status
-opened_runs IsOf traced seen es r status (inl writes) numbers within caused kind ended = record { ending = r; journal = es; writes = writes; within = within; caused = caused_as seen es r kind caused; numbers = numbers; ended = ended }
+opened_runs IsOf traced seen es r status (inl writes) numbers within caused kind ended =
+    record { ending = r; journal = es; writes = writes; within = within; caused = caused_as seen es r kind caused; numbers = numbers; ended = ended }
 opened_runs IsOf traced seen es r status (inr (lost, writes)) numbers within caused kind ended = record {
   ending = Err NoMemory;
   journal = es;
@@ -104,7 +122,8 @@ opened_runs IsOf traced seen es r status (inr (lost, writes)) numbers within cau
   ended = λ A image is told. lost_ended seen A es image r kind lost caused (ended A image is told);
 }
 
-pub opened_lacking : (IsOf : Inputs → List ℕ → Type 0) (traced : Bool) (seen : Seen) (status : ℕ) → WritesSome traced [] (Err NoMemory) seen.written_before seen.written_after seen.sink_faults_before seen.sink_faults_after status
+pub opened_lacking : (IsOf : Inputs → List ℕ → Type 0) (traced : Bool) (seen : Seen) (status : ℕ)
+    → WritesSome traced [] (Err NoMemory) seen.written_before seen.written_after seen.sink_faults_before seen.sink_faults_after status
     → seen.swap_after ≡ seen.swap_before → NoneFaulted seen → RunsOpened IsOf traced seen status
 opened_lacking IsOf traced seen status (inl writes) same none =
     record { ending = Err NoMemory; journal = []; writes = writes; within = omega arith; caused = inl none; numbers = tt; ended = λ A image is told. inl (none, inl (refl, same ∙ told)) }
@@ -112,7 +131,8 @@ opened_lacking IsOf traced seen status (inr (lost, writes)) same none = absurd l
 
 -- The same for the words.
 
-caused_so : (request : Request) (seen : Seen) (es : List Entry) (r : Ending) → RunCaused seen es r → DevicesSuffice request.numbers.swap seen → IsCaused request seen es r
+caused_so : (request : Request) (seen : Seen) (es : List Entry) (r : Ending) → RunCaused seen es r → DevicesSuffice request.numbers.swap seen
+    → IsCaused request seen es r
 caused_so request seen es (Ok done) c d = (c, d)
 caused_so request seen es (Err FileFault) c d = inr (c, d)
 caused_so request seen es (Err (SwapReadFault device)) c d = (c, d)
@@ -123,7 +143,8 @@ caused_so request seen es (Err NoMemory) (inr lost) d = inr (lost, d)
 caused_so request seen es (Err (NoSpace pid)) c d = (c, d)
 caused_so request seen es (Err _) c d = absurd c
 
-judged_good : (request : Request) (seen : Seen) (files : List NamedFile) (es : List Entry) (r : Ending) → RunCaused seen es r → AllGood request seen files → IsJudged request seen files r
+judged_good : (request : Request) (seen : Seen) (files : List NamedFile) (es : List Entry) (r : Ending) → RunCaused seen es r → AllGood request seen files
+    → IsJudged request seen files r
 judged_good request seen files es (Ok done) c good = good
 judged_good request seen files es (Err FileFault) c good = inr (c.page, good)
 judged_good request seen files es (Err (SwapReadFault device)) c good = good
@@ -133,7 +154,8 @@ judged_good request seen files es (Err NoMemory) c good = inr good
 judged_good request seen files es (Err (NoSpace pid)) c good = good
 judged_good request seen files es (Err _) c good = absurd c
 
-told_so : (request : Request) (seen : Seen) (files : List NamedFile) (es : List Entry) (image : List ℕ) (r : Ending) → RunCaused seen es r → AllGood request seen files
+told_so : (request : Request) (seen : Seen) (files : List NamedFile) (es : List Entry) (image : List ℕ) (r : Ending) → RunCaused seen es r
+    → AllGood request seen files
     → RunOfWords request seen files es image r → EndsTold request seen files es image r
 told_so request seen files es image (Ok done) c good x = x
 told_so request seen files es image (Err FileFault) c good x = inr (c.page, good, x)
@@ -144,7 +166,8 @@ told_so request seen files es image (Err NoMemory) c good x = inr x
 told_so request seen files es image (Err (NoSpace pid)) c good x = x
 told_so request seen files es image (Err _) c good x = absurd c
 
-of_words : (request : Request) (seen : Seen) (files : List NamedFile) (opening : Opening) (es : List Entry) (image : List ℕ) (r : Ending) → KnownOpening request files opening → AreAllowed request.numbers → HaveNumbers es
+of_words : (request : Request) (seen : Seen) (files : List NamedFile) (opening : Opening) (es : List Entry) (image : List ℕ) (r : Ending)
+    → KnownOpening request files opening → AreAllowed request.numbers → HaveNumbers es
     → RunEnded seen (inputs_of request files opening) es image r → RunOfWords request seen files es image r
 of_words request seen files opening es image r known allowed numbers ended = record {
   inputs = inputs_of request files opening;
@@ -153,8 +176,10 @@ of_words request seen files opening es image r known allowed numbers ended = rec
   replayed = ended_flat seen (inputs_of request files opening) es image r allowed.most_limit numbers ended;
 }
 
-pub opened_words : (request : Request) (seen : Seen) (opening : Opening) (status : ℕ) → RunsOpened (IsOfOpening request.numbers opening seen.files) request.traced seen status → AreAllowed request.numbers → DevicesSuffice request.numbers.swap seen
-    → ((files : List NamedFile) → seen.files ≡ Some files → AllGood request seen files) → ((files : List NamedFile) → seen.files ≡ Some files → KnownOpening request files opening)
+pub opened_words : (request : Request) (seen : Seen) (opening : Opening) (status : ℕ) → RunsOpened (IsOfOpening request.numbers opening seen.files)
+    request.traced seen status → AreAllowed request.numbers → DevicesSuffice request.numbers.swap seen
+    → ((files : List NamedFile) → seen.files ≡ Some files → AllGood request seen files)
+    → ((files : List NamedFile) → seen.files ≡ Some files → KnownOpening request files opening)
     → ((image : List ℕ) → seen.swap_before ≡ Some image → 512 * request.numbers.swap ≤ length image) → Runs request seen status
 opened_words request seen opening status x allowed devices good known room = record {
   ending = x.ending;
@@ -180,7 +205,8 @@ abbrev pub OpeningOf : Request → Seen → FoundFiles → Fault → Type 0
 OpeningOf request seen found fault =
     EndsOpening request.schedule request.words request.numbers.swap seen.zero_blocks seen.one_blocks found seen.faults (let r : Result Opening Fault = Err fault in r)
 
-module _ (request : Request) (seen : Seen) (same : seen.swap_after ≡ seen.swap_before) (reads : NoneFailed seen.reads) (writes : NoneFailed seen.writes) (pages : seen.faults.page_after ≡ seen.faults.page_before) where
+module _ (request : Request) (seen : Seen) (same : seen.swap_after ≡ seen.swap_before) (reads : NoneFailed seen.reads) (writes : NoneFailed seen.writes)
+    (pages : seen.faults.page_after ≡ seen.faults.page_before) where
   nothing : NothingDone seen []
   nothing = record { journal_is = refl; swap = same; reads = reads; writes = writes }
 
@@ -238,7 +264,8 @@ module _ (request : Request) (seen : Seen) (same : seen.swap_after ≡ seen.swap
   unopened_told _ found files image ends opens swap = absurd ends
 
   pub unopened_runs : (fault : Fault) (status : ℕ) → WritesSome request.traced [] (Err fault) seen.written_before seen.written_after seen.sink_faults_before seen.sink_faults_after status
-      → (made : Made (EndsOpening request.schedule request.words request.numbers.swap seen.zero_blocks seen.one_blocks) (found_told request.schedule request.words) seen.files seen.faults (let r : Result Opening Fault = Err fault in r))
+      → (made : Made (EndsOpening request.schedule request.words request.numbers.swap seen.zero_blocks seen.one_blocks) (found_told request.schedule request.words) seen.files seen.faults
+      (let r : Result Opening Fault = Err fault in r))
       → CountsAt fault seen.faults.open_before seen.faults.open_after → Runs request seen status
   unopened_runs fault status (inl w) made opens = record {
     ending = Err fault;

@@ -94,7 +94,8 @@ two_named w v = record { name = codes "w"; bytes = w } ∷ record { name = codes
 abbrev two_loaded : Loaded → Loaded → List NamedImage
 two_loaded w v = record { name = codes "w"; image = w } ∷ record { name = codes "v"; image = v } ∷ []
 
-two_found : (w_file v_file : List ℕ) (w v : Loaded) → image_of w_file ≡ Ok w → image_of v_file ≡ Ok v → images_found (two_named w_file v_file) load_names ≡ Ok (two_loaded w v)
+two_found : (w_file v_file : List ℕ) (w v : Loaded) → image_of w_file ≡ Ok w → image_of v_file ≡ Ok v
+    → images_found (two_named w_file v_file) load_names ≡ Ok (two_loaded w v)
 two_found w_file v_file w v e d =
     ap (λ (r : Result Loaded ℕ). before (named_image (codes "w") r) (before (named_image (codes "v") (image_of v_file)) (Ok []))) e
     ∙ ap (λ (r : Result Loaded ℕ). before (Ok (record { name = codes "w"; image = w })) (before (named_image (codes "v") r) (Ok []))) d
@@ -107,21 +108,25 @@ load_found number e = two_found _ _ _ _ (first_is _ _ _ _ e) (first_is _ _ _ _ (
 same_Ok : (a b : List NamedImage) → ◌≡◌ {A = Result (List NamedImage) Why} (Ok a) (Ok b) → a ≡ b
 same_Ok a b e = cc
 
-pub found_in : (number : ℕ) (files : List NamedFile) → files ≡ load_files number → map (λ (file : NamedFile). image_of file.bytes) files ≡ map (λ (image : Loaded). Ok image) (load_images number)
+pub found_in : (number : ℕ) (files : List NamedFile) → files ≡ load_files number
+    → map (λ (file : NamedFile). image_of file.bytes) files ≡ map (λ (image : Loaded). Ok image) (load_images number)
     → images_found (load_files number) load_names ≡ Ok (load_inputs number).images
 found_in number files is images =
     load_found number (subst (λ (fs : List NamedFile). map (λ (file : NamedFile). image_of file.bytes) fs ≡ map (λ (image : Loaded). Ok image) (load_images number)) is images)
 
 -- the images that were opened are those of the load
-pub same_images : (number : ℕ) (holds : Option (List NamedFile)) (files : List NamedFile) (os : List OpenedImage) → holds ≡ Some files → files ≡ load_files number
+pub same_images : (number : ℕ) (holds : Option (List NamedFile)) (files : List NamedFile) (os : List OpenedImage) → holds ≡ Some files
+    → files ≡ load_files number
     → map (λ (file : NamedFile). image_of file.bytes) files ≡ map (λ (image : Loaded). Ok image) (load_images number)
-    → ((list : List NamedFile) → holds ≡ Some list → images_found list load_names ≡ Ok (images_in list os)) → images_in (load_files number) os ≡ (load_inputs number).images
+    → ((list : List NamedFile) → holds ≡ Some list → images_found list load_names ≡ Ok (images_in list os))
+    → images_in (load_files number) os ≡ (load_inputs number).images
 same_images number holds files os told is images answers =
     same_Ok (images_in (load_files number) os) (load_inputs number).images
     (sym (answers (load_files number) (told ∙ ap (λ (fs : List NamedFile). Some fs) is)) ∙ found_in number files is images)
 
 -- their files hold all that their headers say
-pub files_opened : (old new : Option (List NamedFile)) (os xs : List OpenedImage) → new ≡ old → xs ≡ os → All (λ (o : OpenedImage). HasRange old o.file 0 (file_length_of o.facts)) os → AreFiles (map shown_as xs) new
+pub files_opened : (old new : Option (List NamedFile)) (os xs : List OpenedImage) → new ≡ old → xs ≡ os
+    → All (λ (o : OpenedImage). HasRange old o.file 0 (file_length_of o.facts)) os → AreFiles (map shown_as xs) new
 files_opened old new os xs same is ranges =
     subst (λ (ys : List OpenedImage). AreFiles (map shown_as ys) new) (sym is) (subst (λ (h : Option (List NamedFile)). AreFiles (map shown_as os) h) (sym same) (are_files old os ranges))
 
@@ -159,7 +164,8 @@ first_numbers most some = one (1 ∷ 1 ∷ 1 ∷ []) (one (1 ∷ 1 ∷ []) (one 
     one ns all = All-cons Fits 1 ns (omega arith, some) all
 
 -- The swap image has all blocks.
-pub has_room : (z o : ℕ) (evens odds : Option (List ℕ)) (image : List ℕ) → ((bytes : List ℕ) → evens ≡ Some bytes → length bytes ≡ 512 * z) → ((bytes : List ℕ) → odds ≡ Some bytes → length bytes ≡ 512 * o)
+pub has_room : (z o : ℕ) (evens odds : Option (List ℕ)) (image : List ℕ) → ((bytes : List ℕ) → evens ≡ Some bytes → length bytes ≡ 512 * z)
+    → ((bytes : List ℕ) → odds ≡ Some bytes → length bytes ≡ 512 * o)
     → MeetsNeeds z o load_numbers.swap → image_together z o evens odds ≡ Some image → 512 * load_numbers.swap ≤ length image
 unfolding pair_blocks zero_needs one_needs device_of
 has_room z o evens odds image whole_z whole_o meets told =

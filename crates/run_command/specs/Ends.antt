@@ -125,7 +125,8 @@ pub record AllGood (request : Request) (seen : Seen) (files : List NamedFile) : 
 -- opening the run ends by this fault, as the files are told and the devices have so many blocks
 abbrev pub EndsUnopened : Request → Seen → List NamedFile → Fault → Type 0
 EndsUnopened request seen files fault =
-    EndsOpening request.schedule request.words request.numbers.swap seen.zero_blocks seen.one_blocks (found_told request.schedule request.words files) seen.faults (let r : Result Opening Fault = Err fault in r)
+    EndsOpening request.schedule request.words request.numbers.swap seen.zero_blocks seen.one_blocks
+    (found_told request.schedule request.words files) seen.faults (let r : Result Opening Fault = Err fault in r)
 
 -- the ending is one that fits what is judged before the run: the told files, and then the devices
 abbrev pub IsJudged : Request → Seen → List NamedFile → Ending → Type 0
@@ -199,7 +200,8 @@ WritesSome traced journal ending before after old_faults new_faults status =
 -- the text of the journal and the line of the ending were written, with its status; or the output failed, and a prefix was
 abbrev pub Writing : Bool → Seen → List Entry → Ending → ℕ → Type 0
 Writing traced seen journal ending status =
-    Writes seen.written_before seen.written_after seen.sink_faults_before seen.sink_faults_after (text_of traced journal ++ line_of ending) (status_of ending) status
+    Writes seen.written_before seen.written_after seen.sink_faults_before seen.sink_faults_after (text_of traced journal ++ line_of ending)
+    (status_of ending) status
 
 -- What a run is: it has one ending and one journal. What was written is the text of the journal and the line of the ending, and the
 -- status is the ending's; or the output failed, and a prefix of that was written. However it ended, the journal has no more entries than
@@ -213,7 +215,8 @@ pub record Runs (request : Request) (seen : Seen) (status : ℕ) : Type 0 where
   pub within : length journal ≤ journal_entries
   pub caused : IsCaused request seen journal ending
   pub judged : (files : List NamedFile) → seen.files ≡ Some files → IsJudged request seen files ending
-  pub told : (files : List NamedFile) (image : List ℕ) → seen.files ≡ Some files → AreOctetFiles files → seen.swap_before ≡ Some image → EndsTold request seen files journal image ending
+  pub told : (files : List NamedFile) (image : List ℕ) → seen.files ≡ Some files → AreOctetFiles files → seen.swap_before ≡ Some image
+      → EndsTold request seen files journal image ending
 
 -- A run that was opened, over a machine: the same, for the inputs that are the machine's. Its entries are at hand.
 pub record RunsOpened (IsOf : Inputs → List ℕ → Type 0) (traced : Bool) (seen : Seen) (status : ℕ) : Type 0 where

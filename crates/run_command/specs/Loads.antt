@@ -97,7 +97,8 @@ LoadEnded number seen journal image ending = RunEnded seen (load_inputs number) 
 pub record Loads (number : ℕ) (seen : Seen) (status : ℕ) : Type 0 where
   pub ending : Ending
   pub journal : List Entry
-  pub writes : Writes seen.written_before seen.written_after seen.sink_faults_before seen.sink_faults_after (load_written number journal ending) (status_of ending) status
+  pub writes : Writes seen.written_before seen.written_after seen.sink_faults_before seen.sink_faults_after (load_written number journal ending)
+      (status_of ending) status
   pub within : length journal ≤ journal_entries
   pub caused : IsLoadCaused seen journal ending
   pub files : NoFaults seen.faults
@@ -114,7 +115,8 @@ IsRunEnding ending = IfErr ending IsRunFault
 pub record LoadRuns (IsOf : Inputs → List ℕ → Type 0) (Starts : Inputs → Type 0) (number : ℕ) (seen : Seen) (status : ℕ) : Type 0 where
   pub ending : Ending
   pub journal : List Entry
-  pub writes : Writes seen.written_before seen.written_after seen.sink_faults_before seen.sink_faults_after (load_written number journal ending) (status_of ending) status
+  pub writes : Writes seen.written_before seen.written_after seen.sink_faults_before seen.sink_faults_after (load_written number journal ending)
+      (status_of ending) status
   pub within : length journal ≤ journal_entries
   pub caused : RunCaused seen journal ending
   pub began : IsRunEnding ending

@@ -74,7 +74,8 @@ fn run_load<D: SwapDev, E: SwapDev, S: Sink>(
     requires count { length lines.now < 2 ^ 32 }
     requires devices { MeetsNeeds (D.blocks zero.old) (E.blocks one.old) load_numbers.swap }
     ensures runs { (told : Option (List NamedFile)) (opens pages : ℕ)
-        → LoadRuns (λ A image. IsAskedOf A (machine_of load_numbers (map shown_as images.now)) load_first lines.now (⟦<SureFiles as Files>⟧.holds files.old) image)
+        → LoadRuns (λ A image. IsAskedOf A (machine_of load_numbers (map shown_as images.now)) load_first lines.now
+        (⟦<SureFiles as Files>⟧.holds files.old) image)
         (λ A. StartsFrom A (machine_of load_numbers (map shown_as images.now)) load_first) number (record {
           files = told;
           faults = record { open_before = opens; open_after = opens; page_before = pages; page_after = pages };
@@ -82,8 +83,18 @@ fn run_load<D: SwapDev, E: SwapDev, S: Sink>(
           one_blocks = E.blocks one.old;
           swap_before = image_together (D.blocks zero.old) (E.blocks one.old) (D.image zero.old) (E.image one.old);
           swap_after = image_together (D.blocks zero.new) (E.blocks one.new) (D.image zero.new) (E.image one.new);
-          reads = record { zero_before = D.read_faults zero.old; zero_after = D.read_faults zero.new; one_before = E.read_faults one.old; one_after = E.read_faults one.new };
-          writes = record { zero_before = D.write_faults zero.old; zero_after = D.write_faults zero.new; one_before = E.write_faults one.old; one_after = E.write_faults one.new };
+          reads = record {
+            zero_before = D.read_faults zero.old;
+            zero_after = D.read_faults zero.new;
+            one_before = E.read_faults one.old;
+            one_after = E.read_faults one.new;
+          };
+          writes = record {
+            zero_before = D.write_faults zero.old;
+            zero_after = D.write_faults zero.new;
+            one_before = E.write_faults one.old;
+            one_after = E.write_faults one.new;
+          };
           written_before = S.written sink.old;
           written_after = S.written sink.new;
           sink_faults_before = S.faults sink.old;
@@ -122,8 +133,18 @@ pub fn load_command<D: SwapDev, E: SwapDev, S: Sink>(
       one_blocks = E.blocks one.old;
       swap_before = image_together (D.blocks zero.old) (E.blocks one.old) (D.image zero.old) (E.image one.old);
       swap_after = image_together (D.blocks zero.new) (E.blocks one.new) (D.image zero.new) (E.image one.new);
-      reads = record { zero_before = D.read_faults zero.old; zero_after = D.read_faults zero.new; one_before = E.read_faults one.old; one_after = E.read_faults one.new };
-      writes = record { zero_before = D.write_faults zero.old; zero_after = D.write_faults zero.new; one_before = E.write_faults one.old; one_after = E.write_faults one.new };
+      reads = record {
+        zero_before = D.read_faults zero.old;
+        zero_after = D.read_faults zero.new;
+        one_before = E.read_faults one.old;
+        one_after = E.read_faults one.new;
+      };
+      writes = record {
+        zero_before = D.write_faults zero.old;
+        zero_after = D.write_faults zero.new;
+        one_before = E.write_faults one.old;
+        one_after = E.write_faults one.new;
+      };
       written_before = S.written sink.old;
       written_after = S.written sink.new;
       sink_faults_before = S.faults sink.old;

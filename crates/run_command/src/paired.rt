@@ -80,8 +80,18 @@ fn run_over<'a, 'd, F: Files, D: SwapDev, E: SwapDev>(
     ensures zero_reference { pair.new.zero.ghost_name ≡ pair.old.zero.ghost_name }
     ensures one_reference { pair.new.one.ghost_name ≡ pair.old.one.ghost_name }
     ensures files_read { ReadsFilePages F.Files (stop_of (stopped_as (unfinished_of result))) files.old files.new }
-    ensures reads { ReadsFail result (record { zero_before = D.read_faults pair.old.zero.now; zero_after = D.read_faults pair.new.zero.now; one_before = E.read_faults pair.old.one.now; one_after = E.read_faults pair.new.one.now }) }
-    ensures writes { WritesFail result (record { zero_before = D.write_faults pair.old.zero.now; zero_after = D.write_faults pair.new.zero.now; one_before = E.write_faults pair.old.one.now; one_after = E.write_faults pair.new.one.now }) }
+    ensures reads { ReadsFail result (record {
+      zero_before = D.read_faults pair.old.zero.now;
+      zero_after = D.read_faults pair.new.zero.now;
+      one_before = E.read_faults pair.old.one.now;
+      one_after = E.read_faults pair.new.one.now;
+    }) }
+    ensures writes { WritesFail result (record {
+      zero_before = D.write_faults pair.old.zero.now;
+      zero_after = D.write_faults pair.new.zero.now;
+      one_before = E.write_faults pair.old.one.now;
+      one_after = E.write_faults pair.new.one.now;
+    }) }
 {
     match run_schedule(core, files, pair, first, lines) {
         Ok(()) => Ok(()),
@@ -114,18 +124,30 @@ pub fn run_paired<'a, F: Files, D: SwapDev, E: SwapDev>(
     requires files { AreFiles core.old.machine.images (F.holds files.old) }
     ensures ends { (A : Inputs) (image : List ℕ) → IsAskedOf A core.old.machine first.now lines.now (F.holds files.old) image
         → image_together (D.blocks zero.old) (E.blocks one.old) (D.image zero.old) (E.image one.old) ≡ Some image
-        → RunEnds A core.new.machine.kernel.journal image (unfinished_of result) (image_together (D.blocks zero.new) (E.blocks one.new) (D.image zero.new) (E.image one.new)) }
+        → RunEnds A core.new.machine.kernel.journal image (unfinished_of result)
+        (image_together (D.blocks zero.new) (E.blocks one.new) (D.image zero.new) (E.image one.new)) }
     ensures no_space { (A : Inputs) → StartsFrom A core.old.machine first.now → (pid : ℕ) → result ≡ Err (Fault.NoSpace pid) → start_held A ≡ Err pid }
     ensures none_made { (pid : ℕ) → result ≡ Err (Fault.NoSpace pid) → core.new.machine.kernel.journal ≡ [] }
     ensures untouched { (pid : ℕ) → result ≡ Err (Fault.NoSpace pid)
-        → image_together (D.blocks zero.new) (E.blocks one.new) (D.image zero.new) (E.image one.new) ≡ image_together (D.blocks zero.old) (E.blocks one.old) (D.image zero.old) (E.image one.old) }
+        → image_together (D.blocks zero.new) (E.blocks one.new) (D.image zero.new) (E.image one.new)
+        ≡ image_together (D.blocks zero.old) (E.blocks one.old) (D.image zero.old) (E.image one.old) }
     ensures within { length core.new.machine.kernel.journal ≤ core.old.machine.params.journal }
     ensures full { result ≡ Err Fault.JournalFull → length core.new.machine.kernel.journal ≡ core.old.machine.params.journal }
     ensures kind { IfErr result IsRunFault }
     ensures devices { KeepsDevices D.SwapDev E.SwapDev zero.old zero.new one.old one.new }
     ensures files_read { ReadsFilePages F.Files (stop_of (stopped_as (unfinished_of result))) files.old files.new }
-    ensures reads { ReadsFail result (record { zero_before = D.read_faults zero.old; zero_after = D.read_faults zero.new; one_before = E.read_faults one.old; one_after = E.read_faults one.new }) }
-    ensures writes { WritesFail result (record { zero_before = D.write_faults zero.old; zero_after = D.write_faults zero.new; one_before = E.write_faults one.old; one_after = E.write_faults one.new }) }
+    ensures reads { ReadsFail result (record {
+      zero_before = D.read_faults zero.old;
+      zero_after = D.read_faults zero.new;
+      one_before = E.read_faults one.old;
+      one_after = E.read_faults one.new;
+    }) }
+    ensures writes { WritesFail result (record {
+      zero_before = D.write_faults zero.old;
+      zero_after = D.write_faults zero.new;
+      one_before = E.write_faults one.old;
+      one_after = E.write_faults one.new;
+    }) }
 {
     let mut pair = SwapPair::new(zero, one);
     run_over(core, files, &mut pair, first, lines)

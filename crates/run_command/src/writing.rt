@@ -13,7 +13,8 @@ use vm_facts::Entry;
 
 // Writes a journal's text and a line, and answers the status.
 fn write_as<S: Sink>(sink: &mut S, traced: bool, journal: &[Entry], line: &[u8], status: u8) -> u8
-    ensures writes { Writes (S.written sink.old) (S.written sink.new) (S.faults sink.old) (S.faults sink.new) (text_of traced journal.now ++ line.now) status result }
+    ensures writes { Writes (S.written sink.old) (S.written sink.new) (S.faults sink.old) (S.faults sink.new)
+        (text_of traced journal.now ++ line.now) status result }
     ensures leads { S.leads sink.old sink.new }
 {
     match write_text(sink, traced, journal, line) {

@@ -11,7 +11,8 @@ step : (line : ℕ → List ℕ) (old text new : List ℕ) (n : ℕ) → text �
 unfolding lines_to
 step line old text new n so_far put = put ∙ ap (λ (t : List ℕ). t ++ line (suc n)) so_far ∙ append_assoc old (lines_to line n) (line (suc n))
 
-pub lines_more : (line : ℕ → List ℕ) (old text new : List ℕ) (n : ℕ) → text ≡ old ++ lines_to line n → new ≡ text ++ line (n + 1) → new ≡ old ++ lines_to line (n + 1)
+pub lines_more : (line : ℕ → List ℕ) (old text new : List ℕ) (n : ℕ) → text ≡ old ++ lines_to line n → new ≡ text ++ line (n + 1)
+    → new ≡ old ++ lines_to line (n + 1)
 lines_more line old text new n so_far =
     subst (λ (k : ℕ). new ≡ text ++ line k → new ≡ old ++ lines_to line k) (sym (add-one n)) (step line old text new n so_far)
 
@@ -20,7 +21,8 @@ lines_more line old text new n so_far =
 pub first_part : (old text words : List ℕ) (m n : ℕ) → text ≡ old ++ part words n → n ≡ m → text ≡ old ++ part words m
 first_part old text words m n put same = put ∙ ap (λ (k : ℕ). old ++ part words k) same
 
-pub more_part : (old before text so_far words : List ℕ) (m n : ℕ) → before ≡ old ++ so_far → text ≡ before ++ part words n → n ≡ m → text ≡ old ++ (so_far ++ part words m)
+pub more_part : (old before text so_far words : List ℕ) (m n : ℕ) → before ≡ old ++ so_far → text ≡ before ++ part words n → n ≡ m
+    → text ≡ old ++ (so_far ++ part words m)
 more_part old before text so_far words m n stands put same =
     put
     ∙ ap (λ (t : List ℕ). t ++ part words n) stands

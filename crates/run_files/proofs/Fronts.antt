@@ -32,7 +32,8 @@ front_of holds list id len most front told size count held =
     let many : length front ≡ min (length (bytes_at list id)) most = count ∙ ap (λ (n : ℕ). min n most) size in
     here ∙ ap (λ (n : ℕ). take n (bytes_at list id)) many ∙ take_least (bytes_at list id) most
 
-pub front_answers : {A : Type 0} (view : A → List ℕ) (r : Result A Unread) (holds : Option (List NamedFile)) (list : List NamedFile) (name : List ℕ) (id len most : ℕ)
+pub front_answers : {A : Type 0} (view : A → List ℕ) (r : Result A Unread) (holds : Option (List NamedFile)) (list : List NamedFile)
+    (name : List ℕ) (id len most : ℕ)
     → holds ≡ Some list → place_of list name ≡ Some id → len ≡ length (bytes_at list id)
     → IfOk r (λ bytes. HoldsRange holds id 0 (view bytes)) → IfOk r (λ bytes. length (view bytes) ≡ min len most) → IfErr r IsFailure
     → Answers view (bytes_told list name most) r
@@ -141,7 +142,8 @@ image_of_front facts len n head bytes judged enough within above size front =
 
 behind_mid : (a n : ℕ) (xs ys : List ℕ) → n ≡ length xs → a ≤ n → length ys ≡ n - a → drop a (put_mid a (n - a) xs ys) ≡ ys
 behind_mid a n xs ys size within long =
-    let whole : length (put_mid a (n - a) xs ys) ≤ n = omega (arith, same_len_mid a (n - a) xs ys (omega (arith, long, length-drop a xs, length-take-le (n - a) (drop a xs) (omega (arith, length-drop a xs, size)))), size) in
+    let whole : length (put_mid a (n - a) xs ys) ≤ n =
+    omega (arith, same_len_mid a (n - a) xs ys (omega (arith, long, length-drop a xs, length-take-le (n - a) (drop a xs) (omega (arith, length-drop a xs, size)))), size) in
     sym (between_to_end (put_mid a (n - a) xs ys) a n whole) ∙ between-put_mid a (n - a) xs ys n (omega (arith, size, within)) long
 
 -- what was read after the header stands after it

@@ -70,7 +70,8 @@ distinct_with there names name = if there then names else names ++ name ∷ []
 distinct_step : (first name : List ℕ) (names : List (List ℕ)) (like there : Bool) → bytes_eq first name ≡ like
     → list_any (λ other. bytes_eq other name) names ≡ there
     → first ∷ filter (λ other. not (bytes_eq other first)) (distinct_with there names name)
-    ≡ distinct_with (like || list_any (λ other. bytes_eq other name) (filter (λ other. not (bytes_eq other first)) names)) (first ∷ filter (λ other. not (bytes_eq other first)) names) name
+    ≡ distinct_with (like || list_any (λ other. bytes_eq other name) (filter (λ other. not (bytes_eq other first)) names))
+    (first ∷ filter (λ other. not (bytes_eq other first)) names) name
 distinct_step first name names true true e has = refl
 distinct_step first name names true false e has =
     let same : bytes_eq name first ≡ true = (bytes_eq-Decides name first).1 (sym ((bytes_eq-Decides first name).0 e)) in

@@ -73,7 +73,8 @@ fn load_found<F: Files>(alloc: Global, files: &mut F, id: u32, len: u64) -> Resu
     ensures answers { (list : List NamedFile) → F.holds files.old ≡ Some list → len ≡ length (bytes_at list id)
         → Answers (λ loaded. (loaded.image, loaded.bytes.items)) (image_in (bytes_at list id) (image_of (bytes_at list id))) result }
     ensures order { (list : List NamedFile) → F.holds files.old ≡ Some list → len ≡ length (bytes_at list id)
-        → FailsInOrder (image_in (bytes_at list id) (image_of (bytes_at list id))) result (F.open_faults files.old) (F.open_faults files.new) (F.page_faults files.old) (F.page_faults files.new) }
+        → FailsInOrder (image_in (bytes_at list id) (image_of (bytes_at list id))) result (F.open_faults files.old) (F.open_faults files.new)
+        (F.page_faults files.old) (F.page_faults files.new) }
     ensures image { IfOk result (λ loaded. IsImageOf (image_of loaded.bytes.items) loaded.image) }
     ensures sound { IfOk result (λ loaded. IsSound loaded.image) }
     ensures size { IfOk result (λ loaded. length loaded.bytes.items ≡ file_length_of loaded.image) }
@@ -118,7 +119,8 @@ pub fn load_image<F: Files>(alloc: Global, files: &mut F, name: &str) -> Result<
     ensures answers { (list : List NamedFile) → F.holds files.old ≡ Some list
         → Answers (λ loaded. (loaded.image, loaded.bytes.items)) (image_told list name.now) result }
     ensures order { (list : List NamedFile) → F.holds files.old ≡ Some list
-        → FailsInOrder (image_told list name.now) result (F.open_faults files.old) (F.open_faults files.new) (F.page_faults files.old) (F.page_faults files.new) }
+        → FailsInOrder (image_told list name.now) result (F.open_faults files.old) (F.open_faults files.new) (F.page_faults files.old)
+        (F.page_faults files.new) }
     ensures image { IfOk result (λ loaded. IsImageOf (image_of loaded.bytes.items) loaded.image) }
     ensures sound { IfOk result (λ loaded. IsSound loaded.image) }
     ensures size { IfOk result (λ loaded. length loaded.bytes.items ≡ file_length_of loaded.image) }

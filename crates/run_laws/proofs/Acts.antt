@@ -82,14 +82,19 @@ completes A point pid u ends h = due (is_writing point.last pid) refl
         let y : es ≡ u ∷ [] = k ∙ ap (λ (z : Entry). z ∷ []) x in
         record { due = same ∙ y; suits = λ c z. subst (λ (l : List Entry). Suits l c) y z; some = λ z. absurd (let n : [] ≡ u ∷ [] = sym z ∙ y in cc) }
     whole same (Two bytes n c r0 r1 k) =
-        absurd (subst Ends (sym (one_first (can_step point.flat pid) (entries.Out pid bytes) (entries.Call pid n c r0 r1 ∷ []) (first_of (entries.Out pid bytes ∷ entries.Call pid n c r0 r1 ∷ []) (same ∙ k)))) ends)
+        absurd (subst Ends
+        (sym (one_first (can_step point.flat pid) (entries.Out pid bytes) (entries.Call pid n c r0 r1 ∷ []) (first_of (entries.Out pid bytes ∷ entries.Call pid n c r0 r1 ∷ []) (same ∙ k)))) ends)
 
     rest : due_at A point pid ≡ behind_first es → Shape pid es → Completes A point pid u
     rest same (Empty k) = absurd (no_first (can_step point.flat pid) (first_of [] (same ∙ ap behind_first k)))
     rest same (One e i k) = absurd (no_first (can_step point.flat pid) (first_of [] (same ∙ ap behind_first k)))
     rest same (Two bytes n c r0 r1 k) =
         let x : entries.Call pid n c r0 r1 ≡ u = one_first (can_step point.flat pid) (entries.Call pid n c r0 r1) [] (first_of (entries.Call pid n c r0 r1 ∷ []) (same ∙ ap behind_first k)) in
-        record { due = same ∙ ap behind_first k ∙ ap (λ (z : Entry). z ∷ []) x; suits = λ d z. subst (λ (y : Entry). Suits (y ∷ []) d) x tt; some = λ z. absurd (let m : [] ≡ entries.Out pid bytes ∷ entries.Call pid n c r0 r1 ∷ [] = sym z ∙ k in cc) }
+        record {
+          due = same ∙ ap behind_first k ∙ ap (λ (z : Entry). z ∷ []) x;
+          suits = λ d z. subst (λ (y : Entry). Suits (y ∷ []) d) x tt;
+          some = λ z. absurd (let m : [] ≡ entries.Out pid bytes ∷ entries.Call pid n c r0 r1 ∷ [] = sym z ∙ k in cc);
+        }
 
     due : (b : Bool) → is_writing point.last pid ≡ b → Completes A point pid u
     due true e = rest (written point.last e) (step_shape A point.flat pid (is_refused point.last pid))
@@ -145,8 +150,10 @@ held_is A s pid u q t found e o f h suits pieces = go u e o suits
     step : Step
     step = step_at A s.point pid
 
-    kept : (c : Change) → step.change ≡ c → change_wanted A.images s.point.flat t c ≡ [] → given_up s.point.flat step.after pid t c found ≡ found → s.holdings ≡ given_up s.point.flat step.after pid t step.change found
-    kept c k w g = none_found A s.holdings found (change_wanted A.images s.point.flat t step.change) (ap (change_wanted A.images s.point.flat t) k ∙ w) pieces ∙ sym g ∙ ap (λ (x : Change). given_up s.point.flat step.after pid t x found) (sym k)
+    kept : (c : Change) → step.change ≡ c → change_wanted A.images s.point.flat t c ≡ [] → given_up s.point.flat step.after pid t c found ≡ found
+        → s.holdings ≡ given_up s.point.flat step.after pid t step.change found
+    kept c k w g = none_found A s.holdings found (change_wanted A.images s.point.flat t step.change) (ap (change_wanted A.images s.point.flat t) k ∙ w) pieces ∙ sym g
+        ∙ ap (λ (x : Change). given_up s.point.flat step.after pid t x found) (sym k)
 
     held : held_step A s.point.flat pid step s.holdings ≡ given_up s.point.flat step.after pid t step.change found
     held = ap (held_if A s.point.flat pid step s.holdings) f ∙ ap (held_in A s.point.flat pid step s.holdings) h
@@ -251,7 +258,8 @@ stepped_form A s u h x n = go (step_form A s.point.flat h.pid (is_refused s.poin
     c : Completes A s.point h.pid u
     c = completes A s.point h.pid u h.ends h.next
 
-    go : Form A.images s.point.flat x.process x.space (is_refused s.point.last h.pid) (step_at A s.point h.pid) → Formed A.images s.point.flat x.process x.space (is_refused s.point.last h.pid) (step_at A s.point h.pid)
+    go : Form A.images s.point.flat x.process x.space (is_refused s.point.last h.pid) (step_at A s.point h.pid)
+        → Formed A.images s.point.flat x.process x.space (is_refused s.point.last h.pid) (step_at A s.point h.pid)
     go (Missed e) = absurd (c.some e)
     go (Came f) = f
 
@@ -286,7 +294,8 @@ stepped_placed A s u images execs numbers lenders h st =
       pieces = found.1;
       settles = settled_when A s pid x.process x.space x.here x.holds h.unsettling;
     } in
-    let made : Placed A (apply_change A.images (apply_writes s.point.flat pid step.writes) pid step.regs step.change) (place_behind A s pid step u) (given_up s.point.flat (apply_change A.images (apply_writes s.point.flat pid step.writes) pid step.regs step.change) pid x.space step.change found.0) =
+    let made : Placed A (apply_change A.images (apply_writes s.point.flat pid step.writes) pid step.regs step.change) (place_behind A s pid step u)
+    (given_up s.point.flat (apply_change A.images (apply_writes s.point.flat pid step.writes) pid step.regs step.change) pid x.space step.change found.0) =
     step_placed A s.point.flat s.place s.holdings found.0 pid step.regs s.journal u x.process x.space step.writes (pages_written s.point.flat pid step) step.change making st in
     subst (λ (x : FlatState). Placed A x (after A s u).place (after A s u).holdings) (sym (stepped_flat A s u h))
     (subst (λ (x : Placement). Placed A step.after x (after A s u).holdings) (sym r.place)

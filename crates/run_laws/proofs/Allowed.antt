@@ -149,7 +149,8 @@ served_few locked at p q l = state (state_of p q)
 
 -- the fill of what is due first
 pub fill_allowed : (p : Placement) (d : Due) (ds : List Due) (e : Entry) → p.due ≡ d ∷ ds → DueStand p → EachOnce p.due
-    → ((u : Entry) → u ≡ e → 0 < length p.free → CanEnter p (due_page d) → IsShared p (due_page d) → NotDue (due_after p.due (due_page d)) (due_page d) → state_of p (due_page d) ≡ Unfilled → filling_of p (due_page d) ≡ Zeros → IsAllowed p u)
+    → ((u : Entry) → u ≡ e → 0 < length p.free → CanEnter p (due_page d) → IsShared p (due_page d) → NotDue (due_after p.due (due_page d)) (due_page d)
+    → state_of p (due_page d) ≡ Unfilled → filling_of p (due_page d) ≡ Zeros → IsAllowed p u)
     → IsAllowed p (fill_unit p e)
 fill_allowed p d ds e h s once make = go p.free refl
   where
@@ -168,11 +169,13 @@ fill_allowed p d ds e h s once make = go p.free refl
         (subst (λ (l : List Due). NotDue l (due_page d)) (sym rest) once_at.0) due.unfilled due.zeros
 
 pub start_allowed : (p : Placement) (q : Page) (ds : List Due) → p.due ≡ Start q ∷ ds → DueStand p → EachOnce p.due → IsAllowed p (fill_unit p (entries.Zero q))
-start_allowed p q ds h s once = fill_allowed p (Start q) ds (entries.Zero q) h s once (λ u i l c sh n st x. subst (IsAllowed p) (sym i) (record { can = c; shared = sh; begins = tt; leaves = n; finds = (l, st, x) }))
+start_allowed p q ds h s once =
+    fill_allowed p (Start q) ds (entries.Zero q) h s once (λ u i l c sh n st x. subst (IsAllowed p) (sym i) (record { can = c; shared = sh; begins = tt; leaves = n; finds = (l, st, x) }))
 
 pub copy_allowed : (p : Placement) (q parent : Page) (ds : List Due) → p.due ≡ CopyOf q parent ∷ ds → DueStand p → EachOnce p.due
     → IsAllowed p (fill_unit p (entries.Copy q))
-copy_allowed p q parent ds h s once = fill_allowed p (CopyOf q parent) ds (entries.Copy q) h s once (λ u i l c sh n st x. subst (IsAllowed p) (sym i) (record { can = c; shared = sh; begins = tt; leaves = n; finds = (l, st) }))
+copy_allowed p q parent ds h s once =
+    fill_allowed p (CopyOf q parent) ds (entries.Copy q) h s once (λ u i l c sh n st x. subst (IsAllowed p) (sym i) (record { can = c; shared = sh; begins = tt; leaves = n; finds = (l, st) }))
 
 pub fill_few : (locked : List Page) (at : ℕ) (p : Placement) (e : Entry) → length p.transfers ≤ 16 → length (place_entry locked at p e).transfers ≤ 16
     → length (place_entry locked at p (fill_unit p e)).transfers ≤ 16
@@ -190,10 +193,12 @@ put_out_allowed p pid sid = unit_case (IsAllowed p) p pid sid
     (λ v e h k. record { can = can v e h k; shared = tt; begins = put_some p v; leaves = tt; finds = tt })
     (λ e h. record { can = tt; shared = tt; begins = tt; leaves = tt; finds = tt })
   where
-    can : (v : Page) → Rattle.page_model.specs.Swapper.is_settled p sid ≡ true → Rattle.page_model.specs.Swapper.first_seated p (Rattle.page_model.specs.Place.pages_of_space p sid) ≡ Some v → (is_dirty p v && is_full p) ≡ false
+    can : (v : Page) → Rattle.page_model.specs.Swapper.is_settled p sid ≡ true → Rattle.page_model.specs.Swapper.first_seated p (Rattle.page_model.specs.Place.pages_of_space p sid) ≡ Some v
+        → (is_dirty p v && is_full p) ≡ false
         → Rattle.page_model.specs.Conditions.CanPlace p (entries.Put v (run_put p v).n)
     can v e h k = subst (Rattle.page_model.specs.Conditions.CanPlace p) (
-        ap (Rattle.page_model.specs.Swapper.put_out_if p pid sid) e ∙ ap (Rattle.page_model.specs.Swapper.put_out_by p pid) h ∙ ap (Rattle.page_model.specs.Swapper.put_unit_by p v) k) (unit_can p pid sid)
+        ap (Rattle.page_model.specs.Swapper.put_out_if p pid sid) e ∙ ap (Rattle.page_model.specs.Swapper.put_out_by p pid) h ∙ ap (Rattle.page_model.specs.Swapper.put_unit_by p v) k)
+        (unit_can p pid sid)
 
 -- Moves of the hands.
 

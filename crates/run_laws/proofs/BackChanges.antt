@@ -59,8 +59,12 @@ pub back_told : (A : Inputs) (k : Kernel) (flat : FlatState) (pid : ℕ) (regs :
     → Told A (change_step (facts_of A.images) (pass_step k pid m.pid) pid regs e change) (apply_change A.images flat pid regs change)
 back_told A k flat pid regs e q m s (Exec number top) gb fit nums f h is out due (named, im, whole) t st =
     let i : ImageFits named = fit number named im in
-    record { tables = exec_back_tables k A.images flat pid regs e number top named q m s nums f h is im i.«data» whole t; stands = exec_back_stands A.images k flat pid regs e number top named q m s t due f h is out im st }
-back_told A k flat pid regs e q m s (End status) gb fit nums f h is out due x t st = record { tables = end_back_tables k A.images flat pid regs e status q m s nums f h is t; stands = end_back_stands A.images k flat pid regs e status q m s t f h is st }
+    record {
+      tables = exec_back_tables k A.images flat pid regs e number top named q m s nums f h is im i.«data» whole t;
+      stands = exec_back_stands A.images k flat pid regs e number top named q m s t due f h is out im st;
+    }
+back_told A k flat pid regs e q m s (End status) gb fit nums f h is out due x t st =
+    record { tables = end_back_tables k A.images flat pid regs e status q m s nums f h is t; stands = end_back_stands A.images k flat pid regs e status q m s t f h is st }
 back_told A k flat pid regs e q m s _ gb fit nums f h is out due x t st = absurd gb
 
 -- where the change lands
@@ -75,7 +79,8 @@ lands_any A k pid sid e (Exec image top) l gb x = record { place = x.place; hold
 lands_any A k pid sid e (End status) l gb x = record { place = x.place; holdings = x.holdings; journal = x.journal }
 lands_any A k pid sid e _ l gb x = absurd gb
 
-pub back_lands : (A : Inputs) (k : Kernel) (flat : FlatState) (pid : ℕ) (regs : Regs) (e : Entry) (q m : Process) (s : Space) (change : Change) (a : Borrowing k flat pid q m s)
+pub back_lands : (A : Inputs) (k : Kernel) (flat : FlatState) (pid : ℕ) (regs : Regs) (e : Entry) (q m : Process) (s : Space) (change : Change)
+    (a : Borrowing k flat pid q m s)
     → GivesBack change
     → Lands A k pid s.sid e change (change_step (facts_of A.images) (pass_step k pid m.pid) pid regs e change)
 back_lands A k flat pid regs e q m s change a gb =
@@ -84,18 +89,22 @@ back_lands A k flat pid regs e q m s change a gb =
     lands_any A k pid s.sid e change (change_step (facts_of A.images) (pass_step k pid m.pid) pid regs e change) gb
     (subst (λ (x : Kernel). Lands A k pid 0 e change (change_step (facts_of A.images) x pid regs e change)) (sym (back_kernel k flat pid q m s a))
     (subst (Lands A k pid 0 e change) (sym (step_is (facts_of A.images) k1 pid regs e change (record g.proc { life = New }) New (back_proc k flat pid q m s a) refl))
-    (subst (λ (n : ℕ). Lands A k n 0 e change (by_life (facts_of A.images) k1 (record g.proc { regs = regs; life = New }) New e change)) g.pid_is (record { place = refl; holdings = refl; journal = refl }))))
+    (subst (λ (n : ℕ). Lands A k n 0 e change (by_life (facts_of A.images) k1 (record g.proc { regs = regs; life = New }) New e change)) g.pid_is
+    (record { place = refl; holdings = refl; journal = refl }))))
 
 pub asks_same : (images : List Image) (k l : Kernel) (pid : ℕ) (change : Change) → GivesBack change → l.place ≡ k.place → l.next_sid ≡ k.next_sid
     → asked images l pid change ≡ asked images k pid change
-asks_same images k l pid (Exec image top) gb p n = ap (λ (x : Placement). Rattle.kernel_model.specs.Asks.image_asked x l.next_sid image (facts_numbered images image)) p ∙ ap (λ (m : ℕ). Rattle.kernel_model.specs.Asks.image_asked k.place m image (facts_numbered images image)) n
+asks_same images k l pid (Exec image top) gb p n = ap (λ (x : Placement). Rattle.kernel_model.specs.Asks.image_asked x l.next_sid image (facts_numbered images image)) p
+    ∙ ap (λ (m : ℕ). Rattle.kernel_model.specs.Asks.image_asked k.place m image (facts_numbered images image)) n
 asks_same images k l pid (End status) gb p n = refl
 asks_same images k l pid _ gb p n = absurd gb
 
-pub back_change : (A : Inputs) (flat : FlatState) (p : Placement) (hs found : Holdings) (pid : ℕ) (regs : Regs) (j : List Entry) (e : Entry) (q : Process) (s : Space) (change : Change)
+pub back_change : (A : Inputs) (flat : FlatState) (p : Placement) (hs found : Holdings) (pid : ℕ) (regs : Regs) (j : List Entry) (e : Entry) (q : Process)
+    (s : Space) (change : Change)
     → Changing A flat p hs found pid q s change → LendsStand flat → is_borrower flat.processes pid ≡ true → GivesBack change
     → Placed A flat p hs
-    → Placed A (apply_change A.images flat pid regs change) (place_change (facts_of A.images) p pid s.sid true flat.next_sid (length (append j e)) change) (given_up flat (apply_change A.images flat pid regs change) pid s change found)
+    → Placed A (apply_change A.images flat pid regs change) (place_change (facts_of A.images) p pid s.sid true flat.next_sid (length (append j e)) change)
+    (given_up flat (apply_change A.images flat pid regs change) pid s change found)
 back_change A flat p hs found pid regs j e q s change c lend w gb st =
     let at : ℕ = length (append j e) in
     let after : FlatState = apply_change A.images flat pid regs change in
@@ -118,7 +127,8 @@ back_change A flat p hs found pid regs j e q s change c lend w gb st =
     let n1 : Numbered k1 = pass_numbered k pid m.pid own_lives lender_lives n in
     let ready : ReadyFor k1 pid change = back_ready k flat pid q m s change a gb in
     let pieces : place_all A.swap_blocks hs (asked (facts_of A.images) k1 pid change) ≡ Ok found =
-    ap (place_all A.swap_blocks hs) (asks_same (facts_of A.images) k k1 pid change gb refl refl ∙ change_same A.images k flat pid q s change c.images sb.texts n c.numbers t c.found_process c.holds) ∙ c.pieces in
+    ap (place_all A.swap_blocks hs) (asks_same (facts_of A.images) k k1 pid change gb refl refl ∙ change_same A.images k flat pid q s change c.images sb.texts n c.numbers t c.found_process c.holds)
+    ∙ c.pieces in
     let l : Kernel = change_step (facts_of A.images) k1 pid regs e change in
     let sound : Sound A.swap_blocks l = ready_sound A.swap_blocks (facts_of A.images) k1 hs pid regs e change sound1 n1 ready pieces in
     let numbered_now : Numbered l = flat_numbered (facts_of A.images) k1 pid regs e change (takes_none k1 change gb) ready.alive n1 in

@@ -69,7 +69,8 @@ first_same : (images : List NamedImage) (p : Placement) (earlier : List ℕ) (pi
     → image_numbered images n ≡ Some named
     → 2 * length (slots_of p (pages.Text n 0)) ≡ 2 * text_pages_of named.image.facts
     → first_wanted images (contains earlier n) pid n ++ rest
-    ≡ text_asked (times n earlier) n (2 * length (slots_of p (pages.Text n 0))) ++ (wanted (owners.Data pid) (pieces (2 * data_pages_of named.image.facts)) ++ (wanted (owners.Stack pid) (pieces 2) ++ (wanted (owners.U pid) (u_pieces 2) ++ rest)))
+    ≡ text_asked (times n earlier) n (2 * length (slots_of p (pages.Text n 0))) ++ (wanted (owners.Data pid) (pieces (2 * data_pages_of named.image.facts))
+    ++ (wanted (owners.Stack pid) (pieces 2) ++ (wanted (owners.U pid) (u_pieces 2) ++ rest)))
 first_same images p earlier pid n named rest e size =
     let t : List Wanted = text_wanted (contains earlier n) n named.image in
     let d : List Wanted = pieces_for (owners.Data pid) (data_pages_of named.image.facts) in
@@ -77,7 +78,8 @@ first_same images p earlier pid n named rest e size =
     let u : List Wanted = pieces_for (owners.U pid) 1 in
     ap (λ (o : Option NamedImage). (image_wanted (contains earlier n) pid n o ++ u) ++ rest) e
     ∙ assoc ((t ++ d) ++ k) u rest ∙ assoc (t ++ d) k (u ++ rest) ∙ assoc t d (k ++ (u ++ rest))
-    ∙ ap (λ (x : List Wanted). x ++ (d ++ (k ++ (u ++ rest)))) (sym (text_same n (times n earlier) (2 * length (slots_of p (pages.Text n 0))) (contains earlier n) named (contains_times earlier n).0 (contains_times earlier n).1 size))
+    ∙ ap (λ (x : List Wanted). x ++ (d ++ (k ++ (u ++ rest))))
+    (sym (text_same n (times n earlier) (2 * length (slots_of p (pages.Text n 0))) (contains earlier n) named (contains_times earlier n).0 (contains_times earlier n).1 size))
 
 first_joined : (A : Inputs) (p : Placement) (earlier : List ℕ) (pid : ℕ) (ns : List ℕ) (hs found : Holdings) → FirstThere A.images ns
     → ((n : ℕ) (named : NamedImage) → image_numbered A.images n ≡ Some named → 2 * length (slots_of p (pages.Text n 0)) ≡ 2 * text_pages_of named.image.facts)
@@ -95,7 +97,8 @@ first_joined A p earlier pid (n ∷ ns) hs found there sizes h =
     ∙ go (λ now k. first_joined A p (n ∷ earlier) (pid + 1) ns now found there.1 sizes k) (place_all A.swap_blocks hs (first_wanted A.images (contains earlier n) pid n)) h
   where
     go : ((now : Holdings) → first_held A (n ∷ earlier) (pid + 1) ns now ≡ Ok found → place_all A.swap_blocks now (start_asks p (n ∷ earlier) (pid + 1) (starting A.images ns)) ≡ Ok found)
-        → (r : Result Holdings ℕ) → first_then pid r (first_held A (n ∷ earlier) (pid + 1) ns) ≡ Ok found → and_then r (λ now. place_all A.swap_blocks now (start_asks p (n ∷ earlier) (pid + 1) (starting A.images ns))) ≡ Ok found
+        → (r : Result Holdings ℕ) → first_then pid r (first_held A (n ∷ earlier) (pid + 1) ns) ≡ Ok found
+        → and_then r (λ now. place_all A.swap_blocks now (start_asks p (n ∷ earlier) (pid + 1) (starting A.images ns))) ≡ Ok found
     go ih (Ok now) k = ih now k
     go ih (Err m) k = absurd cc
 
@@ -110,7 +113,8 @@ started_lives images (m ∷ ns) pid n h =
     ∙ sym (ap (λ (o : Option NamedImage). is_started pid (starting_as m o ++ starting images ns) n) h.0.1)
   where
     go : (b : Bool) → lives (map kept_of (start_processes images (pid + 1) ns)) n ≡ is_started (pid + 1) (starting images ns) n
-        → lives_in (cond b (Some (kept_of (start_process pid m h.0.0))) (numbered (λ (x : Proc). x.pid) n (map kept_of (start_processes images (pid + 1) ns)))) ≡ cond b true (is_started (pid + 1) (starting images ns) n)
+        → lives_in (cond b (Some (kept_of (start_process pid m h.0.0))) (numbered (λ (x : Proc). x.pid) n (map kept_of (start_processes images (pid + 1) ns))))
+        ≡ cond b true (is_started (pid + 1) (starting images ns) n)
     go true ih = refl
     go false ih = ih
 
@@ -124,7 +128,8 @@ started_count images (n ∷ ns) h = ap (λ (o : Option NamedImage). length (star
 
 later_not_due : (m n : ℕ) (first : List Starting) → m < n → NotDue (due_from n first) (pages.Stack m 0)
 later_not_due m n [] l = refl
-later_not_due m n (a ∷ more) l = ap (λ (b : Bool). cond (b && (0 == 0)) (Some (Start (pages.Stack n 0))) (due_at (due_from (n + 1) more) (pages.Stack m 0))) (ne_eqb n m (λ e. absurd (omega arith))) ∙ later_not_due m (n + 1) more (omega arith)
+later_not_due m n (a ∷ more) l = ap (λ (b : Bool). cond (b && (0 == 0)) (Some (Start (pages.Stack n 0))) (due_at (due_from (n + 1) more) (pages.Stack m 0))) (ne_eqb n m (λ e. absurd (omega arith)))
+    ∙ later_not_due m (n + 1) more (omega arith)
 
 start_once : (n : ℕ) (first : List Starting) → EachOnce (due_from n first)
 start_once n [] = tt
@@ -158,7 +163,8 @@ run_start A hs images there some found =
     let n : IsNumbered (start_state A) = start_numbered A in
     let numbers : Numbered k = record {
       spaces_differ = (start_numbers facts first A.frames).0;
-      spaces_below = subst (λ (m : ℕ). AllBelow m (map Rattle.page_model.specs.Placement.space_number p.spaces)) (let e = started_count A.images A.first there in let z : 1 + length first ≡ length A.first + 1 = omega arith in z) (start_numbers facts first A.frames).1;
+      spaces_below = subst (λ (m : ℕ). AllBelow m (map Rattle.page_model.specs.Placement.space_number p.spaces))
+          (let e = started_count A.images A.first there in let z : 1 + length first ≡ length A.first + 1 = omega arith in z) (start_numbers facts first A.frames).1;
       pids_differ = subst AllDistinct (sym (kept_pids (start_state A).processes)) n.pids;
       pids_below = subst (AllBelow (start_state A).next_pid) (sym (kept_pids (start_state A).processes)) n.pids_below;
       residents = λ m a. started_in 1 m first (sym (started_lives A.images A.first 1 m there) ∙ a);

@@ -134,7 +134,8 @@ step_reaches A s k image u images execs numbers lenders at h valid =
     let t1 : SameTables k1 flat1 = c1.tables in
     let st1 : Stands A.images k1 flat1 = mid1.stands in
     let borrows : is_borrower flat1.processes pid ≡ is_borrower flat.processes pid =
-    borrows_same flat1.processes flat.processes pid (sym t1.processes ∙ ap (λ (ps : List Rattle.kernel_model.specs.Kernel.Proc). Rattle.std.specs.Prelude.map Rattle.kernel_model.specs.Coupled.outline_kept ps) rest.processes ∙ t0.processes) in
+    borrows_same flat1.processes flat.processes pid
+    (sym t1.processes ∙ ap (λ (ps : List Rattle.kernel_model.specs.Kernel.Proc). Rattle.std.specs.Prelude.map Rattle.kernel_model.specs.Coupled.outline_kept ps) rest.processes ∙ t0.processes) in
     let next : k1.next_sid ≡ flat.next_sid = rest.next_sid ∙ t0.next_sid in
     -- with the pieces
     let k2 : Kernel = record k1 { holdings = found.0 } in
@@ -147,12 +148,15 @@ step_reaches A s k image u images execs numbers lenders at h valid =
     ∙ ap (λ (o : Result Holdings ℕ). let y : Kernel = record k1 { holdings = or_before s.holdings o } in y) found.1 in
     let wanted1 : change_wanted A.images flat1 z step.change ≡ change_wanted A.images flat x.space step.change =
     let t01 : SameTables k flat1 = subst (SameTables k) (sym w.is) (space_tables k flat x.process x.space z numbers (found_self flat pid x.process x.here) x.holds same t0) in
-    sym (change_same A.images k flat1 pid q1 z step.change images st0.texts kp.numbered numbers1 t01 here refl) ∙ change_same A.images k flat pid x.process x.space step.change images st0.texts kp.numbered numbers t0 x.here x.holds in
+    sym (change_same A.images k flat1 pid q1 z step.change images st0.texts kp.numbered numbers1 t01 here refl)
+    ∙ change_same A.images k flat pid x.process x.space step.change images st0.texts kp.numbered numbers t0 x.here x.holds in
     let pieces1 : place_all A.swap_blocks s.holdings (change_wanted A.images flat1 z step.change) ≡ Ok found.0 = ap (place_all A.swap_blocks s.holdings) wanted1 ∙ found.1 in
     let ready : Found A flat1 k2 image s.holdings = record {
       sound = subst (λ (hs : Holdings). Sound A.swap_blocks (record k1 { holdings = hs })) held1 mid1.sound;
-      numbered = let n1 : Numbered k1 = mid1.numbered in record { spaces_differ = n1.spaces_differ; spaces_below = n1.spaces_below; pids_differ = n1.pids_differ; pids_below = n1.pids_below; residents = n1.residents };
-      coupled = takes_coupled A.swap_blocks k1 A.images image flat1 (change_wanted A.images flat1 z step.change) found.0 st1.texts (ap (λ (hs : Holdings). place_all A.swap_blocks hs (change_wanted A.images flat1 z step.change)) held1 ∙ pieces1) c1;
+      numbered = let n1 : Numbered k1 =
+          mid1.numbered in record { spaces_differ = n1.spaces_differ; spaces_below = n1.spaces_below; pids_differ = n1.pids_differ; pids_below = n1.pids_below; residents = n1.residents };
+      coupled = takes_coupled A.swap_blocks k1 A.images image flat1 (change_wanted A.images flat1 z step.change) found.0 st1.texts
+          (ap (λ (hs : Holdings). place_all A.swap_blocks hs (change_wanted A.images flat1 z step.change)) held1 ∙ pieces1) c1;
       stands = record { starts = st1.starts; texts = st1.texts; out = st1.out };
     } in
     let changing : Changing A flat1 k1.place s.holdings found.0 pid q1 z step.change = record {
@@ -171,8 +175,10 @@ step_reaches A s k image u images execs numbers lenders at h valid =
     let settled : loses_pages z (is_borrower flat.processes pid) step.change ≡ true → is_settled k1.place z.sid ≡ true = λ l.
     ap (λ (p : Placement). is_settled p z.sid) place1 ∙ ap (is_settled p1) same.sid ∙ touched_settled written s.place x.space.sid
     ∙ settled_when A s pid x.process x.space x.here x.holds h.unsettling (sym (loses step.change (is_borrower flat.processes pid)) ∙ l) in
-    let landed : Landed A (apply_change A.images flat1 pid step.regs step.change) k2 (passing_change (is_borrower flat.processes pid) (facts_of A.images) k2 pid step.regs u step.change) image pid z.sid (is_borrower flat.processes pid) u step.change (given_up flat1 (apply_change A.images flat1 pid step.regs step.change) pid z step.change found.0) =
-    step_landed A k2 flat1 image s.holdings pid step.regs u q1 z (is_borrower flat.processes pid) step.change changing lenders1 borrows (λ o. settles_for k1.place z (is_borrower flat.processes pid) step.change o fits1 settled) ready in
+    let landed : Landed A (apply_change A.images flat1 pid step.regs step.change) k2 (passing_change (is_borrower flat.processes pid) (facts_of A.images) k2 pid step.regs u step.change) image pid
+    z.sid (is_borrower flat.processes pid) u step.change (given_up flat1 (apply_change A.images flat1 pid step.regs step.change) pid z step.change found.0) =
+    step_landed A k2 flat1 image s.holdings pid step.regs u q1 z (is_borrower flat.processes pid) step.change changing lenders1 borrows
+    (λ o. settles_for k1.place z (is_borrower flat.processes pid) step.change o fits1 settled) ready in
     let sid_is : z.sid ≡ space_of_process (process_of flat pid) = same.sid ∙ sym (ap space_of_process x.here ∙ ap space_of_holding x.holds) in
     let journal1 : k1.journal ≡ s.journal = rest.journal ∙ at.journal in
     let changes : Reaches A s u (process_step A s k pid u) image =
@@ -182,7 +188,8 @@ step_reaches A s k image u images execs numbers lenders at h valid =
           ∙ ap (λ (p : Placement). place_change (facts_of A.images) p pid z.sid (is_borrower flat.processes pid) k1.next_sid (length (append k1.journal u)) step.change) place1
           ∙ ap (λ (n : ℕ). place_change (facts_of A.images) p1 pid n (is_borrower flat.processes pid) k1.next_sid (length (append k1.journal u)) step.change) sid_is
           ∙ ap (λ (n : ℕ). place_change (facts_of A.images) p1 pid (space_of_process (process_of flat pid)) (is_borrower flat.processes pid) n (length (append k1.journal u)) step.change) next
-          ∙ ap (λ (j : List Entry). place_change (facts_of A.images) p1 pid (space_of_process (process_of flat pid)) (is_borrower flat.processes pid) flat.next_sid (length (append j u)) step.change) journal1
+          ∙ ap (λ (j : List Entry). place_change (facts_of A.images) p1 pid (space_of_process (process_of flat pid)) (is_borrower flat.processes pid) flat.next_sid (length (append j u)) step.change)
+          journal1
           ∙ sym r.place;
       holdings = landed.holdings ∙ given_written flat flat1 (apply_change A.images flat1 pid step.regs step.change) pid x.space z step.change found.0 same.sid same.image borrows
           ∙ ap (λ (y : FlatState). given_up flat y pid x.space step.change found.0) (sym form_after)
@@ -199,7 +206,8 @@ step_reaches A s k image u images execs numbers lenders at h valid =
         coupled = ran_coupled k1 A.images image flat1 pid step.regs u q1 z here refl changing.resident c1;
         stands = ran_stands A.images k1 flat1 pid step.regs u q1 z here refl changing.resident st1;
       });
-      place = place1 ∙ sym (r.place ∙ ap (λ (y : Change). place_change (facts_of A.images) p1 pid (space_of_process (process_of flat pid)) (is_borrower flat.processes pid) flat.next_sid (place_at s u) y) keep);
+      place = place1
+          ∙ sym (r.place ∙ ap (λ (y : Change). place_change (facts_of A.images) p1 pid (space_of_process (process_of flat pid)) (is_borrower flat.processes pid) flat.next_sid (place_at s u) y) keep);
       holdings = held1 ∙ sym (r.holdings ∙ ap (λ (y : Entry). held_entry A s.point y s.holdings) i);
       journal = ap (λ (j : List Entry). append j u) journal1;
     })) in
@@ -210,7 +218,8 @@ step_reaches A s k image u images execs numbers lenders at h valid =
       taken = subst (λ (y : Kernel). Coupled y A.images image flat1) (sym k2_is) ready.coupled;
       out_regs = subst (λ (x : FlatState). OutRegs (after A s u).place x) (sym flat_is)
           (regs_stay A.images flat s.place (after A s u).place pid step.writes step.regs step.change runs.resident outs may
-          (λ n e. still_out n (change_out (facts_of A.images) (touch_all s.place written) pid (space_of_process (process_of flat pid)) (is_borrower flat.processes pid) flat.next_sid (place_at s u) step.change n (ap (λ (p : Placement). is_out p n) (sym r.place) ∙ e)))
+          (λ n e. still_out n (change_out (facts_of A.images) (touch_all s.place written) pid (space_of_process (process_of flat pid)) (is_borrower flat.processes pid) flat.next_sid
+          (place_at s u) step.change n (ap (λ (p : Placement). is_out p n) (sym r.place) ∙ e)))
           (subst (λ (p : Placement). OutRegs p flat) at.place kp.out_regs));
     }
   where

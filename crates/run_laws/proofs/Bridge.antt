@@ -33,7 +33,8 @@ lives_by (Some p) = refl
 -- who lives is seen by the outlines
 pub lives_same : (ks ls : List Proc) → map outline_kept ks ≡ map outline_kept ls → (n : ℕ) → lives ks n ≡ lives ls n
 lives_same ks ls e n =
-    lives_by (numbered kept_pid n ks) ∙ ap alive_by (sym (numbered_image outline_kept kept_pid (λ (o : Outline). o.pid) (λ x. refl) n ks) ∙ ap (numbered (λ (o : Outline). o.pid) n) e ∙ numbered_image outline_kept kept_pid (λ (o : Outline). o.pid) (λ x. refl) n ls)
+    lives_by (numbered kept_pid n ks) ∙ ap alive_by (sym (numbered_image outline_kept kept_pid (λ (o : Outline). o.pid) (λ x. refl) n ks) ∙ ap (numbered (λ (o : Outline). o.pid) n) e
+    ∙ numbered_image outline_kept kept_pid (λ (o : Outline). o.pid) (λ x. refl) n ls)
     ∙ sym (lives_by (numbered kept_pid n ls))
 
 pub kept_numbers : (ps : List Process) → map (λ (p : Proc). p.pid) (map kept_of ps) ≡ map pid_of ps
@@ -49,7 +50,8 @@ from_machine A flat k so n t st d o h f =
     let e : map outline_kept (map kept_of flat.processes) ≡ map outline_kept k.processes = start_outlines flat.processes ∙ sym t.processes in
     let p : map (λ (x : Proc). x.pid) (map kept_of flat.processes) ≡ map (λ (x : Proc). x.pid) k.processes = kept_numbers flat.processes ∙ sym (pids_same k.processes flat.processes t.processes) in
     record {
-      sound = bare_sound A.swap_blocks flat k.place k.holdings (alive_owner A.swap_blocks (lives k.processes) (lives (map kept_of flat.processes)) k.place k.holdings (lives_same (map kept_of flat.processes) k.processes e) w) so.hands so.few_transfers;
+      sound = bare_sound A.swap_blocks flat k.place k.holdings
+          (alive_owner A.swap_blocks (lives k.processes) (lives (map kept_of flat.processes)) k.place k.holdings (lives_same (map kept_of flat.processes) k.processes e) w) so.hands so.few_transfers;
       numbered = record {
         spaces_differ = n.spaces_differ;
         spaces_below = subst (λ (m : ℕ). AllBelow m (map Rattle.page_model.specs.Placement.space_number k.place.spaces)) t.next_sid n.spaces_below;

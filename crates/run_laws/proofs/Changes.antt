@@ -40,7 +40,8 @@ kept_twice a b (h ∷ hs) = go (same_owner h.owner a) (same_owner h.owner b) ref
     go true true e f ih = ih
     go true false e f ih = ap (λ (z : Bool). cond z (kept a 0 (kept b 0 hs)) (h ∷ kept a 0 (kept b 0 hs))) e ∙ ih
     go false true e f ih = ih ∙ sym (ap (λ (z : Bool). cond z (kept b 0 (kept a 0 hs)) (h ∷ kept b 0 (kept a 0 hs))) f)
-    go false false e f ih = ap (λ (z : Bool). cond z (kept a 0 (kept b 0 hs)) (h ∷ kept a 0 (kept b 0 hs))) e ∙ ap (λ (l : List Held). h ∷ l) ih ∙ sym (ap (λ (z : Bool). cond z (kept b 0 (kept a 0 hs)) (h ∷ kept b 0 (kept a 0 hs))) f)
+    go false false e f ih = ap (λ (z : Bool). cond z (kept a 0 (kept b 0 hs)) (h ∷ kept a 0 (kept b 0 hs))) e ∙ ap (λ (l : List Held). h ∷ l) ih
+        ∙ sym (ap (λ (z : Bool). cond z (kept b 0 (kept a 0 hs)) (h ∷ kept b 0 (kept a 0 hs))) f)
 
 text_back : (shared : Bool) (left image : ℕ) (hs : Holdings) → (left ≡ 0 → shared ≡ false) → ((m : ℕ) → left ≡ suc m → shared ≡ true)
     → without_text shared image hs ≡ text_given_back left hs image
@@ -64,7 +65,8 @@ u_back false hs sid image left pid = text left
     both : kept (owners.Stack sid) 0 (kept (owners.Data sid) 0 (kept (owners.U pid) 0 hs)) ≡ kept (owners.U pid) 0 (kept (owners.Stack sid) 0 (kept (owners.Data sid) 0 hs))
     both = ap (kept (owners.Stack sid) 0) (kept_twice (owners.Data sid) (owners.U pid) hs) ∙ kept_twice (owners.Stack sid) (owners.U pid) (kept (owners.Data sid) 0 hs)
 
-    text : (n : ℕ) → text_given_back n (kept (owners.Stack sid) 0 (kept (owners.Data sid) 0 (kept (owners.U pid) 0 hs))) image ≡ kept (owners.U pid) 0 (text_given_back n (kept (owners.Stack sid) 0 (kept (owners.Data sid) 0 hs)) image)
+    text : (n : ℕ) → text_given_back n (kept (owners.Stack sid) 0 (kept (owners.Data sid) 0 (kept (owners.U pid) 0 hs))) image
+        ≡ kept (owners.U pid) 0 (text_given_back n (kept (owners.Stack sid) 0 (kept (owners.Data sid) 0 hs)) image)
     text zero = ap (kept (owners.Text image) 0) both ∙ kept_twice (owners.Text image) (owners.U pid) (kept (owners.Stack sid) 0 (kept (owners.Data sid) 0 hs))
     text (suc n) = both
 
@@ -74,10 +76,12 @@ map_count f (x ∷ xs) = ap suc (map_count f xs)
 
 pub given_same : (flat after : FlatState) (pid : ℕ) (s : Space) (change : Change) (hs : Holdings) (p q : Placement) (borrowed : Bool)
     → is_borrower flat.processes pid ≡ borrowed → image_of p s.sid ≡ s.image
-    → (borrowed ≡ false → (sharers q (image_of p s.sid) ≡ 0 → is_shared after s.image ≡ false) × ((m : ℕ) → sharers q (image_of p s.sid) ≡ suc m → is_shared after s.image ≡ true))
+    → (borrowed ≡ false → (sharers q (image_of p s.sid) ≡ 0 → is_shared after s.image ≡ false)
+    × ((m : ℕ) → sharers q (image_of p s.sid) ≡ suc m → is_shared after s.image ≡ true))
     → given_up flat after pid s change hs ≡ holdings_after hs p q pid s.sid borrowed change
 given_same flat after pid s (Resize d t) hs p q borrowed b i h =
-    ap₂ (λ (m n : ℕ). kept (owners.Stack s.sid) m (kept (owners.Data s.sid) n hs)) (map_count (Rattle.swap_book.specs.Placing.one (owners.Stack s.sid)) (pieces (2 * t))) (map_count (Rattle.swap_book.specs.Placing.one (owners.Data s.sid)) (pieces (2 * d)))
+    ap₂ (λ (m n : ℕ). kept (owners.Stack s.sid) m (kept (owners.Data s.sid) n hs)) (map_count (Rattle.swap_book.specs.Placing.one (owners.Stack s.sid)) (pieces (2 * t)))
+    (map_count (Rattle.swap_book.specs.Placing.one (owners.Data s.sid)) (pieces (2 * d)))
 given_same flat after pid s (Exec image top) hs p q borrowed b i h =
     ap (λ (x : Bool). without_own x after s hs) b ∙ own_back borrowed after s hs (image_of p s.sid) (sharers q (image_of p s.sid)) (sym i) h
 given_same flat after pid s (End status) hs p q borrowed b i h =
@@ -133,7 +137,8 @@ copies_once : (child parent : ℕ → Page) (v : ℕ) (xs : List Slot) → ((u w
 copies_once child parent v [] h = tt
 copies_once child parent v (x ∷ xs) h = go x.state (copies_once child parent (v + 1) xs h) (absent_copies child parent (child v) (v + 1) xs (λ w l. h v w (omega arith)))
   where
-    go : (t : PageState) → EachOnce (copies_from child parent (v + 1) xs) → NotDue (copies_from child parent (v + 1) xs) (child v) → EachOnce (copy_due (child v) (parent v) t ++ copies_from child parent (v + 1) xs)
+    go : (t : PageState) → EachOnce (copies_from child parent (v + 1) xs) → NotDue (copies_from child parent (v + 1) xs) (child v)
+        → EachOnce (copy_due (child v) (parent v) t ++ copies_from child parent (v + 1) xs)
     go Unfilled ih n = ih
     go (Valid f) ih n = (n, ih)
     go (Invalid f) ih n = (n, ih)
@@ -151,7 +156,8 @@ none_once p e = subst EachOnce (sym e) tt
 
 pub change_once : (images : List Image) (p : Placement) (pid sid : ℕ) (borrowed : Bool) (next at : ℕ) (change : Change) → p.due ≡ []
     → EachOnce (place_change images p pid sid borrowed next at change).due
-change_once images p pid sid borrowed next at (Resize d s) e = none_once (place_change images p pid sid borrowed next at (Resize d s)) ((Rattle.page_laws.proofs.Bytes.Changes.drop_all_rest (Rattle.page_laws.proofs.Ownership.Changes.dropped_pages p sid d s) p).1 ∙ e)
+change_once images p pid sid borrowed next at (Resize d s) e = none_once (place_change images p pid sid borrowed next at (Resize d s))
+    ((Rattle.page_laws.proofs.Bytes.Changes.drop_all_rest (Rattle.page_laws.proofs.Ownership.Changes.dropped_pages p sid d s) p).1 ∙ e)
 change_once images p pid sid borrowed next at (Fork child) e =
     append_once (copies_from (pages.Data next) (pages.Data sid) 0 (slots_of p (pages.Data sid 0))) (copies_from (pages.Stack next) (pages.Stack sid) 0 (slots_of p (pages.Stack sid 0)))
     (copies_once (pages.Data next) (pages.Data sid) 0 (slots_of p (pages.Data sid 0)) (λ u w l. ap (λ (b : Bool). (next == next) && b) (later_apart u w l) ∙ and-false (next == next)))

@@ -43,9 +43,12 @@ held_in F (q ∷ ps) r d o = go (runner_by F q q.holding) refl (held_in F ps r d
         pick false k = e
 
     here : (q.pid ≡ r.pid) × (holds_space q.holding ≡ true) → holds_some (cond (q.pid == r.pid) (Some q) (find (λ x. x.pid == r.pid) ps)) ≡ true
-    here h = ap (λ (n : ℕ). holds_some (cond (n == r.pid) (Some q) (find (λ x. x.pid == r.pid) ps))) h.0 ∙ ap (λ (b : Bool). holds_some (cond b (Some q) (find (λ x. x.pid == r.pid) ps))) (eq_self r.pid) ∙ h.1
+    here h =
+        ap (λ (n : ℕ). holds_some (cond (n == r.pid) (Some q) (find (λ x. x.pid == r.pid) ps))) h.0
+        ∙ ap (λ (b : Bool). holds_some (cond b (Some q) (find (λ x. x.pid == r.pid) ps))) (eq_self r.pid) ∙ h.1
 
-    go : (x : Option Runner) → runner_by F q q.holding ≡ x → (OneOf r rest → holds_some (find (λ y. y.pid == r.pid) ps) ≡ true) → OneOf r (cons_option x rest) → holds_some (cond (q.pid == r.pid) (Some q) (find (λ y. y.pid == r.pid) ps)) ≡ true
+    go : (x : Option Runner) → runner_by F q q.holding ≡ x → (OneOf r rest → holds_some (find (λ y. y.pid == r.pid) ps) ≡ true) → OneOf r (cons_option x rest)
+        → holds_some (cond (q.pid == r.pid) (Some q) (find (λ y. y.pid == r.pid) ps)) ≡ true
     go None e ih o = behind (ih o)
     go (Some y) e ih (inl i) = here (runner_holds F q q.holding r (e ∙ ap (λ (z : Runner). Some z) (sym i)))
     go (Some y) e ih (inr o) = behind (ih o)

@@ -114,11 +114,13 @@ kind_goes A s k image read u x st nums texts (Copies q parent due e none i) n y 
     let h : due_at k.place.due q ≡ Some (CopyOf q parent) = due_here A s k q (CopyOf q parent) due x.same refl e in
     let d : IsDue k.place q (CopyOf q parent) = subst DueStand (sym x.same) st.dues q (CopyOf q parent) h in
     let v : (f : ℕ) × (state_of s.place parent ≡ Valid f) = served_none s.place parent none in
-    goes_copy A.swap_blocks k A.images image s.point.flat (locked A s) read q q parent v.0 x.machine (record { there = d.there; frameless = ap frame_of d.unfilled }) d.writable some d.unfilled h (ap (λ (p : Placement). state_of p parent) x.same ∙ v.1) in
+    goes_copy A.swap_blocks k A.images image s.point.flat (locked A s) read q q parent v.0 x.machine (record { there = d.there; frameless = ap frame_of d.unfilled }) d.writable some d.unfilled h
+    (ap (λ (p : Placement). state_of p parent) x.same ∙ v.1) in
     subst (Couples A s k image read) (sym i) (filled A s k image read (entries.Copy q) x make)
 kind_goes A s k image read u x st nums texts (Serves pid now q r w i) n y =
     let j : Splits s.place (touched_next A s) (locked A s) q = wanted_splits A s q r.clear w in
-    let all = subst (Rattle.page_model.specs.Conditions.EachPage (Present s.place)) (ap (touched_by A s.point.flat) (sym (on_running A s s.mark pid now r.on))) (touched_present A s.point.flat s.place s.holdings pid nums texts st) in
+    let all = subst (Rattle.page_model.specs.Conditions.EachPage (Present s.place)) (ap (touched_by A s.point.flat) (sym (on_running A s s.mark pid now r.on)))
+    (touched_present A s.point.flat s.place s.holdings pid nums texts st) in
     let here : Present s.place q = each_split (Present s.place) (locked A s) q j.behind (subst (Rattle.page_model.specs.Conditions.EachPage (Present s.place)) j.whole all) in
     served A s k image read u q now x here.there (ap (λ (l : List Due). due_at l q) r.clear) i
 kind_goes A s k image read u x st nums texts (Acts pid now r w a) n y = subst (Couples A s k image read) (sym (act_plain A s pid u a n)) (finish A s k image read x)
@@ -134,12 +136,16 @@ kind_goes A s k image read u x st nums texts (PutsOut pid e m i) n y =
     subst (λ (e : Entry). Stays e → Couples A s k image read e) (sym i)
     (subst (λ (p : Placement). Stays (put_out_unit p pid sid) → Couples A s k image read (put_out_unit p pid sid)) x.same
     (unit_case (λ (e : Entry). Stays e → Couples A s k image read e) k.place pid sid (λ t ts h z. finish A s k image read x)
-    (λ v h j d z. let c : HasSeat k.place v = seated_seat k.place v (seated_first k.place (pages_of_space k.place sid) v j) in goes_put A.swap_blocks k A.images image s.point.flat (locked A s) read v (run_put k.place v).n x.machine c (run_seats k.place v c))
+    (λ v h j d z. let c : HasSeat k.place v = seated_seat k.place v (seated_first k.place (pages_of_space k.place sid) v j) in
+    goes_put A.swap_blocks k A.images image s.point.flat (locked A s) read v (run_put k.place v).n x.machine c (run_seats k.place v c))
     (λ h j z. absurd z))) y
-kind_goes A s k image read u x st nums texts (Notes e m i) n y = let m : Machine A.swap_blocks k A.images image s.point.flat read = x.machine in subst (Couples A s k image read) (sym i) (record { coupled = note_coupled k A.images image s.point.flat (owners_entry s) m.coupled; stands = note_stands A.images k s.point.flat (owners_entry s) m.stands; tokens = refl })
+kind_goes A s k image read u x st nums texts (Notes e m i) n y = let m : Machine A.swap_blocks k A.images image s.point.flat read = x.machine in subst (Couples A s k image read) (sym i)
+    (record { coupled = note_coupled k A.images image s.point.flat (owners_entry s) m.coupled; stands = note_stands A.images k s.point.flat (owners_entry s) m.stands; tokens = refl })
 kind_goes A s k image read u x st nums texts (Begins e m i) n y = begins_is (Couples A s k image read) A s u i marked
   where
     marked : (z : Entry) → IsMark z → Couples A s k image read z
-    marked (entries.Event line) j = let m : Machine A.swap_blocks k A.images image s.point.flat read = x.machine in record { coupled = note_coupled k A.images image s.point.flat (entries.Event line) m.coupled; stands = note_stands A.images k s.point.flat (entries.Event line) m.stands; tokens = refl }
-    marked (entries.Turn p) j = let m : Machine A.swap_blocks k A.images image s.point.flat read = x.machine in record { coupled = note_coupled k A.images image s.point.flat (entries.Turn p) m.coupled; stands = note_stands A.images k s.point.flat (entries.Turn p) m.stands; tokens = refl }
+    marked (entries.Event line) j = let m : Machine A.swap_blocks k A.images image s.point.flat read = x.machine in
+        record { coupled = note_coupled k A.images image s.point.flat (entries.Event line) m.coupled; stands = note_stands A.images k s.point.flat (entries.Event line) m.stands; tokens = refl }
+    marked (entries.Turn p) j = let m : Machine A.swap_blocks k A.images image s.point.flat read =
+        x.machine in record { coupled = note_coupled k A.images image s.point.flat (entries.Turn p) m.coupled; stands = note_stands A.images k s.point.flat (entries.Turn p) m.stands; tokens = refl }
     marked _ j = absurd j

@@ -48,7 +48,8 @@ pub record Machine (size : ℕ) (k : Kernel) (images : List NamedImage) (image :
   pub coupled : Coupled k images image flat
 
 -- so it is after the entry
-pub record Goes (k : Kernel) (images : List NamedImage) (image : List ℕ) (flat : FlatState) (locked : List Page) (read : List (List ℕ)) (e : Entry) : Type 0 where
+pub record Goes (k : Kernel) (images : List NamedImage) (image : List ℕ) (flat : FlatState) (locked : List Page) (read : List (List ℕ))
+    (e : Entry) : Type 0 where
   pub coupled : Coupled (page_step k locked read e) images (page_image k image e) flat
   pub stands : Stands images (page_step k locked read e) flat
   pub tokens : length (Kernel.frames (page_step k locked read e)) ≡ length k.frames
@@ -70,7 +71,8 @@ goes_hand size k images image flat locked read x = record {
   tokens = refl;
 }
 
-pub goes_put : (size : ℕ) (k : Kernel) (images : List NamedImage) (image : List ℕ) (flat : FlatState) (locked : List Page) (read : List (List ℕ)) (q : Page) (n : ℕ)
+pub goes_put : (size : ℕ) (k : Kernel) (images : List NamedImage) (image : List ℕ) (flat : FlatState) (locked : List Page)
+    (read : List (List ℕ)) (q : Page) (n : ℕ)
     → Machine size k images image flat read → HasSeat k.place q → EachPage (HasSeat k.place) (pages_from q (number_of q) n)
     → Goes k images image flat locked read (entries.Put q n)
 goes_put size k images image flat locked read q n x h hs = record {
@@ -89,9 +91,11 @@ goes_start size k images image flat locked read q r x c w some e d = record {
   tokens = first_length k.place.free k.frames (Rattle.kernel_model.specs.Kernel.start_bytes k.starts q);
 }
 
-pub goes_copy : (size : ℕ) (k : Kernel) (images : List NamedImage) (image : List ℕ) (flat : FlatState) (locked : List Page) (read : List (List ℕ)) (q r parent : Page) (f : ℕ)
+pub goes_copy : (size : ℕ) (k : Kernel) (images : List NamedImage) (image : List ℕ) (flat : FlatState) (locked : List Page) (read : List (List ℕ))
+    (q r parent : Page) (f : ℕ)
     → Machine size k images image flat read → CanEnter k.place q → IsWritable q → 0 < length k.place.free
-    → state_of k.place q ≡ Unfilled → due_at k.place.due q ≡ Some (CopyOf r parent) → state_of k.place parent ≡ Valid f → Goes k images image flat locked read (entries.Copy q)
+    → state_of k.place q ≡ Unfilled → due_at k.place.due q ≡ Some (CopyOf r parent) → state_of k.place parent ≡ Valid f
+    → Goes k images image flat locked read (entries.Copy q)
 goes_copy size k images image flat locked read q r parent f x c w some e d v = record {
   coupled = copy_coupled size k images image flat q r parent f x.sound c w some e d v x.coupled;
   stands = copy_stands images k flat q r parent d x.stands;
@@ -135,7 +139,8 @@ serve_goes size k images image flat locked read q y there due nv = state (state_
       tokens = first_length k.place.free k.frames (Rattle.kernel_model.specs.Kernel.start_bytes k.starts q);
     }
 
-    bring : (s : PageState) (x : Filling) → state_of k.place q ≡ s → filling_of k.place q ≡ x → frame_of s ≡ None → (f : ℕ) (fs : List ℕ) → k.place.free ≡ f ∷ fs → P (bring_entry_by k.place q s x (is_full k.place))
+    bring : (s : PageState) (x : Filling) → state_of k.place q ≡ s → filling_of k.place q ≡ x → frame_of s ≡ None → (f : ℕ) (fs : List ℕ) → k.place.free ≡ f ∷ fs
+        → P (bring_entry_by k.place q s x (is_full k.place))
     bring Unfilled Zeros e x n f fs l = zero (subst (λ (fr : List ℕ). 0 < length fr) (sym l) (omega arith)) e x
     bring Unfilled OfImage e x n f fs l = reads (is_full k.place) (ap frame_of e) (subst (λ (s : PageState). ReadsFrom k.place (source_for s) q q) (sym e) (e, x, due, λ w. refl))
     bring OnSwap x e y n f fs l = reads (is_full k.place) (ap frame_of e) (subst (λ (s : PageState). ReadsFrom k.place (source_for s) q q) (sym e) e)

@@ -64,9 +64,11 @@ string_fits (suc left) address = λ byte. go byte (string_fits left (Rattle.user
     one n None h = tt
     one n (Some string) h = omega (arith, h)
 
-    go : (byte : ℕ) → AllGives (StringFits left) (string_from left (Rattle.user_vax.specs.Operands.past address 1)) → AllGives (StringFits (suc left)) (string_after byte (string_from left (Rattle.user_vax.specs.Operands.past address 1)))
+    go : (byte : ℕ) → AllGives (StringFits left) (string_from left (Rattle.user_vax.specs.Operands.past address 1))
+        → AllGives (StringFits (suc left)) (string_after byte (string_from left (Rattle.user_vax.specs.Operands.past address 1)))
     go zero h = omega arith
-    go (suc n) h = gives_bind (StringFits left) (StringFits (suc left)) (string_from left (Rattle.user_vax.specs.Operands.past address 1)) (λ string. Gives (before (suc n) string)) h (λ string k. one n string k)
+    go (suc n) h =
+        gives_bind (StringFits left) (StringFits (suc left)) (string_from left (Rattle.user_vax.specs.Operands.past address 1)) (λ string. Gives (before (suc n) string)) h (λ string k. one n string k)
 
 -- so many strings, each of at most 63 bytes
 pub record AreFew (left : ℕ) (strings : List (List ℕ)) : Type 0 where
@@ -90,7 +92,8 @@ list_fits zero address = gives_any (ListFits 0) (number_at 4 address) last_point
     last : (n : ℕ) → AllGives (ListFits 0) (last_pointer n)
     last zero = record { few = omega arith; short = omega arith }
     last (suc n) = tt
-list_fits (suc left) address = gives_any (ListFits (suc left)) (number_at 4 address) (λ pointer. pointer_after pointer more) (λ pointer. go pointer (list_fits left (Rattle.user_vax.specs.Operands.past address 4)))
+list_fits (suc left) address =
+    gives_any (ListFits (suc left)) (number_at 4 address) (λ pointer. pointer_after pointer more) (λ pointer. go pointer (list_fits left (Rattle.user_vax.specs.Operands.past address 4)))
   where
     more : Program (Option (List (List ℕ)))
     more = arguments_from left (Rattle.user_vax.specs.Operands.past address 4)
@@ -101,7 +104,8 @@ list_fits (suc left) address = gives_any (ListFits (suc left)) (number_at 4 addr
 
     after : AllGives (ListFits left) more → (string : Option (List ℕ)) → StringFits string_limit string → AllGives (ListFits (suc left)) (string_before more string)
     after h None k = tt
-    after h (Some string) k = gives_bind (ListFits left) (ListFits (suc left)) more (λ strings. Gives (before string strings)) h (behind string (let l : length string < string_limit = k in omega (arith, l)))
+    after h (Some string) k =
+        gives_bind (ListFits left) (ListFits (suc left)) more (λ strings. Gives (before string strings)) h (behind string (let l : length string < string_limit = k in omega (arith, l)))
 
     go : (pointer : ℕ) → AllGives (ListFits left) more → AllGives (ListFits (suc left)) (pointer_after pointer more)
     go zero h = record { few = omega arith; short = omega arith }
@@ -134,7 +138,12 @@ image_found (x ∷ images) k name found e = go (bytes_eq x.name name) (image_fou
   where
     go : (b : Bool) → (image_named (suc (suc k)) images name ≡ Some found → (j : ℕ) × (found.0 ≡ suc (suc k + j)) × (slice_get images j ≡ Some found.1))
         → numbered_by b (suc k) x (image_named (suc (suc k)) images name) ≡ Some found → (j : ℕ) × (found.0 ≡ suc (k + j)) × (slice_get (x ∷ images) j ≡ Some found.1)
-    go true ih e = (0, (let n : found.0 ≡ suc k = ap (λ (y : ℕ × NamedImage). y.0) (sym (pair_is (suc k, x) found e)) in let z : found.0 ≡ suc (k + 0) = omega (arith, n) in z), ap (λ (y : ℕ × NamedImage). Some y.1) (pair_is (suc k, x) found e))
+    go true ih e = (
+      0,
+      (let n : found.0 ≡ suc k = ap (λ (y : ℕ × NamedImage). y.0) (sym (pair_is (suc k, x) found e)) in
+          let z : found.0 ≡ suc (k + 0) = omega (arith, n) in z),
+      ap (λ (y : ℕ × NamedImage). Some y.1) (pair_is (suc k, x) found e),
+    )
     go false ih e = let r = ih e in (suc r.0, (let n = r.1 in let z : found.0 ≡ suc (k + suc r.0) = omega (arith, n) in z), r.2)
 
 pub found_image : (images : List NamedImage) (path : Option (List ℕ)) (found : ℕ × NamedImage) → path_image images path ≡ Some found
@@ -158,7 +167,8 @@ starts_execs images found (Some arguments) e h = (found.1, e, page_whole argumen
 execve_execs : (images : List NamedImage) (argv : ℕ) (found : Option (ℕ × NamedImage))
     → ((x : ℕ × NamedImage) → found ≡ Some x → image_numbered images x.0 ≡ Some x.1) → AllGives (ReplyExecs images) (execve_of argv found)
 execve_execs images argv None h = tt
-execve_execs images argv (Some found) h = gives_bind (ListFits 8) (ReplyExecs images) (arguments_at argv) (λ arguments. Gives (starts found arguments)) (at_fits argv) (λ arguments k. starts_execs images found arguments (h found refl) k)
+execve_execs images argv (Some found) h =
+    gives_bind (ListFits 8) (ReplyExecs images) (arguments_at argv) (λ arguments. Gives (starts found arguments)) (at_fits argv) (λ arguments k. starts_execs images found arguments (h found refl) k)
 
 child_execs : (images : List NamedImage) (b : Bool) (regs : Regs) (child : ℕ)
     → ReplyExecs images (child_by b regs child (Fork child)) × ReplyExecs images (child_by b regs child (Lend child))
@@ -184,12 +194,15 @@ all_execs : (images : List NamedImage) (F : FlatState) (p : Process) (s : Space)
 unfolding reply_of exit_reply write_reply break_reply execve_reply
 all_execs images F p s calls.Exit regs = gives_any (ReplyExecs images) (argument regs 1) (λ code. Gives (Exits (code % 256 * 256))) (λ code. tt)
 all_execs images F p s calls.Fork regs = (child_execs images (nat_lt (length F.processes) process_limit) regs F.next_pid).0
-all_execs images F p s calls.Write regs = gives_any (ReplyExecs images) (three_arguments regs) (λ asked. written_to (asked.0 == 1 || asked.0 == 2) asked.1 asked.2) (λ asked. written_execs images (asked.0 == 1 || asked.0 == 2) asked.1 asked.2)
-all_execs images F p s calls.Break regs = gives_any (ReplyExecs images) (argument regs 1) (λ address. Gives (break_by (nat_le (pages_up_to s address) data_limit) regs (pages_up_to s address) (stack_pages_of s)))
+all_execs images F p s calls.Write regs = gives_any (ReplyExecs images) (three_arguments regs) (λ asked. written_to (asked.0 == 1 || asked.0 == 2) asked.1 asked.2)
+    (λ asked. written_execs images (asked.0 == 1 || asked.0 == 2) asked.1 asked.2)
+all_execs images F p s calls.Break regs =
+    gives_any (ReplyExecs images) (argument regs 1) (λ address. Gives (break_by (nat_le (pages_up_to s address) data_limit) regs (pages_up_to s address) (stack_pages_of s)))
     (λ address. break_execs images (nat_le (pages_up_to s address) data_limit) regs (pages_up_to s address) (stack_pages_of s))
 all_execs images F p s calls.Getpid regs = tt
 all_execs images F p s calls.Execve regs = gives_any (ReplyExecs images) (three_arguments regs) (λ asked. string_from string_limit asked.0 >>= λ path. execve_of asked.1 (path_image images path))
-    (λ asked. gives_any (ReplyExecs images) (string_from string_limit asked.0) (λ path. execve_of asked.1 (path_image images path)) (λ path. execve_execs images asked.1 (path_image images path) (λ x e. found_image images path x e)))
+    (λ asked. gives_any (ReplyExecs images) (string_from string_limit asked.0) (λ path. execve_of asked.1 (path_image images path))
+    (λ path. execve_execs images asked.1 (path_image images path) (λ x e. found_image images path x e)))
 all_execs images F p s calls.Vfork regs = (child_execs images (nat_lt (length F.processes) process_limit) regs F.next_pid).1
 all_execs images F p s calls.Wait regs = wait_execs images (find (λ q. q.parent == p.pid) F.processes) (find (is_zombie_child p.pid) F.processes) regs
 
@@ -235,7 +248,8 @@ called_execs : (images : List NamedImage) (F : FlatState) (p : Process) (s : Spa
     → EntersImage images (called_step images F p s refused effect o).change
 called_execs images F p s refused effect None = tt
 called_execs images F p s refused effect (Some call) = replied_execs images F p call effect (reply_behind images F p s refused call effect)
-    (refused_execs images refused (or_fault (run (answers_of (puts s effect.writes)) (reply_of images (apply_writes F p.pid effect.writes) (written_process p s effect.writes) (puts s effect.writes) call effect.regs)))
+    (refused_execs images refused
+    (or_fault (run (answers_of (puts s effect.writes)) (reply_of images (apply_writes F p.pid effect.writes) (written_process p s effect.writes) (puts s effect.writes) call effect.regs)))
     (run_execs images (answers_of (puts s effect.writes)) (reply_of images (apply_writes F p.pid effect.writes) (written_process p s effect.writes) (puts s effect.writes) call effect.regs)
     (all_execs images (apply_writes F p.pid effect.writes) (written_process p s effect.writes) (puts s effect.writes) call effect.regs)))
 

@@ -41,11 +41,15 @@ loaded_fits : (image : Image) (bytes : List ℕ) → file_length_of image ≤ le
     → (length (loaded image bytes).text ≡ 1024 * text_pages_of image) × DataFits (loaded image bytes)
 unfolding loaded zeros
 loaded_fits image bytes whole = (
-  in_pages_length (text_pages_of image) (take (text_given image) (drop (text_offset image) bytes)) (let a = taken (text_given image) (text_offset image) bytes in let b = pages_hold (text_given image) in omega arith),
+  in_pages_length (text_pages_of image) (take (text_given image) (drop (text_offset image) bytes))
+      (let a = taken (text_given image) (text_offset image) bytes in let b = pages_hold (text_given image) in omega arith),
   record {
-    size = in_pages_length (data_pages_of image) (take (data_given image) (drop (text_offset image + text_given image) bytes)) (let a = taken (data_given image) (text_offset image + text_given image) bytes in let b = pages_more (data_given image) image.bss_len in omega arith);
-    rest = λ v past below. page_at-in_pages (text_offset image + text_given image) (data_given image) (data_pages_of image) v bytes (let s = given_sum image in omega (arith, whole)) (pages_more (data_given image) image.bss_len) below
-        ∙ ap (λ (n : ℕ). Rattle.aout_image.specs.Image.page_from bytes (text_offset image + text_given image + min (1024 * v) (data_given image)) n) (let e : min 1024 (data_given image - 1024 * v) ≡ 0 = omega (arith, past) in e);
+    size = in_pages_length (data_pages_of image) (take (data_given image) (drop (text_offset image + text_given image) bytes))
+        (let a = taken (data_given image) (text_offset image + text_given image) bytes in let b = pages_more (data_given image) image.bss_len in omega arith);
+    rest = λ v past below. page_at-in_pages (text_offset image + text_given image) (data_given image) (data_pages_of image) v bytes (let s = given_sum image in omega (arith, whole))
+        (pages_more (data_given image) image.bss_len) below
+        ∙ ap (λ (n : ℕ). Rattle.aout_image.specs.Image.page_from bytes (text_offset image + text_given image + min (1024 * v) (data_given image)) n)
+        (let e : min 1024 (data_given image - 1024 * v) ≡ 0 = omega (arith, past) in e);
   },
 )
 

@@ -46,7 +46,8 @@ none_passes : (test : Process → Bool) (ps : List Process) (pid : ℕ) (q : Pro
 none_passes test [] pid q n f = absurd cc
 none_passes test (x ∷ ps) pid q n f = go (none_passes test ps pid q) (test x) refl n (x.pid == pid) f
   where
-    go : (find test ps ≡ None → find (λ y. y.pid == pid) ps ≡ Some q → test q ≡ false) → (a : Bool) → test x ≡ a → cond a (Some x) (find test ps) ≡ None → (b : Bool) → cond b (Some x) (find (λ y. y.pid == pid) ps) ≡ Some q → test q ≡ false
+    go : (find test ps ≡ None → find (λ y. y.pid == pid) ps ≡ Some q → test q ≡ false) → (a : Bool) → test x ≡ a → cond a (Some x) (find test ps) ≡ None → (b : Bool)
+        → cond b (Some x) (find (λ y. y.pid == pid) ps) ≡ Some q → test q ≡ false
     go ih true e n b f = absurd cc
     go ih false e n true f = ap test (let same : q ≡ x = cc in same) ∙ e
     go ih false e n false f = ih n f
@@ -67,7 +68,8 @@ none_ready F pid n l = go (process_of F pid) refl
 
     go : (o : Option Process) → process_of F pid ≡ o → ready_if o ≡ false
     go None e = refl
-    go (Some q) e = both (is_ready q) (nat_lt 0 q.pid) (let i = number_of_found F.processes pid q e in let m : 0 < q.pid = omega (arith, i, l) in grind (arith, nat_tests)) (none_passes (λ x. is_ready x && nat_lt 0 x.pid) F.processes pid q nobody e)
+    go (Some q) e = both (is_ready q) (nat_lt 0 q.pid) (let i = number_of_found F.processes pid q e in let m : 0 < q.pid = omega (arith, i, l) in grind (arith, nat_tests))
+        (none_passes (λ x. is_ready x && nat_lt 0 x.pid) F.processes pid q nobody e)
 
 -- As many instructions as may are counted; or all lines are taken, and no process can step.
 pub none_ends : (A : Inputs) (s : State) → next_unit A s ≡ None → (A.limit ≤ s.count) ⊎ IsIdle A s
@@ -101,7 +103,8 @@ none_ends A s h = due s.place.due h
 pub never_misses : {A : Type 0} (s : Space) (p : Program A) (a : ℕ) (w : Bool) → run (answers_of s) p ≡ Err (Miss a w) → ⊥
 never_misses s (Reads b next) a w e = go (address_in s b) (λ byte. never_misses s (next byte) a w) e
   where
-    go : (spot : Spot) → ((byte : ℕ) → run (answers_of s) (next byte) ≡ Err (Miss a w) → ⊥) → Rattle.user_vax.specs.Program.after_read (Rattle.flat_state.specs.Space.byte_at s spot) b (λ byte. run (answers_of s) (next byte)) ≡ Err (Miss a w) → ⊥
+    go : (spot : Spot) → ((byte : ℕ) → run (answers_of s) (next byte) ≡ Err (Miss a w) → ⊥)
+        → Rattle.user_vax.specs.Program.after_read (Rattle.flat_state.specs.Space.byte_at s spot) b (λ byte. run (answers_of s) (next byte)) ≡ Err (Miss a w) → ⊥
     go (spots.Text i) ih e = ih (Rattle.std.specs.Prelude.slice_index s.text_bytes i) e
     go (spots.Data i) ih e = ih (Rattle.std.specs.Prelude.slice_index s.data_bytes i) e
     go (spots.Stack i) ih e = ih (Rattle.std.specs.Prelude.slice_index s.stack_bytes i) e
@@ -109,7 +112,8 @@ never_misses s (Reads b next) a w e = go (address_in s b) (λ byte. never_misses
     go spots.Outside ih e = cc
 never_misses s (Tests b next) a w e = go (address_in s b) (never_misses s next a w) e
   where
-    go : (spot : Spot) → (run (answers_of s) next ≡ Err (Miss a w) → ⊥) → Rattle.user_vax.specs.Program.after_test (Rattle.flat_state.specs.Space.may_write_at spot) b (run (answers_of s) next) ≡ Err (Miss a w) → ⊥
+    go : (spot : Spot) → (run (answers_of s) next ≡ Err (Miss a w) → ⊥)
+        → Rattle.user_vax.specs.Program.after_test (Rattle.flat_state.specs.Space.may_write_at spot) b (run (answers_of s) next) ≡ Err (Miss a w) → ⊥
     go (spots.Text i) ih e = cc
     go (spots.Data i) ih e = ih e
     go (spots.Stack i) ih e = ih e

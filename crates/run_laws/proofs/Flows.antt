@@ -147,7 +147,8 @@ next_or A s u w (Acts pid now r e i) = inr (record { pid = pid; next = i; awaite
 next_or A s u w (ComesIn pid e c i) = inl (ap process_of_entry i)
 next_or A s u w (Interrupts e m i) = inl (ap process_of_entry i)
 next_or A s u w (Moves count e m l k i) = inl (ap process_of_entry i ∙ Rattle.run_laws.proofs.Plain.move_flat s.place (locked A s))
-next_or A s u w (PutsOut pid e m i) = inl (ap process_of_entry i ∙ Rattle.run_laws.proofs.Plain.put_flat s.place pid (Rattle.page_model.specs.Place.space_of_process (Rattle.flat_state.specs.Flat.process_of s.point.flat pid)))
+next_or A s u w (PutsOut pid e m i) =
+    inl (ap process_of_entry i ∙ Rattle.run_laws.proofs.Plain.put_flat s.place pid (Rattle.page_model.specs.Place.space_of_process (Rattle.flat_state.specs.Flat.process_of s.point.flat pid)))
 next_or A s u w (Notes e m i) = inl (ap process_of_entry i)
 next_or A s u w (Begins e n i) = inl (Rattle.run_laws.proofs.Plain.mark_flat A s u i)
 
@@ -180,14 +181,16 @@ out_of A point pid p bytes h = due (is_writing point.last pid) refl
     whole same (Empty k) = absurd (no_first (can_step point.flat pid) (first_of [] (same ∙ k)))
     whole same (One e i k) = absurd (subst (IsStepEnd pid) (one_first (can_step point.flat pid) e [] (first_of (e ∷ []) (same ∙ k))) i)
     whole same (Two others n c r0 r1 k) =
-        let x : entries.Out pid others ≡ entries.Out p bytes = one_first (can_step point.flat pid) (entries.Out pid others) (entries.Call pid n c r0 r1 ∷ []) (first_of (entries.Out pid others ∷ entries.Call pid n c r0 r1 ∷ []) (same ∙ k)) in
+        let x : entries.Out pid others ≡ entries.Out p bytes =
+        one_first (can_step point.flat pid) (entries.Out pid others) (entries.Call pid n c r0 r1 ∷ []) (first_of (entries.Out pid others ∷ entries.Call pid n c r0 r1 ∷ []) (same ∙ k)) in
         let y : others ≡ bytes = cc in
         record { own = cc; reply = entries.Call pid n c r0 r1; due = same ∙ k ∙ ap (λ (l : List ℕ). entries.Out pid l ∷ entries.Call pid n c r0 r1 ∷ []) y }
 
     rest : due_at A point pid ≡ behind_first entries_at → Shape pid entries_at → IsOut A point pid p bytes
     rest same (Empty k) = absurd (no_first (can_step point.flat pid) (first_of [] (same ∙ ap behind_first k)))
     rest same (One e i k) = absurd (no_first (can_step point.flat pid) (first_of [] (same ∙ ap behind_first k)))
-    rest same (Two others n c r0 r1 k) = absurd (let x : entries.Call pid n c r0 r1 ≡ entries.Out p bytes = one_first (can_step point.flat pid) (entries.Call pid n c r0 r1) [] (first_of (entries.Call pid n c r0 r1 ∷ []) (same ∙ ap behind_first k)) in cc)
+    rest same (Two others n c r0 r1 k) = absurd (let x : entries.Call pid n c r0 r1 ≡ entries.Out p bytes =
+        one_first (can_step point.flat pid) (entries.Call pid n c r0 r1) [] (first_of (entries.Call pid n c r0 r1 ∷ []) (same ∙ ap behind_first k)) in cc)
 
     due : (b : Bool) → is_writing point.last pid ≡ b → IsOut A point pid p bytes
     due true e = rest (written point.last e) (step_shape A point.flat pid (is_refused point.last pid))
@@ -320,7 +323,8 @@ act_plain A s pid u h n = can (can_step s.point.flat pid) h
     behind_of es (Empty k) e = absurd (none_first (can_step s.point.flat pid) (sym (ap (λ (l : List Entry). first_if (can_step s.point.flat pid) (behind_first l)) k) ∙ e))
     behind_of es (One x i k) e = absurd (none_first (can_step s.point.flat pid) (sym (ap (λ (l : List Entry). first_if (can_step s.point.flat pid) (behind_first l)) k) ∙ e))
     behind_of es (Two bytes m c r0 r1 k) e = absurd (
-        let i : entries.Call pid m c r0 r1 ≡ u = is_first (can_step s.point.flat pid) (entries.Call pid m c r0 r1) [] (sym (ap (λ (l : List Entry). first_if (can_step s.point.flat pid) (behind_first l)) k) ∙ e) in
+        let i : entries.Call pid m c r0 r1 ≡ u =
+        is_first (can_step s.point.flat pid) (entries.Call pid m c r0 r1) [] (sym (ap (λ (l : List Entry). first_if (can_step s.point.flat pid) (behind_first l)) k) ∙ e) in
         let z : Some pid ≡ None = ap process_of_entry i ∙ n in cc)
 
     step : (o : Option Entry) → first_if (can_step s.point.flat pid) (Rattle.flat_model.specs.Run.due o pid (step_at A s.point pid).entries) ≡ Some u → u ≡ entries.Done
@@ -398,12 +402,14 @@ steps_own A point pid u h = step point.last h
     of : (es : List Entry) → Shape pid es → first_if (can_step point.flat pid) es ≡ Some u → process_of_entry u ≡ Some pid
     of es (Empty k) e = absurd (none_first (can_step point.flat pid) (sym (ap (first_if (can_step point.flat pid)) k) ∙ e))
     of es (One x i k) e = ap process_of_entry (is_first (can_step point.flat pid) x [] (sym (ap (first_if (can_step point.flat pid)) k) ∙ e)) ∙ ends x i
-    of es (Two bytes m c r0 r1 k) e = ap process_of_entry (is_first (can_step point.flat pid) (entries.Out pid bytes) (entries.Call pid m c r0 r1 ∷ []) (sym (ap (first_if (can_step point.flat pid)) k) ∙ e))
+    of es (Two bytes m c r0 r1 k) e =
+        ap process_of_entry (is_first (can_step point.flat pid) (entries.Out pid bytes) (entries.Call pid m c r0 r1 ∷ []) (sym (ap (first_if (can_step point.flat pid)) k) ∙ e))
 
     behind_of : (es : List Entry) → Shape pid es → first_if (can_step point.flat pid) (behind_first es) ≡ Some u → process_of_entry u ≡ Some pid
     behind_of es (Empty k) e = absurd (none_first (can_step point.flat pid) (sym (ap (λ (l : List Entry). first_if (can_step point.flat pid) (behind_first l)) k) ∙ e))
     behind_of es (One x i k) e = absurd (none_first (can_step point.flat pid) (sym (ap (λ (l : List Entry). first_if (can_step point.flat pid) (behind_first l)) k) ∙ e))
-    behind_of es (Two bytes m c r0 r1 k) e = ap process_of_entry (is_first (can_step point.flat pid) (entries.Call pid m c r0 r1) [] (sym (ap (λ (l : List Entry). first_if (can_step point.flat pid) (behind_first l)) k) ∙ e))
+    behind_of es (Two bytes m c r0 r1 k) e =
+        ap process_of_entry (is_first (can_step point.flat pid) (entries.Call pid m c r0 r1) [] (sym (ap (λ (l : List Entry). first_if (can_step point.flat pid) (behind_first l)) k) ∙ e))
 
     shape : Shape pid entries_at
     shape = step_shape A point.flat pid (is_refused point.last pid)
@@ -449,12 +455,14 @@ steps_shape A point pid u h = step point.last h
     of : (es : List Entry) → Shape pid es → first_if (can_step point.flat pid) es ≡ Some u → Ends u ⊎ ((bytes : List ℕ) × (u ≡ entries.Out pid bytes))
     of es (Empty k) e = absurd (none_first (can_step point.flat pid) (sym (ap (first_if (can_step point.flat pid)) k) ∙ e))
     of es (One x i k) e = inl (subst Ends (is_first (can_step point.flat pid) x [] (sym (ap (first_if (can_step point.flat pid)) k) ∙ e)) (ends x i))
-    of es (Two bytes m c r0 r1 k) e = inr (bytes, sym (is_first (can_step point.flat pid) (entries.Out pid bytes) (entries.Call pid m c r0 r1 ∷ []) (sym (ap (first_if (can_step point.flat pid)) k) ∙ e)))
+    of es (Two bytes m c r0 r1 k) e =
+        inr (bytes, sym (is_first (can_step point.flat pid) (entries.Out pid bytes) (entries.Call pid m c r0 r1 ∷ []) (sym (ap (first_if (can_step point.flat pid)) k) ∙ e)))
 
     behind_of : (es : List Entry) → Shape pid es → first_if (can_step point.flat pid) (behind_first es) ≡ Some u → Ends u ⊎ ((bytes : List ℕ) × (u ≡ entries.Out pid bytes))
     behind_of es (Empty k) e = absurd (none_first (can_step point.flat pid) (sym (ap (λ (l : List Entry). first_if (can_step point.flat pid) (behind_first l)) k) ∙ e))
     behind_of es (One x i k) e = absurd (none_first (can_step point.flat pid) (sym (ap (λ (l : List Entry). first_if (can_step point.flat pid) (behind_first l)) k) ∙ e))
-    behind_of es (Two bytes m c r0 r1 k) e = inl (subst Ends (is_first (can_step point.flat pid) (entries.Call pid m c r0 r1) [] (sym (ap (λ (l : List Entry). first_if (can_step point.flat pid) (behind_first l)) k) ∙ e)) tt)
+    behind_of es (Two bytes m c r0 r1 k) e =
+        inl (subst Ends (is_first (can_step point.flat pid) (entries.Call pid m c r0 r1) [] (sym (ap (λ (l : List Entry). first_if (can_step point.flat pid) (behind_first l)) k) ∙ e)) tt)
 
     shape : Shape pid entries_at
     shape = step_shape A point.flat pid (is_refused point.last pid)
@@ -489,12 +497,23 @@ step_waits A s pid now (entries.Out p bytes) r w h says =
         reply : (behind es : List Entry) → es ≡ entries.Out p bytes ∷ behind → Shape p es → behind ≡ [] → ⊥
         reply behind es k (Empty l) z = absurd (let y : [] ≡ entries.Out p bytes ∷ behind = sym l ∙ k in cc)
         reply behind es k (One e i l) z = absurd (let y : e ∷ [] ≡ entries.Out p bytes ∷ behind = sym l ∙ k in let same : e ≡ entries.Out p bytes = cc in subst (IsStepEnd p) same i)
-        reply behind es k (Two others n c r0 r1 l) z = absurd (let y : entries.Out p others ∷ entries.Call p n c r0 r1 ∷ [] ≡ entries.Out p bytes ∷ behind = sym l ∙ k in let same : entries.Call p n c r0 r1 ∷ [] ≡ behind = cc in let no : entries.Call p n c r0 r1 ∷ [] ≡ [] = same ∙ z in cc)
-step_waits A s pid now (entries.Ran p n) r w h says = subst (WaitsBy A (after A s (entries.Ran p n))) (sym (subst (λ (x : ℕ). (Rattle.flat_model.specs.Run.point_after A s.point x).last ≡ Some (entries.Ran p n)) (sym (same_Some p pid (steps_own A s.point pid (entries.Ran p n) h))) (head_last A s.point pid (entries.Ran p n) h))) tt
-step_waits A s pid now (entries.Grew p n) r w h says = subst (WaitsBy A (after A s (entries.Grew p n))) (sym (subst (λ (x : ℕ). (Rattle.flat_model.specs.Run.point_after A s.point x).last ≡ Some (entries.Grew p n)) (sym (same_Some p pid (steps_own A s.point pid (entries.Grew p n) h))) (head_last A s.point pid (entries.Grew p n) h))) tt
-step_waits A s pid now (entries.Call p n c r0 r1) r w h says = subst (WaitsBy A (after A s (entries.Call p n c r0 r1))) (sym (subst (λ (x : ℕ). (Rattle.flat_model.specs.Run.point_after A s.point x).last ≡ Some (entries.Call p n c r0 r1)) (sym (same_Some p pid (steps_own A s.point pid (entries.Call p n c r0 r1) h))) (head_last A s.point pid (entries.Call p n c r0 r1) h))) tt
-step_waits A s pid now (entries.Sleeps p) r w h says = subst (WaitsBy A (after A s (entries.Sleeps p))) (sym (subst (λ (x : ℕ). (Rattle.flat_model.specs.Run.point_after A s.point x).last ≡ Some (entries.Sleeps p)) (sym (same_Some p pid (steps_own A s.point pid (entries.Sleeps p) h))) (head_last A s.point pid (entries.Sleeps p) h))) tt
-step_waits A s pid now (entries.Ended p n) r w h says = subst (WaitsBy A (after A s (entries.Ended p n))) (sym (subst (λ (x : ℕ). (Rattle.flat_model.specs.Run.point_after A s.point x).last ≡ Some (entries.Ended p n)) (sym (same_Some p pid (steps_own A s.point pid (entries.Ended p n) h))) (head_last A s.point pid (entries.Ended p n) h))) tt
+        reply behind es k (Two others n c r0 r1 l) z = absurd (let y : entries.Out p others ∷ entries.Call p n c r0 r1 ∷ [] ≡ entries.Out p bytes ∷ behind = sym l ∙ k in
+            let same : entries.Call p n c r0 r1 ∷ [] ≡ behind = cc in let no : entries.Call p n c r0 r1 ∷ [] ≡ [] = same ∙ z in cc)
+step_waits A s pid now (entries.Ran p n) r w h says =
+    subst (WaitsBy A (after A s (entries.Ran p n))) (sym (subst (λ (x : ℕ). (Rattle.flat_model.specs.Run.point_after A s.point x).last ≡ Some (entries.Ran p n))
+    (sym (same_Some p pid (steps_own A s.point pid (entries.Ran p n) h))) (head_last A s.point pid (entries.Ran p n) h))) tt
+step_waits A s pid now (entries.Grew p n) r w h says =
+    subst (WaitsBy A (after A s (entries.Grew p n))) (sym (subst (λ (x : ℕ). (Rattle.flat_model.specs.Run.point_after A s.point x).last ≡ Some (entries.Grew p n))
+    (sym (same_Some p pid (steps_own A s.point pid (entries.Grew p n) h))) (head_last A s.point pid (entries.Grew p n) h))) tt
+step_waits A s pid now (entries.Call p n c r0 r1) r w h says =
+    subst (WaitsBy A (after A s (entries.Call p n c r0 r1))) (sym (subst (λ (x : ℕ). (Rattle.flat_model.specs.Run.point_after A s.point x).last ≡ Some (entries.Call p n c r0 r1))
+    (sym (same_Some p pid (steps_own A s.point pid (entries.Call p n c r0 r1) h))) (head_last A s.point pid (entries.Call p n c r0 r1) h))) tt
+step_waits A s pid now (entries.Sleeps p) r w h says =
+    subst (WaitsBy A (after A s (entries.Sleeps p))) (sym (subst (λ (x : ℕ). (Rattle.flat_model.specs.Run.point_after A s.point x).last ≡ Some (entries.Sleeps p))
+    (sym (same_Some p pid (steps_own A s.point pid (entries.Sleeps p) h))) (head_last A s.point pid (entries.Sleeps p) h))) tt
+step_waits A s pid now (entries.Ended p n) r w h says =
+    subst (WaitsBy A (after A s (entries.Ended p n))) (sym (subst (λ (x : ℕ). (Rattle.flat_model.specs.Run.point_after A s.point x).last ≡ Some (entries.Ended p n))
+    (sym (same_Some p pid (steps_own A s.point pid (entries.Ended p n) h))) (head_last A s.point pid (entries.Ended p n) h))) tt
 step_waits A s pid now (entries.Refused p) r w h says = absurd (never (steps_shape A s.point pid (entries.Refused p) h))
   where
     never : Ends (entries.Refused p) ⊎ ((bytes : List ℕ) × (entries.Refused p ≡ entries.Out pid bytes)) → ⊥
@@ -556,7 +575,8 @@ flows_on A s u o f h = go (kind_of A s u h)
         (subst (λ (t : State). WaitsBy A t t.point.last) (sym (refused_after A s pid))
         (noted_awaits A s (entries.Refused pid) pid now r w
         (λ z. has_some (flat_step A s.point.flat pid true).entries
-        (refused_entry A s.point.flat pid (subst (λ (t : State). LastSays A t.point.flat t.point.last) (refused_after A s pid) (subst (λ (x : Entry). LastSays A (after A s x).point.flat (after A s x).point.last) e says)))
+        (refused_entry A s.point.flat pid
+        (subst (λ (t : State). LastSays A t.point.flat t.point.last) (refused_after A s pid) (subst (λ (x : Entry). LastSays A (after A s x).point.flat (after A s x).point.last) e says)))
         (sym (ap (λ (b : Bool). (flat_step A s.point.flat pid b).entries) (eq_self pid)) ∙ z)))) in
         record { says = says; waits = refuses e }
     act_by_kind pid now r w (Steps f g e) = record { says = says; waits = step_waits A s pid now u r w e says }
@@ -570,6 +590,7 @@ flows_on A s u o f h = go (kind_of A s u h)
     go (ComesIn pid e c i) = plain (ap process_of_entry i)
     go (Interrupts e m i) = plain (ap process_of_entry i)
     go (Moves count e m l k i) = plain (ap process_of_entry i ∙ Rattle.run_laws.proofs.Plain.move_flat s.place (locked A s))
-    go (PutsOut pid e m i) = plain (ap process_of_entry i ∙ Rattle.run_laws.proofs.Plain.put_flat s.place pid (Rattle.page_model.specs.Place.space_of_process (Rattle.flat_state.specs.Flat.process_of s.point.flat pid)))
+    go (PutsOut pid e m i) =
+        plain (ap process_of_entry i ∙ Rattle.run_laws.proofs.Plain.put_flat s.place pid (Rattle.page_model.specs.Place.space_of_process (Rattle.flat_state.specs.Flat.process_of s.point.flat pid)))
     go (Notes e m i) = plain (ap process_of_entry i)
     go (Begins e m i) = plain (Rattle.run_laws.proofs.Plain.mark_flat A s u i)

@@ -75,8 +75,10 @@ called_form : (images : List NamedImage) (F : FlatState) (p : Process) (s : Spac
 called_form images F p s refused effect None h = record { after = refl; may = tt; wants = λ z. refl; suits = tt }
 called_form images F p s refused effect (Some call) h =
     replied_form images F p s refused call effect (reply_behind images F p s refused call effect)
-    (reply_fits images (apply_writes F p.pid effect.writes) (answers_of (puts s effect.writes)) (written_process p s effect.writes) (puts s effect.writes) call effect.regs refused (subst (λ (ns : List ℕ). AllDistinct ns) (sym (pids_written F p.pid effect.writes)) h.pids))
-    (none_refused refused (Rattle.flat_model.specs.Calls.or_fault (Rattle.user_vax.specs.Program.run (answers_of (puts s effect.writes)) (Rattle.flat_model.specs.Calls.reply_of images (apply_writes F p.pid effect.writes) (written_process p s effect.writes) (puts s effect.writes) call effect.regs))))
+    (reply_fits images (apply_writes F p.pid effect.writes) (answers_of (puts s effect.writes)) (written_process p s effect.writes) (puts s effect.writes) call effect.regs refused
+    (subst (λ (ns : List ℕ). AllDistinct ns) (sym (pids_written F p.pid effect.writes)) h.pids))
+    (none_refused refused (Rattle.flat_model.specs.Calls.or_fault (Rattle.user_vax.specs.Program.run (answers_of (puts s effect.writes))
+    (Rattle.flat_model.specs.Calls.reply_of images (apply_writes F p.pid effect.writes) (written_process p s effect.writes) (puts s effect.writes) call effect.regs))))
 
 behind_form : (images : List NamedImage) (F : FlatState) (p : Process) (s : Space) (refused : Bool) (effect : Effect) (o : Option ℤ) → IsNumbered F
     → Formed images F p s refused (step_behind images F p s refused effect o)

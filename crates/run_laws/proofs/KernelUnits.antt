@@ -117,9 +117,11 @@ pub unit_behind : (A : Inputs) (s : State) (k : Kernel) (image : List ℕ) (read
     × (KernelState.image (states_after A.images (resting s k image) (units_behind A s k read u)) ≡ unit_image k image u)
 unit_behind A s k image read u at h = go u (next_is_unit A s u h)
   where
-    go : (u : Entry) → IsUnit u → (KernelState.kernel (states_after A.images (resting s k image) (units_behind A s k read u)) ≡ unit_step A s k image read u) × (KernelState.image (states_after A.images (resting s k image) (units_behind A s k read u)) ≡ unit_image k image u)
+    go : (u : Entry) → IsUnit u → (KernelState.kernel (states_after A.images (resting s k image) (units_behind A s k read u)) ≡ unit_step A s k image read u)
+        × (KernelState.image (states_after A.images (resting s k image) (units_behind A s k read u)) ≡ unit_image k image u)
     go (entries.Ran pid n) i =
-        let r : Leads A.images (resting s k image) (written_units A s k pid) (written_step A s k pid) = process_leads A.images pid (step_at A s.point pid).writes (process_of s.point.flat pid) (resting s k image) in
+        let r : Leads A.images (resting s k image) (written_units A s k pid) (written_step A s k pid) =
+        process_leads A.images pid (step_at A s.point pid).writes (process_of s.point.flat pid) (resting s k image) in
         let e = r.1 (RanUnit pid (step_at A s.point pid).regs (entries.Ran pid n) ∷ []) in
         (ap (λ (m : KernelState). m.kernel) e, ap (λ (m : KernelState). m.image) e)
     go (entries.Grew pid pages) i = step_behind A s k image pid (entries.Grew pid pages) at

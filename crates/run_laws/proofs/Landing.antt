@@ -55,7 +55,8 @@ use Rattle.run_laws.proofs.Acts.{none_found}
 use Rattle.run_laws.proofs.Written.{Mid}
 
 -- the machine after a change
-pub record Landed (A : Inputs) (after : FlatState) (k l : Kernel) (image : List ℕ) (pid sid : ℕ) (b : Bool) (e : Entry) (change : Change) (held : Holdings) : Type 0 where
+pub record Landed (A : Inputs) (after : FlatState) (k l : Kernel) (image : List ℕ) (pid sid : ℕ) (b : Bool) (e : Entry) (change : Change)
+    (held : Holdings) : Type 0 where
   pub mid : Mid A after l image
   pub place : l.place ≡ place_change (facts_of A.images) k.place pid sid b k.next_sid (length (append k.journal e)) change
   pub holdings : l.holdings ≡ held
@@ -75,12 +76,14 @@ found_none A flat k image before x e = subst (λ (hs : Holdings). Sound A.swap_b
 
 -- Who keeps its space, or has one of its own.
 
-own_coupled : (A : Inputs) (k : Kernel) (flat : FlatState) (image : List ℕ) (before : Holdings) (pid : ℕ) (regs : Regs) (e : Entry) (q : Process) (s : Space) (b : Bool) (change : Change)
+own_coupled : (A : Inputs) (k : Kernel) (flat : FlatState) (image : List ℕ) (before : Holdings) (pid : ℕ) (regs : Regs) (e : Entry) (q : Process) (s : Space)
+    (b : Bool) (change : Change)
     → Changing A flat k.place before k.holdings pid q s change → is_borrower flat.processes pid ≡ b
     → Own b change → SettlesFor k.place s.sid change → MayForget (facts_of A.images) k.place s.sid false k.next_sid change → Found A flat k image before
     → Coupled (keeps_step (facts_of A.images) k pid regs e change) A.images image (apply_change A.images flat pid regs change)
 own_coupled A k flat image before pid regs e q s b Keep c w o z y x = keep_coupled k A.images image flat pid regs e q s c.numbers c.found_process c.holds c.resident x.coupled
-own_coupled A k flat image before pid regs e q s b (Resize d r) c w o z y x = let st : Stands A.images k flat = x.stands in resize_coupled_step k A.images image flat pid regs e d r q s c.numbers st.out c.clear c.found_process c.holds c.resident x.coupled
+own_coupled A k flat image before pid regs e q s b (Resize d r) c w o z y x =
+    let st : Stands A.images k flat = x.stands in resize_coupled_step k A.images image flat pid regs e d r q s c.numbers st.out c.clear c.found_process c.holds c.resident x.coupled
 own_coupled A k flat image before pid regs e q s b (Fork child) c w o z y x = let st : Stands A.images k flat = x.stands in
     subst (λ (n : ℕ). Coupled (keeps_step (facts_of A.images) k pid regs e (Fork n)) A.images image (apply_change A.images flat pid regs (Fork n))) (sym c.may)
     (fork_coupled_step k A.images image flat pid regs e q s c.numbers st.out c.clear c.found_process c.holds c.resident x.coupled)
@@ -92,7 +95,8 @@ own_coupled A k flat image before pid regs e q s b (Exec number top) c w o z y x
     let so : Sound A.swap_blocks (record k { holdings = before }) = x.sound in
     let ow : OneOwner A.swap_blocks (lives k.processes) k.place before = so.owner in
     let i : ImageFits c.execs.0 = c.images number c.execs.0 c.execs.1 in
-    exec_coupled_step A.swap_blocks before k A.images image flat pid regs e number top c.execs.0 q s so c.numbers st.out c.clear st.starts c.found_process c.holds (w ∙ own_false b number top o) c.resident (settled_rests k.place s.sid ow.frames z) y c.execs.1 i.«data» c.execs.2 x.coupled
+    exec_coupled_step A.swap_blocks before k A.images image flat pid regs e number top c.execs.0 q s so c.numbers st.out c.clear st.starts c.found_process c.holds
+    (w ∙ own_false b number top o) c.resident (settled_rests k.place s.sid ow.frames z) y c.execs.1 i.«data» c.execs.2 x.coupled
 own_coupled A k flat image before pid regs e q s b (Reap child) c w o z y x =
     reap_coupled k A.images image flat pid regs e child c.may.1 q c.may.0 s c.numbers c.found_process c.holds c.resident c.may.2 c.may.3 x.coupled
 own_coupled A k flat image before pid regs e q s b Sleep c w o z y x = sleep_coupled k A.images image flat pid regs e q s c.numbers c.found_process c.holds c.resident x.coupled
@@ -100,12 +104,15 @@ own_coupled A k flat image before pid regs e q s b (End status) c w o z y x =
     let st : Stands A.images k flat = x.stands in
     let so : Sound A.swap_blocks k = found_none A flat k image before x c.pieces in
     let ow : OneOwner A.swap_blocks (lives k.processes) k.place k.holdings = so.owner in
-    end_coupled_step A.swap_blocks k A.images image flat pid regs e status q s so c.numbers st.out c.clear c.found_process c.holds (w ∙ end_false b status o) (settled_rests k.place s.sid ow.frames z) y x.coupled
+    end_coupled_step A.swap_blocks k A.images image flat pid regs e status q s so c.numbers st.out c.clear c.found_process c.holds (w ∙ end_false b status o)
+    (settled_rests k.place s.sid ow.frames z) y x.coupled
 
-pub own_landed : (A : Inputs) (k : Kernel) (flat : FlatState) (image : List ℕ) (before : Holdings) (pid : ℕ) (regs : Regs) (e : Entry) (q : Process) (s : Space) (b : Bool) (change : Change)
+pub own_landed : (A : Inputs) (k : Kernel) (flat : FlatState) (image : List ℕ) (before : Holdings) (pid : ℕ) (regs : Regs) (e : Entry) (q : Process) (s : Space)
+    (b : Bool) (change : Change)
     → Changing A flat k.place before k.holdings pid q s change → is_borrower flat.processes pid ≡ b
     → Own b change → SettlesFor k.place s.sid change → Found A flat k image before
-    → Landed A (apply_change A.images flat pid regs change) k (keeps_step (facts_of A.images) k pid regs e change) image pid s.sid b e change (given_up flat (apply_change A.images flat pid regs change) pid s change k.holdings)
+    → Landed A (apply_change A.images flat pid regs change) k (keeps_step (facts_of A.images) k pid regs e change) image pid s.sid b e change
+    (given_up flat (apply_change A.images flat pid regs change) pid s change k.holdings)
 own_landed A k flat image before pid regs e q s b change c w o settles x =
     let after : FlatState = apply_change A.images flat pid regs change in
     let cp : Coupled k A.images image flat = x.coupled in
@@ -117,13 +124,15 @@ own_landed A k flat image before pid regs e q s b change c w o settles x =
     ap (place_all A.swap_blocks before) (change_same A.images k flat pid q s change c.images st.texts x.numbered c.numbers t c.found_process c.holds) ∙ c.pieces in
     let l : Kernel = keeps_step (facts_of A.images) k pid regs e change in
     let kept : own.Kept A l =
-    own_kept A k flat pid regs e q s change c.numbers c.found_process c.holds t c.may (ready_sound A.swap_blocks (facts_of A.images) k before pid regs e change so x.numbered ready pieces) (flat_numbered (facts_of A.images) k pid regs e change (takes_next k flat change t c.may) ready.alive x.numbered) in
+    own_kept A k flat pid regs e q s change c.numbers c.found_process c.holds t c.may (ready_sound A.swap_blocks (facts_of A.images) k before pid regs e change so x.numbered ready pieces)
+    (flat_numbered (facts_of A.images) k pid regs e change (takes_next k flat change t c.may) ready.alive x.numbered) in
     let told : own.Told A l after = own_told A k flat pid regs e q s b change c.images c.numbers c.found_process c.holds w o c.resident c.clear c.may c.execs t st in
     let lands : own.Lands A k pid s.sid e change l = own_lands A k flat pid regs e q s change c.found_process c.holds t in
     let g : Stepping k flat pid q s = stepping k flat pid q s t c.found_process c.holds in
     let ow : OneOwner A.swap_blocks (lives k.processes) k.place before = so.owner in
     let forgets : MayForget (facts_of A.images) k.place s.sid false k.next_sid change =
-    subst (λ (y : Life). MayForget (facts_of A.images) k.place (space_of_life y) (gave_back y) k.next_sid change) (ap life_of_proc g.kept ∙ g.life) (may_change (facts_of A.images) k pid change ow.frames x.numbered ready).forgets in
+    subst (λ (y : Life). MayForget (facts_of A.images) k.place (space_of_life y) (gave_back y) k.next_sid change) (ap life_of_proc g.kept ∙ g.life)
+    (may_change (facts_of A.images) k pid change ow.frames x.numbered ready).forgets in
     let coupled : Coupled l A.images image after = own_coupled A k flat image before pid regs e q s b change c w o settles forgets x in
     let fits : Fits (Some s) (numbered space_number s.sid k.place.spaces) =
     subst (λ (y : Option Space). Fits y (numbered space_number s.sid k.place.spaces)) (own_space flat pid q s c.numbers c.found_process c.holds) (t.spaces s.sid) in
@@ -133,7 +142,11 @@ own_landed A k flat image before pid regs e q s b change c w o settles x =
     let same_image : image_of k.place s.sid ≡ s.image = fit_image s (numbered space_number s.sid k.place.spaces) fits in
     let back : given_up flat after pid s change k.holdings ≡ holdings_after k.holdings k.place l.place pid s.sid false change =
     given_same flat after pid s change k.holdings k.place l.place b w same_image
-    (λ z. ((λ i. shared ∙ no_sharers s.image l.place.spaces (ap (sharers l.place) (sym same_image) ∙ i)), (λ m i. shared ∙ some_sharers s.image m l.place.spaces (ap (sharers l.place) (sym same_image) ∙ i))))
+    (λ z. (
+      (λ i. shared ∙ no_sharers s.image l.place.spaces (ap (sharers l.place) (sym same_image) ∙ i)),
+      (λ m i. shared
+          ∙ some_sharers s.image m l.place.spaces (ap (sharers l.place) (sym same_image) ∙ i)),
+    ))
     ∙ keeps_holdings k.holdings k.place l.place pid s.sid b change o in
     record {
       mid = record { sound = kept.sound; numbered = kept.numbered; coupled = coupled; stands = told.stands };
@@ -144,13 +157,16 @@ own_landed A k flat image before pid regs e q s b change c w o settles x =
 
 -- Who borrowed its space, and gives it back.
 
-back_coupled : (A : Inputs) (k : Kernel) (flat : FlatState) (image : List ℕ) (before : Holdings) (pid : ℕ) (regs : Regs) (e : Entry) (q m : Process) (s : Space) (change : Change)
+back_coupled : (A : Inputs) (k : Kernel) (flat : FlatState) (image : List ℕ) (before : Holdings) (pid : ℕ) (regs : Regs) (e : Entry) (q m : Process)
+    (s : Space) (change : Change)
     → Changing A flat k.place before k.holdings pid q s change → IsLender flat pid s.sid m → GivesBack change
-    → Found A flat k image before → Coupled (change_step (facts_of A.images) (pass_step k pid m.pid) pid regs e change) A.images image (apply_change A.images flat pid regs change)
+    → Found A flat k image before → Coupled (change_step (facts_of A.images) (pass_step k pid m.pid) pid regs e change) A.images image
+    (apply_change A.images flat pid regs change)
 back_coupled A k flat image before pid regs e q m s (Exec number top) c is gb x =
     let st : Stands A.images k flat = x.stands in
     let i : ImageFits c.execs.0 = c.images number c.execs.0 c.execs.1 in
-    exec_back A.swap_blocks before k A.images image flat pid regs e number top c.execs.0 q m s x.sound c.numbers st.out c.clear st.starts c.found_process c.holds is c.resident c.execs.1 i.«data» c.execs.2 x.coupled
+    exec_back A.swap_blocks before k A.images image flat pid regs e number top c.execs.0 q m s x.sound c.numbers st.out c.clear st.starts c.found_process c.holds is c.resident c.execs.1
+    i.«data» c.execs.2 x.coupled
 back_coupled A k flat image before pid regs e q m s (End status) c is gb x =
     let st : Stands A.images k flat = x.stands in
     end_back A.swap_blocks k A.images image flat pid regs e status q m s (found_none A flat k image before x c.pieces) c.numbers st.out c.clear c.found_process c.holds is x.coupled
@@ -162,10 +178,12 @@ back_is A k pid n regs e (Exec number top) gb i = ap (λ (m : ℕ). change_step 
 back_is A k pid n regs e (End status) gb i = ap (λ (m : ℕ). change_step (facts_of A.images) (pass_step k pid m) pid regs e (End status)) i
 back_is A k pid n regs e _ gb i = absurd gb
 
-pub back_landed : (A : Inputs) (k : Kernel) (flat : FlatState) (image : List ℕ) (before : Holdings) (pid : ℕ) (regs : Regs) (e : Entry) (q : Process) (s : Space) (change : Change)
+pub back_landed : (A : Inputs) (k : Kernel) (flat : FlatState) (image : List ℕ) (before : Holdings) (pid : ℕ) (regs : Regs) (e : Entry) (q : Process)
+    (s : Space) (change : Change)
     → Changing A flat k.place before k.holdings pid q s change → LendsStand flat → is_borrower flat.processes pid ≡ true → GivesBack change
     → Found A flat k image before
-    → Landed A (apply_change A.images flat pid regs change) k (back_step (facts_of A.images) k pid regs e change) image pid s.sid true e change (given_up flat (apply_change A.images flat pid regs change) pid s change k.holdings)
+    → Landed A (apply_change A.images flat pid regs change) k (back_step (facts_of A.images) k pid regs e change) image pid s.sid true e change
+    (given_up flat (apply_change A.images flat pid regs change) pid s change k.holdings)
 back_landed A k flat image before pid regs e q s change c lend w gb x =
     let after : FlatState = apply_change A.images flat pid regs change in
     let cp : Coupled k A.images image flat = x.coupled in
@@ -181,15 +199,22 @@ back_landed A k flat image before pid regs e q s change c lend w gb x =
     let n1 : Numbered k1 = pass_numbered k pid m.pid (ap lives_in g.kept ∙ ap has_life g.life) (ap lives_in a.kept ∙ ap has_life a.life) x.numbered in
     let ready : ReadyFor k1 pid change = back_ready k flat pid q m s change a gb in
     let pieces : place_all A.swap_blocks before (asked (facts_of A.images) k1 pid change) ≡ Ok k.holdings =
-    ap (place_all A.swap_blocks before) (asks_same (facts_of A.images) k k1 pid change gb refl refl ∙ change_same A.images k flat pid q s change c.images st.texts x.numbered c.numbers t c.found_process c.holds) ∙ c.pieces in
+    ap (place_all A.swap_blocks before)
+    (asks_same (facts_of A.images) k k1 pid change gb refl refl ∙ change_same A.images k flat pid q s change c.images st.texts x.numbered c.numbers t c.found_process c.holds) ∙ c.pieces in
     let l : Kernel = change_step (facts_of A.images) k1 pid regs e change in
     let sound : Sound A.swap_blocks l = ready_sound A.swap_blocks (facts_of A.images) k1 before pid regs e change sound1 n1 ready pieces in
     let told : back.Told A l after = back_told A k flat pid regs e q m s change gb c.images c.numbers c.found_process c.holds lender.1 c.resident c.clear c.execs t st in
     let lands : back.Lands A k pid s.sid e change l = back_lands A k flat pid regs e q m s change a gb in
     let fits : Fits (Some s) (numbered space_number s.sid k.place.spaces) =
     subst (λ (y : Option Space). Fits y (numbered space_number s.sid k.place.spaces)) (own_space flat pid q s c.numbers c.found_process c.holds) (t.spaces s.sid) in
-    subst (λ (y : Kernel). Landed A after k y image pid s.sid true e change (given_up flat after pid s change k.holdings)) (sym (back_is A k pid m.pid regs e change gb (lender_is k flat pid s.sid m t c.numbers lender.1))) (record {
-      mid = record { sound = sound; numbered = flat_numbered (facts_of A.images) k1 pid regs e change (takes_none k1 change gb) ready.alive n1; coupled = back_coupled A k flat image before pid regs e q m s change c lender.1 gb x; stands = told.stands };
+    subst (λ (y : Kernel). Landed A after k y image pid s.sid true e change (given_up flat after pid s change k.holdings))
+    (sym (back_is A k pid m.pid regs e change gb (lender_is k flat pid s.sid m t c.numbers lender.1))) (record {
+      mid = record {
+        sound = sound;
+        numbered = flat_numbered (facts_of A.images) k1 pid regs e change (takes_none k1 change gb) ready.alive n1;
+        coupled = back_coupled A k flat image before pid regs e q m s change c lender.1 gb x;
+        stands = told.stands;
+      };
       place = lands.place;
       holdings = lands.holdings ∙ sym (given_same flat after pid s change k.holdings k.place l.place true w (fit_image s (numbered space_number s.sid k.place.spaces) fits) (λ z. absurd cc));
       journal = lands.journal;
@@ -197,10 +222,12 @@ back_landed A k flat image before pid regs e q s change c lend w gb x =
 
 -- Either, by whether the process borrowed.
 
-pub step_landed : (A : Inputs) (k : Kernel) (flat : FlatState) (image : List ℕ) (before : Holdings) (pid : ℕ) (regs : Regs) (e : Entry) (q : Process) (s : Space) (b : Bool) (change : Change)
+pub step_landed : (A : Inputs) (k : Kernel) (flat : FlatState) (image : List ℕ) (before : Holdings) (pid : ℕ) (regs : Regs) (e : Entry) (q : Process)
+    (s : Space) (b : Bool) (change : Change)
     → Changing A flat k.place before k.holdings pid q s change → LendsStand flat → is_borrower flat.processes pid ≡ b
     → (Own b change → SettlesFor k.place s.sid change) → Found A flat k image before
-    → Landed A (apply_change A.images flat pid regs change) k (passing_change b (facts_of A.images) k pid regs e change) image pid s.sid b e change (given_up flat (apply_change A.images flat pid regs change) pid s change k.holdings)
+    → Landed A (apply_change A.images flat pid regs change) k (passing_change b (facts_of A.images) k pid regs e change) image pid s.sid b e change
+    (given_up flat (apply_change A.images flat pid regs change) pid s change k.holdings)
 step_landed A k flat image before pid regs e q s false change c lend w settles x = own_landed A k flat image before pid regs e q s false change c w (own_of change) (settles (own_of change)) x
   where
     own_of : (y : Change) → Own false y

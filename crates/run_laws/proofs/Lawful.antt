@@ -151,7 +151,8 @@ next_is_unit A s u h = go (kind_of A s u h)
     step : (pid : ℕ) → Acted A s pid u → IsUnit u
     step pid (Settles e) = subst IsUnit (sym e) tt
     step pid (Refuses e) = subst IsUnit (sym e) tt
-    step pid (Steps f g e) = first_unit (can_step s.point.flat pid) (due_at A s.point pid) u (due_units s.point.last pid (step_at A s.point pid).entries (step_units A s.point.flat pid (is_refused s.point.last pid))) e
+    step pid (Steps f g e) =
+        first_unit (can_step s.point.flat pid) (due_at A s.point pid) u (due_units s.point.last pid (step_at A s.point pid).entries (step_units A s.point.flat pid (is_refused s.point.last pid))) e
 
     mark : (x : Entry) → IsMark x → IsUnit x
     mark (entries.Event line) k = tt

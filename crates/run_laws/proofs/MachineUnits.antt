@@ -73,7 +73,8 @@ pub sound_of : (A : Inputs) (flat : FlatState) (k : Kernel) → Placed A flat k.
 sound_of A flat k st t f =
     let so : Sound A.swap_blocks (machine_of flat k.place k.holdings) = st.sound in
     record {
-      owner = alive_owner A.swap_blocks (lives (map kept_of flat.processes)) (lives k.processes) k.place k.holdings (lives_same k.processes (map kept_of flat.processes) (t.processes ∙ sym (start_outlines flat.processes))) so.owner;
+      owner = alive_owner A.swap_blocks (lives (map kept_of flat.processes)) (lives k.processes) k.place k.holdings
+          (lives_same k.processes (map kept_of flat.processes) (t.processes ∙ sym (start_outlines flat.processes))) so.owner;
       tokens = f ∙ sym st.frames;
       hands = so.hands;
       few_transfers = so.few_transfers;
@@ -106,12 +107,20 @@ pub stands_behind : (A : Inputs) (t : State) (k : Kernel) (image : List ℕ) →
     → StandsAt A t k image
 stands_behind A t k image st b =
     let c : Coupled k A.images image t.point.flat = b.coupled in
-    let here : Placed A t.point.flat k.place k.holdings = subst (λ (p : Placement). Placed A t.point.flat p k.holdings) (sym b.place) (subst (λ (hs : Holdings). Placed A t.point.flat t.place hs) (sym b.holdings) st) in
+    let here : Placed A t.point.flat k.place k.holdings =
+    subst (λ (p : Placement). Placed A t.point.flat p k.holdings) (sym b.place) (subst (λ (hs : Holdings). Placed A t.point.flat t.place hs) (sym b.holdings) st) in
     record {
       place = b.place;
       holdings = b.holdings;
       journal = b.journal;
-      keeps = record { sound = sound_of A t.point.flat k here c.tables b.frames; numbered = numbered_of A t.point.flat k here c.tables; coupled = b.coupled; stands = b.stands; room = b.room; out_regs = b.out_regs };
+      keeps = record {
+        sound = sound_of A t.point.flat k here c.tables b.frames;
+        numbered = numbered_of A t.point.flat k here c.tables;
+        coupled = b.coupled;
+        stands = b.stands;
+        room = b.room;
+        out_regs = b.out_regs;
+      };
     }
 
 frames_at : (A : Inputs) (s : State) (k : Kernel) (image : List ℕ) → Placed A s.point.flat s.place s.holdings → StandsAt A s k image
@@ -225,7 +234,10 @@ pub paged_behind : (A : Inputs) (s : State) (k : Kernel) (image : List ℕ) (rea
 paged_behind A s k image read u r at are kind n y =
     let kp : Keeps A s.point.flat k image = at.keeps in
     let goes : Goes k A.images image s.point.flat (locked A s) read u =
-    kind_goes A s k image read u (record { same = at.place; machine = record { sound = kp.sound; stands = kp.stands; room = kp.room; are = are; coupled = kp.coupled } }) r.placed r.numbers r.texts kind n y in
+    kind_goes A s k image read u (record {
+      same = at.place;
+      machine = record { sound = kp.sound; stands = kp.stands; room = kp.room; are = are; coupled = kp.coupled };
+    }) r.placed r.numbers r.texts kind n y in
     let lands : Lands k (page_step k (locked A s) read u) (locked A s) (place_at s u) u = page_lands k (locked A s) (place_at s u) read u n y in
     let was : (m : ℕ) → is_out (Kernel.place (page_step k (locked A s) read u)) m ≡ true → is_out k.place m ≡ true = λ m e.
     elim (entry_out (locked A s) (place_at s u) k.place u m (ap (λ (p : Placement). is_out p m) (sym lands.place) ∙ e)) [
@@ -240,7 +252,8 @@ paged_behind A s k image read u r at are kind n y =
       stands = subst (λ (x : Point). Stands A.images (page_step k (locked A s) read u) x.flat) (sym (plain_point A s u n)) goes.stands;
       frames = goes.tokens ∙ frames_at A s k image r.placed at;
       room = page_room A s.point.flat k image u kp;
-      out_regs = subst (λ (x : Point). OutRegs (Kernel.place (page_step k (locked A s) read u)) x.flat) (sym (plain_point A s u n)) (outs_kept k.place (Kernel.place (page_step k (locked A s) read u)) s.point.flat was kp.out_regs);
+      out_regs = subst (λ (x : Point). OutRegs (Kernel.place (page_step k (locked A s) read u)) x.flat) (sym (plain_point A s u n))
+          (outs_kept k.place (Kernel.place (page_step k (locked A s) read u)) s.point.flat was kp.out_regs);
     }
 
 -- Notes of a process.
@@ -282,10 +295,12 @@ in_behind A s k image pid r at out =
       | inr y ↦ absurd y
     ] in
     record {
-      place = ap (λ (j : List Entry). place_entry [] (length (append j (entries.SwapIn pid))) k.place (entries.SwapIn pid)) at.journal ∙ ap (λ (p : Placement). place_entry [] (place_at s (entries.SwapIn pid)) p (entries.SwapIn pid)) at.place ∙ sym (plain_place A s (entries.SwapIn pid) refl);
+      place = ap (λ (j : List Entry). place_entry [] (length (append j (entries.SwapIn pid))) k.place (entries.SwapIn pid)) at.journal
+          ∙ ap (λ (p : Placement). place_entry [] (place_at s (entries.SwapIn pid)) p (entries.SwapIn pid)) at.place ∙ sym (plain_place A s (entries.SwapIn pid) refl);
       holdings = at.holdings ∙ sym (plain_holdings A s (entries.SwapIn pid) refl);
       journal = ap (λ (j : List Entry). append j (entries.SwapIn pid)) at.journal ∙ sym (after_journal A s (entries.SwapIn pid));
-      coupled = subst (λ (x : Point). Coupled l A.images image x.flat) (sym (plain_point A s (entries.SwapIn pid) refl)) (in_coupled_any k A.images image s.point.flat pid regs x.0 x.2 here (kp.out_regs pid x.0 here x.2) refl kp.coupled);
+      coupled = subst (λ (x : Point). Coupled l A.images image x.flat) (sym (plain_point A s (entries.SwapIn pid) refl))
+          (in_coupled_any k A.images image s.point.flat pid regs x.0 x.2 here (kp.out_regs pid x.0 here x.2) refl kp.coupled);
       stands = subst (λ (x : Point). Stands A.images l x.flat) (sym (plain_point A s (entries.SwapIn pid) refl)) (in_stands A.images k s.point.flat pid regs st);
       frames = frames_at A s k image r.placed at;
       room = kp.room;
@@ -346,19 +361,23 @@ off_behind A s k image pid r at given out h =
     let behind : List ℕ = store_at image (block_in k.holdings (owners.U pid) 0) (u_bytes k (Some x.proc)) in
     let here : is_out k.place pid ≡ false = ap (λ (p : Placement). is_out p pid) at.place ∙ out in
     let own_regs : x.proc.regs ≡ x.process.regs =
-    subst (λ (z : Bool). KeepsRegs k image z x.process x.proc.regs (space_of_holding x.process.holding)) here (regs_at k A.images image s.point.flat c pid x.process x.proc (found_at s.point.flat pid x.process x.here).1 x.kept) in
+    subst (λ (z : Bool). KeepsRegs k image z x.process x.proc.regs (space_of_holding x.process.holding)) here
+    (regs_at k A.images image s.point.flat c pid x.process x.proc (found_at s.point.flat pid x.process x.here).1 x.kept) in
     let outs : OutRegs l.place s.point.flat = λ n q e f. elim (entry_out [] (length (append k.journal (entries.SwapOut pid))) k.place (entries.SwapOut pid) n e) [
       | inl was ↦ kp.out_regs n q was f
       | inr i ↦ subst AreRegs (own_regs ∙ ap (λ (y : Process). y.regs) (same_Some x.process q (sym x.here ∙ ap (process_of s.point.flat) i ∙ f))) are
     ] in
     subst (λ (o : Option Proc). Behind A (after A s (entries.SwapOut pid)) (out_step k pid) (store_at image (block_in k.holdings (owners.U pid) 0) (u_bytes k o))) (sym x.kept) (record {
-      place = ap (λ (j : List Entry). place_entry [] (length (append j (entries.SwapOut pid))) k.place (entries.SwapOut pid)) at.journal ∙ ap (λ (p : Placement). place_entry [] (place_at s (entries.SwapOut pid)) p (entries.SwapOut pid)) at.place ∙ sym (plain_place A s (entries.SwapOut pid) refl);
+      place = ap (λ (j : List Entry). place_entry [] (length (append j (entries.SwapOut pid))) k.place (entries.SwapOut pid)) at.journal
+          ∙ ap (λ (p : Placement). place_entry [] (place_at s (entries.SwapOut pid)) p (entries.SwapOut pid)) at.place ∙ sym (plain_place A s (entries.SwapOut pid) refl);
       holdings = at.holdings ∙ sym (plain_holdings A s (entries.SwapOut pid) refl);
       journal = ap (λ (j : List Entry). append j (entries.SwapOut pid)) at.journal ∙ sym (after_journal A s (entries.SwapOut pid));
-      coupled = subst (λ (x : Point). Coupled l A.images behind x.flat) (sym (plain_point A s (entries.SwapOut pid) refl)) (out_coupled A.swap_blocks k A.images image s.point.flat pid x.proc kp.sound kp.room x.kept x.life are (n.residents pid (ap lives_in x.kept ∙ x.life)) here kp.coupled);
+      coupled = subst (λ (x : Point). Coupled l A.images behind x.flat) (sym (plain_point A s (entries.SwapOut pid) refl))
+          (out_coupled A.swap_blocks k A.images image s.point.flat pid x.proc kp.sound kp.room x.kept x.life are (n.residents pid (ap lives_in x.kept ∙ x.life)) here kp.coupled);
       stands = subst (λ (x : Point). Stands A.images l x.flat) (sym (plain_point A s (entries.SwapOut pid) refl)) (out_stands A.images k s.point.flat pid x.process x.space x.here x.holds kp.stands);
       frames = frames_at A s k image r.placed at;
-      room = subst (λ (n : ℕ). 512 * A.swap_blocks ≤ n) (sym (out_length A.swap_blocks k image pid x.proc (length (slots_of k.place (Data (space_of_life x.proc.life) 0))) (length (slots_of k.place (Stack (space_of_life x.proc.life) 0))) kp.sound kp.room are (ap lives_in x.kept ∙ x.life))) kp.room;
+      room = subst (λ (n : ℕ). 512 * A.swap_blocks ≤ n) (sym (out_length A.swap_blocks k image pid x.proc (length (slots_of k.place (Data (space_of_life x.proc.life) 0)))
+          (length (slots_of k.place (Stack (space_of_life x.proc.life) 0))) kp.sound kp.room are (ap lives_in x.kept ∙ x.life))) kp.room;
       out_regs = subst (λ (x : Point). OutRegs l.place x.flat) (sym (plain_point A s (entries.SwapOut pid) refl)) outs;
     })
 
@@ -387,7 +406,14 @@ reach_behind A s u l image room st outs x =
       place = x.place;
       holdings = x.holdings;
       journal = x.journal ∙ sym (after_journal A s u);
-      keeps = record { sound = m.sound; numbered = m.numbered; coupled = m.coupled; stands = m.stands; room = room; out_regs = subst (λ (p : Placement). OutRegs p (after A s u).point.flat) (sym x.place) outs };
+      keeps = record {
+        sound = m.sound;
+        numbered = m.numbered;
+        coupled = m.coupled;
+        stands = m.stands;
+        room = room;
+        out_regs = subst (λ (p : Placement). OutRegs p (after A s u).point.flat) (sym x.place) outs;
+      };
     }
 
 -- All units.
@@ -426,22 +452,26 @@ unit_stands A s k image read u images execs r at h g = go (sort_of A s u r.mark 
     paged : process_of_entry u ≡ None → Stays u → P (page_step k (locked A s) read u) (page_image k image u)
     paged n y = elim (given_read A s k image read u g) [
       | inl none ↦ subst (λ (l : Kernel). P l (page_image k image u)) (read_unused A s k read (brought b k.place.transfers) u none)
-          (stands_behind A (after A s u) (page_step k (locked A s) (brought b k.place.transfers) u) (page_image k image u) run.placed (paged_behind A s k image (brought b k.place.transfers) u r at (are_brought b k.place.transfers) kind n y))
+          (stands_behind A (after A s u) (page_step k (locked A s) (brought b k.place.transfers) u) (page_image k image u) run.placed
+          (paged_behind A s k image (brought b k.place.transfers) u r at (are_brought b k.place.transfers) kind n y))
       | inr x ↦ stands_behind A (after A s u) (page_step k (locked A s) read u) (page_image k image u) run.placed (paged_behind A s k image read u r at x.1 kind n y)
     ]
 
     go : Sort A s u → P (unit_step A s k image read u) (unit_image k image u)
     go (Pages n y) = subst (λ (l : Kernel). P l (unit_image k image u)) (page_is A s k image read u n y) (subst (P (page_step k (locked A s) read u)) (image_is k image u y) (paged n y))
-    go (GoesIn pid i out) = subst (λ (x : Entry). Placed A (after A s x).point.flat (after A s x).place (after A s x).holdings → StandsAt A (after A s x) (unit_step A s k image read x) (unit_image k image x)) (sym i)
+    go (GoesIn pid i out) =
+        subst (λ (x : Entry). Placed A (after A s x).point.flat (after A s x).place (after A s x).holdings → StandsAt A (after A s x) (unit_step A s k image read x) (unit_image k image x)) (sym i)
         (λ st. stands_behind A (after A s (entries.SwapIn pid)) (unit_step A s k image read (entries.SwapIn pid)) image st (in_behind A s k image pid r at out)) run.placed
-    go (GoesOff pid i out holds) = subst (λ (x : Entry). IsGiven A s k image read x → Placed A (after A s x).point.flat (after A s x).place (after A s x).holdings → StandsAt A (after A s x) (unit_step A s k image read x) (unit_image k image x)) (sym i)
+    go (GoesOff pid i out holds) = subst (λ (x : Entry). IsGiven A s k image read x → Placed A (after A s x).point.flat (after A s x).place (after A s x).holdings
+        → StandsAt A (after A s x) (unit_step A s k image read x) (unit_image k image x)) (sym i)
         (λ given st. stands_behind A (after A s (entries.SwapOut pid)) (out_step k pid) (unit_image k image (entries.SwapOut pid)) st (off_behind A s k image pid r at given out holds)) g run.placed
     go (Says e y) =
         let x = said_is A s k image read u y in
         subst (λ (l : Kernel). P l (unit_image k image u)) x.0 (subst (P (note_step k u)) x.1 (stands_behind A (after A s u) (note_step k u) image run.placed (said_behind A s k image u r at e)))
     go (Makes x w) =
         let runs : Runs A s x.pid x.now = x.runs in
-        let valid : AllValid s.place (touched A s.point.flat x.pid) = subst (AllValid s.place) (ap (touched_by A s.point.flat) (on_running A s s.mark x.pid x.now runs.on)) (wanted_none A s runs.clear w) in
+        let valid : AllValid s.place (touched A s.point.flat x.pid) =
+        subst (AllValid s.place) (ap (touched_by A s.point.flat) (on_running A s s.mark x.pid x.now runs.on)) (wanted_none A s runs.clear w) in
         let z : Whole A s k u image x = step_reaches A s k image u images execs r.numbers r.lenders at x valid in
         stepped_is A s k image read u x.pid P x.ends (steps_own A s.point x.pid u x.next)
         (reach_behind A s u (process_step A s k x.pid u) image kp.room run.placed z.out_regs z.changes)
@@ -450,13 +480,15 @@ unit_stands A s k image read u images execs r at h g = go (sort_of A s u r.mark 
 -- In the middle of a process's step.
 pub mid_stands : (A : Inputs) (s : State) (k : Kernel) (image : List ℕ) (u : Entry) (pid : ℕ) → ImagesFit A.images → ExecsFit A → IsRun A s
     → StandsAt A s k image → next_unit A s ≡ Some u → Ends u → process_of_entry u ≡ Some pid
-    → Mid A (apply_writes s.point.flat pid (step_at A s.point pid).writes) (written_step A s k pid) image × Coupled (taken_step A s k pid) A.images image (apply_writes s.point.flat pid (step_at A s.point pid).writes)
+    → Mid A (apply_writes s.point.flat pid (step_at A s.point pid).writes) (written_step A s k pid) image
+    × Coupled (taken_step A s k pid) A.images image (apply_writes s.point.flat pid (step_at A s.point pid).writes)
 mid_stands A s k image u pid images execs r at h ends own = go (sort_of A s u r.mark (kind_of A s u h))
   where
     none : {C : Type 0} → process_of_entry u ≡ None → C
     none n = absurd (let z : None ≡ Some pid = sym n ∙ own in cc)
 
-    go : Sort A s u → Mid A (apply_writes s.point.flat pid (step_at A s.point pid).writes) (written_step A s k pid) image × Coupled (taken_step A s k pid) A.images image (apply_writes s.point.flat pid (step_at A s.point pid).writes)
+    go : Sort A s u → Mid A (apply_writes s.point.flat pid (step_at A s.point pid).writes) (written_step A s k pid) image
+        × Coupled (taken_step A s k pid) A.images image (apply_writes s.point.flat pid (step_at A s.point pid).writes)
     go (Pages n y) = none n
     go (GoesIn p i out) = none (ap process_of_entry i)
     go (GoesOff p i out holds) = none (ap process_of_entry i)
@@ -468,7 +500,9 @@ mid_stands A s k image u pid images execs r at h ends own = go (sort_of A s u r.
         says _ e y = y
     go (Makes x w) =
         let runs : Runs A s x.pid x.now = x.runs in
-        let valid : AllValid s.place (touched A s.point.flat x.pid) = subst (AllValid s.place) (ap (touched_by A s.point.flat) (on_running A s s.mark x.pid x.now runs.on)) (wanted_none A s runs.clear w) in
+        let valid : AllValid s.place (touched A s.point.flat x.pid) =
+        subst (AllValid s.place) (ap (touched_by A s.point.flat) (on_running A s s.mark x.pid x.now runs.on)) (wanted_none A s runs.clear w) in
         let z : Whole A s k u image x = step_reaches A s k image u images execs r.numbers r.lenders at x valid in
         let i : x.pid ≡ pid = same_Some x.pid pid (sym (steps_own A s.point x.pid u x.next) ∙ own) in
-        subst (λ (n : ℕ). Mid A (apply_writes s.point.flat n (step_at A s.point n).writes) (written_step A s k n) image × Coupled (taken_step A s k n) A.images image (apply_writes s.point.flat n (step_at A s.point n).writes)) i (z.written, z.taken)
+        subst (λ (n : ℕ). Mid A (apply_writes s.point.flat n (step_at A s.point n).writes) (written_step A s k n) image
+        × Coupled (taken_step A s k n) A.images image (apply_writes s.point.flat n (step_at A s.point n).writes)) i (z.written, z.taken)

@@ -90,7 +90,8 @@ pub put_keeps : (A : Inputs) (s : State) (k : Kernel) (image : List ℕ) (q : Pa
 put_keeps A s k image q n x = unit_keeps A s k image [] (entries.Put q n) x tt
 
 pub done_keeps : (A : Inputs) (s : State) (k : Kernel) (image : List ℕ) (read : List (List ℕ)) → Next A s k image entries.Done
-    → AreRead (beside_kernel k A.images image s.point.flat) k.place.transfers read → StandsAt A (after A s entries.Done) (done_step k read) (image_after k image)
+    → AreRead (beside_kernel k A.images image s.point.flat) k.place.transfers read
+    → StandsAt A (after A s entries.Done) (done_step k read) (image_after k image)
 done_keeps A s k image read x g = unit_keeps A s k image read entries.Done x g
 
 pub out_keeps : (A : Inputs) (s : State) (k : Kernel) (image : List ℕ) (pid : ℕ) (p : Proc) → Next A s k image (entries.SwapOut pid)
@@ -118,15 +119,20 @@ ran_keeps A s k image pid n x = unit_keeps A s k image [] (entries.Ran pid n) x 
 
 pub step_keeps : (A : Inputs) (s : State) (k : Kernel) (image : List ℕ) (pid : ℕ) (u : Entry) → Next A s k image u → Completes pid u
     → StandsAt A (after A s u) (process_step A s k pid u) image
-step_keeps A s k image pid (entries.Grew p n) x c = subst (λ (y : ℕ). StandsAt A (after A s (entries.Grew p n)) (process_step A s k y (entries.Grew p n)) image) c (unit_keeps A s k image [] (entries.Grew p n) x tt)
-step_keeps A s k image pid (entries.Call p n r r0 r1) x c = subst (λ (y : ℕ). StandsAt A (after A s (entries.Call p n r r0 r1)) (process_step A s k y (entries.Call p n r r0 r1)) image) c (unit_keeps A s k image [] (entries.Call p n r r0 r1) x tt)
-step_keeps A s k image pid (entries.Sleeps p) x c = subst (λ (y : ℕ). StandsAt A (after A s (entries.Sleeps p)) (process_step A s k y (entries.Sleeps p)) image) c (unit_keeps A s k image [] (entries.Sleeps p) x tt)
-step_keeps A s k image pid (entries.Ended p n) x c = subst (λ (y : ℕ). StandsAt A (after A s (entries.Ended p n)) (process_step A s k y (entries.Ended p n)) image) c (unit_keeps A s k image [] (entries.Ended p n) x tt)
+step_keeps A s k image pid (entries.Grew p n) x c =
+    subst (λ (y : ℕ). StandsAt A (after A s (entries.Grew p n)) (process_step A s k y (entries.Grew p n)) image) c (unit_keeps A s k image [] (entries.Grew p n) x tt)
+step_keeps A s k image pid (entries.Call p n r r0 r1) x c =
+    subst (λ (y : ℕ). StandsAt A (after A s (entries.Call p n r r0 r1)) (process_step A s k y (entries.Call p n r r0 r1)) image) c (unit_keeps A s k image [] (entries.Call p n r r0 r1) x tt)
+step_keeps A s k image pid (entries.Sleeps p) x c =
+    subst (λ (y : ℕ). StandsAt A (after A s (entries.Sleeps p)) (process_step A s k y (entries.Sleeps p)) image) c (unit_keeps A s k image [] (entries.Sleeps p) x tt)
+step_keeps A s k image pid (entries.Ended p n) x c =
+    subst (λ (y : ℕ). StandsAt A (after A s (entries.Ended p n)) (process_step A s k y (entries.Ended p n)) image) c (unit_keeps A s k image [] (entries.Ended p n) x tt)
 step_keeps A s k image pid _ x c = absurd c
 
 -- in the middle of a step
 mid_keeps : (A : Inputs) (s : State) (k : Kernel) (image : List ℕ) (pid : ℕ) (u : Entry) → Next A s k image u → EndsStep pid u
-    → Mid A (apply_writes s.point.flat pid (step_at A s.point pid).writes) (written_step A s k pid) image × Coupled (taken_step A s k pid) A.images image (apply_writes s.point.flat pid (step_at A s.point pid).writes)
+    → Mid A (apply_writes s.point.flat pid (step_at A s.point pid).writes) (written_step A s k pid) image
+    × Coupled (taken_step A s k pid) A.images image (apply_writes s.point.flat pid (step_at A s.point pid).writes)
 mid_keeps A s k image pid (entries.Ran p n) x c = mid_stands A s k image (entries.Ran p n) pid x.images (execs_fit A) x.run x.at x.next tt (ap (λ (y : ℕ). Some y) c)
 mid_keeps A s k image pid (entries.Grew p n) x c = mid_stands A s k image (entries.Grew p n) pid x.images (execs_fit A) x.run x.at x.next tt (ap (λ (y : ℕ). Some y) c)
 mid_keeps A s k image pid (entries.Call p n r r0 r1) x c = mid_stands A s k image (entries.Call p n r r0 r1) pid x.images (execs_fit A) x.run x.at x.next tt (ap (λ (y : ℕ). Some y) c)

@@ -135,17 +135,26 @@ noted_free A s a b c d e = subst (λ (x : Mark). IsFree (Rattle.run_model.specs.
 pub hands_stand : (A : Inputs) (s : State) (count : ℕ) (b : Bool) → OwnsFrames s.place → s.place.due ≡ [] → s.mark ≡ marks.Hands count
     → MarkStands (after A s (move_by b)) (after A s (move_by b)).mark
 unfolding after
-hands_stand A s count true o d e = subst (λ (x : Mark). MarkStands (after A s entries.Done) (Rattle.run_model.specs.After.completed x)) (sym e) (let t : Steady s.place (done s.place) = done_steady s.place o in t.due ∙ d)
-hands_stand A s count false o d e = subst (λ (x : Mark). MarkStands (after A s (entries.Hands 1)) (Rattle.run_model.specs.After.moved_on 1 x)) (sym e) (let t : Stays s.place (hand_move s.place (locked A s)) = move_stays s.place (locked A s) in t.due ∙ d)
+hands_stand A s count true o d e =
+    subst (λ (x : Mark). MarkStands (after A s entries.Done) (Rattle.run_model.specs.After.completed x)) (sym e) (let t : Steady s.place (done s.place) = done_steady s.place o in t.due ∙ d)
+hands_stand A s count false o d e = subst (λ (x : Mark). MarkStands (after A s (entries.Hands 1)) (Rattle.run_model.specs.After.moved_on 1 x)) (sym e)
+    (let t : Stays s.place (hand_move s.place (locked A s)) = move_stays s.place (locked A s) in t.due ∙ d)
 
 pub put_stands : (A : Inputs) (s : State) (pid sid : ℕ) → OwnsFrames s.place → s.place.due ≡ [] → s.mark ≡ marks.PutOut pid
     → holds_some (process_of s.point.flat pid) ≡ true
     → is_out s.place pid ≡ false → MarkStands (after A s (put_out_unit s.place pid sid)) (after A s (put_out_unit s.place pid sid)).mark
 unfolding after
 put_stands A s pid sid o d e h r = unit_case (λ (u : Entry). MarkStands (after A s u) (after A s u).mark) s.place pid sid
-    (λ t ts z. subst (λ (x : Mark). MarkStands (after A s entries.Done) (Rattle.run_model.specs.After.completed x)) (sym e) (let y : Steady s.place (done s.place) = done_steady s.place o in (y.due ∙ d, h, same_out s.place (done s.place) pid (done_residents s.place) ∙ r)))
+    (λ t ts z. subst (λ (x : Mark). MarkStands (after A s entries.Done) (Rattle.run_model.specs.After.completed x)) (sym e)
+    (let y : Steady s.place (done s.place) = done_steady s.place o in (y.due ∙ d, h, same_out s.place (done s.place) pid (done_residents s.place) ∙ r)))
     (λ v x y z. subst (MarkStands (after A s (entries.Put v (Rattle.page_model.specs.Runs.run_put s.place v).n))) (sym e)
-    (let t : Steady s.place (put_step s.place v (pages_from v (number_of v) (Rattle.page_model.specs.Runs.run_put s.place v).n)) = put_steady s.place v (pages_from v (number_of v) (Rattle.page_model.specs.Runs.run_put s.place v).n) in (t.due ∙ d, h, same_out s.place (put_step s.place v (pages_from v (number_of v) (Rattle.page_model.specs.Runs.run_put s.place v).n)) pid (put_residents s.place v (pages_from v (number_of v) (Rattle.page_model.specs.Runs.run_put s.place v).n)) ∙ r)))
+    (let t : Steady s.place (put_step s.place v (pages_from v (number_of v) (Rattle.page_model.specs.Runs.run_put s.place v).n)) =
+    put_steady s.place v (pages_from v (number_of v) (Rattle.page_model.specs.Runs.run_put s.place v).n) in (
+      t.due ∙ d,
+      h,
+      same_out s.place (put_step s.place v (pages_from v (number_of v)
+          (Rattle.page_model.specs.Runs.run_put s.place v).n)) pid (put_residents s.place v (pages_from v (number_of v) (Rattle.page_model.specs.Runs.run_put s.place v).n)) ∙ r,
+    )))
     (λ x y. subst (λ (z : Mark). MarkStands (after A s (entries.SwapOut pid)) (Rattle.run_model.specs.After.put_out z)) (sym e) tt)
 
 -- A line of the schedule.

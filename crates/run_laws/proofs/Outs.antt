@@ -30,7 +30,8 @@ entered_residents p next image (Some facts) = refl
 -- nobody goes out by a change of a process
 pub change_out : (images : List Image) (p : Placement) (pid sid : ℕ) (b : Bool) (next at : ℕ) (change : Change) (n : ℕ)
     → is_out (place_change images p pid sid b next at change) n ≡ true → is_out p n ≡ true
-change_out images p pid sid b next at (Resize d s) n e = let sh : Shaped p (drop_all p (dropped_pages p sid d s)) = drop_all_shaped (dropped_pages p sid d s) p in ap (λ (rs : List Residence). (residence_of rs n).out) (sym sh.residents) ∙ e
+change_out images p pid sid b next at (Resize d s) n e =
+    let sh : Shaped p (drop_all p (dropped_pages p sid d s)) = drop_all_shaped (dropped_pages p sid d s) p in ap (λ (rs : List Residence). (residence_of rs n).out) (sym sh.residents) ∙ e
 change_out images p pid sid b next at (Fork child) n e = sym (out_begun p.residents child at n) ∙ e
 change_out images p pid sid b next at (Lend child) n e = sym (out_begun p.residents child at n) ∙ e
 change_out images p pid sid b next at (Exec image top) n e =
@@ -50,7 +51,8 @@ pub out_holder : (p : Placement) (flat : FlatState) (n : ℕ) → OutHold p flat
     → (x : Process) × (t : Space) × (process_of flat n ≡ Some x) × (x.holding ≡ Holds t)
 out_holder p flat n o e = go (process_of flat n) refl (o n e)
   where
-    holding : (x : Process) → process_of flat n ≡ Some x → (h : Holding) → x.holding ≡ h → Rattle.flat_state.specs.Flat.holds_space h ≡ true → (x : Process) × (t : Space) × (process_of flat n ≡ Some x) × (x.holding ≡ Holds t)
+    holding : (x : Process) → process_of flat n ≡ Some x → (h : Holding) → x.holding ≡ h → Rattle.flat_state.specs.Flat.holds_space h ≡ true
+        → (x : Process) × (t : Space) × (process_of flat n ≡ Some x) × (x.holding ≡ Holds t)
     holding x f (Holds t) h z = (x, t, f, h)
     holding x f (Lends sid child) h z = absurd cc
     holding x f (Zombie status) h z = absurd cc
@@ -68,6 +70,7 @@ regs_stay images flat p r pid ws regs change inside o may was old n a e f =
     let x = out_holder p flat n o (was n e) in
     let other : pid ≢ n = λ i. (let z : true ≡ false = sym (was n e) ∙ ap (is_out p) (sym i) ∙ inside in cc) in
     let y : FoundRegs (apply_change images (apply_writes flat pid ws) pid regs change).processes n x.1 x.0.regs =
-    change_stays images (apply_writes flat pid ws) pid regs change n x.1 x.0.regs may other (writes_stay flat pid ws n x.1 x.0.regs other (record { process = x.0; here = x.2; holds = x.3; regs = refl })) in
+    change_stays images (apply_writes flat pid ws) pid regs change n x.1 x.0.regs may other
+    (writes_stay flat pid ws n x.1 x.0.regs other (record { process = x.0; here = x.2; holds = x.3; regs = refl })) in
     let same : y.process ≡ a = Rattle.std.proofs.lemmas.Option.same_Some y.process a (sym y.here ∙ f) in
     subst AreRegs (sym y.regs ∙ ap (λ (q : Process). q.regs) same) (old n x.0 (was n e) x.2)

@@ -91,18 +91,28 @@ pub own_told : (A : Inputs) (k : Kernel) (flat : FlatState) (pid : ℕ) (regs : 
     → process_of flat pid ≡ Some q → q.holding ≡ Holds s → is_borrower flat.processes pid ≡ b → Own b change
     → is_out k.place pid ≡ false → k.place.due ≡ [] → NamesChild flat change → EntersImage A.images change → SameTables k flat → Stands A.images k flat
     → Told A (next_of (facts_of A.images) k pid regs e change) (apply_change A.images flat pid regs change)
-own_told A k flat pid regs e q s b Keep fit nums f h w o out due m x t st = record { tables = keep_tables k A.images flat pid regs e q s nums f h t; stands = keep_stands A.images k flat pid regs e q s t f h out st }
-own_told A k flat pid regs e q s b (Resize d r) fit nums f h w o out due m x t st = record { tables = resize_tables k A.images flat pid regs e d r q s nums f h t; stands = resize_stands A.images k flat pid regs e d r q s t f h out st }
-own_told A k flat pid regs e q s b (Fork child) fit nums f h w o out due m x t st = subst (λ (c : ℕ). Told A (next_of (facts_of A.images) k pid regs e (Fork c)) (apply_change A.images flat pid regs (Fork c))) (sym m)
+own_told A k flat pid regs e q s b Keep fit nums f h w o out due m x t st =
+    record { tables = keep_tables k A.images flat pid regs e q s nums f h t; stands = keep_stands A.images k flat pid regs e q s t f h out st }
+own_told A k flat pid regs e q s b (Resize d r) fit nums f h w o out due m x t st =
+    record { tables = resize_tables k A.images flat pid regs e d r q s nums f h t; stands = resize_stands A.images k flat pid regs e d r q s t f h out st }
+own_told A k flat pid regs e q s b (Fork child) fit nums f h w o out due m x t st =
+    subst (λ (c : ℕ). Told A (next_of (facts_of A.images) k pid regs e (Fork c)) (apply_change A.images flat pid regs (Fork c))) (sym m)
     (record { tables = fork_tables k A.images flat pid regs e q s nums f h t; stands = fork_stands A.images k flat pid regs e q s t due f h out st })
-own_told A k flat pid regs e q s b (Lend child) fit nums f h w o out due m x t st = subst (λ (c : ℕ). Told A (next_of (facts_of A.images) k pid regs e (Lend c)) (apply_change A.images flat pid regs (Lend c))) (sym m)
+own_told A k flat pid regs e q s b (Lend child) fit nums f h w o out due m x t st =
+    subst (λ (c : ℕ). Told A (next_of (facts_of A.images) k pid regs e (Lend c)) (apply_change A.images flat pid regs (Lend c))) (sym m)
     (record { tables = lend_tables k A.images flat pid regs e q s nums f h t; stands = lend_stands A.images k flat pid regs e q s t f h out st })
 own_told A k flat pid regs e q s b (Exec number top) fit nums f h w o out due m (named, im, whole) t st =
     let i : ImageFits named = fit number named im in
-    record { tables = exec_tables k A.images flat pid regs e number top named q s nums f h (w ∙ own_false b number top o) im i.«data» whole t; stands = exec_stands A.images k flat pid regs e number top named q s t due f h out im st }
-own_told A k flat pid regs e q s b (Reap child) fit nums f h w o out due (z, status, fz, hz) x t st = record { tables = reap_tables k A.images flat pid regs e child status q z s nums f h fz hz t; stands = reap_stands A.images k flat pid regs e child status q z s t f h out fz hz st }
-own_told A k flat pid regs e q s b Sleep fit nums f h w o out due m x t st = record { tables = sleep_tables k A.images flat pid regs e q s nums f h t; stands = sleep_stands A.images k flat pid regs e q s t f h out st }
-own_told A k flat pid regs e q s b (End status) fit nums f h w o out due m x t st = record { tables = end_tables k A.images flat pid regs e status q s nums f h (w ∙ end_false b status o) t; stands = end_stands A.images k flat pid regs e status q s t f h st }
+    record {
+      tables = exec_tables k A.images flat pid regs e number top named q s nums f h (w ∙ own_false b number top o) im i.«data» whole t;
+      stands = exec_stands A.images k flat pid regs e number top named q s t due f h out im st;
+    }
+own_told A k flat pid regs e q s b (Reap child) fit nums f h w o out due (z, status, fz, hz) x t st =
+    record { tables = reap_tables k A.images flat pid regs e child status q z s nums f h fz hz t; stands = reap_stands A.images k flat pid regs e child status q z s t f h out fz hz st }
+own_told A k flat pid regs e q s b Sleep fit nums f h w o out due m x t st =
+    record { tables = sleep_tables k A.images flat pid regs e q s nums f h t; stands = sleep_stands A.images k flat pid regs e q s t f h out st }
+own_told A k flat pid regs e q s b (End status) fit nums f h w o out due m x t st =
+    record { tables = end_tables k A.images flat pid regs e status q s nums f h (w ∙ end_false b status o) t; stands = end_stands A.images k flat pid regs e status q s t f h st }
 
 -- What a process asks of its machine.
 
@@ -114,10 +124,15 @@ pub record Kept (A : Inputs) (l : Kernel) : Type 0 where
 pub own_kept : (A : Inputs) (k : Kernel) (flat : FlatState) (pid : ℕ) (regs : Regs) (e : Entry) (q : Process) (s : Space) (change : Change)
     → IsNumbered flat → process_of flat pid ≡ Some q
     → q.holding ≡ Holds s → SameTables k flat → NamesChild flat change
-    → Sound A.swap_blocks (change_step (facts_of A.images) k pid regs e change) → Numbered (change_step (facts_of A.images) k pid regs e change) → Kept A (next_of (facts_of A.images) k pid regs e change)
+    → Sound A.swap_blocks (change_step (facts_of A.images) k pid regs e change) → Numbered (change_step (facts_of A.images) k pid regs e change)
+    → Kept A (next_of (facts_of A.images) k pid regs e change)
 own_kept A k flat pid regs e q s (Lend child) nums f h t m so n =
-    let l = subst (λ (c : ℕ). (lives (change_step (facts_of A.images) k pid regs e (Lend c)).processes pid ≡ true) × (lives (change_step (facts_of A.images) k pid regs e (Lend c)).processes c ≡ true)) (sym m) (lend_lives A.images k flat pid regs e q s nums f h t) in
-    record { sound = pass_sound A.swap_blocks (change_step (facts_of A.images) k pid regs e (Lend child)) pid child l.0 l.1 so; numbered = pass_numbered (change_step (facts_of A.images) k pid regs e (Lend child)) pid child l.0 l.1 n }
+    let l = subst (λ (c : ℕ). (lives (change_step (facts_of A.images) k pid regs e (Lend c)).processes pid ≡ true) × (lives (change_step (facts_of A.images) k pid regs e (Lend c)).processes c ≡ true))
+    (sym m) (lend_lives A.images k flat pid regs e q s nums f h t) in
+    record {
+      sound = pass_sound A.swap_blocks (change_step (facts_of A.images) k pid regs e (Lend child)) pid child l.0 l.1 so;
+      numbered = pass_numbered (change_step (facts_of A.images) k pid regs e (Lend child)) pid child l.0 l.1 n;
+    }
 own_kept A k flat pid regs e q s _ nums f h t m so n = record { sound = so; numbered = n }
 
 -- the placement and the holdings after it
@@ -139,7 +154,8 @@ own_lands A k flat pid regs e q s change f h t =
     let g : Stepping k flat pid q s = stepping k flat pid q s t f h in
     next_lands A k pid s.sid regs e change
     (subst (Lands A k pid s.sid e change) (sym (step_is (facts_of A.images) k pid regs e change g.proc (HoldsSpace s.sid) g.kept g.life))
-    (subst (λ (n : ℕ). Lands A k n s.sid e change (by_life (facts_of A.images) k (record g.proc { regs = regs }) (HoldsSpace s.sid) e change)) g.pid_is (record { place = refl; holdings = refl; journal = refl })))
+    (subst (λ (n : ℕ). Lands A k n s.sid e change (by_life (facts_of A.images) k (record g.proc { regs = regs }) (HoldsSpace s.sid) e change)) g.pid_is
+    (record { place = refl; holdings = refl; journal = refl })))
 
 -- All of it.
 
@@ -162,10 +178,12 @@ pub fit_some : (s : Space) (o : Option SpacePages) → Fits (Some s) o → o ≡
 fit_some s None f e = f
 fit_some s (Some x) f e = absurd cc
 
-pub own_change : (A : Inputs) (flat : FlatState) (p : Placement) (hs found : Holdings) (pid : ℕ) (regs : Regs) (j : List Entry) (e : Entry) (q : Process) (s : Space) (b : Bool) (change : Change)
+pub own_change : (A : Inputs) (flat : FlatState) (p : Placement) (hs found : Holdings) (pid : ℕ) (regs : Regs) (j : List Entry) (e : Entry) (q : Process)
+    (s : Space) (b : Bool) (change : Change)
     → Changing A flat p hs found pid q s change → is_borrower flat.processes pid ≡ b → Own b change
     → SettlesFor p s.sid change → Placed A flat p hs
-    → Placed A (apply_change A.images flat pid regs change) (place_change (facts_of A.images) p pid s.sid b flat.next_sid (length (append j e)) change) (given_up flat (apply_change A.images flat pid regs change) pid s change found)
+    → Placed A (apply_change A.images flat pid regs change) (place_change (facts_of A.images) p pid s.sid b flat.next_sid (length (append j e)) change)
+    (given_up flat (apply_change A.images flat pid regs change) pid s change found)
 own_change A flat p hs found pid regs j e q s b change c w o settles st =
     let at : ℕ = length (append j e) in
     let after : FlatState = apply_change A.images flat pid regs change in
@@ -182,7 +200,8 @@ own_change A flat p hs found pid regs j e q s b change c w o settles st =
     ap (place_all A.swap_blocks hs) (change_same A.images k flat pid q s change c.images sb.texts n c.numbers t c.found_process c.holds) ∙ c.pieces in
     let l : Kernel = next_of (facts_of A.images) k pid regs e change in
     let kept : Kept A l =
-    own_kept A k flat pid regs e q s change c.numbers c.found_process c.holds t c.may (ready_sound A.swap_blocks (facts_of A.images) k hs pid regs e change before n ready pieces) (flat_numbered (facts_of A.images) k pid regs e change (takes_next k flat change t c.may) ready.alive n) in
+    own_kept A k flat pid regs e q s change c.numbers c.found_process c.holds t c.may (ready_sound A.swap_blocks (facts_of A.images) k hs pid regs e change before n ready pieces)
+    (flat_numbered (facts_of A.images) k pid regs e change (takes_next k flat change t c.may) ready.alive n) in
     let told : Told A l after = own_told A k flat pid regs e q s b change c.images c.numbers c.found_process c.holds w o c.resident c.clear c.may c.execs t stands in
     let lands : Lands A k pid s.sid e change l = own_lands A k flat pid regs e q s change c.found_process c.holds t in
     let g : Stepping k flat pid q s = stepping k flat pid q s t c.found_process c.holds in
@@ -196,7 +215,8 @@ own_change A flat p hs found pid regs j e q s b change c w o settles st =
     let parts : HaveParts l.place.transfers = subst (λ (x : Placement). HaveParts x.transfers) (sym lands.place) (subst HaveParts (sym un.transfers) st.parts) in
     let frames : length l.place.holds ≡ A.frames = subst (λ (x : Placement). length x.holds ≡ A.frames) (sym lands.place) (hands.frames ∙ st.frames) in
     let numbers : IsNumbered after = Rattle.kernel_laws.proofs.Flat.Numbers.changes_numbered A.images flat pid regs change q s c.found_process c.holds c.may c.numbers in
-    let shared : Rattle.flat_model.specs.Asked.is_shared after s.image ≡ Rattle.register_laws.proofs.FlatLawsAsking.is_some_of Rattle.register_laws.proofs.FlatLawsAsking.image_of_pages s.image l.place.spaces =
+    let shared : Rattle.flat_model.specs.Asked.is_shared after s.image
+    ≡ Rattle.register_laws.proofs.FlatLawsAsking.is_some_of Rattle.register_laws.proofs.FlatLawsAsking.image_of_pages s.image l.place.spaces =
     shared_same l after s.image kept.numbered numbers told.tables in
     let back : given_up flat after pid s change found ≡ holdings_after found p l.place pid s.sid false change = given_same flat after pid s change found p l.place b w image
     (λ z. ((λ i. shared ∙ no_sharers s.image l.place.spaces (ap (sharers l.place) (sym image) ∙ i)), (λ m i. shared ∙ some_sharers s.image m l.place.spaces (ap (sharers l.place) (sym image) ∙ i))))

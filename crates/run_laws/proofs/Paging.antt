@@ -69,7 +69,8 @@ moved_or b (r ∷ rs) pid at n h = go (moved_or b rs pid at n) (r.pid == pid) re
     tail = changed (λ (r : Residence). r.pid) pid (λ (r : Residence). record r { out = b; since = at }) rs
 
     go : ((residence_of tail n).out ≡ true → ((residence_of rs n).out ≡ true) ⊎ ((pid ≡ n) × (b ≡ true)))
-        → (c : Bool) → (r.pid == pid) ≡ c → (d : Bool) → (r.pid == n) ≡ d → (residence_of (cond c (record r { out = b; since = at } ∷ rs) (r ∷ tail)) n).out ≡ true → ((residence_of (r ∷ rs) n).out ≡ true) ⊎ ((pid ≡ n) × (b ≡ true))
+        → (c : Bool) → (r.pid == pid) ≡ c → (d : Bool) → (r.pid == n) ≡ d → (residence_of (cond c (record r { out = b; since = at } ∷ rs) (r ∷ tail)) n).out ≡ true
+        → ((residence_of (r ∷ rs) n).out ≡ true) ⊎ ((pid ≡ n) × (b ≡ true))
     go more true e true k h = inr (sym (eqb-true r.pid pid e) ∙ eqb-true r.pid n k, sym (ap (λ (x : Bool). (cond x (record r { out = b; since = at }) (residence_of rs n)).out) k) ∙ h)
     go more true e false k h = inl (ap (λ (x : Bool). (cond x r (residence_of rs n)).out) k ∙ (sym (ap (λ (x : Bool). (cond x (record r { out = b; since = at }) (residence_of rs n)).out) k) ∙ h))
     go more false e true k h = inl (ap (λ (x : Bool). (cond x r (residence_of rs n)).out) k ∙ (sym (ap (λ (x : Bool). (cond x r (residence_of tail n)).out) k) ∙ h))
@@ -124,7 +125,8 @@ entry_once locked at p (entries.Get q lo n) o h = as_before p (get_run p (read_e
 entry_once locked at p (entries.Copy q) o h = once_after p.due q h
 entry_once locked at p (entries.Reclaim q) o h = as_before p (reclaim p q) (reclaim_due p q) h
 entry_once locked at p (entries.Hands n) o h = as_before p (hand_moves p locked n) (moves_due n p locked) h
-entry_once locked at p (entries.Put q n) o h = let s : Steady p (put_step p q (pages_from q (number_of q) n)) = put_steady p q (pages_from q (number_of q) n) in as_before p (put_step p q (pages_from q (number_of q) n)) s.due h
+entry_once locked at p (entries.Put q n) o h =
+    let s : Steady p (put_step p q (pages_from q (number_of q) n)) = put_steady p q (pages_from q (number_of q) n) in as_before p (put_step p q (pages_from q (number_of q) n)) s.due h
 entry_once locked at p entries.Done o h = let s : Steady p (done p) = done_steady p o in as_before p (done p) s.due h
 entry_once locked at p _ o h = h
 
@@ -151,7 +153,8 @@ entry_placed A flat locked at p hs e a l leaves s =
     let n : Numbered (machine_of flat p hs) = s.numbered in
     let st : Stands A.images (machine_of flat p hs) flat = s.stands in
     record {
-      sound = bare_sound A.swap_blocks flat (place_entry locked at p e) hs (place_entry_one A.swap_blocks (lives (machine_of flat p hs).processes) hs locked at p e o a.can a.shared) (k.stand so.hands) l;
+      sound =
+          bare_sound A.swap_blocks flat (place_entry locked at p e) hs (place_entry_one A.swap_blocks (lives (machine_of flat p hs).processes) hs locked at p e o a.can a.shared) (k.stand so.hands) l;
       numbered = record {
         spaces_differ = subst AllDistinct (sym (entry_numbers locked at p e)) n.spaces_differ;
         spaces_below = subst (AllBelow flat.next_sid) (sym (entry_numbers locked at p e)) n.spaces_below;
@@ -163,7 +166,8 @@ entry_placed A flat locked at p hs e a l leaves s =
         processes = t.processes;
         next_pid = refl;
         next_sid = refl;
-        spaces = λ sid. fit_shapes (numbered sid_of sid (spaces_of flat)) (numbered space_number sid p.spaces) (numbered space_number sid (place_entry locked at p e).spaces) (z.spaces sid) (t.spaces sid);
+        spaces =
+            λ sid. fit_shapes (numbered sid_of sid (spaces_of flat)) (numbered space_number sid p.spaces) (numbered space_number sid (place_entry locked at p e).spaces) (z.spaces sid) (t.spaces sid);
       };
       stands = record {
         starts = λ q h. refl;

@@ -57,7 +57,8 @@ unfolding returned
 found_returned of given [] pid s g h = absurd (let k = h.here in cc)
 found_returned of given (q ∷ qs) pid s g h = go (λ k. found_returned of given qs pid s g k) (lends_to of q.holding) refl (first_of q qs pid s g h)
   where
-    go : (FoundRegs qs pid s g → FoundRegs (returned of given qs) pid s g) → (b : Bool) → lends_to of q.holding ≡ b → First q qs pid s g → FoundRegs (returned_by b given q qs (returned of given qs)) pid s g
+    go : (FoundRegs qs pid s g → FoundRegs (returned of given qs) pid s g) → (b : Bool) → lends_to of q.holding ≡ b → First q qs pid s g
+        → FoundRegs (returned_by b given q qs (returned of given qs)) pid s g
     go later true e (Here k holds regs) = absurd (let lends : false ≡ true = sym (ap (lends_to of) holds) ∙ e in cc)
     go later true e (Behind k found) = found_behind (record q { holding = Holds given }) qs pid s g k found
     go later false e (Here k holds regs) = found_here q (returned of given qs) pid s g k holds regs

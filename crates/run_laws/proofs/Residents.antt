@@ -38,7 +38,8 @@ holder_lives flat pid h = go flat.processes h
     go [] e = absurd cc
     go (q ∷ ps) e = by (q.pid == pid) e (go ps)
       where
-        by : (b : Bool) → holds_some (cond b (Some q) (Rattle.std.specs.Prelude.find (λ (q : Process). q.pid == pid) ps)) ≡ true → (holds_some (Rattle.std.specs.Prelude.find (λ (q : Process). q.pid == pid) ps) ≡ true → lives (map kept_of ps) pid ≡ true)
+        by : (b : Bool) → holds_some (cond b (Some q) (Rattle.std.specs.Prelude.find (λ (q : Process). q.pid == pid) ps)) ≡ true
+            → (holds_some (Rattle.std.specs.Prelude.find (λ (q : Process). q.pid == pid) ps) ≡ true → lives (map kept_of ps) pid ≡ true)
             → Rattle.kernel_model.specs.Sound.lives_in (cond b (Some (kept_of q)) (numbered (λ (x : Rattle.kernel_model.specs.Kernel.Proc). x.pid) pid (map kept_of ps))) ≡ true
         by true z ih = one q.holding z
         by false z ih = ih z

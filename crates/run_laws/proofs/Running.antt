@@ -72,8 +72,10 @@ step_kept A s u images execs h k =
     let numbers1 : IsNumbered flat1 = writes_numbered flat pid step.writes x.process x.space x.here x.holds k.numbers in
     subst (FlatKept A) (sym (stepped_flat A s u h)) (record {
       numbers = step_numbered A flat pid (is_refused s.point.last pid) k.numbers;
-      lenders = subst LendsStand (sym form_after) (changes_lent A.images flat1 pid step.regs step.change q1 z here refl may numbers1 (writes_lent flat pid step.writes x.process x.space x.here x.holds k.lenders));
-      texts = subst (TextsHeld A.images) (sym form_after) (change_texts A.images flat1 pid step.regs step.change q1 z here refl (execs flat pid (is_refused s.point.last pid)) (write_texts A.images flat pid step.writes x.process x.space x.here x.holds k.texts));
+      lenders = subst LendsStand (sym form_after)
+          (changes_lent A.images flat1 pid step.regs step.change q1 z here refl may numbers1 (writes_lent flat pid step.writes x.process x.space x.here x.holds k.lenders));
+      texts = subst (TextsHeld A.images) (sym form_after) (change_texts A.images flat1 pid step.regs step.change q1 z here refl (execs flat pid (is_refused s.point.last pid))
+          (write_texts A.images flat pid step.writes x.process x.space x.here x.holds k.texts));
       sized = step_sized A flat pid (is_refused s.point.last pid) (images_whole A.images images) k.sized;
     })
 
@@ -120,9 +122,11 @@ mark_on A s u o n m k = go k
     go (Acts pid now r w a) = free (acts pid (acted A s pid u a)) (on_free A s s.mark pid now r.on)
     go (ComesIn pid e c i) = is (entries.SwapIn pid) i (come_free A s pid s.mark refl c)
     go (Interrupts e j i) = is entries.Done i (done_free A s j)
-    go (Moves count e j l w i) = subst (λ (x : Entry). MarkStands (after A s x) (after A s x).mark) (sym i) (hands_stand A s count (begins_write s.place (locked A s) && Rattle.page_model.specs.Serve.is_full s.place) o e j)
+    go (Moves count e j l w i) =
+        subst (λ (x : Entry). MarkStands (after A s x) (after A s x).mark) (sym i) (hands_stand A s count (begins_write s.place (locked A s) && Rattle.page_model.specs.Serve.is_full s.place) o e j)
     go (PutsOut pid e j i) = subst (λ (x : Entry). MarkStands (after A s x) (after A s x).mark) (sym i)
-        (put_stands A s pid (space_of_process (process_of s.point.flat pid)) o e j (let y : (s.place.due ≡ []) × (holds_some (process_of s.point.flat pid) ≡ true) × (Rattle.page_model.specs.Swapper.is_out s.place pid ≡ false) = subst (MarkStands s) j m in y.1)
+        (put_stands A s pid (space_of_process (process_of s.point.flat pid)) o e j
+        (let y : (s.place.due ≡ []) × (holds_some (process_of s.point.flat pid) ≡ true) × (Rattle.page_model.specs.Swapper.is_out s.place pid ≡ false) = subst (MarkStands s) j m in y.1)
         (let y : (s.place.due ≡ []) × (holds_some (process_of s.point.flat pid) ≡ true) × (Rattle.page_model.specs.Swapper.is_out s.place pid ≡ false) = subst (MarkStands s) j m in y.2))
     go (Notes e j i) = is (Rattle.run_model.specs.Next.owners_entry s) i (noted_free A s (length s.place.free) _ _ _ j)
     go (Begins e j i) = begins_is (λ (x : Entry). MarkStands (after A s x) (after A s x).mark) A s u i (λ x z. begun x e z)

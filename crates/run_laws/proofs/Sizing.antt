@@ -84,8 +84,10 @@ with_sized : (F : FlatState) (p : Process) → FlatSized F → Sized p → FlatS
 with_sized F p h s = record { spaces = each_replaced Sized F.processes p h.spaces s; count = let e = length-replaced F.processes p in let c = h.count in omega arith }
 
 left_sized : (b : Bool) (F : FlatState) (pid parent : ℕ) → FlatSized F → FlatSized (left b F pid parent)
-left_sized true F pid parent h = record { spaces = each_left Sized (λ q. not (q.pid == pid)) F.processes h.spaces; count = let l = left_count (λ q. not (q.pid == pid)) F.processes in let c = h.count in omega arith }
-left_sized false F pid parent h = record { spaces = each_mapped Sized (awake parent) F.processes (λ q k. k) h.spaces; count = let e = map_count (awake parent) F.processes in let c = h.count in omega arith }
+left_sized true F pid parent h =
+    record { spaces = each_left Sized (λ q. not (q.pid == pid)) F.processes h.spaces; count = let l = left_count (λ q. not (q.pid == pid)) F.processes in let c = h.count in omega arith }
+left_sized false F pid parent h =
+    record { spaces = each_mapped Sized (awake parent) F.processes (λ q k. k) h.spaces; count = let e = map_count (awake parent) F.processes in let c = h.count in omega arith }
 
 more_sized : (F : FlatState) (ps : List Process) (p : Process) (n m : ℕ) → EachProcess Sized ps → length ps ≡ length F.processes
     → length F.processes < 64 → Sized p
@@ -108,9 +110,11 @@ changed_sized A F p s (Resize d r) sz fit x c h t e = with_sized F (record p { h
   stack_size = let l = length-resized_bytes r s.stack_bytes in let k = c.1 in omega arith;
 })
 changed_sized A F p s (Fork child) sz fit x c h t e =
-    more_sized F (replaced F.processes p) (child_of p child (record s { sid = F.next_sid })) (F.next_pid + 1) (F.next_sid + 1) (each_replaced Sized F.processes p e.spaces (subst HoldingSized (sym h) t)) (length-replaced F.processes p) c (record { data_size = t.data_size; stack_size = t.stack_size })
+    more_sized F (replaced F.processes p) (child_of p child (record s { sid = F.next_sid })) (F.next_pid + 1) (F.next_sid + 1)
+    (each_replaced Sized F.processes p e.spaces (subst HoldingSized (sym h) t)) (length-replaced F.processes p) c (record { data_size = t.data_size; stack_size = t.stack_size })
 changed_sized A F p s (Lend child) sz fit x c h t e =
-    more_sized F (replaced F.processes (record p { holding = Lends s.sid child })) (child_of p child s) (F.next_pid + 1) F.next_sid (each_replaced Sized F.processes (record p { holding = Lends s.sid child }) e.spaces tt) (length-replaced F.processes (record p { holding = Lends s.sid child })) c t
+    more_sized F (replaced F.processes (record p { holding = Lends s.sid child })) (child_of p child s) (F.next_pid + 1) F.next_sid
+    (each_replaced Sized F.processes (record p { holding = Lends s.sid child }) e.spaces tt) (length-replaced F.processes (record p { holding = Lends s.sid child })) c t
 changed_sized A F p s (Exec number top) sz fit (named, im, whole) c h t e = subst (λ (o : Option NamedImage). FlatSized (entered F p s number o top)) (sym im)
     (let w : FlatSized (with_process F (record p { holding = Holds (space_with F.next_sid number named.image top) })) =
     with_sized F (record p { holding = Holds (space_with F.next_sid number named.image top) }) e (record { data_size = images_sized A sz fit number named im; stack_size = omega (arith, whole) }) in
@@ -119,15 +123,20 @@ changed_sized A F p s (Exec number top) sz fit (named, im, whole) c h t e = subs
       count = let a = length-returned p.pid s (replaced F.processes (record p { holding = Holds (space_with F.next_sid number named.image top) })) in let b = w.count in omega arith;
     })
 changed_sized A F p s (Reap child) sz fit x c h t e =
-    with_sized (record F { processes = filter (λ q. not (q.pid == child)) F.processes }) p (record { spaces = each_left Sized (λ q. not (q.pid == child)) F.processes e.spaces; count = let l = left_count (λ q. not (q.pid == child)) F.processes in let k = e.count in omega arith }) (subst HoldingSized (sym h) t)
+    with_sized (record F { processes = filter (λ q. not (q.pid == child)) F.processes }) p (record {
+      spaces = each_left Sized (λ q. not (q.pid == child)) F.processes e.spaces;
+      count = let l = left_count (λ q. not (q.pid == child)) F.processes in let k = e.count in omega arith;
+    }) (subst HoldingSized (sym h) t)
 changed_sized A F p s Sleep sz fit x c h t e = with_sized F (record p { asleep = true }) e (subst HoldingSized (sym h) t)
 changed_sized A F p s (End status) sz fit x c h t e =
     let w : FlatSized (with_process F (record p { holding = Zombie status })) = with_sized F (record p { holding = Zombie status }) e tt in
     let ps : List Process = returned p.pid s (replaced F.processes (record p { holding = Zombie status })) in
     left_sized (p.parent == 0) (orphaned (given_back (with_process F record p { holding = Zombie status }) p.pid s) p.pid) p.pid p.parent
     (record {
-      spaces = each_mapped Sized (without_parent p.pid) (filter (λ q. not (is_zombie_child p.pid q)) ps) (λ q k. k) (each_left Sized (λ q. not (is_zombie_child p.pid q)) ps (sized_returned p.pid s (replaced F.processes (record p { holding = Zombie status })) t w.spaces));
-      count = let a = map_count (without_parent p.pid) (filter (λ q. not (is_zombie_child p.pid q)) ps) in let b = left_count (λ q. not (is_zombie_child p.pid q)) ps in let d = length-returned p.pid s (replaced F.processes (record p { holding = Zombie status })) in let g = w.count in omega arith;
+      spaces = each_mapped Sized (without_parent p.pid) (filter (λ q. not (is_zombie_child p.pid q)) ps) (λ q k. k)
+          (each_left Sized (λ q. not (is_zombie_child p.pid q)) ps (sized_returned p.pid s (replaced F.processes (record p { holding = Zombie status })) t w.spaces));
+      count = let a = map_count (without_parent p.pid) (filter (λ q. not (is_zombie_child p.pid q)) ps) in
+          let b = left_count (λ q. not (is_zombie_child p.pid q)) ps in let d = length-returned p.pid s (replaced F.processes (record p { holding = Zombie status })) in let g = w.count in omega arith;
     })
 
 -- Who writes.
@@ -135,7 +144,8 @@ changed_sized A F p s (End status) sz fit x c h t e =
 written_sized : (F : FlatState) (p : Process) (s : Space) (ws : List ByteWrite) → SpaceSized s → FlatSized F
     → FlatSized (with_process F (record p { holding = Holds (puts s ws) }))
 written_sized F p s ws t h = let z : SameSpace s (puts s ws) = puts_same ws s in
-    with_sized F (record p { holding = Holds (puts s ws) }) h (record { data_size = let a = z.data_size in let b = t.data_size in omega arith; stack_size = let a = z.stack_size in let b = t.stack_size in omega arith })
+    with_sized F (record p { holding = Holds (puts s ws) }) h
+    (record { data_size = let a = z.data_size in let b = t.data_size in omega arith; stack_size = let a = z.stack_size in let b = t.stack_size in omega arith })
 
 -- a change of a process, whichever it is
 change_sized : (A : Inputs) (F : FlatState) (pid : ℕ) (regs : Regs) (change : Change) → InputsSized A → ImagesFit A.images
@@ -210,8 +220,10 @@ all_sized : (images : List NamedImage) (F : FlatState) (p : Process) (s : Space)
 unfolding reply_of exit_reply write_reply break_reply execve_reply
 all_sized images F p s calls.Exit regs t = gives_any (ReplySized F) (argument regs 1) (λ code. Gives (Exits (code % 256 * 256))) (λ code. tt)
 all_sized images F p s calls.Fork regs t = (child_sized F (nat_lt (length F.processes) process_limit) regs F.next_pid refl).0
-all_sized images F p s calls.Write regs t = gives_any (ReplySized F) (three_arguments regs) (λ asked. written_to (asked.0 == 1 || asked.0 == 2) asked.1 asked.2) (λ asked. written_to_sized F (asked.0 == 1 || asked.0 == 2) asked.1 asked.2)
-all_sized images F p s calls.Break regs t = gives_any (ReplySized F) (argument regs 1) (λ address. Gives (break_by (nat_le (pages_up_to s address) data_limit) regs (pages_up_to s address) (stack_pages_of s)))
+all_sized images F p s calls.Write regs t =
+    gives_any (ReplySized F) (three_arguments regs) (λ asked. written_to (asked.0 == 1 || asked.0 == 2) asked.1 asked.2) (λ asked. written_to_sized F (asked.0 == 1 || asked.0 == 2) asked.1 asked.2)
+all_sized images F p s calls.Break regs t =
+    gives_any (ReplySized F) (argument regs 1) (λ address. Gives (break_by (nat_le (pages_up_to s address) data_limit) regs (pages_up_to s address) (stack_pages_of s)))
     (λ address. break_sized F regs (pages_up_to s address) (stack_pages_of s) (stack_few s t) (nat_le (pages_up_to s address) data_limit) refl)
 all_sized images F p s calls.Getpid regs t = tt
 all_sized images F p s calls.Execve regs t = gives_any (ReplySized F) (three_arguments regs) (λ asked. string_from string_limit asked.0 >>= λ path. execve_of asked.1 (path_image images path))
@@ -256,14 +268,16 @@ below_or : {B : Type 0} (memory : Answers) (p : Program B) (a : ℕ) → run mem
     → (memory.read a ≡ bytes.Below) ⊎ (memory.may_write a ≡ tests.Below)
 below_or memory (Reads b next) a e = go (λ byte k. below_or memory (next byte) a k) (memory.read b) refl e
   where
-    go : ((byte : ℕ) → run memory (next byte) ≡ Err (Below a) → (memory.read a ≡ bytes.Below) ⊎ (memory.may_write a ≡ tests.Below)) → (x : ByteRead) → memory.read b ≡ x → after_read x b (λ byte. run memory (next byte)) ≡ Err (Below a) → (memory.read a ≡ bytes.Below) ⊎ (memory.may_write a ≡ tests.Below)
+    go : ((byte : ℕ) → run memory (next byte) ≡ Err (Below a) → (memory.read a ≡ bytes.Below) ⊎ (memory.may_write a ≡ tests.Below)) → (x : ByteRead) → memory.read b ≡ x
+        → after_read x b (λ byte. run memory (next byte)) ≡ Err (Below a) → (memory.read a ≡ bytes.Below) ⊎ (memory.may_write a ≡ tests.Below)
     go later (bytes.Is byte) i k = later byte k
     go later bytes.Miss i k = absurd cc
     go later bytes.Below i k = inl (let same : a ≡ b = cc in ap memory.read same ∙ i)
     go later bytes.Outside i k = absurd cc
 below_or memory (Tests b next) a e = go (below_or memory next a) (memory.may_write b) refl e
   where
-    go : (run memory next ≡ Err (Below a) → (memory.read a ≡ bytes.Below) ⊎ (memory.may_write a ≡ tests.Below)) → (x : MayWrite) → memory.may_write b ≡ x → after_test x b (run memory next) ≡ Err (Below a) → (memory.read a ≡ bytes.Below) ⊎ (memory.may_write a ≡ tests.Below)
+    go : (run memory next ≡ Err (Below a) → (memory.read a ≡ bytes.Below) ⊎ (memory.may_write a ≡ tests.Below)) → (x : MayWrite) → memory.may_write b ≡ x
+        → after_test x b (run memory next) ≡ Err (Below a) → (memory.read a ≡ bytes.Below) ⊎ (memory.may_write a ≡ tests.Below)
     go later tests.May i k = later k
     go later tests.Miss i k = absurd cc
     go later tests.Below i k = inr (let same : a ≡ b = cc in ap memory.may_write same ∙ i)
@@ -273,7 +287,8 @@ below_or memory _ a e = absurd cc
 
 spot_below : (s : Space) (a : ℕ) → address_in s a ≡ spots.Below → (stack_top - stack_reach ≤ a) × (a < stack_top)
 unfolding spot_at
-spot_below s a e = both (nat_le (stack_top - stack_reach) a) (nat_lt a stack_top) refl refl (four (nat_lt a (length s.text_bytes)) (nat_lt a (length s.text_bytes + length s.data_bytes)) (nat_le (stack_top - length s.stack_bytes) a && nat_lt a stack_top) (nat_le (stack_top - stack_reach) a && nat_lt a stack_top) e)
+spot_below s a e = both (nat_le (stack_top - stack_reach) a) (nat_lt a stack_top) refl refl (four (nat_lt a (length s.text_bytes)) (nat_lt a (length s.text_bytes + length s.data_bytes))
+    (nat_le (stack_top - length s.stack_bytes) a && nat_lt a stack_top) (nat_le (stack_top - stack_reach) a && nat_lt a stack_top) e)
   where
     four : (t d k n : Bool) → spot_by t d k n (length s.text_bytes) a ≡ spots.Below → n ≡ true
     four true d k n e = absurd cc
@@ -314,7 +329,8 @@ with_step : (A : Inputs) (F : FlatState) (pid : ℕ) (ws : List ByteWrite) (regs
 with_step A F pid ws regs change sz fit x c h = change_sized A (apply_writes F pid ws) pid regs change sz fit x c (writes_sized F pid ws h)
 
 replied_sized : (A : Inputs) (F : FlatState) (p : Process) (call : SystemCall) (effect : Effect) (reply : Reply) → InputsSized A → ImagesFit A.images
-    → EntersImage A.images (replied_step A.images F p call effect reply).change → ReplySized (apply_writes F p.pid effect.writes) reply → FlatSized F → FlatSized (replied_step A.images F p call effect reply).after
+    → EntersImage A.images (replied_step A.images F p call effect reply).change → ReplySized (apply_writes F p.pid effect.writes) reply → FlatSized F
+    → FlatSized (replied_step A.images F p call effect reply).after
 replied_sized A F p call effect (Does regs change) sz fit x c h = with_step A F p.pid effect.writes regs change sz fit x c h
 replied_sized A F p call effect Waits sz fit x c h = with_step A F p.pid effect.writes p.regs Sleep sz fit tt tt h
 replied_sized A F p call effect (Exits status) sz fit x c h = with_step A F p.pid effect.writes p.regs (End status) sz fit tt tt h
@@ -326,10 +342,13 @@ called_sized : (A : Inputs) (F : FlatState) (p : Process) (s : Space) (refused :
 called_sized A F p s refused effect None sz fit t x h = with_step A F p.pid effect.writes p.regs (End 12) sz fit tt tt h
 called_sized A F p s refused effect (Some call) sz fit t x h =
     let z : SameSpace s (puts s effect.writes) = puts_same effect.writes s in
-    let t1 : SpaceSized (puts s effect.writes) = record { data_size = let a = z.data_size in let b = t.data_size in omega arith; stack_size = let a = z.stack_size in let b = t.stack_size in omega arith } in
+    let t1 : SpaceSized (puts s effect.writes) =
+    record { data_size = let a = z.data_size in let b = t.data_size in omega arith; stack_size = let a = z.stack_size in let b = t.stack_size in omega arith } in
     replied_sized A F p call effect (reply_behind A.images F p s refused call effect) sz fit x
-    (refused_sized (apply_writes F p.pid effect.writes) refused (or_fault (run (answers_of (puts s effect.writes)) (reply_of A.images (apply_writes F p.pid effect.writes) (written_process p s effect.writes) (puts s effect.writes) call effect.regs)))
-    (run_sized (apply_writes F p.pid effect.writes) (answers_of (puts s effect.writes)) (reply_of A.images (apply_writes F p.pid effect.writes) (written_process p s effect.writes) (puts s effect.writes) call effect.regs)
+    (refused_sized (apply_writes F p.pid effect.writes) refused
+    (or_fault (run (answers_of (puts s effect.writes)) (reply_of A.images (apply_writes F p.pid effect.writes) (written_process p s effect.writes) (puts s effect.writes) call effect.regs)))
+    (run_sized (apply_writes F p.pid effect.writes) (answers_of (puts s effect.writes))
+    (reply_of A.images (apply_writes F p.pid effect.writes) (written_process p s effect.writes) (puts s effect.writes) call effect.regs)
     (all_sized A.images (apply_writes F p.pid effect.writes) (written_process p s effect.writes) (puts s effect.writes) call effect.regs t1))) h
 
 behind_sized : (A : Inputs) (F : FlatState) (p : Process) (s : Space) (refused : Bool) (effect : Effect) (o : Option ℤ) → InputsSized A
@@ -352,7 +371,8 @@ pub step_sized : (A : Inputs) (F : FlatState) (pid : ℕ) (refused : Bool) → I
 unfolding flat_step
 step_sized A F pid refused sz fit h = go (process_of F pid) refl (execs_fit A F pid refused)
   where
-    by : (p : Process) → process_of F pid ≡ Some p → (x : Holding) → p.holding ≡ x → EntersImage A.images (step_holding A.images F p refused x).change → FlatSized (step_holding A.images F p refused x).after
+    by : (p : Process) → process_of F pid ≡ Some p → (x : Holding) → p.holding ≡ x → EntersImage A.images (step_holding A.images F p refused x).change
+        → FlatSized (step_holding A.images F p refused x).after
     by p f (Holds s) i x = of_sized A F p s refused (instruction_in s p.regs) refl sz fit (subst HoldingSized i (found_process Sized F.processes pid p h.spaces f)) x h
     by p f (Lends sid child) i x = h
     by p f (Zombie status) i x = h
@@ -368,9 +388,11 @@ started_sized A pid [] sz fit = tt
 started_sized A pid (n ∷ ns) sz fit = go (image_numbered A.images n) refl (started_sized A (pid + 1) ns sz fit)
   where
     whole : (named : NamedImage) → length (argument_area (named.name ∷ [])) ≤ 1024 → length (start_page (named.name ∷ [])) ≡ 1024
-    whole named l = length-append (replicate (1024 - length (argument_area (named.name ∷ []))) 0) (argument_area (named.name ∷ [])) ∙ (let e = length-replicate {A = ℕ} (1024 - length (argument_area (named.name ∷ []))) 0 in omega arith)
+    whole named l = length-append (replicate (1024 - length (argument_area (named.name ∷ []))) 0) (argument_area (named.name ∷ []))
+        ∙ (let e = length-replicate {A = ℕ} (1024 - length (argument_area (named.name ∷ []))) 0 in omega arith)
 
-    go : (o : Option NamedImage) → image_numbered A.images n ≡ o → EachProcess Sized (start_processes A.images (pid + 1) ns) → EachProcess Sized (start_if pid n o ++ start_processes A.images (pid + 1) ns)
+    go : (o : Option NamedImage) → image_numbered A.images n ≡ o → EachProcess Sized (start_processes A.images (pid + 1) ns)
+        → EachProcess Sized (start_if pid n o ++ start_processes A.images (pid + 1) ns)
     go None e ih = ih
     go (Some named) e ih = (record { data_size = images_sized A sz fit n named e; stack_size = (let i : ImageFits named = fit n named e in let l = whole named i.name in omega arith) }, ih)
 
@@ -423,7 +445,8 @@ unfolding flat_units
 units_sized A [] point q sz fit h k = where_sized true point q h k
 units_sized A (u ∷ us) point q sz fit h k = go (λ next l m. units_sized A us next q sz fit l m) (flat_entry A point u) refl h
   where
-    go : ((next : Point) → flat_units A (Some next) us ≡ Some q → FlatSized next.flat → FlatSized q.flat) → (o : Option Point) → flat_entry A point u ≡ o → flat_units A o us ≡ Some q → FlatSized q.flat
+    go : ((next : Point) → flat_units A (Some next) us ≡ Some q → FlatSized next.flat → FlatSized q.flat) → (o : Option Point) → flat_entry A point u ≡ o
+        → flat_units A o us ≡ Some q → FlatSized q.flat
     go later None e l = absurd cc
     go later (Some next) e l = later next l (entry_sized A point next u sz fit e k)
 
@@ -452,11 +475,13 @@ place_sized A s r h sid =
     let t : SameTables (machine_of s.point.flat s.place s.holdings) s.point.flat = st.tables in
     go (numbered sid_of sid (spaces_of s.point.flat)) (numbered space_number sid s.place.spaces) refl refl (t.spaces sid)
   where
-    go : (o : Option Space) (x : Option SpacePages) → numbered sid_of sid (spaces_of s.point.flat) ≡ o → numbered space_number sid s.place.spaces ≡ x → Fits o x → (length (data_in (numbered space_number sid s.place.spaces)) ≤ 4096) × (length (stack_in (numbered space_number sid s.place.spaces)) ≤ 512)
+    go : (o : Option Space) (x : Option SpacePages) → numbered sid_of sid (spaces_of s.point.flat) ≡ o → numbered space_number sid s.place.spaces ≡ x → Fits o x
+        → (length (data_in (numbered space_number sid s.place.spaces)) ≤ 4096) × (length (stack_in (numbered space_number sid s.place.spaces)) ≤ 512)
     go None None e i f = subst (λ (y : Option SpacePages). (length (data_in y) ≤ 4096) × (length (stack_in y) ≤ 512)) (sym i) (omega arith, omega arith)
     go (Some z) (Some x) e i f =
         let w : SpaceSized z = held_sized s.point.flat.processes sid z h.spaces e in
-        subst (λ (y : Option SpacePages). (length (data_in y) ≤ 4096) × (length (stack_in y) ≤ 512)) (sym i) ((let a = f.data_size in let b = w.data_size in omega arith), (let a = f.stack_size in let b = w.stack_size in omega arith))
+        subst (λ (y : Option SpacePages). (length (data_in y) ≤ 4096) × (length (stack_in y) ≤ 512)) (sym i)
+        ((let a = f.data_size in let b = w.data_size in omega arith), (let a = f.stack_size in let b = w.stack_size in omega arith))
     go None (Some x) e i f = absurd f
     go (Some z) None e i f = absurd f
 

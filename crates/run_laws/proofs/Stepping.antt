@@ -117,8 +117,10 @@ touched_settled [] p sid = refl
 touched_settled (q ∷ qs) p sid =
     let t : Steady p (touch p q) = touch_steady p q in
     touched_settled qs (touch p q) sid
-    ∙ ap (λ (ts : List Rattle.page_model.specs.Placement.Transfer). not (names_page (is_of_space sid) (parts_of ts)) && not ((sharers (touch p q) (image_of (touch p q) sid) == 1) && names_page (is_of_text (image_of (touch p q) sid)) (parts_of ts))) (touch_transfers p q)
-    ∙ ap (λ (i : ℕ). not (names_page (is_of_space sid) (parts_of p.transfers)) && not ((sharers (touch p q) i == 1) && names_page (is_of_text i) (parts_of p.transfers))) (image_kept p (touch p q) (touch_shaped p q) sid)
+    ∙ ap (λ (ts : List Rattle.page_model.specs.Placement.Transfer). not (names_page (is_of_space sid) (parts_of ts))
+    && not ((sharers (touch p q) (image_of (touch p q) sid) == 1) && names_page (is_of_text (image_of (touch p q) sid)) (parts_of ts))) (touch_transfers p q)
+    ∙ ap (λ (i : ℕ). not (names_page (is_of_space sid) (parts_of p.transfers)) && not ((sharers (touch p q) i == 1) && names_page (is_of_text i) (parts_of p.transfers)))
+    (image_kept p (touch p q) (touch_shaped p q) sid)
     ∙ ap (λ (n : ℕ). not (names_page (is_of_space sid) (parts_of p.transfers)) && not ((n == 1) && names_page (is_of_text (image_of p sid)) (parts_of p.transfers))) (t.sharing (image_of p sid))
 
 -- Settling.
@@ -140,7 +142,8 @@ settles_for p s b (Resize d t) o f h = λ l. go l (nat_lt d (data_pages_of s) ||
     go : LosesPages p s.sid d t → (x : Bool) → (nat_lt d (data_pages_of s) || nat_lt t (stack_pages_of s)) ≡ x → is_settled p s.sid ≡ true
     go l true e = h e
     go l false e = absurd (lt_or d (data_pages_of s) t (stack_pages_of s) e
-        (subst (λ (n : ℕ). (d < n) ⊎ (t < stack_pages_of s)) (data_counted s (numbered space_number s.sid p.spaces) f) (subst (λ (n : ℕ). (d < data_count p s.sid) ⊎ (t < n)) (stack_counted s (numbered space_number s.sid p.spaces) f) l)))
+        (subst (λ (n : ℕ). (d < n) ⊎ (t < stack_pages_of s)) (data_counted s (numbered space_number s.sid p.spaces) f)
+        (subst (λ (n : ℕ). (d < data_count p s.sid) ⊎ (t < n)) (stack_counted s (numbered space_number s.sid p.spaces) f) l)))
 settles_for p s b (Fork child) o f h = tt
 settles_for p s b (Lend child) o f h = tt
 settles_for p s true (Exec image top) o f h = absurd o
@@ -173,7 +176,8 @@ own_or true Sleep = inl tt
 own_or true (End status) = inr (refl, tt)
 
 -- The whole step of a process.
-pub record Making (A : Inputs) (flat : FlatState) (p : Placement) (hs found : Holdings) (pid : ℕ) (q : Process) (s : Space) (ws : List ByteWrite) (change : Change) : Type 0 where
+pub record Making (A : Inputs) (flat : FlatState) (p : Placement) (hs found : Holdings) (pid : ℕ) (q : Process) (s : Space) (ws : List ByteWrite)
+    (change : Change) : Type 0 where
   pub images : ImagesFit A.images
   pub numbers : IsNumbered flat
   pub lenders : LendsStand flat
@@ -186,15 +190,19 @@ pub record Making (A : Inputs) (flat : FlatState) (p : Placement) (hs found : Ho
   pub pieces : place_all A.swap_blocks hs (change_wanted A.images flat s change) ≡ Ok found
   pub settles : loses_pages s (is_borrower flat.processes pid) change ≡ true → is_settled p s.sid ≡ true
 
-pub step_placed : (A : Inputs) (flat : FlatState) (p : Placement) (hs found : Holdings) (pid : ℕ) (regs : Rattle.vm_facts.specs.declared.regs.Regs.Regs) (j : List Entry) (e : Entry) (q : Process) (s : Space) (ws : List ByteWrite) (written : List Page) (change : Change)
+pub step_placed : (A : Inputs) (flat : FlatState) (p : Placement) (hs found : Holdings) (pid : ℕ) (regs : Rattle.vm_facts.specs.declared.regs.Regs.Regs)
+    (j : List Entry) (e : Entry) (q : Process) (s : Space) (ws : List ByteWrite) (written : List Page) (change : Change)
     → Making A flat p hs found pid q s ws change → Placed A flat p hs
-    → Placed A (apply_change A.images (apply_writes flat pid ws) pid regs change) (place_step (facts_of A.images) flat pid (length (append j e)) written change p) (given_up flat (apply_change A.images (apply_writes flat pid ws) pid regs change) pid s change found)
+    → Placed A (apply_change A.images (apply_writes flat pid ws) pid regs change) (place_step (facts_of A.images) flat pid
+    (length (append j e)) written change p) (given_up flat (apply_change A.images (apply_writes flat pid ws) pid regs change) pid s change found)
 step_placed A flat p hs found pid regs j e q s ws written change m st =
     let next : flat1.next_sid ≡ flat.next_sid = ap (λ (x : FlatState). x.next_sid) w.is in
     let made : Placed A after (place_change (facts_of A.images) p1 pid z.sid (is_borrower flat1.processes pid) flat1.next_sid at change) (given_up flat1 after pid z change found) =
     go (own_or (is_borrower flat1.processes pid) change) in
-    subst (λ (n : ℕ). Placed A after (place_change (facts_of A.images) p1 pid n (is_borrower flat.processes pid) flat.next_sid at change) (given_up flat after pid s change found)) (sym (ap space_of_process m.found_process ∙ ap space_of_holding m.holds))
-    (subst (Placed A after (place_change (facts_of A.images) p1 pid s.sid (is_borrower flat.processes pid) flat.next_sid at change)) (given_written flat flat1 after pid s z change found same.sid same.image borrows)
+    subst (λ (n : ℕ). Placed A after (place_change (facts_of A.images) p1 pid n (is_borrower flat.processes pid) flat.next_sid at change) (given_up flat after pid s change found))
+    (sym (ap space_of_process m.found_process ∙ ap space_of_holding m.holds))
+    (subst (Placed A after (place_change (facts_of A.images) p1 pid s.sid (is_borrower flat.processes pid) flat.next_sid at change))
+    (given_written flat flat1 after pid s z change found same.sid same.image borrows)
     (subst (λ (n : ℕ). Placed A after (place_change (facts_of A.images) p1 pid s.sid (is_borrower flat.processes pid) n at change) (given_up flat1 after pid z change found)) next
     (subst (λ (n : ℕ). Placed A after (place_change (facts_of A.images) p1 pid n (is_borrower flat.processes pid) flat1.next_sid at change) (given_up flat1 after pid z change found)) same.sid
     (subst (λ (b : Bool). Placed A after (place_change (facts_of A.images) p1 pid z.sid b flat1.next_sid at change) (given_up flat1 after pid z change found)) borrows
@@ -249,7 +257,8 @@ step_placed A flat p hs found pid regs j e q s ws written change m st =
     sd = st.stands
 
     wanted : change_wanted A.images flat1 z change ≡ change_wanted A.images flat s change
-    wanted = sym (change_same A.images (machine_of flat p hs) flat1 pid q1 z change m.images sd.texts st.numbered numbers t01 here refl) ∙ change_same A.images (machine_of flat p hs) flat pid q s change m.images sd.texts st.numbered m.numbers t0 m.found_process m.holds
+    wanted = sym (change_same A.images (machine_of flat p hs) flat1 pid q1 z change m.images sd.texts st.numbered numbers t01 here refl)
+        ∙ change_same A.images (machine_of flat p hs) flat pid q s change m.images sd.texts st.numbered m.numbers t0 m.found_process m.holds
 
     c : Changing A flat1 p1 hs found pid q1 z change
     c = record {
@@ -278,9 +287,11 @@ step_placed A flat p hs found pid regs j e q s ws written change m st =
     loses (End status) b = refl
 
     settled : loses_pages z (is_borrower flat1.processes pid) change ≡ true → is_settled p1 z.sid ≡ true
-    settled l = ap (is_settled p1) same.sid ∙ touched_settled written p s.sid ∙ m.settles (sym (ap (λ (b : Bool). loses_pages s b change) borrows) ∙ sym (loses change (is_borrower flat1.processes pid)) ∙ l)
+    settled l =
+        ap (is_settled p1) same.sid ∙ touched_settled written p s.sid ∙ m.settles (sym (ap (λ (b : Bool). loses_pages s b change) borrows) ∙ sym (loses change (is_borrower flat1.processes pid)) ∙ l)
 
-    go : Own (is_borrower flat1.processes pid) change ⊎ ((is_borrower flat1.processes pid ≡ true) × GivesBack change) → Placed A after (place_change (facts_of A.images) p1 pid z.sid (is_borrower flat1.processes pid) flat1.next_sid at change) (given_up flat1 after pid z change found)
+    go : Own (is_borrower flat1.processes pid) change ⊎ ((is_borrower flat1.processes pid ≡ true) × GivesBack change)
+        → Placed A after (place_change (facts_of A.images) p1 pid z.sid (is_borrower flat1.processes pid) flat1.next_sid at change) (given_up flat1 after pid z change found)
     go (inl o) = own_change A flat1 p1 hs found pid regs j e q1 z (is_borrower flat1.processes pid) change c refl o (settles_for p1 z (is_borrower flat1.processes pid) change o fits1 settled) st1
     go (inr (b, g)) = subst (λ (x : Bool). Placed A after (place_change (facts_of A.images) p1 pid z.sid x flat1.next_sid at change) (given_up flat1 after pid z change found)) (sym b)
         (back_change A flat1 p1 hs found pid regs j e q1 z change c (writes_lent flat pid ws q s m.found_process m.holds m.lenders) b g st1)

@@ -56,7 +56,8 @@ parts_flat : (A : Inputs) (s : State) (k : Kernel) (image : List ℕ) (xs : List
     → Each (IsMoving k.place) (map (moving Writes) xs) → AreFlat A s k xs
 parts_flat A s k image [] c m = tt
 parts_flat A s k image (x ∷ xs) c m =
-    let here : (bytes_in (beside_kernel k A.images image s.point.flat) x.frame ≡ memory_of A.images s.point.flat x.page) × IfSaved (beside_kernel k A.images image s.point.flat) x.page (mark_of k.place x.page) =
+    let here : (bytes_in (beside_kernel k A.images image s.point.flat) x.frame ≡ memory_of A.images s.point.flat x.page)
+    × IfSaved (beside_kernel k A.images image s.point.flat) x.page (mark_of k.place x.page) =
     keeps_at k.place (beside_kernel k A.images image s.point.flat) x.page (Going x.frame) c.pages (page_in k.place x.page x.frame (ap frame_of m.0)) m.0 in
     (here.0, parts_flat A s k image xs c m.1)
 
@@ -67,7 +68,11 @@ each_back P (x ∷ xs) ys e = each_back P xs ys e.1
 transfers_flat : (A : Inputs) (s : State) (k : Kernel) (image : List ℕ) (ts : List Transfer) → Coupled k A.images image s.point.flat
     → Each (IsMoving k.place) (parts_of ts) → AllFlat A s k ts
 transfers_flat A s k image [] c m = tt
-transfers_flat A s k image (t ∷ ts) c m = (by t.errand (each_front (IsMoving k.place) (map (moving t.errand) t.parts) (parts_of ts) m), transfers_flat A s k image ts c (each_back (IsMoving k.place) (map (moving t.errand) t.parts) (parts_of ts) m))
+transfers_flat A s k image (t ∷ ts) c m = (
+  by t.errand (each_front (IsMoving k.place) (map (moving t.errand) t.parts) (parts_of ts) m),
+  transfers_flat A s k image ts c (each_back (IsMoving k.place)
+      (map (moving t.errand) t.parts) (parts_of ts) m),
+)
   where
     by : (e : Errand) → Each (IsMoving k.place) (map (moving e) t.parts) → WritesFlat A s k e t.parts
     by Writes m = parts_flat A s k image t.parts c m
@@ -123,7 +128,8 @@ same_out A s k image pid at out h =
     found_at s.point.flat pid x.process x.here in
     record {
       there = x;
-      regs = subst (λ (z : Bool). KeepsRegs k image z x.process x.proc.regs (space_of_holding x.process.holding)) (ap (λ (p : Placement). is_out p pid) at.place ∙ out) (regs_at k A.images image s.point.flat c pid x.process x.proc f.1 x.kept);
+      regs = subst (λ (z : Bool). KeepsRegs k image z x.process x.proc.regs (space_of_holding x.process.holding)) (ap (λ (p : Placement). is_out p pid) at.place ∙ out)
+          (regs_at k A.images image s.point.flat c pid x.process x.proc f.1 x.kept);
       space = ap (λ (o : Outline). space_of_life o.life) (outline_at k.processes s.point.flat.processes t.processes pid x.proc x.process x.kept f.1) ∙ space_same x.process.holding;
     }
 
@@ -133,8 +139,10 @@ off_same A s k image pid at y =
     let x : Leaves k s.point.flat pid = y.there in
     ap (λ (o : Option Proc). store_at image (block_in k.holdings (owners.U pid) 0) (u_bytes k o)) x.kept
     ∙ ap (λ (hs : Holdings). store_at image (block_in hs (owners.U pid) 0) (u_bytes k (Some x.proc))) at.holdings
-    ∙ ap (λ (p : Placement). store_at image (block_in s.holdings (owners.U pid) 0) (u_page x.proc.regs (length (slots_of p (Data (space_of_life x.proc.life) 0))) (length (slots_of p (Stack (space_of_life x.proc.life) 0))))) at.place
-    ∙ ap (λ (r : Regs). store_at image (block_in s.holdings (owners.U pid) 0) (u_page r (length (slots_of s.place (Data (space_of_life x.proc.life) 0))) (length (slots_of s.place (Stack (space_of_life x.proc.life) 0))))) y.regs
+    ∙ ap (λ (p : Placement). store_at image (block_in s.holdings (owners.U pid) 0)
+    (u_page x.proc.regs (length (slots_of p (Data (space_of_life x.proc.life) 0))) (length (slots_of p (Stack (space_of_life x.proc.life) 0))))) at.place
+    ∙ ap (λ (r : Regs). store_at image (block_in s.holdings (owners.U pid) 0)
+    (u_page r (length (slots_of s.place (Data (space_of_life x.proc.life) 0))) (length (slots_of s.place (Stack (space_of_life x.proc.life) 0))))) y.regs
     ∙ ap (λ (n : ℕ). store_at image (block_in s.holdings (owners.U pid) 0) (u_page x.process.regs (length (slots_of s.place (Data n 0))) (length (slots_of s.place (Stack n 0))))) y.space
     ∙ sym (ap (λ (o : Option Process). u_stored s pid o image) x.here)
 
@@ -226,7 +234,8 @@ made A (u ∷ us) s t k image images r at f o =
     let x : Next A s k image u = record { images = images; run = r; at = at; next = f.0 } in
     let read : List (List ℕ) = brought (beside_kernel k A.images image s.point.flat) k.place.transfers in
     let g : IsGiven A s k image read u = given_at A s k image u x o.0 in
-    let m : Made A (after A s u) (unit_step A s k image read u) (unit_image k image u) us t = made A us (after A s u) t (unit_step A s k image read u) (unit_image k image u) images (unit_run A s u images r f.0) (unit_keeps A s k image read u x g) f.1 o.1 in
+    let m : Made A (after A s u) (unit_step A s k image read u) (unit_image k image u) us t =
+    made A us (after A s u) t (unit_step A s k image read u) (unit_image k image u) images (unit_run A s u images r f.0) (unit_keeps A s k image read u x g) f.1 o.1 in
     record { machine = m.machine; behind = m.behind; makes = (f.0, (read, g, m.makes)) }
 
 -- what is on swap

@@ -64,15 +64,20 @@ left_texts images false F pid parent h = each_mapped (Text images) (awake parent
 changed_texts : (images : List NamedImage) (F : FlatState) (p : Process) (s : Space) (change : Change) → EntersImage images change
     → p.holding ≡ Holds s → IsText images s → TextsHeld images F → TextsHeld images (changed images F p s change)
 changed_texts images F p s Keep x h t e = each_replaced (Text images) F.processes p e (subst (HasText images) (sym h) t)
-changed_texts images F p s (Resize d r) x h t e = each_replaced (Text images) F.processes (record p { holding = Holds (Rattle.flat_state.specs.Change.resized s d r) }) e (record { named = t.named; image = t.image; same = t.same })
+changed_texts images F p s (Resize d r) x h t e =
+    each_replaced (Text images) F.processes (record p { holding = Holds (Rattle.flat_state.specs.Change.resized s d r) }) e (record { named = t.named; image = t.image; same = t.same })
 changed_texts images F p s (Fork child) x h t e =
-    each_last (Text images) (replaced F.processes p) (Rattle.flat_state.specs.Change.child_of p child (record s { sid = F.next_sid })) (each_replaced (Text images) F.processes p e (subst (HasText images) (sym h) t)) (record { named = t.named; image = t.image; same = t.same })
+    each_last (Text images) (replaced F.processes p) (Rattle.flat_state.specs.Change.child_of p child (record s { sid = F.next_sid }))
+    (each_replaced (Text images) F.processes p e (subst (HasText images) (sym h) t)) (record { named = t.named; image = t.image; same = t.same })
 changed_texts images F p s (Lend child) x h t e =
-    each_last (Text images) (replaced F.processes (record p { holding = Lends s.sid child })) (Rattle.flat_state.specs.Change.child_of p child s) (each_replaced (Text images) F.processes (record p { holding = Lends s.sid child }) e tt) t
+    each_last (Text images) (replaced F.processes (record p { holding = Lends s.sid child })) (Rattle.flat_state.specs.Change.child_of p child s)
+    (each_replaced (Text images) F.processes (record p { holding = Lends s.sid child }) e tt) t
 changed_texts images F p s (Exec number top) (named, im, whole) h t e = subst (λ (o : Option NamedImage). TextsHeld images (entered F p s number o top)) (sym im)
     (text_returned images p.pid s (replaced F.processes (record p { holding = Holds (Rattle.flat_state.specs.Flat.space_with F.next_sid number named.image top) })) t
-    (each_replaced (Text images) F.processes (record p { holding = Holds (Rattle.flat_state.specs.Flat.space_with F.next_sid number named.image top) }) e (record { named = named; image = im; same = refl })))
-changed_texts images F p s (Reap child) x h t e = each_replaced (Text images) (filter (λ q. not (q.pid == child)) F.processes) p (each_left (Text images) (λ q. not (q.pid == child)) F.processes e) (subst (HasText images) (sym h) t)
+    (each_replaced (Text images) F.processes (record p { holding = Holds (Rattle.flat_state.specs.Flat.space_with F.next_sid number named.image top) }) e
+    (record { named = named; image = im; same = refl })))
+changed_texts images F p s (Reap child) x h t e =
+    each_replaced (Text images) (filter (λ q. not (q.pid == child)) F.processes) p (each_left (Text images) (λ q. not (q.pid == child)) F.processes e) (subst (HasText images) (sym h) t)
 changed_texts images F p s Sleep x h t e = each_replaced (Text images) F.processes (record p { asleep = true }) e (subst (HasText images) (sym h) t)
 changed_texts images F p s (End status) x h t e =
     left_texts images (p.parent == 0) (orphaned (Rattle.flat_state.specs.Change.given_back (with_process F record p { holding = Zombie status }) p.pid s) p.pid) p.pid p.parent
@@ -87,7 +92,8 @@ own_text images F pid q s f h e = subst (HasText images) h (found_process (Text 
 pub change_texts : (images : List NamedImage) (F : FlatState) (pid : ℕ) (regs : Regs) (change : Change) (q : Process) (s : Space)
     → process_of F pid ≡ Some q → q.holding ≡ Holds s
     → EntersImage images change → TextsHeld images F → TextsHeld images (apply_change images F pid regs change)
-change_texts images F pid regs change q s f h x e = subst (TextsHeld images) (sym (applied images F pid regs change q s f h)) (changed_texts images F (record q { regs = regs }) s change x h (own_text images F pid q s f h e) e)
+change_texts images F pid regs change q s f h x e =
+    subst (TextsHeld images) (sym (applied images F pid regs change q s f h)) (changed_texts images F (record q { regs = regs }) s change x h (own_text images F pid q s f h e) e)
 
 pub write_texts : (images : List NamedImage) (F : FlatState) (pid : ℕ) (ws : List ByteWrite) (q : Process) (s : Space) → process_of F pid ≡ Some q
     → q.holding ≡ Holds s → TextsHeld images F → TextsHeld images (apply_writes F pid ws)
@@ -104,6 +110,7 @@ pub start_texts : (images : List NamedImage) (pid : ℕ) (first : List ℕ) → 
 start_texts images pid [] = tt
 start_texts images pid (number ∷ more) = go (image_numbered images number) refl (start_texts images (pid + 1) more)
   where
-    go : (o : Option NamedImage) → image_numbered images number ≡ o → EachProcess (Text images) (start_processes images (pid + 1) more) → EachProcess (Text images) (start_if pid number o ++ start_processes images (pid + 1) more)
+    go : (o : Option NamedImage) → image_numbered images number ≡ o → EachProcess (Text images) (start_processes images (pid + 1) more)
+        → EachProcess (Text images) (start_if pid number o ++ start_processes images (pid + 1) more)
     go None e ih = ih
     go (Some named) e ih = (record { named = named; image = e; same = refl }, ih)

@@ -70,7 +70,8 @@ image_shared sid image (y ∷ ys) x e i = go (λ k. image_shared sid image ys x 
     here : y ≡ x → 0 < cond (y.image == image) 1 0 + sharers_in image ys
     here s = subst (λ (b : Bool). 0 < cond b 1 0 + sharers_in image ys) (sym (Rattle.std.proofs.Common.eq-eqb y.image image (ap (λ (z : SpacePages). z.image) s ∙ i))) (omega arith)
 
-    go : (numbered space_number sid ys ≡ Some x → 0 < sharers_in image ys) → (b : Bool) → cond b (Some y) (numbered space_number sid ys) ≡ Some x → 0 < cond (y.image == image) 1 0 + sharers_in image ys
+    go : (numbered space_number sid ys ≡ Some x → 0 < sharers_in image ys) → (b : Bool) → cond b (Some y) (numbered space_number sid ys) ≡ Some x
+        → 0 < cond (y.image == image) 1 0 + sharers_in image ys
     go ih true k = here (let s : y ≡ x = cc in s)
     go ih false k = one (y.image == image) (ih k)
 
@@ -81,7 +82,8 @@ pub record Present (p : Placement) (q : Page) : Type 0 where
 
 page_present : (images : List NamedImage) (p : Placement) (s : Space) (x : SpacePages) → numbered space_number s.sid p.spaces ≡ Some x → IsSized s x
     → IsText images s
-    → ((i : ℕ) → length (text_of (image_numbered images i)) ≡ 1024 * length (slots_of p (pages.Text i 0))) → (spot : Spot) → IsWithin s spot → (q : Page) → page_read s spot ≡ Some q → Present p q
+    → ((i : ℕ) → length (text_of (image_numbered images i)) ≡ 1024 * length (slots_of p (pages.Text i 0))) → (spot : Spot) → IsWithin s spot → (q : Page)
+    → page_read s spot ≡ Some q → Present p q
 page_present images p s x e z t fits (Text i) w q h = subst (Present p) (let k : pages.Text s.image (i / 1024) ≡ q = cc in k) (record {
   there = let f = fits s.image in let l = ap (λ (o : Option NamedImage). length (text_of o)) t.image in let m = ap length t.same in omega (arith, w);
   shared = image_shared s.sid s.image p.spaces x e z.image;
@@ -113,7 +115,8 @@ touched_present A flat p hs pid nums texts s = go (process_of flat pid) refl
     stands : Stands A.images (machine_of flat p hs) flat
     stands = s.stands
 
-    space : (q : Process) (t : Space) → process_of flat pid ≡ Some q → q.holding ≡ Holds t → (o : Option SpacePages) → numbered space_number t.sid p.spaces ≡ o → Fits (Some t) o → IsText A.images t → (xs : List Access) → EachPage (Present p) (distinct (filter_map (page_of_access t) xs))
+    space : (q : Process) (t : Space) → process_of flat pid ≡ Some q → q.holding ≡ Holds t → (o : Option SpacePages) → numbered space_number t.sid p.spaces ≡ o → Fits (Some t) o → IsText A.images t
+        → (xs : List Access) → EachPage (Present p) (distinct (filter_map (page_of_access t) xs))
     space q t e h None k f i xs = absurd f
     space q t e h (Some x) k f i xs = each_distinct (Present p) (filter_map (page_of_access t) xs) (each_map (Present p) (page_of_access t) xs one)
       where
@@ -122,7 +125,8 @@ touched_present A flat p hs pid nums texts s = go (process_of flat pid) refl
 
         one : (a : Access) (r : Page) → page_of_access t a ≡ Some r → Present p r
         one (ReadOf address) r z = page_present A.images p t x k f i stands.texts (address_in t address) (spot_within t address (address_in t address) paged refl) r z
-        one (TestOf address) r z = page_present A.images p t x k f i stands.texts (address_in t address) (spot_within t address (address_in t address) paged refl) r (tested_read t (address_in t address) r z)
+        one (TestOf address) r z =
+            page_present A.images p t x k f i stands.texts (address_in t address) (spot_within t address (address_in t address) paged refl) r (tested_read t (address_in t address) r z)
 
     holding : (q : Process) → process_of flat pid ≡ Some q → (h : Holding) → q.holding ≡ h → EachPage (Present p) (touched_in A.images flat q h)
     holding q e (Lends sid child) k = tt

@@ -131,16 +131,19 @@ pub kind_good : (A : Inputs) (s : State) (u : Entry) → Stood A s → IsNumbere
     → Kind A s u → (process_of_entry u ≡ None) → Good A s u
 kind_good A s u st nums texts m (Fills q due e i) n =
     paged A s u (fill_unit s.place (entries.Zero q)) i (zero_paging s.place q) (start_allowed s.place q due e st.dues st.once)
-    (fill_few (locked A s) (place_at s (fill_unit s.place (entries.Zero q))) s.place (entries.Zero q) (sixteen A s st) (let l = sixteen A s st in let k = entry_count (locked A s) (place_at s (fill_unit s.place (entries.Zero q))) s.place (entries.Zero q) in omega arith))
+    (fill_few (locked A s) (place_at s (fill_unit s.place (entries.Zero q))) s.place (entries.Zero q) (sixteen A s st)
+    (let l = sixteen A s st in let k = entry_count (locked A s) (place_at s (fill_unit s.place (entries.Zero q))) s.place (entries.Zero q) in omega arith))
 kind_good A s u st nums texts m (Brings q parent due e i) n =
     let d : IsDue s.place q (CopyOf q parent) = st.dues q (CopyOf q parent) (ap (λ (l : List Due). due_at l q) e ∙ first_due (CopyOf q parent) due) in
     served A s u parent true st (parent_present s.place q parent due e d) (not_due s.place parent st.dues (d.source).1) i
 kind_good A s u st nums texts m (Copies q parent due e k i) n =
     paged A s u (fill_unit s.place (entries.Copy q)) i (copy_paging s.place q) (copy_allowed s.place q parent due e st.dues st.once)
-    (fill_few (locked A s) (place_at s (fill_unit s.place (entries.Copy q))) s.place (entries.Copy q) (sixteen A s st) (let l = sixteen A s st in let k = entry_count (locked A s) (place_at s (fill_unit s.place (entries.Copy q))) s.place (entries.Copy q) in omega arith))
+    (fill_few (locked A s) (place_at s (fill_unit s.place (entries.Copy q))) s.place (entries.Copy q) (sixteen A s st)
+    (let l = sixteen A s st in let k = entry_count (locked A s) (place_at s (fill_unit s.place (entries.Copy q))) s.place (entries.Copy q) in omega arith))
 kind_good A s u st nums texts m (Serves pid now q r w i) n =
     let k : Splits s.place (touched_next A s) (locked A s) q = wanted_splits A s q r.clear w in
-    let all = subst (Rattle.page_model.specs.Conditions.EachPage (Present s.place)) (ap (Rattle.run_model.specs.Wanted.touched_by A s.point.flat) (sym (on_running A s s.mark pid now r.on))) (touched_present A s.point.flat s.place s.holdings pid nums texts st) in
+    let all = subst (Rattle.page_model.specs.Conditions.EachPage (Present s.place)) (ap (Rattle.run_model.specs.Wanted.touched_by A s.point.flat) (sym (on_running A s s.mark pid now r.on)))
+    (touched_present A s.point.flat s.place s.holdings pid nums texts st) in
     let here : Present s.place q = each_split (Present s.place) (locked A s) q k.behind (subst (Rattle.page_model.specs.Conditions.EachPage (Present s.place)) k.whole all) in
     served A s u q now st here (ap (λ (l : List Due). due_at l q) r.clear) i
 kind_good A s u st nums texts m (Acts pid now r w a) n =
@@ -152,18 +155,22 @@ kind_good A s u st nums texts m (Acts pid now r w a) n =
       where
         settling : act A s pid ≡ Some u → 0 < length s.place.transfers
         settling a = Rattle.run_laws.proofs.Settling.settles A s pid (a ∙ ap (λ (x : Entry). Some x) (act_plain A s pid u a n))
-kind_good A s u st nums texts m (ComesIn pid e c i) n = subst (Good A s) (sym i) (record { plain = refl; allowed = record { can = tt; shared = tt; begins = tt; leaves = tt; finds = tt }; few = sixteen A s st; leaves = λ n x. absurd x })
+kind_good A s u st nums texts m (ComesIn pid e c i) n =
+    subst (Good A s) (sym i) (record { plain = refl; allowed = record { can = tt; shared = tt; begins = tt; leaves = tt; finds = tt }; few = sixteen A s st; leaves = λ n x. absurd x })
 kind_good A s u st nums texts m (Interrupts e k i) n =
-    paged A s u entries.Done i tt (done_allowed s.place (let x : (s.place.due ≡ []) × (0 < length s.place.transfers) = subst (MarkStands s) k m in x.1)) (let l = sixteen A s st in let k = done_count s.place in omega arith)
+    paged A s u entries.Done i tt (done_allowed s.place (let x : (s.place.due ≡ []) × (0 < length s.place.transfers) = subst (MarkStands s) k m in x.1))
+    (let l = sixteen A s st in let k = done_count s.place in omega arith)
 kind_good A s u st nums texts m (Moves count e k l w i) n =
-    paged A s u (move_unit s.place (locked A s)) i (move_paging s.place (locked A s)) (move_allowed s.place (locked A s)) (move_few (locked A s) (place_at s (move_unit s.place (locked A s))) s.place (sixteen A s st))
+    paged A s u (move_unit s.place (locked A s)) i (move_paging s.place (locked A s)) (move_allowed s.place (locked A s))
+    (move_few (locked A s) (place_at s (move_unit s.place (locked A s))) s.place (sixteen A s st))
 kind_good A s u st nums texts m (PutsOut pid e k i) n =
     let sid : ℕ = space_of_process (process_of s.point.flat pid) in
     subst (Good A s) (sym i) (record {
       plain = put_flat s.place pid sid;
       allowed = put_out_allowed s.place pid sid;
       few = unit_few (locked A s) (place_at s (put_out_unit s.place pid sid)) s.place pid sid (sixteen A s st);
-      leaves = unit_case (LeaverHolds s.point.flat) s.place pid sid (λ t ts h x l. absurd l) (λ v h y z x l. absurd l) (λ h y x l. subst (λ (z : ℕ). holds_some (process_of s.point.flat z) ≡ true) l (let y : (s.place.due ≡ []) × (holds_some (process_of s.point.flat pid) ≡ true) × (Rattle.page_model.specs.Swapper.is_out s.place pid ≡ false) = subst (MarkStands s) k m in y.1));
+      leaves = unit_case (LeaverHolds s.point.flat) s.place pid sid (λ t ts h x l. absurd l) (λ v h y z x l. absurd l) (λ h y x l. subst (λ (z : ℕ). holds_some (process_of s.point.flat z) ≡ true) l
+          (let y : (s.place.due ≡ []) × (holds_some (process_of s.point.flat pid) ≡ true) × (Rattle.page_model.specs.Swapper.is_out s.place pid ≡ false) = subst (MarkStands s) k m in y.1));
     })
 kind_good A s u st nums texts m (Notes e k i) n = paged A s u (owners_entry s) i tt (record { can = tt; shared = tt; begins = tt; leaves = tt; finds = tt }) (sixteen A s st)
 kind_good A s u st nums texts m (Begins e k i) n = Rattle.run_laws.proofs.Settling.begins_is (Good A s) A s u i (marked (sixteen A s st))

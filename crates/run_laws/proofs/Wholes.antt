@@ -73,10 +73,12 @@ unit_allowed A s u r h = elim (flat_or u) [
 on_below : (A : Inputs) (s : State) (m : Mark) (pid : ℕ) (now : Bool) → GoesOn A s m pid now → s.count < A.limit
 on_below A s (marks.Dispatch p count since) pid false g =
     let lt_is : (a b : ℕ) → nat_lt a b ≡ true → a < b = λ a b e. grind (arith, nat_tests) in
-    lt_is s.count A.limit (and_parts (nat_lt s.count A.limit) (nat_lt s.count (since + count)) (and_parts (can_step s.point.flat pid) (nat_lt s.count A.limit && nat_lt s.count (since + count)) g.1).1).0
+    lt_is s.count A.limit
+    (and_parts (nat_lt s.count A.limit) (nat_lt s.count (since + count)) (and_parts (can_step s.point.flat pid) (nat_lt s.count A.limit && nat_lt s.count (since + count)) g.1).1).0
 on_below A s (marks.Turn p since) pid true g =
     let lt_is : (a b : ℕ) → nat_lt a b ≡ true → a < b = λ a b e. grind (arith, nat_tests) in
-    lt_is s.count A.limit (and_parts (nat_lt s.count A.limit) (nat_lt s.count (since + turn_instructions)) (and_parts (can_step s.point.flat pid) (nat_lt s.count A.limit && nat_lt s.count (since + turn_instructions)) g.1).1).0
+    lt_is s.count A.limit (and_parts (nat_lt s.count A.limit) (nat_lt s.count (since + turn_instructions))
+    (and_parts (can_step s.point.flat pid) (nat_lt s.count A.limit && nat_lt s.count (since + turn_instructions)) g.1).1).0
 on_below A s _ pid now g = absurd g
 
 pub unit_ready : (A : Inputs) (s : State) (u : Entry) (pid : ℕ) → next_unit A s ≡ Some u → process_of_entry u ≡ Some pid → IsReady A s pid

@@ -98,14 +98,16 @@ space_tables k flat q s z nums f h same t =
           (subst (λ (o : Option Space). Fits o (numbered space_number s.sid k.place.spaces)) (sym (held_now flat.processes fp s here ∙ numbered_hit sid_of s.sid z [] same.sid))
           (fit_bytes s z (numbered space_number s.sid k.place.spaces) same.image same.data_size same.stack_size
           (subst (λ (o : Option Space). Fits o (numbered space_number s.sid k.place.spaces)) (held_own flat.processes fp s here) (t.spaces s.sid))))
-      | inr d ↦ subst (λ (o : Option Space). Fits o (numbered space_number n k.place.spaces)) (sym (held_other flat.processes fp s n here d (numbered_miss sid_of n z [] (λ i. d (sym (sym same.sid ∙ i)))))) (t.spaces n)
+      | inr d ↦ subst (λ (o : Option Space). Fits o (numbered space_number n k.place.spaces))
+          (sym (held_other flat.processes fp s n here d (numbered_miss sid_of n z [] (λ i. d (sym (sym same.sid ∙ i)))))) (t.spaces n)
     ] in
     tables_of k (with_process flat fp) (t.processes ∙ sym (replaced_outlines flat.processes q fp f outline)) t.next_pid t.next_sid fits
 
 -- who is out still holds a space
 out_same_holders : (p : Placement) (flat after : FlatState) → map outline_of after.processes ≡ map outline_of flat.processes → OutHold p flat → OutHold p after
 out_same_holders p flat after e o n h = holders (process_of flat n) (process_of after n) (o n h)
-    (ap (Rattle.kernel_laws.proofs.Flat.Numbered.image_by outline_of) (found_is flat.processes n) ∙ sym (numbers flat.processes) ∙ ap (numbered (λ (x : Outline). x.pid) n) (sym e) ∙ numbers after.processes ∙ ap (Rattle.kernel_laws.proofs.Flat.Numbered.image_by outline_of) (sym (found_is after.processes n)))
+    (ap (Rattle.kernel_laws.proofs.Flat.Numbered.image_by outline_of) (found_is flat.processes n) ∙ sym (numbers flat.processes) ∙ ap (numbered (λ (x : Outline). x.pid) n) (sym e)
+    ∙ numbers after.processes ∙ ap (Rattle.kernel_laws.proofs.Flat.Numbered.image_by outline_of) (sym (found_is after.processes n)))
   where
     numbers : (ps : List Process) → numbered (λ (x : Outline). x.pid) n (map outline_of ps) ≡ Rattle.kernel_laws.proofs.Flat.Numbered.image_by outline_of (numbered pid_of n ps)
     numbers ps = Rattle.kernel_laws.proofs.Flat.Numbered.numbered_image outline_of pid_of (λ (x : Outline). x.pid) (λ x. refl) n ps
@@ -117,7 +119,8 @@ out_same_holders p flat after e o n h = holders (process_of flat n) (process_of 
     holding (Lends s c) b k z = absurd cc
     holding (Zombie s) b k z = absurd cc
 
-    holders : (a b : Option Process) → holds_some a ≡ true → Rattle.kernel_laws.proofs.Flat.Numbered.image_by outline_of a ≡ Rattle.kernel_laws.proofs.Flat.Numbered.image_by outline_of b → holds_some b ≡ true
+    holders : (a b : Option Process) → holds_some a ≡ true
+        → Rattle.kernel_laws.proofs.Flat.Numbered.image_by outline_of a ≡ Rattle.kernel_laws.proofs.Flat.Numbered.image_by outline_of b → holds_some b ≡ true
     holders None b z k = absurd cc
     holders (Some x) None z k = absurd cc
     holders (Some x) (Some y) z k = holding x.holding y.holding (ap (λ (o : Outline). o.life) (same_Some (outline_of x) (outline_of y) k)) z

@@ -59,7 +59,8 @@ touch_case : (p : Placement) (v : Page)
     → (touch p v ≡ p) ⊎ ((f : ℕ) × (state_of p v ≡ Valid f) × (touch p v ≡ Rattle.page_model.specs.Moves.turn p v (Valid f) true p.free p.transfers))
 touch_case p v = go v (state_of p v) refl
   where
-    go : (v : Page) (s : PageState) → state_of p v ≡ s → (touch_to p v s ≡ p) ⊎ ((f : ℕ) × (state_of p v ≡ Valid f) × (touch_to p v s ≡ Rattle.page_model.specs.Moves.turn p v (Valid f) true p.free p.transfers))
+    go : (v : Page) (s : PageState) → state_of p v ≡ s
+        → (touch_to p v s ≡ p) ⊎ ((f : ℕ) × (state_of p v ≡ Valid f) × (touch_to p v s ≡ Rattle.page_model.specs.Moves.turn p v (Valid f) true p.free p.transfers))
     go (pages.Data sid n) (Valid f) e = inr (f, e, refl)
     go (pages.Stack sid n) (Valid f) e = inr (f, e, refl)
     go (pages.Text image n) s e = inl refl
@@ -78,7 +79,8 @@ pub touch_states : (p : Placement) (v r : Page) → state_of (touch p v) r ≡ s
 touch_states p v r = elim (touch_case p v) [
   | inl e ↦ ap (λ (x : Placement). state_of x r) e
   | inr t ↦ ap (λ (x : Placement). state_of x r) t.2 ∙ elim (page_cases r v) [
-    | inl same ↦ subst (λ (x : Page). state_of (Rattle.page_model.specs.Placement.put p v (Valid t.0) true) x ≡ state_of p x) (sym same) (put_state p v (Valid t.0) true (page_in p v t.0 (ap frame_of t.1)) ∙ sym t.1)
+    | inl same ↦ subst (λ (x : Page). state_of (Rattle.page_model.specs.Placement.put p v (Valid t.0) true) x ≡ state_of p x) (sym same)
+        (put_state p v (Valid t.0) true (page_in p v t.0 (ap frame_of t.1)) ∙ sym t.1)
     | inr other ↦ put_other_state p v (Valid t.0) true r other
   ]
 ]
@@ -121,7 +123,8 @@ same_spot s t address h =
 pub write_one : (A : Inputs) (flat : FlatState) (k : Kernel) (image : List ℕ) (pid : ℕ) (q : Process) (t s : Space) (w : ByteWrite)
     → Mid A flat k image → k.place.due ≡ [] → IsNumbered flat
     → process_of flat pid ≡ Some q → q.holding ≡ Holds t → SameSpace s t
-    → IsValidAt k.place (page_tested s (address_in s w.address)) → WroteOne A (apply_writes flat pid (w ∷ [])) k (write_byte k s w) image (page_tested s (address_in s w.address))
+    → IsValidAt k.place (page_tested s (address_in s w.address))
+    → WroteOne A (apply_writes flat pid (w ∷ [])) k (write_byte k s w) image (page_tested s (address_in s w.address))
 write_one A flat k image pid q t s w m due nums f h same valid = go (address_in s w.address) refl valid
   where
     after : FlatState
@@ -139,7 +142,8 @@ write_one A flat k image pid q t s w m due nums f h same valid = go (address_in 
       rest = record { holdings = refl; processes = refl; next_sid = refl; journal = refl; due = st.due };
     }
 
-    into : (v : Page) (at : ℕ) → IsByteOf t (address_in t w.address) v at → (x : PageState) → state_of k.place v ≡ x → is_valid x ≡ true → WroteOne A after k (write_into k v x at w.byte) image (Some v)
+    into : (v : Page) (at : ℕ) → IsByteOf t (address_in t w.address) v at → (x : PageState) → state_of k.place v ≡ x → is_valid x ≡ true
+        → WroteOne A after k (write_into k v x at w.byte) image (Some v)
     into v at b (Valid g) e i = made v at g b e
     into v at b Unfilled e i = absurd cc
     into v at b (Invalid g) e i = absurd cc
@@ -152,8 +156,10 @@ write_one A flat k image pid q t s w m due nums f h same valid = go (address_in 
 
     go : (x : Spot) → address_in s w.address ≡ x → IsValidAt k.place (page_tested s x) → WroteOne A after k (write_page k (page_tested s x) (place_in x) w.byte) image (page_tested s x)
     go (Text i) e a = absurd a
-    go (Data i) e a = into (pages.Data s.sid (i / 1024)) (i % 1024) (at_spot (Data i) (pages.Data s.sid (i / 1024)) (i % 1024) e (ap (λ (n : ℕ). pages.Data n (i / 1024)) (sym same.sid), refl)) (state_of k.place (pages.Data s.sid (i / 1024))) refl a
-    go (Stack i) e a = into (pages.Stack s.sid (i / 1024)) (i % 1024) (at_spot (Stack i) (pages.Stack s.sid (i / 1024)) (i % 1024) e (ap (λ (n : ℕ). pages.Stack n (i / 1024)) (sym same.sid), refl)) (state_of k.place (pages.Stack s.sid (i / 1024))) refl a
+    go (Data i) e a = into (pages.Data s.sid (i / 1024)) (i % 1024) (at_spot (Data i) (pages.Data s.sid (i / 1024)) (i % 1024) e (ap (λ (n : ℕ). pages.Data n (i / 1024)) (sym same.sid), refl))
+        (state_of k.place (pages.Data s.sid (i / 1024))) refl a
+    go (Stack i) e a = into (pages.Stack s.sid (i / 1024)) (i % 1024) (at_spot (Stack i) (pages.Stack s.sid (i / 1024)) (i % 1024) e (ap (λ (n : ℕ). pages.Stack n (i / 1024)) (sym same.sid), refl))
+        (state_of k.place (pages.Stack s.sid (i / 1024))) refl a
     go Below e a = absurd a
     go Outside e a = absurd a
 
@@ -164,7 +170,8 @@ unfolding replaced
 replaced_self [] q e = refl
 replaced_self (p ∷ ps) q e = go (p.pid == q.pid) e (replaced_self ps q)
   where
-    go : (b : Bool) → Rattle.std.proofs.Common.cond b (Some p) (numbered pid_of q.pid ps) ≡ Some q → (numbered pid_of q.pid ps ≡ Some q → replaced ps q ≡ ps) → replaced_by b q p ps (replaced ps q) ≡ p ∷ ps
+    go : (b : Bool) → Rattle.std.proofs.Common.cond b (Some p) (numbered pid_of q.pid ps) ≡ Some q → (numbered pid_of q.pid ps ≡ Some q → replaced ps q ≡ ps)
+        → replaced_by b q p ps (replaced ps q) ≡ p ∷ ps
     go true k ih = ap (λ (x : Process). x ∷ ps) (sym (same_Some p q k))
     go false k ih = ap (λ (l : List Process). p ∷ l) (ih k)
 
@@ -183,10 +190,12 @@ rest_both : (k l m : Kernel) → Rest k l → Rest l m → Rest k m
 rest_both k l m a b = record { holdings = b.holdings ∙ a.holdings; processes = b.processes ∙ a.processes; next_sid = b.next_sid ∙ a.next_sid; journal = b.journal ∙ a.journal; due = b.due ∙ a.due }
 
 touched_more : (p : Placement) (s : Space) (w : ByteWrite) (ws : List ByteWrite)
-    → touch_all p (filter_map (λ (w : ByteWrite). page_tested s (address_in s w.address)) (w ∷ ws)) ≡ touch_all (touch_some p (page_tested s (address_in s w.address))) (filter_map (λ (w : ByteWrite). page_tested s (address_in s w.address)) ws)
+    → touch_all p (filter_map (λ (w : ByteWrite). page_tested s (address_in s w.address)) (w ∷ ws))
+    ≡ touch_all (touch_some p (page_tested s (address_in s w.address))) (filter_map (λ (w : ByteWrite). page_tested s (address_in s w.address)) ws)
 touched_more p s w ws = go (address_in s w.address) refl
   where
-    go : (x : Spot) → address_in s w.address ≡ x → touch_all p (filter_map (λ (w : ByteWrite). page_tested s (address_in s w.address)) (w ∷ ws)) ≡ touch_all (touch_some p (page_tested s x)) (filter_map (λ (w : ByteWrite). page_tested s (address_in s w.address)) ws)
+    go : (x : Spot) → address_in s w.address ≡ x → touch_all p (filter_map (λ (w : ByteWrite). page_tested s (address_in s w.address)) (w ∷ ws))
+        ≡ touch_all (touch_some p (page_tested s x)) (filter_map (λ (w : ByteWrite). page_tested s (address_in s w.address)) ws)
     go (Text i) e = cc
     go (Data i) e = cc
     go (Stack i) e = cc
@@ -203,7 +212,8 @@ same_both s t z a b = record { sid = b.sid ∙ a.sid; image = b.image ∙ a.imag
 pub write_all : (ws : List ByteWrite) (A : Inputs) (flat : FlatState) (k : Kernel) (image : List ℕ) (pid : ℕ) (q : Process) (t s : Space)
     → Mid A flat k image → k.place.due ≡ [] → IsNumbered flat
     → process_of flat pid ≡ Some q → q.holding ≡ Holds t → SameSpace s t
-    → AllWritable k.place s ws → WroteAll A (apply_writes flat pid ws) k (write_bytes k s ws) image (filter_map (λ (w : ByteWrite). page_tested s (address_in s w.address)) ws)
+    → AllWritable k.place s ws → WroteAll A (apply_writes flat pid ws) k (write_bytes k s ws) image
+    (filter_map (λ (w : ByteWrite). page_tested s (address_in s w.address)) ws)
 write_all [] A flat k image pid q t s m due nums f h same a = record {
   mid = subst (λ (x : FlatState). Mid A x k image) (sym (no_writes flat pid q t f h)) m;
   place = refl;

@@ -57,7 +57,8 @@ written_units A s k pid = process_units pid k (step_at A s.point pid).writes (pr
 abbrev pub step_units : Inputs → State → Kernel → ℕ → Entry → List KernelUnit
 step_units A s k pid e =
     written_units A s k pid
-    ++ FindUnit (with_pieces A (wanted_if A.images s.point.flat (step_at A s.point pid).change (process_of s.point.flat pid)) (Kernel.holdings (written_step A s k pid)))
+    ++ FindUnit (with_pieces A (wanted_if A.images s.point.flat (step_at A s.point pid).change (process_of s.point.flat pid))
+    (Kernel.holdings (written_step A s k pid)))
     ∷ ChangeUnit pid (step_at A s.point pid).regs e (step_at A s.point pid).change ∷ []
 
 -- the kernel's units of a unit of a run, with what was read for the oldest transfer

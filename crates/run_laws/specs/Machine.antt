@@ -93,7 +93,8 @@ taken_step A s k pid = takes_step A (written_step A s k pid) (wanted_if A.images
 -- the whole step
 abbrev pub process_step : Inputs → State → Kernel → ℕ → Entry → Kernel
 process_step A s k pid e =
-    passing_change (is_borrower s.point.flat.processes pid) (facts_of A.images) (taken_step A s k pid) pid (step_at A s.point pid).regs e (step_at A s.point pid).change
+    passing_change (is_borrower s.point.flat.processes pid) (facts_of A.images) (taken_step A s k pid) pid (step_at A s.point pid).regs e
+    (step_at A s.point pid).change
 
 -- a step without a change: its bytes are written, its registers left, and `Ran` is noted
 abbrev pub ran_step : Inputs → State → Kernel → ℕ → ℕ → Kernel
@@ -161,7 +162,8 @@ pub record StandsAt (A : Inputs) (s : State) (k : Kernel) (image : List ℕ) : T
 abbrev pub Makes : Inputs → State → Kernel → List ℕ → List Entry → State → Kernel → List ℕ → Type 0
 Makes A s k image [] t l behind = (s ≡ t) × (k ≡ l) × (image ≡ behind)
 Makes A s k image (u ∷ us) t l behind =
-    (next_unit A s ≡ Some u) × ((read : List (List ℕ)) × IsGiven A s k image read u × Makes A (after A s u) (unit_step A s k image read u) (unit_image k image u) us t l behind)
+    (next_unit A s ≡ Some u)
+    × ((read : List (List ℕ)) × IsGiven A s k image read u × Makes A (after A s u) (unit_step A s k image read u) (unit_image k image u) us t l behind)
 
 -- Kinds of units.
 

@@ -60,7 +60,8 @@ end_led A point pid (Grew p n) h m k =
 end_led A point pid (Call p n c r0 r1) h m k =
     ap (λ (b : Bool). flat_entry_if b A point p (Call p n c r0 r1)) m
     ∙ subst (λ (x : ℕ). where_so (same_as (next_of_step A point p) (Call p n c r0 r1)) (point_after A point p) ≡ Some (point_after A point x)) h
-    (led A point (next_of_step A point p) (Call p n c r0 r1) (point_after A point p) (subst (λ (x : ℕ). next_of_step A point x ≡ Some (Call p n c r0 r1)) (sym h) k) (end_self pid (Call p n c r0 r1) h))
+    (led A point (next_of_step A point p) (Call p n c r0 r1) (point_after A point p) (subst (λ (x : ℕ). next_of_step A point x ≡ Some (Call p n c r0 r1)) (sym h) k)
+    (end_self pid (Call p n c r0 r1) h))
 end_led A point pid (Sleeps p) h m k =
     ap (λ (b : Bool). flat_entry_if b A point p (Sleeps p)) m
     ∙ subst (λ (x : ℕ). where_so (same_as (next_of_step A point p) (Sleeps p)) (point_after A point p) ≡ Some (point_after A point x)) h
@@ -83,7 +84,8 @@ out_led A point pid bytes m k =
 data Ready (A : Inputs) (F : FlatState) (last : Option Entry) (pid : ℕ) (es : List Entry) : Type 0 where
   Nothing : es ≡ [] → Ready A F last pid es
   Ends : (e : Entry) → IsStepEnd pid e → may_follow last e ≡ true → es ≡ e ∷ [] → Ready A F last pid es
-  Begins : (bytes : List ℕ) (e : Entry) → may_follow last (Out pid bytes) ≡ true → (flat_step A F pid false).entries ≡ Out pid bytes ∷ e ∷ [] → es ≡ Out pid bytes ∷ e ∷ [] → Ready A F last pid es
+  Begins : (bytes : List ℕ) (e : Entry) → may_follow last (Out pid bytes) ≡ true → (flat_step A F pid false).entries ≡ Out pid bytes ∷ e ∷ []
+      → es ≡ Out pid bytes ∷ e ∷ [] → Ready A F last pid es
 
 abbrev at : FlatState → Option Entry → Point
 at F last = record { flat = F; last = last }

@@ -31,7 +31,8 @@ after_point A s (Turn a) q h = same_Some s.point q h
 after_point A s (Ran p a) q h = where_is (same_as (act A s.point p) (Ran p a)) (point_after A s.point p) q (if_is (may_follow s.point.last (Ran p a)) A s.point p (Ran p a) q h)
 after_point A s (Out p a) q h = where_is (same_as (act A s.point p) (Out p a)) (point_after A s.point p) q (if_is (may_follow s.point.last (Out p a)) A s.point p (Out p a) q h)
 after_point A s (Grew p a) q h = where_is (same_as (act A s.point p) (Grew p a)) (point_after A s.point p) q (if_is (may_follow s.point.last (Grew p a)) A s.point p (Grew p a) q h)
-after_point A s (Call p a b c d) q h = where_is (same_as (act A s.point p) (Call p a b c d)) (point_after A s.point p) q (if_is (may_follow s.point.last (Call p a b c d)) A s.point p (Call p a b c d) q h)
+after_point A s (Call p a b c d) q h =
+    where_is (same_as (act A s.point p) (Call p a b c d)) (point_after A s.point p) q (if_is (may_follow s.point.last (Call p a b c d)) A s.point p (Call p a b c d) q h)
 after_point A s (Refused p) q h = where_is (can_step s.point.flat p) (record s.point { last = Some (Refused p) }) q (if_is (may_follow s.point.last (Refused p)) A s.point p (Refused p) q h)
 after_point A s (Sleeps p) q h = where_is (same_as (act A s.point p) (Sleeps p)) (point_after A s.point p) q (if_is (may_follow s.point.last (Sleeps p)) A s.point p (Sleeps p) q h)
 after_point A s (Ended p a) q h = where_is (same_as (act A s.point p) (Ended p a)) (point_after A s.point p) q (if_is (may_follow s.point.last (Ended p a)) A s.point p (Ended p a) q h)

@@ -17,7 +17,8 @@ pub split_absent : (p : Placement) (pages : List Page) (q : Page) → first_abse
 split_absent p [] q h = absurd cc
 split_absent p (r ∷ rs) q h = go (split_absent p rs q) (is_valid (state_of p r)) refl h
   where
-    go : (first_absent p rs ≡ Some q → Splits p rs (before_absent p rs) q) → (b : Bool) → is_valid (state_of p r) ≡ b → absent_by b r (first_absent p rs) ≡ Some q → Splits p (r ∷ rs) (present_by b r (before_absent p rs)) q
+    go : (first_absent p rs ≡ Some q → Splits p rs (before_absent p rs) q) → (b : Bool) → is_valid (state_of p r) ≡ b → absent_by b r (first_absent p rs) ≡ Some q
+        → Splits p (r ∷ rs) (present_by b r (before_absent p rs)) q
     go later true e k =
         let more : Splits p rs (before_absent p rs) q = later k in
         record { behind = more.behind; whole = ap (λ (x : List Page). r ∷ x) more.whole; valid = (e, more.valid); absent = more.absent }

@@ -41,7 +41,8 @@ pub data Kind (A : Inputs) (s : State) (u : Entry) : Type 0 where
   -- the parent's page of a child's page that is due is served
   Brings : (q parent : Page) (due : List Due) → s.place.due ≡ CopyOf q parent ∷ due → serve_unit s.place parent true ≡ Some u → Kind A s u
   -- it is there, and is copied, or a frame is forced for the child's
-  Copies : (q parent : Page) (due : List Due) → s.place.due ≡ CopyOf q parent ∷ due → serve_unit s.place parent true ≡ None → u ≡ fill_unit s.place (entries.Copy q) → Kind A s u
+  Copies : (q parent : Page) (due : List Due) → s.place.due ≡ CopyOf q parent ∷ due → serve_unit s.place parent true ≡ None
+      → u ≡ fill_unit s.place (entries.Copy q) → Kind A s u
   -- the page that a process wants is served
   Serves : (pid : ℕ) (now : Bool) (q : Page) → Runs A s pid now → wanted A s ≡ Some q → serve_unit s.place q now ≡ Some u → Kind A s u
   -- a process all of whose touched pages are valid acts
@@ -49,7 +50,8 @@ pub data Kind (A : Inputs) (s : State) (u : Entry) : Type 0 where
   ComesIn : (pid : ℕ) → s.place.due ≡ [] → Comes A s s.mark pid → u ≡ entries.SwapIn pid → Kind A s u
   Interrupts : s.place.due ≡ [] → s.mark ≡ marks.Interrupt → u ≡ entries.Done → Kind A s u
   Moves : (count : ℕ) → s.place.due ≡ [] → s.mark ≡ marks.Hands count → 0 < count → wants_moves s.place ≡ true → u ≡ move_unit s.place (locked A s) → Kind A s u
-  PutsOut : (pid : ℕ) → s.place.due ≡ [] → s.mark ≡ marks.PutOut pid → u ≡ put_out_unit s.place pid (space_of_process (process_of s.point.flat pid)) → Kind A s u
+  PutsOut : (pid : ℕ) → s.place.due ≡ [] → s.mark ≡ marks.PutOut pid
+      → u ≡ put_out_unit s.place pid (space_of_process (process_of s.point.flat pid)) → Kind A s u
   Notes : s.place.due ≡ [] → s.mark ≡ marks.Audit → u ≡ owners_entry s → Kind A s u
   -- the last mark is over: the next line, or a turn
   Begins : s.place.due ≡ [] → under A s s.mark ≡ None → next_mark A s ≡ Some u → Kind A s u

@@ -21,7 +21,8 @@ loaded_of bytes (Ok image) facts e told =
     e ∙ ap (λ (i : Loaded). Ok i) (whole.is ∙ ap (λ (f : Image). loaded f bytes) same)
 loaded_of bytes (Err reason) facts e told = absurd cc
 
-pub opened_is_in : (files : List NamedFile) (image : OpenedImage) → place_of files image.name.now ≡ Some image.file → facts_told files image.name.now ≡ Ok image.facts → IsIn files image
+pub opened_is_in : (files : List NamedFile) (image : OpenedImage) → place_of files image.name.now ≡ Some image.file
+    → facts_told files image.name.now ≡ Ok image.facts → IsIn files image
 opened_is_in files image place told = record {
   place = place;
   is = loaded_of (bytes_at files image.file) (image_of (bytes_at files image.file)) image.facts refl (subst (λ (p : Option ℕ). facts_told_at files p ≡ Ok image.facts) place told);
@@ -32,7 +33,8 @@ opened_is_found files image found =
     ap (image_found_at files image.name.now) found.place ∙ ap (named_image image.name.now) found.is
 
 -- one more image
-pub images_more : (files : List NamedFile) (images : List OpenedImage) (image : OpenedImage) (rest : Result (List NamedImage) Why) (left : Result NamedImage Why) → left ≡ Ok (image_in files image)
+pub images_more : (files : List NamedFile) (images : List OpenedImage) (image : OpenedImage) (rest : Result (List NamedImage) Why)
+    (left : Result NamedImage Why) → left ≡ Ok (image_in files image)
     → behind (images_in files images) (before left rest) ≡ behind (images_in files (images ++ image ∷ [])) rest
 images_more files images image (Ok more) left is = rw is (ap (λ (xs : List NamedImage). Ok xs) (grows images))
   where
@@ -45,7 +47,8 @@ images_more files images image (Err why) left is = rw is refl
 names_left : (names : List (Bor (List ℕ))) (i : ℕ) (d : Bor (List ℕ)) → i < length names → drop i names ≡ get_or names i d ∷ drop (i + 1) names
 names_left names i d below = subst (λ (k : ℕ). drop i names ≡ get_or names i d ∷ drop k names) (sym (add-one i)) (drop-cons names i d below)
 
-pub answers_more : (files : List NamedFile) (names : List (Bor (List ℕ))) (images images' : List OpenedImage) (image : OpenedImage) (i : ℕ) (d : Bor (List ℕ)) → i < length names
+pub answers_more : (files : List NamedFile) (names : List (Bor (List ℕ))) (images images' : List OpenedImage) (image : OpenedImage) (i : ℕ) (d : Bor (List ℕ))
+    → i < length names
     → image_found files (get_or names i d).now ≡ Ok (image_in files image) → images' ≡ images ++ image ∷ []
     → images_found files (map (λ name. name.now) names) ≡ behind (images_in files images) (images_found files (map (λ name. name.now) (drop i names)))
     → images_found files (map (λ name. name.now) names) ≡ behind (images_in files images') (images_found files (map (λ name. name.now) (drop (i + 1) names)))
@@ -56,7 +59,8 @@ answers_more files names images images' image i d below found pushed so_far =
     ∙ images_more files images image left (image_found files (get_or names i d).now) found
     ∙ ap (λ (xs : List OpenedImage). behind (images_in files xs) left) (sym pushed)
 
-pub names_more : (names : List (Bor (List ℕ))) (images images' : List OpenedImage) (image : OpenedImage) (i : ℕ) (d : Bor (List ℕ)) → i < length names → image.name ≡ get_or names i d → images' ≡ images ++ image ∷ []
+pub names_more : (names : List (Bor (List ℕ))) (images images' : List OpenedImage) (image : OpenedImage) (i : ℕ) (d : Bor (List ℕ)) → i < length names
+    → image.name ≡ get_or names i d → images' ≡ images ++ image ∷ []
     → map (λ image. image.name) images ≡ take i names → map (λ image. image.name) images' ≡ take (i + 1) names
 names_more names images images' image i d below is pushed so_far =
     let name_of : OpenedImage → Bor (List ℕ) = λ (image : OpenedImage). image.name in
@@ -67,7 +71,8 @@ pub All-pushed : {X : Type 0} (P : X → Type 0) (xs xs' : List X) (x : X) → x
 All-pushed P xs xs' x pushed each is = All-same P xs' (xs ++ x ∷ []) pushed (All-push P xs x each is)
 
 -- images with any bytes have the names and facts that were opened
-pub opened_headings : (bytes : OpenedImage → List ℕ) (opened : List OpenedImage) → AreOpened (map (λ image. record { name = image.name.now; image = loaded image.facts (bytes image) }) opened) opened
+pub opened_headings : (bytes : OpenedImage → List ℕ) (opened : List OpenedImage)
+    → AreOpened (map (λ image. record { name = image.name.now; image = loaded image.facts (bytes image) }) opened) opened
 unfolding loaded
 opened_headings bytes [] = refl
 opened_headings bytes (image ∷ images) = ap (λ (xs : List (List ℕ × Image)). opened_heading image ∷ xs) (opened_headings bytes images)

@@ -47,7 +47,8 @@ few_numbers f (x ∷ xs) = one_more (length xs) (f x) (filter_map f xs) (few_num
 abbrev pub now_of : List (Bor (List ℕ)) → List (List ℕ)
 now_of words = map (λ word. word.now) words
 
-pub few_started : (first : List ℕ) (names : List (List ℕ)) (words : List (Bor (List ℕ))) → first ≡ first_images names (now_of words) → length first ≤ length words
+pub few_started : (first : List ℕ) (names : List (List ℕ)) (words : List (Bor (List ℕ))) → first ≡ first_images names (now_of words)
+    → length first ≤ length words
 unfolding first_images
 few_started first names words is =
     omega (arith, ap length is, few_numbers (number_started names) (now_of words), length-map words (λ (word : Bor (List ℕ)). word.now))
@@ -56,7 +57,8 @@ few_started first names words is =
 abbrev pub names_of : List OpenedImage → List (List ℕ)
 names_of images = map (λ image. image.name.now) images
 
-pub opened_names : (images : List OpenedImage) (names words : List (Bor (List ℕ))) → map (λ image. image.name) images ≡ names → now_of names ≡ image_names (now_of words) → names_of images ≡ image_names (now_of words)
+pub opened_names : (images : List OpenedImage) (names words : List (Bor (List ℕ))) → map (λ image. image.name) images ≡ names
+    → now_of names ≡ image_names (now_of words) → names_of images ≡ image_names (now_of words)
 opened_names images names words are known =
     sym (map-map (λ (name : Bor (List ℕ)). name.now) (λ (image : OpenedImage). image.name) images) ∙ ap now_of are ∙ known
 
@@ -66,7 +68,8 @@ short_names images words are each =
     All-of_map IsShortName (λ (image : OpenedImage). image.name.now) images
     (subst (All IsShortName) (sym are) (All-image_names IsShortName (now_of words) (All-map (λ (word : List ℕ). IsShortName (name_in word)) (λ (word : Bor (List ℕ)). word.now) words each)))
 
-pub some_opened : (images : List OpenedImage) (words : List (Bor (List ℕ))) → names_of images ≡ image_names (now_of words) → 0 < length words → 0 < length images
+pub some_opened : (images : List OpenedImage) (words : List (Bor (List ℕ))) → names_of images ≡ image_names (now_of words)
+    → 0 < length words → 0 < length images
 some_opened images words are some =
     let named : 0 < length (image_names (now_of words)) = some_name (now_of words) (omega (arith, some, length-map words (λ (word : Bor (List ℕ)). word.now))) in
     omega (arith, named, ap length are, length-map images (λ (image : OpenedImage). image.name.now))

@@ -41,16 +41,19 @@ abbrev pub OpensSchedule : Asked → Option (List NamedFile) → Faults → Resu
 OpensSchedule a holds f result = Made (EndsSchedule a.schedule) (λ files. schedule_found files a.schedule) holds f result
 
 -- the schedule's fault
-schedule_fault : (a : Asked) (f : Faults) (fault : Fault) (found : FoundFiles) → EndsSchedule {A = Global} a.schedule found.schedule f (Err fault) → Ends a found f (Err fault)
+schedule_fault : (a : Asked) (f : Faults) (fault : Fault) (found : FoundFiles) → EndsSchedule {A = Global} a.schedule found.schedule f (Err fault)
+    → Ends a found f (Err fault)
 schedule_fault a f (faults.Absent name) found ends = inl ends
 schedule_fault a f faults.FileFault found ends = ends
 schedule_fault a f faults.NoMemory found ends = tt
 schedule_fault a f (faults.BadSchedule line) found ends = ends
 schedule_fault a f _ found ends = absurd ends
 
-pub schedule_ends : (a : Asked) (holds : Option (List NamedFile)) (f : Faults) (fault : Fault) → OpensSchedule a holds f (Err fault) → Opens a holds f (Err fault)
+pub schedule_ends : (a : Asked) (holds : Option (List NamedFile)) (f : Faults) (fault : Fault) → OpensSchedule a holds f (Err fault)
+    → Opens a holds f (Err fault)
 schedule_ends a holds f fault made =
-    made_where (λ (found : FoundFiles). EndsSchedule {A = Global} a.schedule found.schedule f (Err fault)) (Ends a) (record { schedule = made.read; images = Ok [] }) (found_told a.schedule a.words) holds f (Err fault)
+    made_where (λ (found : FoundFiles). EndsSchedule {A = Global} a.schedule found.schedule f (Err fault)) (Ends a) (record { schedule = made.read; images = Ok [] })
+    (found_told a.schedule a.words) holds f (Err fault)
     made.ends (λ files told. subst (λ (read : Result (List ℕ) Unread). EndsSchedule {A = Global} a.schedule read f (Err fault)) (made.is_told files told) made.ends)
     (schedule_fault a f fault)
 
@@ -58,24 +61,30 @@ pub refused : (a : Asked) (holds : Option (List NamedFile)) (f : Faults) → Ope
 refused a holds f = made_nothing (Ends a) (record { schedule = Ok []; images = Ok [] }) (found_told a.schedule a.words) holds f (Err faults.NoMemory) (λ found. tt)
 
 -- the lines of the schedule were opened, and this is so of the images
-made_opened : (a : Asked) (holds : Option (List NamedFile)) (f g : Faults) (lines : Vec Event Global) (result : Result Opening Fault) (Q : Result (List NamedImage) Why → Type 0) (images : Result (List NamedImage) Why)
+made_opened : (a : Asked) (holds : Option (List NamedFile)) (f g : Faults) (lines : Vec Event Global) (result : Result Opening Fault)
+    (Q : Result (List NamedImage) Why → Type 0) (images : Result (List NamedImage) Why)
     → OpensSchedule a holds f (Ok lines) → Q images → ((files : List NamedFile) → holds ≡ Some files → Q (images_found files (image_names a.words)))
     → ((found : FoundFiles) → HasEvents found.schedule lines.items → Q found.images → Ends a found g result) → Opens a holds g result
 made_opened a holds f g lines result Q images made any told ends =
-    made_where (λ (found : FoundFiles). HasEvents found.schedule lines.items × Q found.images) (Ends a) (record { schedule = made.read; images = images }) (found_told a.schedule a.words) holds g result
+    made_where (λ (found : FoundFiles). HasEvents found.schedule lines.items × Q found.images) (Ends a) (record { schedule = made.read; images = images })
+    (found_told a.schedule a.words) holds g result
     (made.ends.1, any)
     (λ files same. (subst (λ (read : Result (List ℕ) Unread). HasEvents read lines.items) (made.is_told files same) made.ends.1, told files same))
     (λ found has. ends found has.0 has.1)
 
 -- an image's fault
-pub images_end : {A : Type 0} (view : List NamedFile → A → List NamedImage) (a : Asked) (holds : Option (List NamedFile)) (f g : Faults) (lines : Vec Event Global) (fault : Fault)
+pub images_end : {A : Type 0} (view : List NamedFile → A → List NamedImage) (a : Asked) (holds : Option (List NamedFile)) (f g : Faults)
+    (lines : Vec Event Global) (fault : Fault)
     → OpensSchedule a holds f (Ok lines) → g.open_before ≡ f.open_before → g.page_after ≡ g.page_before
-    → ((files : List NamedFile) → holds ≡ Some files → AnswersNamed (view files) (images_found files (image_names a.words)) (Err fault)) → CountsAt fault f.open_after g.open_after
+    → ((files : List NamedFile) → holds ≡ Some files → AnswersNamed (view files) (images_found files (image_names a.words)) (Err fault))
+    → CountsAt fault f.open_after g.open_after
     → IsImageFault fault → Opens a holds g (Err fault)
 images_end view a holds f g lines (faults.Absent name) made start page answers counts kind =
-    made_opened a holds f g lines _ (λ (r : Result (List NamedImage) Why). r ≡ Err (name.now, unreads.Absent)) (Err (name.now, unreads.Absent)) made refl answers (λ found has is. inr ((lines.items, has), is))
+    made_opened a holds f g lines _ (λ (r : Result (List NamedImage) Why). r ≡ Err (name.now, unreads.Absent)) (Err (name.now, unreads.Absent)) made refl answers
+    (λ found has is. inr ((lines.items, has), is))
 images_end view a holds f g lines (faults.NotImage name reason) made start page answers counts kind =
-    made_opened a holds f g lines _ (λ (r : Result (List NamedImage) Why). r ≡ Err (name.now, unreads.NotImage reason)) (Err (name.now, unreads.NotImage reason)) made refl answers (λ found has is. ((lines.items, has), is))
+    made_opened a holds f g lines _ (λ (r : Result (List NamedImage) Why). r ≡ Err (name.now, unreads.NotImage reason)) (Err (name.now, unreads.NotImage reason)) made refl answers
+    (λ found has is. ((lines.items, has), is))
 images_end view a holds f g lines faults.FileFault made start page answers counts kind =
     made_nothing (Ends a) (record { schedule = Ok []; images = Ok [] }) (found_told a.schedule a.words) holds g (Err faults.FileFault)
     (λ found. (subst (λ (n : ℕ). Rose n g.open_after) (made.ends.0.open_same ∙ sym start) counts, page))
@@ -93,7 +102,8 @@ is_short true one_short z zn o on fault e = let same : faults.ShortDevice 0 z zn
 is_short false true z zn o on fault e = let same : faults.ShortDevice 1 o on ≡ fault = cc in subst IsShort same tt
 is_short false false z zn o on fault e = absurd cc
 
-short_ends : (a : Asked) (f : Faults) (found : FoundFiles) (fault : Fault) → IsShort fault → Some fault ≡ device_fault a.swap a.zero_blocks a.one_blocks → HasAll found → Ends a found f (Err fault)
+short_ends : (a : Asked) (f : Faults) (found : FoundFiles) (fault : Fault) → IsShort fault → Some fault ≡ device_fault a.swap a.zero_blocks a.one_blocks
+    → HasAll found → Ends a found f (Err fault)
 short_ends a f found (faults.ShortDevice device blocks needed) short is has = (has, sym is)
 short_ends a f found _ short is has = absurd short
 
@@ -103,14 +113,17 @@ short_counts _ old new short same = absurd short
 
 pub device_counts : (a : Asked) (fault : Fault) (old new : ℕ) → Some fault ≡ device_fault a.swap a.zero_blocks a.one_blocks → new ≡ old → CountsAt fault old new
 device_counts a fault old new is same =
-    short_counts fault old new (is_short (nat_lt a.zero_blocks (zero_needs a.swap)) (nat_lt a.one_blocks (one_needs a.swap)) a.zero_blocks (zero_needs a.swap) a.one_blocks (one_needs a.swap) fault is) same
+    short_counts fault old new
+    (is_short (nat_lt a.zero_blocks (zero_needs a.swap)) (nat_lt a.one_blocks (one_needs a.swap)) a.zero_blocks (zero_needs a.swap) a.one_blocks (one_needs a.swap) fault is) same
 
-pub device_ends : (a : Asked) (holds : Option (List NamedFile)) (f g : Faults) (lines : Vec Event Global) (images : Vec OpenedImage Global) (fault : Fault) → OpensSchedule a holds f (Ok lines)
+pub device_ends : (a : Asked) (holds : Option (List NamedFile)) (f g : Faults) (lines : Vec Event Global) (images : Vec OpenedImage Global) (fault : Fault)
+    → OpensSchedule a holds f (Ok lines)
     → ((files : List NamedFile) → holds ≡ Some files → images_found files (image_names a.words) ≡ Ok (images_in files images.items))
     → Some fault ≡ device_fault a.swap a.zero_blocks a.one_blocks → Opens a holds g (Err fault)
 device_ends a holds f g lines images fault made answers is =
     let short = is_short (nat_lt a.zero_blocks (zero_needs a.swap)) (nat_lt a.one_blocks (one_needs a.swap)) a.zero_blocks (zero_needs a.swap) a.one_blocks (one_needs a.swap) fault is in
-    made_opened a holds f g lines (Err fault) (λ (r : Result (List NamedImage) Why). (xs : List NamedImage) × (r ≡ Ok xs)) (Ok []) made ([], refl) (λ files told. (images_in files images.items, answers files told))
+    made_opened a holds f g lines (Err fault) (λ (r : Result (List NamedImage) Why). (xs : List NamedImage) × (r ≡ Ok xs)) (Ok []) made ([], refl)
+    (λ files told. (images_in files images.items, answers files told))
     (λ found has all. short_ends a g found fault short is ((lines.items, has), all))
 
 -- all was opened
@@ -121,9 +134,11 @@ record AreNamed (opened : List OpenedImage) (r : Result (List NamedImage) Why) :
 
 pub opening_begins : (a : Asked) (holds : Option (List NamedFile)) (f g : Faults) (opening : Opening) → OpensSchedule a holds f (Ok opening.lines)
     → ((files : List NamedFile) → holds ≡ Some files → images_found files (image_names a.words) ≡ Ok (images_in files opening.images.items))
-    → opening.first.items ≡ first_images (image_names a.words) a.words → None ≡ device_fault a.swap a.zero_blocks a.one_blocks → NoFaults g → Opens a holds g (Ok opening)
+    → opening.first.items ≡ first_images (image_names a.words) a.words → None ≡ device_fault a.swap a.zero_blocks a.one_blocks → NoFaults g
+    → Opens a holds g (Ok opening)
 opening_begins a holds f g opening made answers first devices none =
-    made_opened a holds f g opening.lines (Ok opening) (AreNamed opening.images.items) (Ok (map (λ (image : OpenedImage). record { name = image.name.now; image = loaded image.facts [] }) opening.images.items)) made
+    made_opened a holds f g opening.lines (Ok opening) (AreNamed opening.images.items)
+    (Ok (map (λ (image : OpenedImage). record { name = image.name.now; image = loaded image.facts [] }) opening.images.items)) made
     (record { images = _; are = refl; opened_are = opened_headings (λ image. []) opening.images.items })
     (λ files told. record { images = images_in files opening.images.items; are = answers files told; opened_are = opened_headings (λ image. bytes_at files image.file) opening.images.items })
     (λ found has named. (none, record { lines = has; images = named.images; are = named.are; opened = named.opened_are; first = first; devices = sym devices }))

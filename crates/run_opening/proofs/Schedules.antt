@@ -28,20 +28,23 @@ first_bytes bytes schedule is = go (cases_lt (length bytes) schedule_bytes)
     go (inr many) = schedule_by_front bytes schedule_bytes schedule (inr (refl, many)) is
 
 -- the first bytes decide how the schedule ends
-front_ends : (name bytes : List ℕ) (f : Faults) (result : Result (Vec Event Global) Fault) → NoFaults f → EndsEvents (take schedule_bytes bytes) result → EndsSchedule name (Ok bytes) f result
+front_ends : (name bytes : List ℕ) (f : Faults) (result : Result (Vec Event Global) Fault) → NoFaults f → EndsEvents (take schedule_bytes bytes) result
+    → EndsSchedule name (Ok bytes) f result
 front_ends name bytes f (Ok lines) none ends = (none, first_bytes bytes (Is lines) ends)
 front_ends name bytes f (Err faults.NoMemory) none ends = tt
 front_ends name bytes f (Err (faults.BadSchedule line)) none ends = first_bytes bytes (BadLine line) ends
 front_ends name bytes f (Err _) none ends = absurd ends
 
-told_ends_at : (files : List NamedFile) (place : Option ℕ) (name bytes : List ℕ) (f : Faults) (result : Result (Vec Event Global) Fault) → NoFaults f → bytes_told_at files place schedule_bytes ≡ Ok bytes
+told_ends_at : (files : List NamedFile) (place : Option ℕ) (name bytes : List ℕ) (f : Faults) (result : Result (Vec Event Global) Fault) → NoFaults f
+    → bytes_told_at files place schedule_bytes ≡ Ok bytes
     → EndsEvents bytes result → EndsSchedule name (schedule_found_at files place) f result
 told_ends_at files None name bytes f result none told ends = absurd cc
 told_ends_at files (Some place) name bytes f result none told ends =
     let front : take schedule_bytes (bytes_at files place) ≡ bytes = cc in
     front_ends name (bytes_at files place) f result none (subst (λ (b : List ℕ). EndsEvents b result) (sym front) ends)
 
-any_ends : (name bytes : List ℕ) (f : Faults) (result : Result (Vec Event Global) Fault) → NoFaults f → EndsEvents bytes result → EndsSchedule name (Ok bytes) f result
+any_ends : (name bytes : List ℕ) (f : Faults) (result : Result (Vec Event Global) Fault) → NoFaults f → EndsEvents bytes result
+    → EndsSchedule name (Ok bytes) f result
 any_ends name bytes f (Ok lines) none ends = (none, ends)
 any_ends name bytes f (Err faults.NoMemory) none ends = tt
 any_ends name bytes f (Err (faults.BadSchedule line)) none ends = ends
@@ -57,7 +60,8 @@ schedule_read name bytes holds f result none told ends =
     (λ files same. told_ends_at files (place_of files name) name bytes f result none (told files same) ends)
     (λ found ends. ends)
 
-absent_at : (files : List NamedFile) (place : Option ℕ) → bytes_told_at files place schedule_bytes ≡ Err unreads.Absent → schedule_found_at files place ≡ Err unreads.Absent
+absent_at : (files : List NamedFile) (place : Option ℕ) → bytes_told_at files place schedule_bytes ≡ Err unreads.Absent
+    → schedule_found_at files place ≡ Err unreads.Absent
 absent_at files None e = refl
 absent_at files (Some place) e = absurd cc
 
@@ -67,7 +71,8 @@ pub schedule_unread : {A : Type 0} (view : A → List ℕ) (name : Bor (List ℕ
     → CountsFault {A = A} (Err unread) f.open_before f.open_after → f.page_after ≡ f.page_before
     → Made {E = Result (Vec Event Global) Fault} (EndsSchedule name.now) (λ files. schedule_found files name.now) holds f (Err (fault_of name unread))
 schedule_unread view name holds f unreads.Absent answers kind counts stays =
-    made_where (λ (found : Result (List ℕ) Unread). found ≡ Err unreads.Absent) (EndsSchedule name.now) (Err unreads.Absent) (λ (files : List NamedFile). schedule_found files name.now) holds f (Err (faults.Absent name))
+    made_where (λ (found : Result (List ℕ) Unread). found ≡ Err unreads.Absent) (EndsSchedule name.now) (Err unreads.Absent) (λ (files : List NamedFile). schedule_found files name.now) holds f
+    (Err (faults.Absent name))
     refl (λ files same. absent_at files (place_of files name.now) (answers files same)) (λ found is. (refl, is))
 schedule_unread view name holds f (unreads.NotImage reason) answers kind counts stays = absurd kind
 schedule_unread view name holds f unreads.FileFault answers kind counts stays =

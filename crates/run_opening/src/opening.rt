@@ -44,15 +44,22 @@ pub fn open_run<'a, F: Files>(
 ) -> Result<Opening<'a>, Fault<'a>>
     requires few { length words.now ≤ 16 }
     requires swap { swap ≤ 131072 }
-    ensures ends { Made (EndsOpening schedule.now (map (λ word. word.now) words.now) swap zero_blocks one_blocks) (found_told schedule.now (map (λ word. word.now) words.now)) (F.holds files.old)
-        (record { open_before = F.open_faults files.old; open_after = F.open_faults files.new; page_before = F.page_faults files.old; page_after = F.page_faults files.new }) result }
+    ensures ends { Made (EndsOpening schedule.now (map (λ word. word.now) words.now) swap zero_blocks one_blocks)
+        (found_told schedule.now (map (λ word. word.now) words.now)) (F.holds files.old)
+        (record {
+          open_before = F.open_faults files.old;
+          open_after = F.open_faults files.new;
+          page_before = F.page_faults files.old;
+          page_after = F.page_faults files.new;
+        }) result }
 
     // The images, as the told files have them.
     ensures loaded { IfOk result (λ opening. (list : List NamedFile) → F.holds files.old ≡ Some list
         → images_found list (image_names (map (λ word. word.now) words.now)) ≡ Ok (images_in list opening.images.items)) }
     ensures are_in { IfOk result (λ opening. (list : List NamedFile) → F.holds files.old ≡ Some list → All (IsIn list) opening.images.items) }
     ensures names { IfOk result (λ opening. map (λ image. image.name.now) opening.images.items ≡ image_names (map (λ word. word.now) words.now)) }
-    ensures short { All (λ word. IsShortName (name_in word.now)) words.now → IfOk result (λ opening. All (λ image. IsShortName image.name.now) opening.images.items) }
+    ensures short { All (λ word. IsShortName (name_in word.now)) words.now
+        → IfOk result (λ opening. All (λ image. IsShortName image.name.now) opening.images.items) }
     ensures sound { IfOk result (λ opening. All (λ image. IsSound image.facts) opening.images.items) }
     ensures ranges { IfOk result (λ opening. All (λ image. HasRange (F.holds files.old) image.file 0 (file_length_of image.facts)) opening.images.items) }
     ensures few_images { IfOk result (λ opening. length opening.images.items ≤ length words.now) }

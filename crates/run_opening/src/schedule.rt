@@ -36,7 +36,12 @@ pub fn open_schedule<'a, F: Files>(
     name: &'a str,
 ) -> Result<Vec<Event>, Fault<'a>>
     ensures ends { Made (EndsSchedule name.now) (λ list. schedule_found list name.now) (F.holds files.old)
-        (record { open_before = F.open_faults files.old; open_after = F.open_faults files.new; page_before = F.page_faults files.old; page_after = F.page_faults files.new }) result }
+        (record {
+          open_before = F.open_faults files.old;
+          open_after = F.open_faults files.new;
+          page_before = F.page_faults files.old;
+          page_after = F.page_faults files.new;
+        }) result }
     ensures ranges { IfOk result (λ lines. All IsInRanges lines.items) }
     ensures few { IfOk result (λ lines. length lines.items ≤ 65536) }
     ensures kept { KeepsFiles F.Files files.old files.new }

@@ -36,7 +36,8 @@ about_run most command (_ ∷ []) none = refl
 about_run most command (_ ∷ _ ∷ []) none = refl
 about_run most command (_ ∷ _ ∷ _ ∷ []) none = refl
 about_run most command (frames ∷ swap ∷ limit ∷ schedule ∷ images) none =
-    either (is_name schedule && are_image_words images) _ None (mapped (λ (numbers : Numbers). command numbers schedule images) (run_numbers most frames swap limit) (λ numbers. none numbers schedule images)) refl
+    either (is_name schedule && are_image_words images) _ None
+    (mapped (λ (numbers : Numbers). command numbers schedule images) (run_numbers most frames swap limit) (λ numbers. none numbers schedule images)) refl
 
 load : (words : List (List ℕ)) → is_run (asked_load words) ≡ false
 unfolding asked_load

@@ -18,7 +18,8 @@ use Rattle.command_ending.specs.Named.{Why, before}
 use Rattle.run_opening.specs.Images.{named_image, image_found_at, image_found, images_found}
 
 -- the copies so far, and one more
-pub copied_more : {X : Type 0} (view : X → NamedFile) (files copies copies' : List X) (copy : X) (i : ℕ) (d : X) → i < length files → view copy ≡ view (get_or files i d)
+pub copied_more : {X : Type 0} (view : X → NamedFile) (files copies copies' : List X) (copy : X) (i : ℕ) (d : X) → i < length files
+    → view copy ≡ view (get_or files i d)
     → copies' ≡ copies ++ copy ∷ [] → map view copies ≡ map view (take i files) → map view copies' ≡ map view (take (i + 1) files)
 copied_more view files copies copies' copy i d below is pushed so_far =
     ap (map view) pushed ∙ map-append view copies (copy ∷ []) ∙ ap (λ (xs : List NamedFile). xs ++ view copy ∷ []) so_far ∙ ap (λ (x : NamedFile). map view (take i files) ++ x ∷ []) is

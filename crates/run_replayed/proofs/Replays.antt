@@ -74,7 +74,8 @@ EndsAccepted entries (Ok output) = output ≡ run_line entries
 EndsAccepted entries (Err faults.NoMemory) = Unit {0}
 EndsAccepted entries (Err _) = ⊥
 
-ends_accepted : (name : List ℕ) (words : List (List ℕ)) (read : Read) (entries : ℕ) (ending : Ending) → EndsReplay name words read no_faults ending → IsAccepted entries ending
+ends_accepted : (name : List ℕ) (words : List (List ℕ)) (read : Read) (entries : ℕ) (ending : Ending) → EndsReplay name words read no_faults ending
+    → IsAccepted entries ending
     → EndsAccepted entries ending
 ends_accepted name words read entries (Ok output) ends is = is
 ends_accepted name words read entries (Err faults.FileFault) (inl opening) is = absurd (never_rose opening.0)
@@ -95,13 +96,15 @@ module _ (text : List ℕ) (status : ℕ) (written : Option (List ℕ)) (failed 
   long_written ending ends (All whole appends none) long = too_long ending ends whole appends long
   long_written ending ends (Prefix whole appends rose) long = OutputFailed whole
 
-  a_run : (entries : ℕ) (ending : Ending) → EndsAccepted entries ending → status ≡ status_of ending → written ≡ Some (written_at ending) → entries ≡ length (lines_in text) → IsReplayed text status written
+  a_run : (entries : ℕ) (ending : Ending) → EndsAccepted entries ending → status ≡ status_of ending → written ≡ Some (written_at ending) → entries ≡ length (lines_in text)
+      → IsReplayed text status written
   a_run entries (Ok output) is whole appends count =
       FlatRun whole (appends ∙ ap (λ (o : List ℕ). Some o) is ∙ ap (λ (n : ℕ). Some (run_line n)) count)
   a_run entries (Err faults.NoMemory) ends whole appends count = NoMemory whole appends
   a_run entries (Err _) ends whole appends count = absurd ends
 
-  run_written : (entries : ℕ) (ending : Ending) → EndsAccepted entries ending → WritesEnding (Some []) written 0 failed ending status → entries ≡ length (lines_in text) → IsReplayed text status written
+  run_written : (entries : ℕ) (ending : Ending) → EndsAccepted entries ending → WritesEnding (Some []) written 0 failed ending status → entries ≡ length (lines_in text)
+      → IsReplayed text status written
   run_written entries ending ends (All whole appends none) count = a_run entries ending ends whole appends count
   run_written entries ending ends (Prefix whole appends rose) count = OutputFailed whole
 
@@ -145,7 +148,8 @@ module _ (traced : Bool) (words : List (List ℕ)) (files : List NamedFile) (wri
           let reads : ReadsText run.inputs traced run.journal [] words read
           = record { text = told; short = leb-true _ _ short; images = images.0; are = images.1; images_are = images.2; first = run.first } in
           run_written (text_of traced run.journal ++ []) status after failed (length (entries_shown traced run.journal)) done.ending
-          (ends_accepted transcript words read (length (entries_shown traced run.journal)) done.ending done.ends (are_accepted run.inputs traced run.journal [] transcript words read no_faults done.ending run.flat (inl refl) reads done.ends))
+          (ends_accepted transcript words read (length (entries_shown traced run.journal)) done.ending done.ends
+          (are_accepted run.inputs traced run.journal [] transcript words read no_faults done.ending run.flat (inl refl) reads done.ends))
           done.writes count
       go false long =
           let told : read.transcript ≡ Ok None = new_told files file transcript_bytes new ∙ ap (λ (b : Bool). Ok (bytes_if b (text_of traced run.journal ++ []))) long in
@@ -157,11 +161,13 @@ some_is : (a b : List ℕ) → Some a ≡ Some b → a ≡ b
 some_is a b same = cc
 
 -- what a run wrote, handed over as a file, is replayed
-pub run_replayed : (words : List (List ℕ)) (files : List NamedFile) (zero_blocks one_blocks : ℕ) (zero one written : Option (List ℕ)) (failed status : ℕ) (transcript text : List ℕ)
+pub run_replayed : (words : List (List ℕ)) (files : List NamedFile) (zero_blocks one_blocks : ℕ) (zero one written : Option (List ℕ)) (failed status : ℕ)
+    (transcript text : List ℕ)
     (also_zero also_one after : Option (List ℕ)) (also_failed also_status : ℕ)
     → is_plain transcript ≡ true → is_name transcript ≡ true → place_of files transcript ≡ None
     → DoesInMemory (asked_of words) files zero_blocks one_blocks zero one written failed status → written ≡ Some text
-    → DoesInMemory (asked_of (replay_words transcript (asked_of words))) (files ++ record { name = transcript; bytes = text } ∷ []) 0 0 also_zero also_one after also_failed also_status
+    → DoesInMemory (asked_of (replay_words transcript (asked_of words))) (files ++ record { name = transcript; bytes = text } ∷ []) 0 0 also_zero also_one
+    after also_failed also_status
     → RunIsReplayed (asked_of words) status written also_status after
 run_replayed words files zero_blocks one_blocks zero one written failed status transcript text also_zero also_one after also_failed also_status plain name new does wrote also =
     λ traced numbers schedule images is none.

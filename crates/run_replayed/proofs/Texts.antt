@@ -23,8 +23,10 @@ pub record IsRunText (words : List (List ℕ)) (files : List NamedFile) (traced 
   pub flat : IsFlatText inputs traced journal
   pub wrote : written ≡ Some (text_of traced journal ++ [])
 
-pub run_text : (request : Request) (files : List NamedFile) (zero_blocks one_blocks : ℕ) (swap written : Option (List ℕ)) (faults : ℕ) (image : List ℕ) (status : ℕ)
-    → RunsTold request (seen_of files zero_blocks one_blocks swap written faults) files image status → status ≡ 0 → IsRunText request.words files request.traced written
+pub run_text : (request : Request) (files : List NamedFile) (zero_blocks one_blocks : ℕ) (swap written : Option (List ℕ)) (faults : ℕ)
+    (image : List ℕ) (status : ℕ)
+    → RunsTold request (seen_of files zero_blocks one_blocks swap written faults) files image status → status ≡ 0
+    → IsRunText request.words files request.traced written
 run_text request files zero_blocks one_blocks swap written faults image status told zero = go told.ending told.writes told.told
   where
     go : (ending : Result (Unit {0}) Fault) → Writing request.traced (seen_of files zero_blocks one_blocks swap written faults) told.journal ending status

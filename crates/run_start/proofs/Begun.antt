@@ -81,7 +81,8 @@ pub record AllBegan (numbers : List ℕ) (old new : Standing) : Type 0 where
   pub on : RunsOn old new 0
   pub may : MayBegin new
 
-pub all_began : (started : Started) (numbers : List ℕ) (old new : Standing) → IsNew old → Numbered old.kernel → started ≡ starteds.Ok → Begins started numbers old new → AllBegan numbers old new
+pub all_began : (started : Started) (numbers : List ℕ) (old new : Standing) → IsNew old → Numbered old.kernel → started ≡ starteds.Ok
+    → Begins started numbers old new → AllBegan numbers old new
 all_began started numbers old new n numbered e b =
     let all : BeginsAll numbers old new = subst (λ (s : Started). Begins s numbers old new) e b in
     let may = all_may numbers old new (new_may old n numbered) all in

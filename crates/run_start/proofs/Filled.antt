@@ -42,7 +42,8 @@ use Rattle.run_start.specs.Leading.{FillsRest, StopsRest}
 
 -- What is due first.
 
-pub first_of : (p : Placement) (page : Page) (parent : Option Page) → option_map due_and_parent (slice_get p.due 0) ≡ Some (page, parent) → IsDueFirst p (due_of page parent)
+pub first_of : (p : Placement) (page : Page) (parent : Option Page) → option_map due_and_parent (slice_get p.due 0) ≡ Some (page, parent)
+    → IsDueFirst p (due_of page parent)
 first_of p page parent e = go p.due refl e
   where
     is_first : (d : Due) (ds : List Due) → p.due ≡ d ∷ ds → d ≡ due_of page parent → IsDueFirst p (due_of page parent)
@@ -60,7 +61,8 @@ pub none_due : (ds : List Due) → option_map due_and_parent (slice_get ds 0) �
 none_due [] e = refl
 none_due (d ∷ ds) e = absurd cc
 
-pub fewer : (old next : Standing) (d : Due) (f : IsDueFirst old.kernel.place d) → RunsDue old next 0 f.others → length next.kernel.place.due < length old.kernel.place.due
+pub fewer : (old next : Standing) (d : Due) (f : IsDueFirst old.kernel.place d) → RunsDue old next 0 f.others
+    → length next.kernel.place.due < length old.kernel.place.due
 fewer old next d f r =
     let more : length old.kernel.place.due ≡ suc (length f.others) = ap (λ (xs : List Due). length xs) f.first in
     let same : length next.kernel.place.due ≡ length f.others = ap (λ (xs : List Due). length xs) r.due in
@@ -81,7 +83,8 @@ room_one p q l = record { quarter = omega (arith, l); rest = omega (arith, l) }
 
 -- It is filled.
 
-pub copy_fills : {A : Type 0} (r : Result A Stop) (page parent : Page) (o : Option Page) (old new : Standing) (holds : Option (List NamedFile)) (i j : Option (List ℕ)) → o ≡ Some parent
+pub copy_fills : {A : Type 0} (r : Result A Stop) (page parent : Page) (o : Option Page) (old new : Standing) (holds : Option (List NamedFile))
+    (i j : Option (List ℕ)) → o ≡ Some parent
     → MatchResult r (λ x. CopiesPage page parent old new holds i j) (StopsPage page parent old new holds i j) → OnOk r (GoesOn page old new)
     → MatchResult r (λ x. FillsDue (due_of page o) old new holds i j) (StopsDue (due_of page o) old new holds i j)
 copy_fills r page parent o old new holds i j e m on =
@@ -92,13 +95,15 @@ copy_fills r page parent o old new holds i j e m on =
     both (Ok x) m on = (m, on)
     both (Err stop) m on = m
 
-pub start_fills : {A : Type 0} (r : Result A Stop) (page : Page) (o : Option Page) (old new : Standing) (holds : Option (List NamedFile)) (i j : Option (List ℕ)) → o ≡ None
+pub start_fills : {A : Type 0} (r : Result A Stop) (page : Page) (o : Option Page) (old new : Standing) (holds : Option (List NamedFile))
+    (i j : Option (List ℕ)) → o ≡ None
     → MatchResult r (λ x. FillsStart page old new holds i j) (StopsStart page old new holds i j)
     → MatchResult r (λ x. FillsDue (due_of page o) old new holds i j) (StopsDue (due_of page o) old new holds i j)
 start_fills r page o old new holds i j e m =
     subst (λ (x : Option Page). MatchResult r (λ y. FillsDue (due_of page x) old new holds i j) (StopsDue (due_of page x) old new holds i j)) (sym e) m
 
-pub due_filled : (d : Due) (ds : List Due) (old next : Standing) (holds : Option (List NamedFile)) (i j : Option (List ℕ)) → IsRunning old → old.kernel.place.due ≡ d ∷ ds → FillsDue d old next holds i j
+pub due_filled : (d : Due) (ds : List Due) (old next : Standing) (holds : Option (List NamedFile)) (i j : Option (List ℕ)) → IsRunning old
+    → old.kernel.place.due ≡ d ∷ ds → FillsDue d old next holds i j
     → RunsDue old next 0 ds
 due_filled (Start q) ds old next holds i j r e f = fill_continues old next q ds holds i j r e f
 due_filled (CopyOf q parent) ds old next holds i j r e f =
@@ -116,11 +121,13 @@ due_filled (CopyOf q parent) ds old next holds i j r e f =
       low = let last = g.last in omega (arith, last);
     }
 
-due_keeps : (d : Due) (old next : Standing) (holds : Option (List NamedFile)) (i j : Option (List ℕ)) → FillsDue d old next holds i j → HoldersStand old.kernel → HoldersStand next.kernel
+due_keeps : (d : Due) (old next : Standing) (holds : Option (List NamedFile)) (i j : Option (List ℕ)) → FillsDue d old next holds i j → HoldersStand old.kernel
+    → HoldersStand next.kernel
 due_keeps (Start q) old next holds i j f h = filled_keeps q old next holds i j f h
 due_keeps (CopyOf q parent) old next holds i j f h = copied_keeps q parent old next holds i j f.0 h
 
-stop_keeps : (d : Due) (old new : Standing) (holds : Option (List NamedFile)) (i j : Option (List ℕ)) (stop : Stop) → StopsDue d old new holds i j stop → KeptAtStop old new stop
+stop_keeps : (d : Due) (old new : Standing) (holds : Option (List NamedFile)) (i j : Option (List ℕ)) (stop : Stop) → StopsDue d old new holds i j stop
+    → KeptAtStop old new stop
 stop_keeps (Start q) old new holds i j stop f = start_same q old new holds i j stop f
 stop_keeps (CopyOf q parent) old new holds i j stop f = page_same q parent old new holds i j stop f
 
@@ -129,21 +136,24 @@ stop_keeps (CopyOf q parent) old new holds i j stop f = page_same q parent old n
 start_first : (s : State) (page : Page) (ds : List Due) → s.place.due ≡ Start page ∷ ds → FillsFirst s.place s.place.due (entries.Zero page) []
 start_first s page ds e = subst (λ (xs : List Due). FillsFirst s.place xs (entries.Zero page) []) (sym e) (refl, refl)
 
-due_leads : (d : Due) (ds : List Due) (A : Inputs) (s : State) (old next : Standing) (holds : Option (List NamedFile)) (image : List ℕ) (j : Option (List ℕ)) → MachineAt A s old holds image
+due_leads : (d : Due) (ds : List Due) (A : Inputs) (s : State) (old next : Standing) (holds : Option (List NamedFile)) (image : List ℕ) (j : Option (List ℕ))
+    → MachineAt A s old holds image
     → s.place.due ≡ d ∷ ds → FillsDue d old next holds (Some image) j → LeadsTo A s old.kernel image ds next.kernel j
 due_leads (Start q) ds A s old next holds image j at e f =
     subst (λ (k : Kernel). LeadsTo A s old.kernel image ds k j) (sym (ap (λ (n : Standing). n.kernel) f.fills))
     (forced_fill A s old f.roomy holds image j (Start q) ds [] at.at at.images e (start_first s q ds e) f.forces)
 due_leads (CopyOf q parent) ds A s old next holds image j at e f = page_copied A s old next holds image j q parent ds at.at at.images e f.0
 
-start_stops : (A : Inputs) (s : State) (old new : Standing) (holds : Option (List NamedFile)) (image : List ℕ) (j : Option (List ℕ)) (page : Page) (ds : List Due) (stop : Stop) → MachineAt A s old holds image
+start_stops : (A : Inputs) (s : State) (old new : Standing) (holds : Option (List NamedFile)) (image : List ℕ) (j : Option (List ℕ)) (page : Page)
+    (ds : List Due) (stop : Stop) → MachineAt A s old holds image
     → s.place.due ≡ Start page ∷ ds → StopsStart page old new holds (Some image) j stop → StopLeads A s old.kernel image stop new j
 start_stops A s old new holds image j page ds stop at e f = elim f [
   | inl x ↦ forcing_stops A s old new holds image j (entries.Zero page) [] stop at.at at.images (start_first s page ds e) x
   | inr x ↦ fill_stops A s old x.0 new holds image j j (entries.Zero page) [] stop at.at at.images (start_first s page ds e) x.1 x.2
 ]
 
-due_stops : (d : Due) (ds : List Due) (A : Inputs) (s : State) (old new : Standing) (holds : Option (List NamedFile)) (image : List ℕ) (j : Option (List ℕ)) (stop : Stop) → MachineAt A s old holds image
+due_stops : (d : Due) (ds : List Due) (A : Inputs) (s : State) (old new : Standing) (holds : Option (List NamedFile)) (image : List ℕ) (j : Option (List ℕ))
+    (stop : Stop) → MachineAt A s old holds image
     → s.place.due ≡ d ∷ ds → StopsDue d old new holds (Some image) j stop → StopLeads A s old.kernel image stop new j
 due_stops (Start q) ds A s old new holds image j stop at e f = start_stops A s old new holds image j q ds stop at e f
 due_stops (CopyOf q parent) ds A s old new holds image j stop at e f = page_stops A s old new holds image j q parent ds stop at.at at.images e f
@@ -156,7 +166,8 @@ pub record FilledSoFar (old now : Standing) (holds later : Option (List NamedFil
   pub low : last_moves now.kernel.journal ≤ last_moves old.kernel.journal
   pub holders : HoldersStand old.kernel → HoldersStand now.kernel
   pub files : later ≡ holds
-  pub leads : (A : Inputs) (s : State) (image : List ℕ) → MachineAt A s old holds image → i ≡ Some image → LeadsTo A s old.kernel image now.kernel.place.due now.kernel h
+  pub leads : (A : Inputs) (s : State) (image : List ℕ) → MachineAt A s old holds image → i ≡ Some image
+      → LeadsTo A s old.kernel image now.kernel.place.due now.kernel h
 
 pub filled_none : (old : Standing) (holds : Option (List NamedFile)) (i : Option (List ℕ)) → IsRunning old → FilledSoFar old old holds holds i i
 filled_none old holds i r = record {
@@ -170,7 +181,8 @@ filled_none old holds i r = record {
 }
 
 -- the machine stands where they led
-there : (A : Inputs) (s : State) (old now : Standing) (holds : Option (List NamedFile)) (image : List ℕ) (h : Option (List ℕ)) (ds : List Due) → MachineAt A s old holds image → RunsOn old now 0
+there : (A : Inputs) (s : State) (old now : Standing) (holds : Option (List NamedFile)) (image : List ℕ) (h : Option (List ℕ)) (ds : List Due)
+    → MachineAt A s old holds image → RunsOn old now 0
     → (led : LeadsTo A s old.kernel image ds now.kernel h) → MachineAt A led.state now holds led.leads.behind
 there A s old now holds image h ds at on led = record {
   at = led_at A s led.state old.kernel now.kernel image h led.units at.at led.leads;

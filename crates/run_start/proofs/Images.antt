@@ -28,7 +28,8 @@ record IsAt (images : List NamedImage) (place : ℕ) (there : ImageNamed) : Type
   name : named.name ≡ there.name
   facts : named.image.facts ≡ there.facts
 
-image_at : (images : List NamedImage) (ns : List ImageNamed) (place : ℕ) (there : ImageNamed) → AreNamed images ns → slice_get ns place ≡ Some there → IsAt images place there
+image_at : (images : List NamedImage) (ns : List ImageNamed) (place : ℕ) (there : ImageNamed) → AreNamed images ns → slice_get ns place ≡ Some there
+    → IsAt images place there
 image_at [] [] place there a e = none_there there e
 image_at [] (n ∷ ns) place there a e = absurd a
 image_at (x ∷ images) [] place there a e = absurd a
@@ -39,7 +40,8 @@ image_at (x ∷ images) (n ∷ ns) (suc place) there a e =
     let more : IsAt images place there = image_at images ns place there a.2 e in
     record { named = more.named; is = more.is; name = more.name; facts = more.facts }
 
-pub image_is : (images : List NamedImage) (ns : List ImageNamed) (number : ℕ) (there : ImageNamed) → AreNamed images ns → named_at ns number ≡ Some there → IsImage images number there
+pub image_is : (images : List NamedImage) (ns : List ImageNamed) (number : ℕ) (there : ImageNamed) → AreNamed images ns → named_at ns number ≡ Some there
+    → IsImage images number there
 image_is images ns zero there a e = none_there there e
 image_is images ns (suc place) there a e =
     let more : IsAt images place there = image_at images ns place there a e in

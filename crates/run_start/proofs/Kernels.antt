@@ -28,7 +28,8 @@ use Rattle.run_start.proofs.Images.{IsImage, image_is}
 abbrev pub kernel_at : Inputs → List ℕ → Holdings → Kernel
 kernel_at A numbers hs = machine_at_start (record A { first = numbers }) hs
 
-there_more : (images : List NamedImage) (ns : List ℕ) (n : ℕ) (named : NamedImage) → image_numbered images n ≡ Some named → FirstThere images ns → FirstThere images (ns ++ n ∷ [])
+there_more : (images : List NamedImage) (ns : List ℕ) (n : ℕ) (named : NamedImage) → image_numbered images n ≡ Some named → FirstThere images ns
+    → FirstThere images (ns ++ n ∷ [])
 there_more images [] n named e h = ((named, e), tt)
 there_more images (m ∷ ns) n named e h = (h.0, there_more images ns n named e h.1)
 

@@ -28,7 +28,8 @@ use Rattle.run_start.proofs.Kernels.{IsBegun, begun_at}
 use Rattle.run_start.proofs.Placing.{start_finds}
 
 -- the machine at the start stands there
-pub stands_at_start : (A : Inputs) (hs : Holdings) (image : List ℕ) → CanRun A hs → 512 * A.swap_blocks ≤ length image → At A (start A hs) (machine_at_start A hs) image
+pub stands_at_start : (A : Inputs) (hs : Holdings) (image : List ℕ) → CanRun A hs → 512 * A.swap_blocks ≤ length image
+    → At A (start A hs) (machine_at_start A hs) image
 stands_at_start A hs image can room = record {
   fit = can.images;
   run = run_start A hs can.images can.first can.frames can.pieces;
@@ -74,6 +75,7 @@ module _ (A : Inputs) (numbers : List ℕ) (old begun : Standing) (holds : Optio
   start_stops new i j stop e fills =
       inr (hs, can, subst (λ (k : Kernel). StopLeads A (start A hs) k image stop new j) is_begun.kernel (fills A (start A hs) image begun_there e))
 
-pub begin_stops : (A : Inputs) (new : Standing) (image : List ℕ) (stop : Stop) (j : Option (List ℕ)) → stop ≡ stops.NoMemory → new.kernel.stopped ≡ true → new.kernel.journal ≡ [] → j ≡ Some image
+pub begin_stops : (A : Inputs) (new : Standing) (image : List ℕ) (stop : Stop) (j : Option (List ℕ)) → stop ≡ stops.NoMemory → new.kernel.stopped ≡ true
+    → new.kernel.journal ≡ [] → j ≡ Some image
     → StartStops A new image stop j
 begin_stops A new image stop j cause stopped journal told = inl (record { cause = cause; stopped = stopped; journal = journal; told = told })

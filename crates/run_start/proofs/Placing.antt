@@ -65,7 +65,8 @@ sharers_more : (i : ℕ) (ss : List SpacePages) (s : SpacePages) → sharers_in 
 sharers_more i [] s = refl
 sharers_more i (x ∷ ss) s = let ih = sharers_more i ss s in omega (arith, ih)
 
-pub next_behind : (A : Inputs) (earlier : List ℕ) (pid n : ℕ) (old next : Standing) → IsBehind A earlier pid old → StartedFirst old next n → IsBehind A (n ∷ earlier) (pid + 1) next
+pub next_behind : (A : Inputs) (earlier : List ℕ) (pid n : ℕ) (old next : Standing) → IsBehind A earlier pid old → StartedFirst old next n
+    → IsBehind A (n ∷ earlier) (pid + 1) next
 next_behind A earlier pid n old next b s = subst (IsBehind A (n ∷ earlier) (pid + 1)) (sym s.step) (record {
   number = ap (λ (m : ℕ). m + 1) b.number;
   sharing = λ i. sharers_more i old.kernel.place.spaces (new_pages old.kernel.next_pid n s.named.facts) ∙ ap (λ (m : ℕ). cond (n == i) 1 0 + m) (b.sharing i);
@@ -107,12 +108,14 @@ asks_as A earlier pid n m there b e =
 
 -- they find their places, or not, as those of the flat state
 found_as : (A : Inputs) (earlier : List ℕ) (pid n : ℕ) (m : Standing) (there : ImageNamed) → IsBehind A earlier pid m → named_at m.images n ≡ Some there
-    → place_all A.swap_blocks m.kernel.holdings (first_wanted A.images (contains earlier n) pid n) ≡ place_all m.params.swap_blocks m.kernel.holdings (begin_asks m.kernel.place m.kernel.next_pid n there.facts)
+    → place_all A.swap_blocks m.kernel.holdings (first_wanted A.images (contains earlier n) pid n)
+    ≡ place_all m.params.swap_blocks m.kernel.holdings (begin_asks m.kernel.place m.kernel.next_pid n there.facts)
 found_as A earlier pid n m there b e =
     ap (λ (size : ℕ). place_all size m.kernel.holdings (first_wanted A.images (contains earlier n) pid n)) (sym b.blocks)
     ∙ ap (place_all m.params.swap_blocks m.kernel.holdings) (sym (asks_as A earlier pid n m there b e))
 
-pub all_held : (A : Inputs) (ns earlier : List ℕ) (pid : ℕ) (old new : Standing) → IsBehind A earlier pid old → BeginsAll ns old new → first_held A earlier pid ns old.kernel.holdings ≡ Ok new.kernel.holdings
+pub all_held : (A : Inputs) (ns earlier : List ℕ) (pid : ℕ) (old new : Standing) → IsBehind A earlier pid old → BeginsAll ns old new
+    → first_held A earlier pid ns old.kernel.holdings ≡ Ok new.kernel.holdings
 unfolding first_held
 all_held A [] earlier pid old new b h = ap (λ (m : Standing). let r : Result Holdings ℕ = Ok m.kernel.holdings in r) (sym h)
 all_held A (n ∷ ns) earlier pid old new b h =
@@ -126,7 +129,8 @@ not_found : (pid : ℕ) (r : Result Holdings ℕ) (f : Holdings → Result Holdi
 not_found pid (Ok hs) f e = absurd cc
 not_found pid (Err n) f e = refl
 
-pub until_held : (A : Inputs) (ns earlier : List ℕ) (pid lacking : ℕ) (old new : Standing) → IsBehind A earlier pid old → BeginsUntil lacking ns old new → first_held A earlier pid ns old.kernel.holdings ≡ Err lacking
+pub until_held : (A : Inputs) (ns earlier : List ℕ) (pid lacking : ℕ) (old new : Standing) → IsBehind A earlier pid old → BeginsUntil lacking ns old new
+    → first_held A earlier pid ns old.kernel.holdings ≡ Err lacking
 unfolding first_held
 until_held A [] earlier pid lacking old new b h = absurd h
 until_held A (n ∷ ns) earlier pid lacking old new b h = elim h [
@@ -146,14 +150,17 @@ until_held A (n ∷ ns) earlier pid lacking old new b h = elim h [
 
 -- The answer.
 
-from_new : (A : Inputs) (m : Standing) (numbers : List ℕ) (r : Result Holdings ℕ) → IsNew m → StartsFrom A m numbers → first_held A [] 1 numbers m.kernel.holdings ≡ r → start_held A ≡ r
+from_new : (A : Inputs) (m : Standing) (numbers : List ℕ) (r : Result Holdings ℕ) → IsNew m → StartsFrom A m numbers
+    → first_held A [] 1 numbers m.kernel.holdings ≡ r → start_held A ≡ r
 from_new A m numbers r n s e =
     ap (λ (ns : List ℕ). first_held A [] 1 ns []) s.first ∙ ap (first_held A [] 1 numbers) (sym (ap (λ (k : Kernel). k.holdings) n.kernel)) ∙ e
 
-pub start_finds : (A : Inputs) (numbers : List ℕ) (old new : Standing) → IsNew old → StartsFrom A old numbers → BeginsAll numbers old new → start_held A ≡ Ok new.kernel.holdings
+pub start_finds : (A : Inputs) (numbers : List ℕ) (old new : Standing) → IsNew old → StartsFrom A old numbers → BeginsAll numbers old new
+    → start_held A ≡ Ok new.kernel.holdings
 start_finds A numbers old new n s b = from_new A old numbers (Ok new.kernel.holdings) n s (all_held A numbers [] 1 old new (new_behind A old numbers n s) b)
 
-pub answers_as : (A : Inputs) (started : Started) (numbers : List ℕ) (old new : Standing) → IsNew old → StartsFrom A old numbers → Begins started numbers old new → started ≡ started_by (start_held A)
+pub answers_as : (A : Inputs) (started : Started) (numbers : List ℕ) (old new : Standing) → IsNew old → StartsFrom A old numbers
+    → Begins started numbers old new → started ≡ started_by (start_held A)
 answers_as A starteds.Ok numbers old new n s b = sym (ap started_by (start_finds A numbers old new n s b))
 answers_as A (starteds.NoSpace pid) numbers old new n s b =
     sym (ap started_by (from_new A old numbers (Err pid) n s (until_held A numbers [] 1 pid old new (new_behind A old numbers n s) b)))

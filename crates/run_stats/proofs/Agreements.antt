@@ -107,7 +107,8 @@ one_moved (entries.SwapIn pid) = refl
 one_moved (entries.Owners free used moving held) = refl
 
 -- a sum over notes, and one over their entries, go on alike
-sum_on : (f : Note → ℕ) (g : Entry → ℕ) (x : Note) (xs : List Note) (e : Entry) (es : List Entry) → f x ≡ g e → sum_by f xs ≡ sum_by g es → sum_by f (x ∷ xs) ≡ sum_by g (e ∷ es)
+sum_on : (f : Note → ℕ) (g : Entry → ℕ) (x : Note) (xs : List Note) (e : Entry) (es : List Entry) → f x ≡ g e → sum_by f xs ≡ sum_by g es
+    → sum_by f (x ∷ xs) ≡ sum_by g (e ∷ es)
 sum_on f g x xs e es one more =
     let a = sum_by-cons f x xs in
     let b = sum_by-cons g e es in

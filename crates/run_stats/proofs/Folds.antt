@@ -7,7 +7,8 @@ use Rattle.run_stats.specs.declared.noting.Note.{Note}
 use Rattle.run_stats.specs.Amounts.{larger, smaller, most_held, least_free}
 use Rattle.std.proofs.lemmas.List.{at_drop_more, at_drop_all}
 
-pub sum_more : {A : Type 0} (f : A → ℕ) (xs : List A) (i n k : ℕ) (d : A) → i < length xs → n ≡ sum_by f (take i xs) → k ≡ f (get_or xs i d) → n + k ≡ sum_by f (take (i + 1) xs)
+pub sum_more : {A : Type 0} (f : A → ℕ) (xs : List A) (i n k : ℕ) (d : A) → i < length xs → n ≡ sum_by f (take i xs) → k ≡ f (get_or xs i d)
+    → n + k ≡ sum_by f (take (i + 1) xs)
 sum_more f xs i n k d lt so_far here = let more = sum_by_more f xs i d lt in omega (arith, so_far, here, more)
 
 -- what a function gives of the items from one on
@@ -19,11 +20,13 @@ pub rest_none : {A B : Type 0} (f : List A → B) (xs : List A) (i : ℕ) → le
 rest_none f xs i h = at_drop_all f xs i h
 
 -- one note more
-pub most_more : (xs : List Note) (i now new whole : ℕ) (d : Note) → i < length xs → new ≡ larger now (get_or xs i d).after.held → most_held now (drop i xs) ≡ whole
+pub most_more : (xs : List Note) (i now new whole : ℕ) (d : Note) → i < length xs → new ≡ larger now (get_or xs i d).after.held
+    → most_held now (drop i xs) ≡ whole
     → most_held new (drop (i + 1) xs) ≡ whole
 most_more xs i now new whole d lt put left = ap (λ (n : ℕ). most_held n (drop (i + 1) xs)) put ∙ sym (rest_more (most_held now) xs i d lt) ∙ left
 
-pub least_more : (xs : List Note) (i now new whole : ℕ) (d : Note) → i < length xs → new ≡ smaller now (get_or xs i d).after.free → least_free now (drop i xs) ≡ whole
+pub least_more : (xs : List Note) (i now new whole : ℕ) (d : Note) → i < length xs → new ≡ smaller now (get_or xs i d).after.free
+    → least_free now (drop i xs) ≡ whole
     → least_free new (drop (i + 1) xs) ≡ whole
 least_more xs i now new whole d lt put left = ap (λ (n : ℕ). least_free n (drop (i + 1) xs)) put ∙ sym (rest_more (least_free now) xs i d lt) ∙ left
 
@@ -38,7 +41,8 @@ pub count_next : (f : ℕ → ℕ) (i n so_far one whole : ℕ) → i < n → on
     → so_far + sum_by f (count_up (i + 1) (n - i)) ≡ whole → so_far + one + sum_by f (count_up (i + 1 + 1) (n - (i + 1))) ≡ whole
 count_next f i n so_far one whole h is left =
     let e : n - i ≡ suc (n - (i + 1)) = omega arith in
-    let split : sum_by f (count_up (i + 1) (n - i)) ≡ f (i + 1) + sum_by f (count_up (i + 1 + 1) (n - (i + 1))) = ap (λ (k : ℕ). sum_by f (count_up (i + 1) k)) e ∙ sum_by-cons f (i + 1) (count_up (i + 1 + 1) (n - (i + 1))) in
+    let split : sum_by f (count_up (i + 1) (n - i)) ≡ f (i + 1) + sum_by f (count_up (i + 1 + 1) (n - (i + 1))) =
+    ap (λ (k : ℕ). sum_by f (count_up (i + 1) k)) e ∙ sum_by-cons f (i + 1) (count_up (i + 1 + 1) (n - (i + 1))) in
     omega (arith, split, is, left)
 
 pub count_done : (f : ℕ → ℕ) (i n so_far whole : ℕ) → n ≤ i → so_far + sum_by f (count_up (i + 1) (n - i)) ≡ whole → so_far ≡ whole

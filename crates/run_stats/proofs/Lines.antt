@@ -18,7 +18,8 @@ pub text_all : {A : Type 0} (f : A → List ℕ) (xs : List A) (i : ℕ) (text w
 text_all f xs i text whole over so_far = sym (append-nil text) ∙ ap (λ (t : List ℕ). text ++ t) (sym (rest_none (flat_map f) xs i over)) ∙ so_far
 
 -- a row with its words and its count
-pub row_put : (text new kind words words' : List ℕ) (number n n' : ℕ) → new ≡ text ++ row kind number words n → words ≡ words' → n ≡ n' → new ≡ text ++ row kind number words' n'
+pub row_put : (text new kind words words' : List ℕ) (number n n' : ℕ) → new ≡ text ++ row kind number words n → words ≡ words' → n ≡ n'
+    → new ≡ text ++ row kind number words' n'
 row_put text new kind words words' number n n' put w c = put ∙ ap (λ (t : List ℕ). text ++ row kind number t n) w ∙ ap (λ (k : ℕ). text ++ row kind number words' k) c
 
 pub plain_put : (text new words words' : List ℕ) (n n' : ℕ) → new ≡ text ++ plain_row words n → words ≡ words' → n ≡ n' → new ≡ text ++ plain_row words' n'

@@ -32,6 +32,7 @@ pub record AgreesWith (s t : State) (notes : List Note) : Type 0 where
 -- no fewer frames are free than the fewest.
 pub record EndsAt (s t : State) (notes : List Note) : Type 0 where
   pub last : last_look (look_at s) notes ≡ look_at t
-  pub owners : owners_of t.place t.holdings ≡ noted.Owners (look_at t).free (length t.place.holds - ((look_at t).free + (look_at t).moving)) (look_at t).moving (look_at t).held
+  pub owners : owners_of t.place t.holdings
+      ≡ noted.Owners (look_at t).free (length t.place.holds - ((look_at t).free + (look_at t).moving)) (look_at t).moving (look_at t).held
   pub most : (look_at t).held ≤ most_held (look_at s).held notes
   pub least : least_free (look_at s).free notes ≤ (look_at t).free

@@ -134,19 +134,22 @@ line_some text line cut e (h, is) = (h, cut ∙ ap (λ (zs : List ℕ). zs ++ co
 
 -- what a reader answers for a text, from what it answers for the rest
 pub text_counted : (l : ℕ) (rest text : List ℕ) (r : Option Entry) → text ≡ l ∷ rest → kind_for l ≡ 0
-    → MatchOption r ((ns : List ℕ) → length ns ≤ 5 → AllBelow 4294967296 ns → rest ≡ body_text (Counted ns) → from_numbers l ns ≡ None) (λ e. (ns : List ℕ) × (rest ≡ body_text (Counted ns)) × HasParts l (Counted ns) e)
+    → MatchOption r ((ns : List ℕ) → length ns ≤ 5 → AllBelow 4294967296 ns → rest ≡ body_text (Counted ns) → from_numbers l ns ≡ None)
+    (λ e. (ns : List ℕ) × (rest ≡ body_text (Counted ns)) × HasParts l (Counted ns) e)
     → MatchOption r ((e : Entry) → IsWithin e → text ≡ entry_text e → ⊥) (λ e. IsWithin e × (text ≡ entry_text e))
 text_counted l rest text None cut kind h = text_counted_none l rest text cut kind h
 text_counted l rest text (Some e) cut kind (ns, is, h) = text_some l rest text (Counted ns) e cut is h
 
 pub text_paged : (l : ℕ) (rest text : List ℕ) (r : Option Entry) → text ≡ l ∷ rest → kind_for l ≡ 1
-    → MatchOption r ((segment : ℕ) (ns : List ℕ) → length ns ≤ 5 → AllBelow 4294967296 ns → rest ≡ body_text (Paged segment ns) → from_paged l segment ns ≡ None) (λ e. (segment : ℕ) × (ns : List ℕ) × (rest ≡ body_text (Paged segment ns)) × HasParts l (Paged segment ns) e)
+    → MatchOption r ((segment : ℕ) (ns : List ℕ) → length ns ≤ 5 → AllBelow 4294967296 ns → rest ≡ body_text (Paged segment ns)
+    → from_paged l segment ns ≡ None) (λ e. (segment : ℕ) × (ns : List ℕ) × (rest ≡ body_text (Paged segment ns)) × HasParts l (Paged segment ns) e)
     → MatchOption r ((e : Entry) → IsWithin e → text ≡ entry_text e → ⊥) (λ e. IsWithin e × (text ≡ entry_text e))
 text_paged l rest text None cut kind h = text_paged_none l rest text cut kind h
 text_paged l rest text (Some e) cut kind (segment, ns, is, h) = text_some l rest text (Paged segment ns) e cut is h
 
 pub text_written : {E : Type 0} (rest text : List ℕ) (r : Result (Option Entry) E) → text ≡ 111 ∷ rest
-    → IfOk r (λ o. MatchOption o ((pid : ℕ) (bytes : List ℕ) → pid < 4294967296 → 1 ≤ length bytes → AllBelow 256 bytes → rest ≡ body_text (Written pid bytes) → ⊥) (λ e. (pid : ℕ) × (bytes : List ℕ) × (rest ≡ body_text (Written pid bytes)) × HasParts 111 (Written pid bytes) e))
+    → IfOk r (λ o. MatchOption o ((pid : ℕ) (bytes : List ℕ) → pid < 4294967296 → 1 ≤ length bytes → AllBelow 256 bytes → rest ≡ body_text (Written pid bytes)
+    → ⊥) (λ e. (pid : ℕ) × (bytes : List ℕ) × (rest ≡ body_text (Written pid bytes)) × HasParts 111 (Written pid bytes) e))
     → IfOk r (λ o. MatchOption o ((e : Entry) → IsWithin e → text ≡ entry_text e → ⊥) (λ e. IsWithin e × (text ≡ entry_text e)))
 text_written rest text (Ok None) cut h = text_written_none rest text cut h
 text_written rest text (Ok (Some e)) cut (pid, bytes, is, h) = text_some 111 rest text (Written pid bytes) e cut is h

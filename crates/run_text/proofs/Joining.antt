@@ -43,7 +43,8 @@ join_other a m p n (e ∷ es) h = ap (λ (t : Bool). join_ran t a m p n (e ∷ e
 
 -- where a `Ran` comes
 step_ran : (r : Run) (p n : ℕ) (xs : List Entry) (b : Bool) → (r.pid == p) ≡ b
-    → lines_of (join (Ran r.pid r.count) (join (Ran p n) xs)) ≡ text_unless_same b r ++ lines_of (join (Ran (lengthened b r p n).pid (lengthened b r p n).count) xs)
+    → lines_of (join (Ran r.pid r.count) (join (Ran p n) xs))
+    ≡ text_unless_same b r ++ lines_of (join (Ran (lengthened b r p n).pid (lengthened b r p n).count) xs)
 step_ran r p n xs true h =
     let e : r.pid ≡ p = grind (arith, nat_tests) in
     ap (λ (es : List Entry). lines_of es)
@@ -77,7 +78,8 @@ left_at es i e h is =
 
 -- the text of what waits and of the entries that are left, at an entry
 pub joined_at : (run : Option Run) (es : List Entry) (i : ℕ) (e : Entry) → i < length es → get_or es i e ≡ e
-    → lines_of (joined (waiting run ++ without_paging (drop i es))) ≡ text_at run e ++ lines_of (joined (waiting (run_after run e) ++ without_paging (drop (i + 1) es)))
+    → lines_of (joined (waiting run ++ without_paging (drop i es)))
+    ≡ text_at run e ++ lines_of (joined (waiting (run_after run e) ++ without_paging (drop (i + 1) es)))
 joined_at run es i e h is =
     ap (λ (xs : List Entry). lines_of (joined (waiting run ++ xs))) (left_at es i e h is) ∙ step run e (without_paging (drop (i + 1) es))
 

@@ -52,7 +52,8 @@ fails_then w p x w' p' y w'' p'' a b = record {
 }
 
 -- a piece that passes, and one that is put after it
-pub puts_then : {T E : Type 0} (r : Result T E) (w : Option (List ℕ)) (p x : List ℕ) (w' : Option (List ℕ)) (p' y : List ℕ) (w'' : Option (List ℕ)) (p'' : List ℕ)
+pub puts_then : {T E : Type 0} (r : Result T E) (w : Option (List ℕ)) (p x : List ℕ) (w' : Option (List ℕ)) (p' y : List ℕ)
+    (w'' : Option (List ℕ)) (p'' : List ℕ)
     → Passes w p x w' p' → Puts r w' p' y w'' p'' → Puts r w p (x ++ y) w'' p''
 puts_then (Ok x) = passes_then
 puts_then (Err e) = fails_then

@@ -54,7 +54,8 @@ text_failed {S} {T} {U} {E} {g} {r} {e} {t} {a} {b} put u is = record {
   faults = subst (λ (z : Result T E). CountsErr z (g.faults a.sink.now) (g.faults b.sink.now)) (sym is) put.faults;
 }
 
-pub text_more : {S T E : Type 0} {g : SinkGhosts S} {e : E} {t : List ℕ} {a b : Writer S} → PutsText {T = T} g (Err e) t a b → (u : List ℕ) → PutsText {T = T} g (Err e) (t ++ u) a b
+pub text_more : {S T E : Type 0} {g : SinkGhosts S} {e : E} {t : List ℕ} {a b : Writer S} → PutsText {T = T} g (Err e) t a b → (u : List ℕ)
+    → PutsText {T = T} g (Err e) (t ++ u) a b
 text_more {S} {T} {E} {g} {e} {t} {a} {b} put u = text_failed {r = Err e} put u refl
 
 -- What a loop puts: some of the text passed, and the rest is left.
@@ -96,14 +97,16 @@ leaves_last {S} {T} {E} {g} {r} {left} {last} {whole} {a} {b} {c} through so_far
     text_is (ap (λ (z : List ℕ). so_far.front ++ z) (sym is) ∙ so_far.all) (text_then through so_far.passed put)
 
 -- nothing is left
-pub leaves_none : {S T E : Type 0} {g : SinkGhosts S} {x : T} {left whole : List ℕ} {a b : Writer S} → Leaves g left whole a b → left ≡ [] → PutsText {E = E} g (Ok x) whole a b
+pub leaves_none : {S T E : Type 0} {g : SinkGhosts S} {x : T} {left whole : List ℕ} {a b : Writer S} → Leaves g left whole a b → left ≡ []
+    → PutsText {E = E} g (Ok x) whole a b
 leaves_none {S} {T} {E} {g} {x} {left} {whole} {a} {b} so_far is =
     let h = so_far.passed in
     text_is (sym (append-nil so_far.front) ∙ ap (λ (z : List ℕ). so_far.front ++ z) (sym is) ∙ so_far.all)
     (record { same_sink = h.same_sink; leads = h.leads; puts = h.puts; faults = h.faults })
 
 -- the texts of items, at one of them
-pub items_at : {X : Type 0} (f : X → List ℕ) (xs : List X) (i : ℕ) (x : X) → i < length xs → x ≡ get_or xs i x → flat_map f (drop i xs) ≡ f x ++ flat_map f (drop (i + 1) xs)
+pub items_at : {X : Type 0} (f : X → List ℕ) (xs : List X) (i : ℕ) (x : X) → i < length xs → x ≡ get_or xs i x
+    → flat_map f (drop i xs) ≡ f x ++ flat_map f (drop (i + 1) xs)
 items_at {X} f xs i x h is = at_drop_more (flat_map f) xs i x h ∙ ap (λ (y : X). f y ++ flat_map f (drop (i + 1) xs)) (sym is)
 
 -- A text is put through a writer of its own, and then what waits is written. The sink ends as the writer's, where it is the same.
@@ -121,7 +124,8 @@ text_written {S} {T} {E} {U} {F} {g} {r} {x} {t} {sink} {last} {a} {b} {c} throu
 
 -- the text that was put failed
 pub text_lost : {S T U E : Type 0} {g : SinkGhosts S} {r : Result T E} {e : E} {t : List ℕ} {sink : MutBor S} {last : S} {a b : Writer S}
-    → IsNewWriter sink a → PutsText {T = U} g (Err e) t a b → (sink.ghost_name ≡ b.sink.ghost_name → last ≡ b.sink.now) → r ≡ Err e → WritesText g r t sink.now last
+    → IsNewWriter sink a → PutsText {T = U} g (Err e) t a b → (sink.ghost_name ≡ b.sink.ghost_name → last ≡ b.sink.now) → r ≡ Err e
+    → WritesText g r t sink.now last
 text_lost {S} {T} {U} {E} {g} {r} {e} {t} {sink} {last} {a} {b} new put ends is =
     subst (λ (s : S). WritesText g r t sink.now s) (sym (ends (sym (put.same_sink ∙ new.same_sink))))
     (subst (λ (s : S). WritesText g r t s b.sink.now) new.as_it_is

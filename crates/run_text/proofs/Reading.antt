@@ -36,7 +36,8 @@ pub read_step : {E : Type 0} (IsLine : E → List ℕ → Type 0) (items : List 
 read_step {E} IsLine items whole rest line e some is so_far = record {
   before = so_far.before ++ take (line_len rest) rest ∷ [];
   good = lines_push IsLine items so_far.before e (take (line_len rest) rest) so_far.good is;
-  split = so_far.split ∙ ap (λ (ls : List (List ℕ)). so_far.before ++ ls) (lines_step rest some) ∙ sym (append_assoc so_far.before (take (line_len rest) rest ∷ []) (lines_in (drop (line_len rest) rest)));
+  split =
+      so_far.split ∙ ap (λ (ls : List (List ℕ)). so_far.before ++ ls) (lines_step rest some) ∙ sym (append_assoc so_far.before (take (line_len rest) rest ∷ []) (lines_in (drop (line_len rest) rest)));
   number = omega (arith, length-append items (e ∷ []), so_far.number);
 }
 

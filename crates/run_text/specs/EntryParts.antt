@@ -72,11 +72,13 @@ with_none l = if l == 68 then Some Done else None
 
 -- the entry of a letter and one number
 abbrev pub with_one : ℕ → ℕ → Option Entry
-with_one l a = if l == 101 then Some (Event a) else (if l == 116 then Some (Turn a) else (if l == 102 then Some (Refused a) else (if l == 115 then Some (Sleeps a) else (if l == 79 then Some (SwapOut a) else (if l == 73 then Some (SwapIn a) else (if l == 72 && nat_lt 0 a then Some (Hands a) else None))))))
+with_one l a = if l == 101 then Some (Event a) else (if l == 116 then Some (Turn a) else (if l == 102 then Some (Refused a) else (if l == 115 then Some
+    (Sleeps a) else (if l == 79 then Some (SwapOut a) else (if l == 73 then Some (SwapIn a) else (if l == 72 && nat_lt 0 a then Some (Hands a) else None))))))
 
 -- the entry of a letter and two numbers
 abbrev pub with_two : ℕ → ℕ → ℕ → Option Entry
-with_two l a b = if l == 120 then Some (Ended a b) else (if l == 114 && nat_lt 0 b then Some (Ran a b) else (if l == 103 && nat_lt 0 b then Some (Grew a b) else None))
+with_two l a b =
+    if l == 120 then Some (Ended a b) else (if l == 114 && nat_lt 0 b then Some (Ran a b) else (if l == 103 && nat_lt 0 b then Some (Grew a b) else None))
 
 -- the entry of a letter and four numbers
 abbrev pub with_four : ℕ → ℕ → ℕ → ℕ → ℕ → Option Entry

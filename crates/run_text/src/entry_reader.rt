@@ -188,7 +188,8 @@ fn read_counted(letter: u8, rest: &[u8]) -> Option<Entry>
 // The entry of a letter, and a page and numbers after it.
 fn read_paged(letter: u8, rest: &[u8]) -> Option<Entry>
     ensures { MatchOption result ((segment : ℕ) (ns : List ℕ) → length ns ≤ 5 → AllBelow 4294967296 ns → rest.now ≡ body_text (Paged segment ns)
-        → from_paged letter segment ns ≡ None) (λ e. (segment : ℕ) × (ns : List ℕ) × (rest.now ≡ body_text (Paged segment ns)) × HasParts letter (Paged segment ns) e) }
+        → from_paged letter segment ns ≡ None)
+        (λ e. (segment : ℕ) × (ns : List ℕ) × (rest.now ≡ body_text (Paged segment ns)) × HasParts letter (Paged segment ns) e) }
 {
     let Some(after) = strip_front(rest, b" ") else {
         return None;
@@ -208,7 +209,8 @@ fn read_paged(letter: u8, rest: &[u8]) -> Option<Entry>
 // The entry of a process and the bytes that it wrote.
 fn read_written(alloc: Global, rest: &[u8]) -> Result<Option<Entry>, NoMemory>
     ensures { IfOk result (λ o. MatchOption o ((pid : ℕ) (bytes : List ℕ) → pid < 4294967296 → 1 ≤ length bytes → AllBelow 256 bytes
-        → rest.now ≡ body_text (Written pid bytes) → ⊥) (λ e. (pid : ℕ) × (bytes : List ℕ) × (rest.now ≡ body_text (Written pid bytes)) × HasParts 111 (Written pid bytes) e)) }
+        → rest.now ≡ body_text (Written pid bytes) → ⊥)
+        (λ e. (pid : ℕ) × (bytes : List ℕ) × (rest.now ≡ body_text (Written pid bytes)) × HasParts 111 (Written pid bytes) e)) }
 {
     let Some((pid, behind)) = read_part(rest) else {
         return Ok(None);

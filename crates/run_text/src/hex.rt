@@ -21,7 +21,8 @@ fn read_hex_digit(byte: u8) -> Option<u8>
 
 // The byte of the first pair of digits, and what stands after it.
 fn read_hex_pair(text: &[u8]) -> Option<(u8, &[u8])>
-    ensures { MatchOption result ((b : ℕ) (rest : List ℕ) → b < 256 → text.now ≡ hex_pair b ++ rest → ⊥) (λ x. (text.now ≡ hex_pair x.0 ++ x.1.now) × (x.0 < 256)) }
+    ensures { MatchOption result ((b : ℕ) (rest : List ℕ) → b < 256 → text.now ≡ hex_pair b ++ rest → ⊥)
+        (λ x. (text.now ≡ hex_pair x.0 ++ x.1.now) × (x.0 < 256)) }
 {
     if text.len() < 2 {
         return None;
@@ -37,7 +38,8 @@ fn read_hex_pair(text: &[u8]) -> Option<(u8, &[u8])>
 
 // The bytes whose pairs of digits make the text.
 pub fn read_hex(alloc: Global, text: &[u8]) -> Result<Option<Vec<u8>>, NoMemory>
-    ensures { IfOk result (λ o. MatchOption o ((bs : List ℕ) → AllBelow 256 bs → text.now ≡ hex_text bs → ⊥) (λ v. (text.now ≡ hex_text v.items) × AllBelow 256 v.items)) }
+    ensures { IfOk result
+        (λ o. MatchOption o ((bs : List ℕ) → AllBelow 256 bs → text.now ≡ hex_text bs → ⊥) (λ v. (text.now ≡ hex_text v.items) × AllBelow 256 v.items)) }
 {
     let mut bytes = Vec::new(alloc);
     let mut rest = text;

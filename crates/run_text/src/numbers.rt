@@ -57,7 +57,8 @@ impl Numbers {
 
 // The number after a space, and what stands after it.
 pub fn read_part(text: &[u8]) -> Option<(u32, &[u8])>
-    ensures { MatchOption result ((n : ℕ) (rest : List ℕ) → n < 2 ^ 32 → AtSpace rest → text.now ≡ part n ++ rest → ⊥) (λ x. (text.now ≡ part x.0 ++ x.1.now) × AtSpace x.1.now × (x.0 < 2 ^ 32)) }
+    ensures { MatchOption result ((n : ℕ) (rest : List ℕ) → n < 2 ^ 32 → AtSpace rest → text.now ≡ part n ++ rest → ⊥)
+        (λ x. (text.now ≡ part x.0 ++ x.1.now) × AtSpace x.1.now × (x.0 < 2 ^ 32)) }
 {
     let Some(after) = strip_front(text, b" ") else {
         return None;
@@ -71,7 +72,8 @@ pub fn read_part(text: &[u8]) -> Option<(u32, &[u8])>
 
 /// The numbers that the text consists of, each after a space.
 pub fn read_numbers(text: &[u8]) -> Option<Numbers>
-    ensures { MatchOption result ((ns : List ℕ) → length ns ≤ 5 → AllBelow 4294967296 ns → text.now ≡ parts ns → ⊥) (λ ns. (text.now ≡ parts ns) × AllBelow 4294967296 ns) }
+    ensures { MatchOption result ((ns : List ℕ) → length ns ≤ 5 → AllBelow 4294967296 ns → text.now ≡ parts ns → ⊥)
+        (λ ns. (text.now ≡ parts ns) × AllBelow 4294967296 ns) }
 {
     let mut numbers = Numbers::new();
     let mut rest = text;

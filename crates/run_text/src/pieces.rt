@@ -56,7 +56,8 @@ pub fn split_word(text: &[u8]) -> Option<(&[u8], &[u8])>
 
 // The number that digits write, of which there is at least one, where it fits.
 pub fn read_digits(text: &[u8]) -> Option<u32>
-    ensures { MatchOption result (IsNumeral 10 text.now → digits_value 10 text.now < 2 ^ 32 → ⊥) (λ n. IsNumeral 10 text.now × (digits_value 10 text.now ≡ n) × (n < 2 ^ 32)) }
+    ensures { MatchOption result (IsNumeral 10 text.now → digits_value 10 text.now < 2 ^ 32 → ⊥)
+        (λ n. IsNumeral 10 text.now × (digits_value 10 text.now ≡ n) × (n < 2 ^ 32)) }
 {
     if text.is_empty() || !text[0].is_ascii_digit() {
         return None;

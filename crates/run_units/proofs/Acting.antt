@@ -40,7 +40,8 @@ comes_first : (A : Inputs) (s : State) (pid : ℕ) (e : Entry) (es : List Entry)
 comes_first A s pid e es c d = ap (λ (b : Bool). first_if b (due_at A s.point pid)) c ∙ ap (first_if true) d
 
 pub step_begins : (A : Inputs) (s : State) (pid : ℕ) (e : Entry) (es : List Entry) → can_step s.point.flat pid ≡ true → IsBetween s.point.last
-    → (step_at A s.point pid).entries ≡ e ∷ es → fits A.swap_blocks s.holdings (asks A s.point.flat pid) ≡ true → must_settle A s pid ≡ false → act A s pid ≡ Some e
+    → (step_at A s.point pid).entries ≡ e ∷ es → fits A.swap_blocks s.holdings (asks A s.point.flat pid) ≡ true
+    → must_settle A s pid ≡ false → act A s pid ≡ Some e
 step_begins A s pid e es c b first f t =
     acts_by A s pid false false c (allowed A s pid f) t ∙ comes_first A s pid e es c (between_due s.point.last pid (step_at A s.point pid).entries b ∙ first)
 
@@ -65,5 +66,6 @@ pub reply_comes : (A : Inputs) (s : State) (pid : ℕ) (bytes : List ℕ) (o e :
 reply_comes A s pid bytes o e es c l first f t =
     acts_by A s pid false false c (allowed A s pid f) t
     ∙ comes_first A s pid e es c
-    (ap (λ (x : Option Entry). due x pid (step_at A s.point pid).entries) l ∙ ap (λ (b : Bool). if b then behind_first (step_at A s.point pid).entries else (step_at A s.point pid).entries) (eq_self pid)
+    (ap (λ (x : Option Entry). due x pid (step_at A s.point pid).entries) l
+    ∙ ap (λ (b : Bool). if b then behind_first (step_at A s.point pid).entries else (step_at A s.point pid).entries) (eq_self pid)
     ∙ ap behind_first first)

@@ -98,7 +98,8 @@ mark_free A s e kept run h = go s.place.due refl h
     go [] k x = absurd x
     go (d ∷ ds) k x = due_free s d ds k s.mark run.mark
 
-pub record Forced (A : Inputs) (g : Ground) (s : State) (k : Kernel) (image : List ℕ) (e : Entry) (us : List Entry) (l : Kernel) (j : Option (List ℕ)) : Type 0 where
+pub record Forced (A : Inputs) (g : Ground) (s : State) (k : Kernel) (image : List ℕ) (e : Entry) (us : List Entry) (l : Kernel)
+    (j : Option (List ℕ)) : Type 0 where
   pub led : LeadsDue A s k image us l j
   pub fills : FillsFirst led.state.place led.state.place.due e g.locked
 
@@ -162,9 +163,11 @@ pub brought_next : (A : Inputs) (s : State) (child parent : Page) (ds : List Due
 brought_next A s child parent ds u d h =
     due_next A s u (ap (due_unit s.place) d ∙ ap (λ (o : Option Entry). Some (copy_unit_by s.place child o)) h)
 
-pub bringing : (us : List Entry) (A : Inputs) (g : Ground) (s : State) (k l : Kernel) (image : List ℕ) (j : Option (List ℕ)) (child parent : Page) (ds : List Due)
+pub bringing : (us : List Entry) (A : Inputs) (g : Ground) (s : State) (k l : Kernel) (image : List ℕ) (j : Option (List ℕ))
+    (child parent : Page) (ds : List Due)
     → At A s k image → HasImages g A
-    → g.locked ≡ parent ∷ [] → s.place.due ≡ CopyOf child parent ∷ ds → Serves us k.place g.locked parent true l.place → Made g us k (Some image) l j → LeadsDue A s k image us l j
+    → g.locked ≡ parent ∷ [] → s.place.due ≡ CopyOf child parent ∷ ds → Serves us k.place g.locked parent true l.place → Made g us k (Some image) l j
+    → LeadsDue A s k image us l j
 bringing [] A g s k l image j child parent ds at f e d x m = record {
   state = s;
   leads = subst (λ (y : Kernel). Leads A s k image [] s y j) m.0 (subst (λ (o : Option (List ℕ)). Leads A s k image [] s k o) m.1 (none_leads A s k image));

@@ -212,7 +212,8 @@ found_first : (x : Space) (a : Access) (q : Page) (list : List Access) → page_
 found_first x a q list e = ap (λ (o : Option Page). cons_option o (filter_map (page_of_access x) list)) e
 
 -- the byte of an access that misses, after others that don't, is of the page that the process waits for
-wanted_at : (A : Inputs) (s : State) (k : Kernel) (image : List ℕ) (pid : ℕ) (now : Bool) (p : Process) (x : Space) (front rest : List Access) (last : Access) (address : ℕ) (write : Bool)
+wanted_at : (A : Inputs) (s : State) (k : Kernel) (image : List ℕ) (pid : ℕ) (now : Bool) (p : Process) (x : Space) (front rest : List Access) (last : Access)
+    (address : ℕ) (write : Bool)
     → At A s k image → IsRunning A s pid now p x → step_accesses A.images s.point.flat p x ≡ front ++ last ∷ rest → AllHit (kernel_answers k x.sid) front
     → refusal (kernel_answers k x.sid) last ≡ Some (Miss address write) → WantsPage A s k x address write
 wanted_at A s k image pid now p x front rest last address write at r e hits miss =
@@ -356,7 +357,8 @@ call_after images F p x effect call c w =
     ap (Rattle.flat_model.specs.Touched.accesses_behind images F p x effect) c.is_number ∙ ap (Rattle.flat_model.specs.Touched.call_accesses images F p x effect) c.names
     ∙ ap (λ (ws : List ByteWrite). accesses (answers_of (puts x ws)) (reply_asked images F p x call effect)) w
 
-pub call_wanted : (A : Inputs) (s : State) (k : Kernel) (image : List ℕ) (pid : ℕ) (now : Bool) (p : Process) (x : Space) (effect : Effect) (call : SystemCall) (address : ℕ) (write : Bool)
+pub call_wanted : (A : Inputs) (s : State) (k : Kernel) (image : List ℕ) (pid : ℕ) (now : Bool) (p : Process) (x : Space) (effect : Effect) (call : SystemCall)
+    (address : ℕ) (write : Bool)
     → At A s k image → IsRunning A s pid now p x → run (kernel_answers k x.sid) (instruction p.regs) ≡ Ok effect → IsCallOf effect call
     → run (kernel_answers k x.sid) (reply_asked A.images s.point.flat p x call effect) ≡ Err (Miss address write) → WantsPage A s k x address write
 call_wanted A s k image pid now p x effect call address write at r i c m =

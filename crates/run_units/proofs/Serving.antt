@@ -224,7 +224,8 @@ waits_on A g s k image pid now before q u at w h p =
 pub same_both : (s t r : State) → SameBut s t → SameBut t r → SameBut s r
 same_both s t r a b = record { point = b.point ∙ a.point; holdings = b.holdings ∙ a.holdings; count = b.count ∙ a.count; lines = b.lines ∙ a.lines; mark = b.mark ∙ a.mark }
 
-pub served : (us : List Entry) (A : Inputs) (g : Ground) (s : State) (k l : Kernel) (image : List ℕ) (j : Option (List ℕ)) (pid : ℕ) (now : Bool) (before : List Page) (q : Page)
+pub served : (us : List Entry) (A : Inputs) (g : Ground) (s : State) (k l : Kernel) (image : List ℕ) (j : Option (List ℕ)) (pid : ℕ) (now : Bool)
+    (before : List Page) (q : Page)
     → At A s k image → IsWaiting A g s pid now before q → Serves us k.place g.locked q now l.place → Made g us k (Some image) l j
     → Served A g s k image pid now before q us l j
 served [] A g s k l image j pid now before q at w h m = record {
@@ -245,7 +246,8 @@ served (u ∷ us) A g s k l image j pid now before q at w h m =
     let x : List ℕ = unit_image k image u in
     let first : Leads A s k image (u ∷ []) (after A s u) m.next (Some x) =
     first_leads A s (after A s u) k m.next m.next image m.image (Some x) u [] next one (none_leads A (after A s u) m.next x) in
-    let due : due_after k.place.due q ≡ k.place.due = ap (λ (y : Placement). due_after y.due q) here ∙ ap (λ (ds : List Due). due_after ds q) w.runs.clear ∙ sym (ap (λ (y : Placement). y.due) here ∙ w.runs.clear) in
+    let due : due_after k.place.due q ≡ k.place.due =
+    ap (λ (y : Placement). due_after y.due q) here ∙ ap (λ (ds : List Due). due_after ds q) w.runs.clear ∙ sym (ap (λ (y : Placement). y.due) here ∙ w.runs.clear) in
     let rest : Serves us m.next.place g.locked q now l.place =
     subst (λ (y : Placement). Serves us y g.locked q now l.place) (sym (served_place g q now u k m.next (Some image) h.0 due m.made)) h.1 in
     let more : Served A g (after A s u) m.next x pid now before q us l j =

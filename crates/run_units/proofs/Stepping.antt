@@ -109,7 +109,8 @@ by_unit A s k l image pid (entries.Sleeps q) c e = record { read = []; given = t
 by_unit A s k l image pid (entries.Ended q status) c e = record { read = []; given = tt; made = e; told = refl }
 by_unit A s k l image pid _ c e = absurd c
 
-pub step_made : (A : Inputs) (s : State) (k l : Kernel) (image : List ℕ) (pid : ℕ) (now : Bool) (p : Process) (x : Space) (u : Entry) (step : Step) (found : Holdings)
+pub step_made : (A : Inputs) (s : State) (k l : Kernel) (image : List ℕ) (pid : ℕ) (now : Bool) (p : Process) (x : Space) (u : Entry)
+    (step : Step) (found : Holdings)
     → At A s k image → IsRunning A s pid now p x → Completes pid u → step_at A s.point pid ≡ step → step.writes ≡ []
     → place_all A.swap_blocks k.holdings (asked (facts_of A.images) k pid step.change) ≡ Ok found
     → l ≡ passing_change (has_lender k.processes pid) (facts_of A.images) (with_holdings k found) pid step.regs u step.change
@@ -180,7 +181,8 @@ same_writes (w ∷ ws) k x e =
 
 pub ran_made : (A : Inputs) (s : State) (k l : Kernel) (image : List ℕ) (pid : ℕ) (now : Bool) (p : Process) (x : Space) (step : Step)
     → At A s k image → IsRunning A s pid now p x
-    → step_at A s.point pid ≡ step → l ≡ ran_by (writes_in k x.sid step.writes) pid step.regs (entries.Ran pid 1) → MadeAs A s k image (entries.Ran pid 1) l (Some image)
+    → step_at A s.point pid ≡ step → l ≡ ran_by (writes_in k x.sid step.writes) pid step.regs (entries.Ran pid 1)
+    → MadeAs A s k image (entries.Ran pid 1) l (Some image)
 ran_made A s k l image pid now p x step at r e m =
     let written : written_step A s k pid ≡ writes_in k x.sid step.writes =
     ap (λ (z : Step). write_by k (process_of s.point.flat pid) z.writes) e ∙ ap (λ (o : Option Process). write_by k o step.writes) r.here
@@ -239,7 +241,8 @@ plain_change true images k pid regs e changes.Sleep h = refl
 plain_change false images k pid regs e changes.Sleep h = refl
 plain_change b images k pid regs e _ h = absurd h
 
-pub plain_made : (A : Inputs) (s : State) (k l : Kernel) (image : List ℕ) (pid : ℕ) (now : Bool) (p : Process) (x : Space) (u : Entry) (step : Step) (found : Holdings)
+pub plain_made : (A : Inputs) (s : State) (k l : Kernel) (image : List ℕ) (pid : ℕ) (now : Bool) (p : Process) (x : Space) (u : Entry)
+    (step : Step) (found : Holdings)
     → At A s k image → IsRunning A s pid now p x → Completes pid u → step_at A s.point pid ≡ step → step.writes ≡ [] → PassesNone step.change
     → place_all A.swap_blocks k.holdings (asked (facts_of A.images) k pid step.change) ≡ Ok found
     → l ≡ change_step (facts_of A.images) (with_holdings k found) pid step.regs u step.change → MadeAs A s k image u l (Some image)
@@ -257,10 +260,12 @@ back_change true images k found pid regs e (changes.End status) h = refl
 back_change false images k found pid regs e (changes.End status) h = refl
 back_change b images k found pid regs e _ h = absurd h
 
-pub returning_made : (A : Inputs) (s : State) (k l : Kernel) (image : List ℕ) (pid : ℕ) (now : Bool) (p : Process) (x : Space) (u : Entry) (step : Step) (found : Holdings)
+pub returning_made : (A : Inputs) (s : State) (k l : Kernel) (image : List ℕ) (pid : ℕ) (now : Bool) (p : Process) (x : Space) (u : Entry)
+    (step : Step) (found : Holdings)
     → At A s k image → IsRunning A s pid now p x → Completes pid u → step_at A s.point pid ≡ step → step.writes ≡ [] → GivesBack step.change
     → place_all A.swap_blocks k.holdings (asked (facts_of A.images) k pid step.change) ≡ Ok found
-    → l ≡ change_step (facts_of A.images) (with_holdings (returned (has_lender k.processes pid) k pid) found) pid step.regs u step.change → MadeAs A s k image u l (Some image)
+    → l ≡ change_step (facts_of A.images) (with_holdings (returned (has_lender k.processes pid) k pid) found) pid step.regs u step.change
+    → MadeAs A s k image u l (Some image)
 returning_made A s k l image pid now p x u step found at r c e w n f m =
     step_made A s k l image pid now p x u step found at r c e w f
     (m ∙ back_change (has_lender k.processes pid) (facts_of A.images) k found pid step.regs u step.change n)
@@ -272,10 +277,12 @@ lent_change : (b : Bool) (images : List Image) (k : Kernel) (pid : ℕ) (regs : 
 lent_change true images k pid regs e child = refl
 lent_change false images k pid regs e child = refl
 
-pub lending_made : (A : Inputs) (s : State) (k l : Kernel) (image : List ℕ) (pid : ℕ) (now : Bool) (p : Process) (x : Space) (u : Entry) (step : Step) (found : Holdings) (child : ℕ)
+pub lending_made : (A : Inputs) (s : State) (k l : Kernel) (image : List ℕ) (pid : ℕ) (now : Bool) (p : Process) (x : Space) (u : Entry) (step : Step)
+    (found : Holdings) (child : ℕ)
     → At A s k image → IsRunning A s pid now p x → Completes pid u → step_at A s.point pid ≡ step → step.writes ≡ [] → step.change ≡ changes.Lend child
     → place_all A.swap_blocks k.holdings (asked (facts_of A.images) k pid step.change) ≡ Ok found
-    → l ≡ pass_step (change_step (facts_of A.images) (with_holdings k found) pid step.regs u (changes.Lend child)) pid child → MadeAs A s k image u l (Some image)
+    → l ≡ pass_step (change_step (facts_of A.images) (with_holdings k found) pid step.regs u (changes.Lend child)) pid child
+    → MadeAs A s k image u l (Some image)
 lending_made A s k l image pid now p x u step found child at r c e w n f m =
     step_made A s k l image pid now p x u step found at r c e w f
     (m ∙ lent_change (has_lender k.processes pid) (facts_of A.images) (with_holdings k found) pid step.regs u child
@@ -309,7 +316,8 @@ growth_counts A s k image pid now p x at r =
     subst (λ (o : Option Space). Fits o (numbered space_number x.sid k.place.spaces)) own (at.stands.keeps.coupled.tables.spaces x.sid) in
     (data_counted x (numbered space_number x.sid k.place.spaces) fits, stack_counted x (numbered space_number x.sid k.place.spaces) fits)
 
-pub growth_made : (A : Inputs) (s : State) (k l : Kernel) (image : List ℕ) (pid : ℕ) (now : Bool) (p : Process) (x : Space) (address : ℕ) (kept : Proc) (found : Holdings)
+pub growth_made : (A : Inputs) (s : State) (k l : Kernel) (image : List ℕ) (pid : ℕ) (now : Bool) (p : Process) (x : Space) (address : ℕ)
+    (kept : Proc) (found : Holdings)
     → At A s k image → IsRunning A s pid now p x → IsReadyFor A s p x (Err (Below address)) → is_refused s.point.last pid ≡ false → proc_of k pid ≡ Some kept
     → place_all A.swap_blocks k.holdings (asked (facts_of A.images) k pid (growth_to k x address)) ≡ Ok found
     → l ≡ change_step (facts_of A.images) (with_holdings k found) pid kept.regs (entries.Grew pid (pages_down_to address)) (growth_to k x address)

@@ -50,7 +50,8 @@ all_hit memory (Gives x) h = tt
 all_hit memory (Refuses signal) h = tt
 all_hit {A} memory (Reads address next) h = go (λ byte n. all_hit memory (next byte) n) (memory.read address) refl h
   where
-    go : ((byte : ℕ) → NotMissed (run memory (next byte)) → AllHit memory (accesses memory (next byte))) → (r : ByteRead) → memory.read address ≡ r → NotMissed (after_read {A = A} r address (λ byte. run memory (next byte)))
+    go : ((byte : ℕ) → NotMissed (run memory (next byte)) → AllHit memory (accesses memory (next byte))) → (r : ByteRead) → memory.read address ≡ r
+        → NotMissed (after_read {A = A} r address (λ byte. run memory (next byte)))
         → IsHit (read_refusal (memory.read address) address) × AllHit memory (rest_of_read r (λ byte. accesses memory (next byte)))
     go later (reads.Is byte) e n = (subst (λ (x : ByteRead). IsHit (read_refusal x address)) (sym e) tt, later byte n)
     go later reads.Miss e n = absurd n
@@ -232,7 +233,8 @@ filter_append : (test : Page → Bool) (xs ys : List Page) → filter test (xs +
 filter_append test [] ys = refl
 filter_append test (x ∷ xs) ys = go (filter_append test xs ys) (test x)
   where
-    go : filter test (xs ++ ys) ≡ filter test xs ++ filter test ys → (b : Bool) → cond b (x ∷ filter test (xs ++ ys)) (filter test (xs ++ ys)) ≡ cond b (x ∷ filter test xs) (filter test xs) ++ filter test ys
+    go : filter test (xs ++ ys) ≡ filter test xs ++ filter test ys → (b : Bool)
+        → cond b (x ∷ filter test (xs ++ ys)) (filter test (xs ++ ys)) ≡ cond b (x ∷ filter test xs) (filter test xs) ++ filter test ys
     go e true = ap (λ (zs : List Page). x ∷ zs) e
     go e false = e
 

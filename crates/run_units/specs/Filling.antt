@@ -57,5 +57,6 @@ BringingIsNext =
 -- so is the unit that serves it next
 abbrev pub BroughtNext : Type 0
 BroughtNext =
-    (A : Inputs) (s : State) (child parent : Page) (ds : List Due) (u : Entry) → s.place.due ≡ CopyOf child parent ∷ ds → serve_unit s.place parent true ≡ Some u
+    (A : Inputs) (s : State) (child parent : Page) (ds : List Due) (u : Entry) → s.place.due ≡ CopyOf child parent ∷ ds
+    → serve_unit s.place parent true ≡ Some u
     → next_unit A s ≡ Some u

@@ -41,7 +41,8 @@ pub record At (A : Inputs) (s : State) (k : Kernel) (image : List ℕ) : Type 0 
 
 -- Units that served the page are next units of the run, and lead to a state with the same but for pages and journal, at
 -- which the process still waits for the page, or finds it valid.
-pub record Served (A : Inputs) (g : Ground) (s : State) (k : Kernel) (image : List ℕ) (pid : ℕ) (now : Bool) (before : List Page) (q : Page) (us : List Entry) (l : Kernel) (j : Option (List ℕ)) : Type 0 where
+pub record Served (A : Inputs) (g : Ground) (s : State) (k : Kernel) (image : List ℕ) (pid : ℕ) (now : Bool) (before : List Page) (q : Page) (us : List Entry)
+    (l : Kernel) (j : Option (List ℕ)) : Type 0 where
   pub state : State
   pub leads : Leads A s k image us state l j
   pub same : SameBut s state
@@ -50,7 +51,8 @@ pub record Served (A : Inputs) (g : Ground) (s : State) (k : Kernel) (image : Li
 -- each unit of serving that was made is the next unit of the run
 abbrev pub ServingIsNext : Type 0
 ServingIsNext =
-    (A : Inputs) (g : Ground) (s : State) (k l : Kernel) (image : List ℕ) (j : Option (List ℕ)) (pid : ℕ) (now : Bool) (before : List Page) (q : Page) (us : List Entry)
+    (A : Inputs) (g : Ground) (s : State) (k l : Kernel) (image : List ℕ) (j : Option (List ℕ)) (pid : ℕ) (now : Bool) (before : List Page)
+    (q : Page) (us : List Entry)
     → At A s k image → IsWaiting A g s pid now before q → Serves us k.place g.locked q now l.place → Made g us k (Some image) l j
     → Served A g s k image pid now before q us l j
 

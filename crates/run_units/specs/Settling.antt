@@ -26,7 +26,8 @@ pub record IsLeaving (A : Inputs) (s : State) (pid : ℕ) (now : Bool) (sid : �
   pub own : (p : Placement) → settled s.point.flat p pid ≡ is_settled p sid
 
 -- units are next units of the run, and the process leaves the space yet
-pub record LeadsLeaving (A : Inputs) (s : State) (k : Kernel) (image : List ℕ) (pid : ℕ) (now : Bool) (sid : ℕ) (us : List Entry) (l : Kernel) (j : Option (List ℕ)) : Type 0 where
+pub record LeadsLeaving (A : Inputs) (s : State) (k : Kernel) (image : List ℕ) (pid : ℕ) (now : Bool) (sid : ℕ) (us : List Entry) (l : Kernel)
+    (j : Option (List ℕ)) : Type 0 where
   pub state : State
   pub leads : Leads A s k image us state l j
   pub same : SameBut s state

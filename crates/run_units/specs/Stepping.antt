@@ -124,7 +124,8 @@ ReturningStepIsMade =
 -- After a vfork the space passes to the child, with no entry of its own.
 abbrev pub LendingStepIsMade : Type 0
 LendingStepIsMade =
-    (A : Inputs) (s : State) (k l : Kernel) (image : List ℕ) (pid : ℕ) (now : Bool) (p : Process) (x : Space) (u : Entry) (step : Step) (found : Holdings) (child : ℕ)
+    (A : Inputs) (s : State) (k l : Kernel) (image : List ℕ) (pid : ℕ) (now : Bool) (p : Process) (x : Space) (u : Entry) (step : Step)
+    (found : Holdings) (child : ℕ)
     → At A s k image → IsRunning A s pid now p x → Completes pid u → step_at A s.point pid ≡ step → step.writes ≡ [] → step.change ≡ changes.Lend child
     → place_all A.swap_blocks k.holdings (asked (facts_of A.images) k pid step.change) ≡ Ok found
     → l ≡ pass_step (change_step (facts_of A.images) (with_holdings k found) pid step.regs u (changes.Lend child)) pid child

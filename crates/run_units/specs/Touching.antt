@@ -97,7 +97,8 @@ pub record IsCalledFor (A : Inputs) (s : State) (p : Process) (x : Space) (call 
 -- where the reads of a call miss a byte, its process waits for that byte's page
 abbrev pub CallMissIsWanted : Type 0
 CallMissIsWanted =
-    (A : Inputs) (s : State) (k : Kernel) (image : List ℕ) (pid : ℕ) (now : Bool) (p : Process) (x : Space) (effect : Effect) (call : SystemCall) (address : ℕ) (write : Bool)
+    (A : Inputs) (s : State) (k : Kernel) (image : List ℕ) (pid : ℕ) (now : Bool) (p : Process) (x : Space) (effect : Effect) (call : SystemCall)
+    (address : ℕ) (write : Bool)
     → At A s k image → IsRunning A s pid now p x → run (kernel_answers k x.sid) (instruction p.regs) ≡ Ok effect → IsCallOf effect call
     → run (kernel_answers k x.sid) (reply_asked A.images s.point.flat p x call effect) ≡ Err (Miss address write) → WantsPage A s k x address write
 

@@ -10,7 +10,8 @@ use Rattle.schedule_reasons.specs.Explaining.{LacksSchedule}
 
 -- what wasn't read isn't explained
 pub lacks_schedule : {A : Type 0} (view : A → List ℕ) (name : List ℕ) (holds : Option (List NamedFile)) (unread : Unread)
-    → ((files : List NamedFile) → holds ≡ Some files → Answers view (bytes_told files name schedule_bytes) (Err unread)) → IsOfAnyFile unread → LacksSchedule name holds unread
+    → ((files : List NamedFile) → holds ≡ Some files → Answers view (bytes_told files name schedule_bytes) (Err unread)) → IsOfAnyFile unread
+    → LacksSchedule name holds unread
 lacks_schedule view name holds Absent answers any = answers
 lacks_schedule view name holds (NotImage reason) answers any = any
 lacks_schedule view name holds FileFault answers any = tt

@@ -57,7 +57,8 @@ decimal_is : (word : List ℕ) (value : ℕ) → decimal_of word ≡ Some value 
 unfolding decimal_of
 decimal_is word value e = decimal_by word value _ refl e
 
-value_read : (argument : Argument) (word : List ℕ) (o : Option ℕ) → decimal_of word ≡ o → why_value argument word o ≡ None → (value : ℕ) × Writes (most_of argument) word value
+value_read : (argument : Argument) (word : List ℕ) (o : Option ℕ) → decimal_of word ≡ o → why_value argument word o ≡ None
+    → (value : ℕ) × Writes (most_of argument) word value
 value_read argument word None is e = absurd cc
 value_read argument word (Some value) is e =
     let d = decimal_is word value is in
@@ -104,7 +105,8 @@ record Follows (argument : Argument) (arguments : List Argument) (rest : Option 
   writes : Writes (most_of argument) (word_in text) value
   more : why_numbers arguments (rest_in text) ≡ None
 
-number_follows : (argument : Argument) (arguments : List Argument) (rest : Option (List ℕ)) → why_numbers (argument ∷ arguments) rest ≡ None → Follows argument arguments rest
+number_follows : (argument : Argument) (arguments : List Argument) (rest : Option (List ℕ)) → why_numbers (argument ∷ arguments) rest ≡ None
+    → Follows argument arguments rest
 unfolding why_numbers
 number_follows argument arguments None e = absurd cc
 number_follows argument arguments (Some text) e =
@@ -143,7 +145,8 @@ cuts_of text = record { whole = text_whole text; cut = λ more is. text_cut text
 same_word : (word letter : List ℕ) → bytes_eq word letter ≡ true → word ≡ letter
 same_word word letter e = (bytes_eq-Decides word letter).0 e
 
-alone : (word text : List ℕ) (rest : Option (List ℕ)) (letter : List ℕ) → Cuts word rest text → bytes_eq word letter ≡ true → why_numbers [] rest ≡ None → text ≡ letter
+alone : (word text : List ℕ) (rest : Option (List ℕ)) (letter : List ℕ) → Cuts word rest text → bytes_eq word letter ≡ true
+    → why_numbers [] rest ≡ None → text ≡ letter
 alone word text rest letter cuts is none = cuts.whole (nothing_follows rest none) ∙ same_word word letter is
 
 dispatched : (word text : List ℕ) (rest : Option (List ℕ)) → Cuts word rest text → bytes_eq word (codes "d") ≡ true
@@ -160,7 +163,8 @@ dispatched word text rest cuts is none =
     ∙ ap (λ (t : List ℕ). 100 ∷ 32 ∷ t) (text_cut one.text two.text two.is ∙ ap (λ (t : List ℕ). p ++ 32 ∷ t) whole) in
     (Dispatch one.value two.value, (p, n, one.writes, two.writes, text_is))
 
-moved : (word text : List ℕ) (rest : Option (List ℕ)) → Cuts word rest text → bytes_eq word (codes "h") ≡ true → why_numbers (Moves ∷ []) rest ≡ None → (e : Event) × IsEvent e text
+moved : (word text : List ℕ) (rest : Option (List ℕ)) → Cuts word rest text → bytes_eq word (codes "h") ≡ true → why_numbers (Moves ∷ []) rest ≡ None
+    → (e : Event) × IsEvent e text
 moved word text rest cuts is none =
     let one = number_follows Moves [] rest none in
     let n = word_in one.text in
@@ -170,19 +174,23 @@ moved word text rest cuts is none =
     ∙ ap (λ (t : List ℕ). 104 ∷ 32 ∷ t) (text_whole one.text (nothing_follows (rest_in one.text) one.more)) in
     (Hands one.value, (n, one.writes, text_is))
 
-plain_by : (word text : List ℕ) (rest : Option (List ℕ)) (i w m : Bool) → bytes_eq word (codes "i") ≡ i → bytes_eq word (codes "w") ≡ w → bytes_eq word (codes "m") ≡ m
+plain_by : (word text : List ℕ) (rest : Option (List ℕ)) (i w m : Bool) → bytes_eq word (codes "i") ≡ i → bytes_eq word (codes "w") ≡ w
+    → bytes_eq word (codes "m") ≡ m
     → (i || (w || m)) ≡ true → Cuts word rest text → why_numbers [] rest ≡ None → (e : Event) × IsEvent e text
 plain_by word text rest true w m a b d one cuts none = (Interrupt, alone word text rest (codes "i") cuts a none)
 plain_by word text rest false true m a b d one cuts none = (Swapper, alone word text rest (codes "w") cuts b none)
 plain_by word text rest false false true a b d one cuts none = (Audit, alone word text rest (codes "m") cuts d none)
 plain_by word text rest false false false a b d one cuts none = absurd cc
 
-plain_told : (word text : List ℕ) (rest : Option (List ℕ)) → is_plain word ≡ true → Cuts word rest text → why_numbers [] rest ≡ None → (e : Event) × IsEvent e text
+plain_told : (word text : List ℕ) (rest : Option (List ℕ)) → is_plain word ≡ true → Cuts word rest text → why_numbers [] rest ≡ None
+    → (e : Event) × IsEvent e text
 unfolding is_plain
 plain_told word text rest one cuts none = plain_by word text rest _ _ _ refl refl refl one cuts none
 
-event_by : (word text : List ℕ) (rest : Option (List ℕ)) (d h p : Bool) → bytes_eq word (codes "d") ≡ d → bytes_eq word (codes "h") ≡ h → is_plain word ≡ p → Cuts word rest text
-    → (if d then why_numbers (Process ∷ Turn ∷ []) rest else (if h then why_numbers (Moves ∷ []) rest else (if p then why_numbers [] rest else Some (no_event word)))) ≡ None
+event_by : (word text : List ℕ) (rest : Option (List ℕ)) (d h p : Bool) → bytes_eq word (codes "d") ≡ d → bytes_eq word (codes "h") ≡ h
+    → is_plain word ≡ p → Cuts word rest text
+    → (if d then why_numbers (Process ∷ Turn ∷ []) rest
+    else (if h then why_numbers (Moves ∷ []) rest else (if p then why_numbers [] rest else Some (no_event word)))) ≡ None
     → (e : Event) × IsEvent e text
 event_by word text rest true h p a b q cuts none = dispatched word text rest cuts a none
 event_by word text rest false true p a b q cuts none = moved word text rest cuts b none

@@ -9,7 +9,9 @@ use Rattle.source_commands.specs.Command.{source_bytes}
 use Rattle.source_commands.specs.Explaining.{LacksSource}
 
 -- what wasn't read isn't explained
-pub lacks_source : {A : Type 0} (view : A → List ℕ) (name : List ℕ) (holds : Option (List NamedFile)) (unread : Unread) → ((files : List NamedFile) → holds ≡ Some files → Answers view (bytes_told files name source_bytes) (Err unread)) → IsOfAnyFile unread → LacksSource name holds unread
+pub lacks_source : {A : Type 0} (view : A → List ℕ) (name : List ℕ) (holds : Option (List NamedFile)) (unread : Unread)
+    → ((files : List NamedFile) → holds ≡ Some files → Answers view (bytes_told files name source_bytes) (Err unread)) → IsOfAnyFile unread
+    → LacksSource name holds unread
 lacks_source view name holds Absent answers any = answers
 lacks_source view name holds (NotImage reason) answers any = any
 lacks_source view name holds FileFault answers any = tt

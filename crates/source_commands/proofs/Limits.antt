@@ -45,7 +45,8 @@ new_limit : (fresh : Bool) (at : ℕ) (bytes : Option (List ℕ)) (own : List �
 new_limit true at bytes own e = bounded_limit at bytes own e
 new_limit false at bytes own e = absurd cc
 
-line_limit : (labels : List Definition) (before : List (Option SourceLine)) (item : Option SourceLine) (own : List ℕ) → line_bytes labels before item ≡ Some own → address_after before + length own ≤ 65536
+line_limit : (labels : List Definition) (before : List (Option SourceLine)) (item : Option SourceLine) (own : List ℕ) → line_bytes labels before item ≡ Some own
+    → address_after before + length own ≤ 65536
 unfolding line_bytes
 line_limit labels before None own e = absurd cc
 line_limit labels before (Some line) own e =
@@ -73,7 +74,8 @@ space_limit with_bss negative n e =
     let h : nat_le n 4194304 ≡ true = both_second (not negative) (nat_le n 4194304) (both_second (not with_bss) (not negative && nat_le n 4194304) e) in
     grind (arith, nat_tests)
 
-statement_limit : (labels : List Definition) (with_bss : Bool) (at : ℕ) (statement : Option Statement) (own : List ℕ) → optional_bytes labels with_bss at statement ≡ Some own → or_zero (bss_in statement) ≤ 4194304
+statement_limit : (labels : List Definition) (with_bss : Bool) (at : ℕ) (statement : Option Statement) (own : List ℕ)
+    → optional_bytes labels with_bss at statement ≡ Some own → or_zero (bss_in statement) ≤ 4194304
 unfolding statement_bytes
 statement_limit labels with_bss at None own e = omega arith
 statement_limit labels with_bss at (Some (statements.Byte value)) own e = omega arith
@@ -84,7 +86,8 @@ statement_limit labels with_bss at (Some (statements.Bss number)) own e =
     space_limit with_bss number.negative number.magnitude (some_if (not with_bss && is_up_to 4194304 number) (Some []) own e).0
 statement_limit labels with_bss at (Some (statements.Instruction sentence)) own e = omega arith
 
-item_limit : (labels : List Definition) (before : List (Option SourceLine)) (item : Option SourceLine) (own : List ℕ) → line_bytes labels before item ≡ Some own → or_zero (item_bss item) ≤ 4194304
+item_limit : (labels : List Definition) (before : List (Option SourceLine)) (item : Option SourceLine) (own : List ℕ) → line_bytes labels before item ≡ Some own
+    → or_zero (item_bss item) ≤ 4194304
 unfolding line_bytes
 item_limit labels before None own e = absurd cc
 item_limit labels before (Some line) own e =
@@ -96,7 +99,8 @@ first_limit most None other h k = k
 first_limit most (Some n) other h k = h
 
 found_limit : (most : ℕ) (items : List (Option SourceLine))
-    → ((before : List (Option SourceLine)) (item : Option SourceLine) (others : List (Option SourceLine)) → items ≡ before ++ item ∷ others → or_zero (item_bss item) ≤ most)
+    → ((before : List (Option SourceLine)) (item : Option SourceLine) (others : List (Option SourceLine)) → items ≡ before ++ item ∷ others
+    → or_zero (item_bss item) ≤ most)
     → or_zero (bss_found items) ≤ most
 found_limit most [] each = omega arith
 found_limit most (first ∷ items) each =

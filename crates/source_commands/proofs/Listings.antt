@@ -31,7 +31,8 @@ listed_nothing start code front empty = record {
   goes_on = λ others listed. record { instructions = others; listed = listed; written = ap (λ (xs : List ℕ). xs ++ listing_text start others) empty };
 }
 
-pub listed_more : (start : ℕ) (code front rest : List ℕ) (at : ℕ) (text front' : List ℕ) (size n : ℕ) → n ≡ length rest - size → ListedSoFar start code front rest at → IsTextOf rest at text size → size ≤ length rest
+pub listed_more : (start : ℕ) (code front rest : List ℕ) (at : ℕ) (text front' : List ℕ) (size n : ℕ) → n ≡ length rest - size
+    → ListedSoFar start code front rest at → IsTextOf rest at text size → size ≤ length rest
     → front' ≡ front ++ line_text at text → ListedSoFar start code front' (take n (drop size rest)) (at + size)
 listed_more start code front rest at text front' size n left far shown within longer =
     let whole : take n (drop size rest) ≡ drop size rest = take_all n (drop size rest) (omega (arith, left, length-drop size rest)) in
@@ -43,6 +44,7 @@ listed_more start code front rest at text front' size n left far shown within lo
           (sym (append_assoc front (line_text at text) (listing_text (at + size) others)) ∙ ap (λ (xs : List ℕ). xs ++ listing_text (at + size) others) (sym longer)) all;
     }
 
-pub listed_all : (start : ℕ) (code front rest : List ℕ) (at : ℕ) (text : List ℕ) → ListedSoFar start code front rest at → ((instr : Instr) → decoded rest ≢ decodings.Is instr)
+pub listed_all : (start : ℕ) (code front rest : List ℕ) (at : ℕ) (text : List ℕ) → ListedSoFar start code front rest at
+    → ((instr : Instr) → decoded rest ≢ decodings.Is instr)
     → text ≡ front ++ end_text at → IsListing start code text
 listed_all start code front rest at text far none longer = subst (IsListing start code) (sym longer) (far.goes_on [] none)

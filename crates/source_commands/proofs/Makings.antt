@@ -14,8 +14,10 @@ use Rattle.command_ending.proofs.Makings.{made_where, made_by, made_nothing}
 use Rattle.source_commands.specs.Command.{EndsAssembly, EndsListing}
 
 -- a source that wasn't read
-pub unread_source : {A : Type 0} (view : A → List ℕ) (name : Bor (List ℕ)) (told : List NamedFile → Result (List ℕ) Unread) (holds : Option (List NamedFile)) (f : Faults) (unread : Unread)
-    → ((files : List NamedFile) → holds ≡ Some files → Answers view (told files) (Err unread)) → IsOfAnyFile unread → CountsFault {A = A} (Err unread) f.open_before f.open_after → f.page_after ≡ f.page_before
+pub unread_source : {A : Type 0} (view : A → List ℕ) (name : Bor (List ℕ)) (told : List NamedFile → Result (List ℕ) Unread) (holds : Option (List NamedFile))
+    (f : Faults) (unread : Unread)
+    → ((files : List NamedFile) → holds ≡ Some files → Answers view (told files) (Err unread)) → IsOfAnyFile unread
+    → CountsFault {A = A} (Err unread) f.open_before f.open_after → f.page_after ≡ f.page_before
     → Made (EndsAssembly name.now) told holds f (Err (fault_of name unread))
 unread_source view name told holds f unreads.Absent answers kind counts stays = made_by (EndsAssembly name.now) told holds f (Err (Absent name)) (Err unreads.Absent) answers (refl, refl)
 unread_source view name told holds f (unreads.NotImage reason) answers kind counts stays = absurd kind
@@ -27,12 +29,15 @@ empty_image : Image
 empty_image = record { kind = Impure; text_len = 0; data_len = 0; bss_len = 0; entry = 0 }
 
 -- an image that wasn't read
-pub unread_image : {A : Type 0} (view : A → Image × List ℕ) (name : Bor (List ℕ)) (told : List NamedFile → Result (Image × List ℕ) Unread) (holds : Option (List NamedFile)) (f : Faults) (unread : Unread)
-    → ((files : List NamedFile) → holds ≡ Some files → Answers view (told files) (Err unread)) → CountsFaults {A = A} (Err unread) f.open_before f.open_after f.page_before f.page_after
+pub unread_image : {A : Type 0} (view : A → Image × List ℕ) (name : Bor (List ℕ)) (told : List NamedFile → Result (Image × List ℕ) Unread)
+    (holds : Option (List NamedFile)) (f : Faults) (unread : Unread)
+    → ((files : List NamedFile) → holds ≡ Some files → Answers view (told files) (Err unread))
+    → CountsFaults {A = A} (Err unread) f.open_before f.open_after f.page_before f.page_after
     → ((files : List NamedFile) → holds ≡ Some files → FailsInOrder {A = A} (told files) (Err unread) f.open_before f.open_after f.page_before f.page_after)
     → Made (EndsListing name.now) told holds f (Err (fault_of name unread))
 unread_image view name told holds f unreads.Absent answers counts order = made_by (EndsListing name.now) told holds f (Err (Absent name)) (Err unreads.Absent) answers (refl, refl)
-unread_image view name told holds f (unreads.NotImage reason) answers counts order = made_by (EndsListing name.now) told holds f (Err (NotImage name reason)) (Err (unreads.NotImage reason)) answers (refl, refl)
+unread_image view name told holds f (unreads.NotImage reason) answers counts order =
+    made_by (EndsListing name.now) told holds f (Err (NotImage name reason)) (Err (unreads.NotImage reason)) answers (refl, refl)
 unread_image view name told holds f unreads.FileFault answers counts order =
     made_where (λ (read : Result (Image × List ℕ) Unread). FailedBehind (IsTrue (is_ok read)) f) (EndsListing name.now) (Ok (empty_image, [])) told holds f (Err FileFault)
     (elim counts [ inl first ↦ inl first | inr behind ↦ inr (behind, refl) ]) order (λ read fails. fails)

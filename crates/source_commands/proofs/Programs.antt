@@ -20,7 +20,8 @@ abbrev text : List ℕ → List ℕ
 text bytes = in_pages (program_pages bytes) bytes
 
 front_long : (bytes : List ℕ) (bss : ℕ) → length (front bytes bss) ≡ 1024
-front_long bytes bss = length-append (header_of (program_facts bytes bss)) (replicate (1024 - 32) 0) ∙ sums (length (header_of (program_facts bytes bss))) (length (replicate {A = ℕ} (1024 - 32) 0)) (header_long (program_facts bytes bss)) (length-replicate {A = ℕ} (1024 - 32) 0)
+front_long bytes bss = length-append (header_of (program_facts bytes bss)) (replicate (1024 - 32) 0)
+    ∙ sums (length (header_of (program_facts bytes bss))) (length (replicate {A = ℕ} (1024 - 32) 0)) (header_long (program_facts bytes bss)) (length-replicate {A = ℕ} (1024 - 32) 0)
   where
     sums : (a b : ℕ) → a ≡ 32 → b ≡ 1024 - 32 → a + b ≡ 1024
     sums a b e f = omega (arith, e, f)
@@ -99,7 +100,8 @@ holds bytes bss =
     ∙ ap (λ (t : List ℕ). with_both t (in_pages (pages_for (0 + bss)) [])) (given_text (program_pages bytes) (text bytes) (text_long bytes))
     ∙ ap (λ (d : List ℕ). with_both (text bytes) d) (only_zeros bss)
 
-judged : (bytes : List ℕ) (bss : ℕ) → length bytes ≤ 65536 → bss ≤ 4194304 → judgement (program_file bytes bss) (length (program_file bytes bss)) ≡ Is (program_facts bytes bss)
+judged : (bytes : List ℕ) (bss : ℕ) → length bytes ≤ 65536 → bss ≤ 4194304
+    → judgement (program_file bytes bss) (length (program_file bytes bss)) ≡ Is (program_facts bytes bss)
 judged bytes bss few small =
     let file = program_file bytes bss in
     sym (judgement-take file (length file))

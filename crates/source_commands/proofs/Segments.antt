@@ -30,7 +30,8 @@ text_end : (has : Bool) (o t d at : ℕ) → at < 1024 * (((if has then t else 0
 text_end true o t d at below = omega arith
 text_end false o t d at below = absurd (omega (arith, below))
 
-pub text_code : (image : Image) (file : List ℕ) (at start end : ℕ) → at < data_start_of image → start ≡ offset_of true image + min at (given_of true image) → end ≡ file_length_of image - image.data_len
+pub text_code : (image : Image) (file : List ℕ) (at start end : ℕ) → at < data_start_of image → start ≡ offset_of true image + min at (given_of true image)
+    → end ≡ file_length_of image - image.data_len
     → take (end - start) (drop start file) ≡ code_at image file at
 text_code image file at start end below first last =
     let whole : end ≡ offset_of true image + given_of true image = last ∙ text_end (has_text_segment image.kind) (text_offset image) image.text_len image.data_len at below in

@@ -49,7 +49,12 @@ fn listing_from<'a, F: Files>(
     name: &'a str,
 ) -> Result<Vec<u8>, Fault<'a>>
     ensures made { Made (EndsListing name.now) (λ list. image_told list name.now) (F.holds files.old)
-        (record { open_before = F.open_faults files.old; open_after = F.open_faults files.new; page_before = F.page_faults files.old; page_after = F.page_faults files.new }) (ending_of result) }
+        (record {
+          open_before = F.open_faults files.old;
+          open_after = F.open_faults files.new;
+          page_before = F.page_faults files.old;
+          page_after = F.page_faults files.new;
+        }) (ending_of result) }
     ensures kept { KeepsFiles F.Files files.old files.new }
 {
     let loaded = match load_image(alloc, files, name) {
@@ -69,7 +74,12 @@ fn listing_from<'a, F: Files>(
 /// of the fault is written instead (this project's profile).
 pub fn list_file<F: Files, S: Sink>(alloc: Global, files: &mut F, sink: &mut S, name: &str) -> u8
     ensures lists { Lists name.now (F.holds files.old)
-        (record { open_before = F.open_faults files.old; open_after = F.open_faults files.new; page_before = F.page_faults files.old; page_after = F.page_faults files.new })
+        (record {
+          open_before = F.open_faults files.old;
+          open_after = F.open_faults files.new;
+          page_before = F.page_faults files.old;
+          page_after = F.page_faults files.new;
+        })
         (S.written sink.old) (S.written sink.new) (S.faults sink.old) (S.faults sink.new) result }
     ensures kept { KeepsFiles F.Files files.old files.new }
     ensures sink_leads { S.leads sink.old sink.new }

@@ -22,7 +22,12 @@ fn file_from<'a, F: Files>(
     name: &'a str,
 ) -> Result<Vec<u8>, Fault<'a>>
     ensures made { Made (EndsAssembly name.now) (λ list. bytes_told list name.now 495617) (F.holds files.old)
-        (record { open_before = F.open_faults files.old; open_after = F.open_faults files.new; page_before = F.page_faults files.old; page_after = F.page_faults files.new }) (ending_of result) }
+        (record {
+          open_before = F.open_faults files.old;
+          open_after = F.open_faults files.new;
+          page_before = F.page_faults files.old;
+          page_after = F.page_faults files.new;
+        }) (ending_of result) }
     ensures kept { KeepsFiles F.Files files.old files.new }
 {
     let source = match read_file(alloc, files, name, SOURCE_BYTES) {
@@ -51,7 +56,12 @@ pub fn assemble_file<F: Files, S: Sink>(
     name: &str,
 ) -> u8
     ensures assembles { Assembles name.now (F.holds files.old)
-        (record { open_before = F.open_faults files.old; open_after = F.open_faults files.new; page_before = F.page_faults files.old; page_after = F.page_faults files.new })
+        (record {
+          open_before = F.open_faults files.old;
+          open_after = F.open_faults files.new;
+          page_before = F.page_faults files.old;
+          page_after = F.page_faults files.new;
+        })
         (S.written sink.old) (S.written sink.new) (S.faults sink.old) (S.faults sink.new) result }
     ensures kept { KeepsFiles F.Files files.old files.new }
     ensures sink_leads { S.leads sink.old sink.new }

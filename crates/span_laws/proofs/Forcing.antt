@@ -183,7 +183,8 @@ forced_short b [] p r locked o h = record {
 forced_short b (e ∷ es) p r locked o h = go p.transfers refl h.1 h.2 (λ f. forced_short false es (done p) r locked (Rattle.page_laws.proofs.Ownership.Runs.done_owner p o) f)
   where
     go : (ts : List Transfer) → p.transfers ≡ ts → e ≡ force_entry ts → Forces es (force_by p locked ts) locked r
-        → (Forces es (done p) locked r → Short false es r (length (done p).transfers + 2) (length (done p).transfers) (length es)) → Short b (e ∷ es) r (length p.transfers + 2) (length p.transfers) (length (e ∷ es))
+        → (Forces es (done p) locked r → Short false es r (length (done p).transfers + 2) (length (done p).transfers) (length es))
+        → Short b (e ∷ es) r (length p.transfers + 2) (length p.transfers) (length (e ∷ es))
     go [] k i f more = let s : Short b (e ∷ es) r (adds b (entries.Hands 1) + 1) 0 (length (e ∷ es)) = moving b (e ∷ es) p r locked o k h in record {
       few = let a = Rattle.span_laws.proofs.Spanning.adds_most b (entries.Hands 1) in let c = s.few in omega arith;
       rest = λ l. let c = s.rest l in omega arith;
@@ -208,7 +209,8 @@ moving_moves : (us : List Entry) (p r : Placement) (locked : List Page) → Owns
 moving_moves [] p r locked o s m t fr h = omega (arith, far_some p locked fr t)
 moving_moves (e ∷ es) p r locked o s m t fr h = subst (λ (x : Entry). moves_of (x ∷ es) + 1 ≤ far p locked) (sym (h.1 ∙ ap force_entry t))
     (by (moved p locked o fr t) (subst (λ (q : Placement). Forces es q locked r) move h.2)
-    (λ z y f. moving_moves es (hand_move p locked) r locked (move_owner p locked o) (Rattle.page_laws.proofs.Ends.Forcing.move_stands p locked s) (subst (λ (q : Placement). HasRoom q locked) move (force_room p locked o m)) y z f))
+    (λ z y f. moving_moves es (hand_move p locked) r locked (move_owner p locked o) (Rattle.page_laws.proofs.Ends.Forcing.move_stands p locked s)
+    (subst (λ (q : Placement). HasRoom q locked) move (force_room p locked o m)) y z f))
   where
     move : force p locked ≡ hand_move p locked
     move = ap (force_by p locked) t
@@ -219,7 +221,8 @@ moving_moves (e ∷ es) p r locked o s m t fr h = subst (λ (x : Entry). moves_o
     two : 2 ≤ far p locked
     two = far_some p locked fr t
 
-    by : Moved (hand_move p locked) → Forces es (hand_move p locked) locked r → ((hand_move p locked).free ≡ [] → (hand_move p locked).transfers ≡ [] → Forces es (hand_move p locked) locked r → moves_of es + 1 ≤ far (hand_move p locked) locked)
+    by : Moved (hand_move p locked) → Forces es (hand_move p locked) locked r
+        → ((hand_move p locked).free ≡ [] → (hand_move p locked).transfers ≡ [] → Forces es (hand_move p locked) locked r → moves_of es + 1 ≤ far (hand_move p locked) locked)
         → moves_of (entries.Hands 1 ∷ es) + 1 ≤ far p locked
     by (Frees l z) f more = let n = no_units es (hand_move p locked) r locked l f in let k = ap moves_of n.0 in omega (arith, two)
     by (Writing z w) f more = let k : Short true es r 1 0 0 = writing true es (hand_move p locked) r locked z w f in let a = k.moves in omega (arith, two)

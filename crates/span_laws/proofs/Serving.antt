@@ -96,10 +96,13 @@ landed_served b (e ∷ es) p r locked q now there l h = go (state_of p q) refl l
     go (Invalid f) k l =
         let u = unit_at p q now e (Invalid f) k h.0 in
         let t : Serves es (reclaim p q) locked q now r = step_at p locked q now es r (Invalid f) k h.1 in
-        let v : is_valid (state_of (reclaim p q) q) ≡ true = subst (λ (s : PageState). is_valid (state_of (reclaim_to p q s) q) ≡ true) (sym k) (ap is_valid (put_state p q (Valid f) (mark_of p q) there)) in
+        let v : is_valid (state_of (reclaim p q) q) ≡ true =
+        subst (λ (s : PageState). is_valid (state_of (reclaim_to p q s) q) ≡ true) (sym k) (ap is_valid (put_state p q (Valid f) (mark_of p q) there)) in
         let c = reclaim_count p q in
-        let s = more_served b (entries.Reclaim q) e es r q (length (reclaim p q).transfers) 0 (length (reclaim p q).transfers) 0 0 u.1 refl refl (valid_none false es (reclaim p q) r locked q now v t) in
-        looser b (e ∷ es) r q (1 + length (reclaim p q).transfers) 0 (length (reclaim p q).transfers) 0 0 (length p.transfers + 1) 0 (length p.transfers) 0 0 s (omega arith) (omega arith) (omega arith) (omega arith)
+        let s =
+        more_served b (entries.Reclaim q) e es r q (length (reclaim p q).transfers) 0 (length (reclaim p q).transfers) 0 0 u.1 refl refl (valid_none false es (reclaim p q) r locked q now v t) in
+        looser b (e ∷ es) r q (1 + length (reclaim p q).transfers) 0 (length (reclaim p q).transfers) 0 0 (length p.transfers + 1) 0 (length p.transfers) 0 0 s (omega arith) (omega arith)
+        (omega arith) (omega arith)
     go Unfilled k l = absurd l
     go (Coming f) k l = absurd l
     go (Going f) k l = absurd l
@@ -233,7 +236,8 @@ fed_served b (e ∷ es) p r locked q now o there n l h =
     let free : 0 < length (done p).free = omega (arith, done_free p, l) in
     let x = first_of p.free l in go (fed p locked q now e x.0 x.1 n x.2 h.0) (λ s. fed_served false es (done p) r locked q now (done_owner p o) (done_there p q o there) still free s)
   where
-    go : Fed p locked q e → (Serves es (done p) locked q now r → Served false es r q (length (done p).transfers + 3) 0 (length (done p).transfers) 1 0) → Served b (e ∷ es) r q (length p.transfers + 3) 0 (length p.transfers) 1 0
+    go : Fed p locked q e → (Serves es (done p) locked q now r → Served false es r q (length (done p).transfers + 3) 0 (length (done p).transfers) 1 0)
+        → Served b (e ∷ es) r q (length p.transfers + 3) 0 (length p.transfers) 1 0
     go (Filled i s) more =
         let x = first_of p.free l in
         let c = fill_count p q in
@@ -250,7 +254,8 @@ fed_served b (e ∷ es) p r locked q now o there n l h =
         subst (λ (y : Placement). IsThere y q) s (let a = serve_sizes p locked q o q in omega (arith, there)) in
         let c = read_length p q in
         let enter : CanEnter p q = record { there = there; frameless = n } in
-        let k = flying_served false es (read_step p q) r locked q now (Rattle.page_laws.proofs.Ownership.Serve.read_owner p q o enter) (read_there s) (coming_flies (state_of (read_step p q) q) (read_comes p q o enter l)) (subst (λ (y : Placement). Serves es y locked q now r) s h.1) in
+        let k = flying_served false es (read_step p q) r locked q now (Rattle.page_laws.proofs.Ownership.Serve.read_owner p q o enter) (read_there s)
+        (coming_flies (state_of (read_step p q) q) (read_comes p q o enter l)) (subst (λ (y : Placement). Serves es y locked q now r) s h.1) in
         looser b (e ∷ es) r q (1 + (length (read_step p q).transfers + 1)) 1 (length (read_step p q).transfers) 1 0 (length p.transfers + 3) 0 (length p.transfers) 1 0
         (more_served b (read_entry p q) e es r q (length (read_step p q).transfers + 1) 1 (length (read_step p q).transfers) 0 0 i refl refl k) (omega arith) (omega arith) (omega arith) (omega arith)
 
@@ -299,8 +304,28 @@ split (e ∷ es) p r locked q now o there n h =
     go [] k more =
         let u = forced_unit p locked q now e n k h.0 in
         let m : Split es (force p locked) r locked q now = more (subst (λ (y : Placement). Serves es y locked q now r) u.1 h.1) in
-        record { before = e ∷ m.before; behind = m.behind; middle = m.middle; whole = ap (λ (x : List Entry). e ∷ x) m.whole; forces = (k, u.0, m.forces); owner = m.owner; there = m.there; frameless = m.frameless; then = m.then }
-    go (f ∷ fs) k more = record { before = []; behind = e ∷ es; middle = p; whole = refl; forces = refl; owner = o; there = there; frameless = n; then = inr (subst (λ (l : List ℕ). 0 < length l) (sym k) (omega arith), h) }
+        record {
+          before = e ∷ m.before;
+          behind = m.behind;
+          middle = m.middle;
+          whole = ap (λ (x : List Entry). e ∷ x) m.whole;
+          forces = (k, u.0, m.forces);
+          owner = m.owner;
+          there = m.there;
+          frameless = m.frameless;
+          then = m.then;
+        }
+    go (f ∷ fs) k more = record {
+      before = [];
+      behind = e ∷ es;
+      middle = p;
+      whole = refl;
+      forces = refl;
+      owner = o;
+      there = there;
+      frameless = n;
+      then = inr (subst (λ (l : List ℕ). 0 < length l) (sym k) (omega arith), h);
+    }
 
 no_takings : (xs : List Entry) (a m : Placement) (locked : List Page) → Forces xs a locked m → takings xs ≡ 0
 no_takings [] a m locked h = refl
@@ -312,7 +337,8 @@ no_takings (e ∷ es) a m locked h = subst (λ (x : Entry). takings (x ∷ es) �
 
 frameless_served : (b : Bool) (us : List Entry) (p r : Placement) (locked : List Page) (q : Page) (now : Bool) → OwnsFrames p → IsThere p q
     → frame_of (state_of p q) ≡ None → Serves us p locked q now r
-    → (hands : ℕ) → ((xs ys : List Entry) (m : Placement) → us ≡ xs ++ ys → Forces xs p locked m → moves_of xs ≤ hands) → Served b us r q (length p.transfers + 5) 0 (length p.transfers) 1 hands
+    → (hands : ℕ) → ((xs ys : List Entry) (m : Placement) → us ≡ xs ++ ys → Forces xs p locked m → moves_of xs ≤ hands)
+    → Served b us r q (length p.transfers + 5) 0 (length p.transfers) 1 hands
 frameless_served b us p r locked q now o there n h hands bound = by (split us p r locked q now o there n h)
   where
     by : Split us p r locked q now → Served b us r q (length p.transfers + 5) 0 (length p.transfers) 1 hands
@@ -345,7 +371,8 @@ frameless_served b us p r locked q now o there n h hands bound = by (split us p 
 -- Serving a page, whatever its state.
 served_by : (b : Bool) (us : List Entry) (p r : Placement) (locked : List Page) (q : Page) (now : Bool) → OwnsFrames p → IsThere p q
     → Serves us p locked q now r
-    → (hands : ℕ) → ((xs ys : List Entry) (m : Placement) → us ≡ xs ++ ys → Forces xs p locked m → moves_of xs ≤ hands) → Served b us r q (length p.transfers + 5) 0 (length p.transfers) 1 hands
+    → (hands : ℕ) → ((xs ys : List Entry) (m : Placement) → us ≡ xs ++ ys → Forces xs p locked m → moves_of xs ≤ hands)
+    → Served b us r q (length p.transfers + 5) 0 (length p.transfers) 1 hands
 served_by b us p r locked q now o there h hands bound = go (state_of p q) refl
   where
     landed : Landed (state_of p q) → Served b us r q (length p.transfers + 5) 0 (length p.transfers) 1 hands
@@ -374,5 +401,6 @@ served_short b us p r locked q now o there h = served_by b us p r locked q now o
 pub served_moves : (us : List Entry) (p r : Placement) (locked : List Page) (q : Page) (now : Bool) → OwnsFrames p → HandsStand p → HasRoom p locked
     → IsThere p q → Serves us p locked q now r → moves_of us ≤ length p.holds
 served_moves us p r locked q now o s m there h =
-    let k : Served false us r q (length p.transfers + 5) 0 (length p.transfers) 1 (length p.holds) = served_by false us p r locked q now o there h (length p.holds) (λ xs ys n e f. forced_moves xs p n locked o s m f) in
+    let k : Served false us r q (length p.transfers + 5) 0 (length p.transfers) 1 (length p.holds) =
+    served_by false us p r locked q now o there h (length p.holds) (λ xs ys n e f. forced_moves xs p n locked o s m f) in
     k.moves

@@ -181,7 +181,8 @@ pub gap_left : (words places : List ℕ) (at word new : ℕ) → all_bits words 
     → word ≡ get_or words (at / 64) word → bits 64 new ≡ set (bits 64 word) (at % 64) 1 → all_bits (set words (at / 64) new) ≡ raised places at
 gap_left words places at word new is lt none here more =
     let one : 1 ≡ get_or places at 0 + 1 = omega arith in
-    bit_set_in_all words (at / 64) (at % 64) new (word_there words places at is lt) (omega arith) (more ∙ ap (λ (w : ℕ). set (bits 64 w) (at % 64) 1) (here ∙ get_or_default words (at / 64) word 0 (word_there words places at is lt))) ∙
+    bit_set_in_all words (at / 64) (at % 64) new (word_there words places at is lt) (omega arith)
+    (more ∙ ap (λ (w : ℕ). set (bits 64 w) (at % 64) 1) (here ∙ get_or_default words (at / 64) word 0 (word_there words places at is lt))) ∙
     ap (λ (m : ℕ). set (all_bits words) m 1) (at_place at) ∙ ap (λ (xs : List ℕ). set xs at 1) is ∙ ap (λ (v : ℕ). set places at v) one
 
 pub gap_counted : (words counts places : List ℕ) (at word new : ℕ) → all_bits words ≡ places → counts ≡ bit_counts words → at < length places

@@ -17,7 +17,8 @@ unfolding without_first
 take_without page [] m = refl
 take_without page (q ∷ pages) zero = refl
 take_without page (q ∷ pages) (suc m) =
-    elim (eqb q page) as (λ b. take (suc m) ((if b then (take (suc m) pages) else (q ∷ without_first page (take (suc m) pages)))) ≡ take (suc m) ((if b then pages else (q ∷ without_first page pages)))) [
+    elim (eqb q page) as (λ b. take (suc m) ((if b then (take (suc m) pages) else (q ∷ without_first page (take (suc m) pages))))
+    ≡ take (suc m) ((if b then pages else (q ∷ without_first page pages)))) [
       | true ↦ take-take (suc m) (suc m) pages (omega arith)
       | false ↦ ap (λ (t : List ℕ). q ∷ t) (take_without page pages m)
     ]

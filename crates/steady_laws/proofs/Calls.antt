@@ -88,7 +88,8 @@ written_keeps : (old new : Standing) (pid : ℕ) (call : SystemCall) (bytes : Li
 written_keeps old new pid call bytes regs c w n h = go bytes w.out
   where
     go : (bytes : List ℕ) → GoneOut old w.between pid bytes → HoldersStand new.kernel
-    go [] out = entered_keeps w.between new pid regs (call_entry pid call regs) Keep w.answer (subst (λ (m : Standing). Numbered m.kernel) (sym out) n) tt (subst (λ (m : Standing). HoldersStand m.kernel) (sym out) h)
+    go [] out = entered_keeps w.between new pid regs (call_entry pid call regs) Keep w.answer (subst (λ (m : Standing). Numbered m.kernel) (sym out) n) tt
+        (subst (λ (m : Standing). HoldersStand m.kernel) (sym out) h)
     go (byte ∷ more) out =
         entered_keeps w.between new pid regs (call_entry pid call regs) Keep w.answer
         (subst Numbered (sym out.step) (flat_numbered (facts_named old.images) old.kernel pid (regs_of old.kernel pid) (entries.Out pid (byte ∷ more)) Keep tt (holder_lives old.kernel pid c) n)) tt
@@ -186,7 +187,8 @@ moves_keep old new pid regs pages holds i j called c m n h = elim m [
       (settled_numbered old a.between (space_held old.kernel pid) holds i j a.settled n) (settled_keeps old a.between (space_held old.kernel pid) holds i j a.settled h)
 ]
 
-pub break_keeps : (old new : Standing) (pid : ℕ) (regs : Regs) (asked : Result ℕ Refused) (holds : Option (List NamedFile)) (i j : Option (List ℕ)) (called : Called)
+pub break_keeps : (old new : Standing) (pid : ℕ) (regs : Regs) (asked : Result ℕ Refused) (holds : Option (List NamedFile))
+    (i j : Option (List ℕ)) (called : Called)
     → IsHolder (life_in old.kernel pid)
     → BreakComes old new pid regs asked holds i j called → KeepsHolders old new
 break_keeps old new pid regs (Ok address) holds i j called c b n h = moves_keep old new pid regs (pages_to old.kernel pid address) holds i j called c b n h

@@ -203,7 +203,8 @@ end_continues old new pid status holds i j c h =
     continues_both old h.between new 0 1 l.on
     (entered_on h.between new pid (regs_of old.kernel pid) (entries.Ended pid status) (End status) l.on.running l.on.clear l.there tt tt h.ended)
 
-pub exit_continues : (old new : Standing) (pid : ℕ) (regs : Regs) (r : Result Reply Refused) (holds : Option (List NamedFile)) (i j : Option (List ℕ)) (called : Called)
+pub exit_continues : (old new : Standing) (pid : ℕ) (regs : Regs) (r : Result Reply Refused) (holds : Option (List NamedFile))
+    (i j : Option (List ℕ)) (called : Called)
     → IsCaller old pid → ExitComes old new pid regs r holds i j called → Continues old new (called_count called)
 exit_continues old new pid regs (Ok (Exits status)) holds i j called c h =
     subst (λ (y : Called). Continues old new (called_count y)) (sym h.0) (end_continues old new pid status holds i j c h.1)
@@ -218,7 +219,8 @@ exit_continues old new pid regs (Err refused) holds i j called c h = call_contin
 -- a reply of a break, of a process that is there
 break_on : (fits : Bool) (old new : Standing) (pid : ℕ) (regs : Regs) (pages stack : ℕ) (called : Called) → old.kernel.stopped ≡ false
     → old.kernel.place.due ≡ []
-    → IsSome (proc_in old.kernel pid) → Replied old new pid system_calls.Break regs (break_by fits regs pages stack) called → Continues old new (called_count called)
+    → IsSome (proc_in old.kernel pid) → Replied old new pid system_calls.Break regs (break_by fits regs pages stack) called
+    → Continues old new (called_count called)
 break_on true old new pid regs pages stack called r d s h =
     subst (λ (y : Called). Continues old new (called_count y)) (sym h.0)
     (entered_on old new pid (replied regs false 0) (call_entry pid system_calls.Break (replied regs false 0)) (Resize pages stack) r d s tt tt h.1)
@@ -255,7 +257,8 @@ sized_on old new pid regs pages holds i j called c (inl (inr (inl s), e)) = grow
 sized_on old new pid regs pages holds i j called c (inl (inr (inr s), e)) = none_on old new pid regs pages called c s
 sized_on old new pid regs pages holds i j called c (inr s) = cut_on old new pid regs pages holds i j called c s
 
-pub break_continues : (old new : Standing) (pid : ℕ) (regs : Regs) (r : Result ℕ Refused) (holds : Option (List NamedFile)) (i j : Option (List ℕ)) (called : Called)
+pub break_continues : (old new : Standing) (pid : ℕ) (regs : Regs) (r : Result ℕ Refused) (holds : Option (List NamedFile))
+    (i j : Option (List ℕ)) (called : Called)
     → IsCaller old pid → BreakComes old new pid regs r holds i j called → Continues old new (called_count called)
 break_continues old new pid regs (Ok address) holds i j called c h = sized_on old new pid regs (pages_to old.kernel pid address) holds i j called c h
 break_continues old new pid regs (Err refused) holds i j called c h = call_continues old new pid system_calls.Break regs (Err refused) called c tt h.0

@@ -131,7 +131,8 @@ module _ (images : List Image) (k : Kernel) (p : Proc) (regs : Regs) (e : Entry)
   changes (End status) m = ended status m
 
 pub change_stands : (images : List Image) (k : Kernel) (pid : ℕ) (regs : Regs) (e : Entry) (change : Change)
-    → AllBelow k.next_sid (map space_number k.place.spaces) → AllDistinct (map (λ (q : Proc). q.pid) k.processes) → MayKeep images (life_at k.processes pid) change
+    → AllBelow k.next_sid (map space_number k.place.spaces) → AllDistinct (map (λ (q : Proc). q.pid) k.processes)
+    → MayKeep images (life_at k.processes pid) change
     → Stand k.processes k.place.spaces → let l : Kernel = change_step images k pid regs e change in Stand l.processes l.place.spaces
 change_stands images k pid regs e change below differ may s = go (numbered (λ (q : Proc). q.pid) pid k.processes) refl
   where

@@ -98,7 +98,8 @@ ended_keeps old new pid status holds i j c d n h =
     subst HoldersStand (sym d.ended.step)
     (holders_of l (change_stands (facts_named d.between.images) k pid (regs_of old.kernel pid) (entries.Ended pid status) (End status) m.below m.differ m.holds (stand_of k m.stand)))
 
-pub exit_keeps : (old new : Standing) (pid : ℕ) (regs : Regs) (asked : Result Reply Refused) (holds : Option (List NamedFile)) (i j : Option (List ℕ)) (called : Called)
+pub exit_keeps : (old new : Standing) (pid : ℕ) (regs : Regs) (asked : Result Reply Refused) (holds : Option (List NamedFile))
+    (i j : Option (List ℕ)) (called : Called)
     → IsHolder (life_in old.kernel pid)
     → ExitComes old new pid regs asked holds i j called → KeepsHolders old new
 exit_keeps old new pid regs (Ok (Exits status)) holds i j called c r n h = ended_keeps old new pid status holds i j c r.1 n h
@@ -131,9 +132,11 @@ started_keeps old new pid after image top holds i j c known s n h = subst Holder
         let k : Kernel = record (between.kernel) { holdings = s.finds.found } in
         let l : Kernel = change_step (facts_named between.images) k pid after (call_entry pid numbers.Execve after) (Exec image top) in
         subst (λ (a : Standing). HoldersStand (change_step (facts_named a.images) a.kernel pid after (call_entry pid numbers.Execve after) (Exec image top))) (sym e)
-        (holders_of l (change_stands (facts_named between.images) k pid after (call_entry pid numbers.Execve after) (Exec image top) m.below m.differ (there between.images m.images) (stand_of between.kernel m.stand)))
+        (holders_of l (change_stands (facts_named between.images) k pid after (call_entry pid numbers.Execve after) (Exec image top) m.below m.differ (there between.images m.images)
+        (stand_of between.kernel m.stand)))
 
-starts_keep : (fits : Bool) (old new : Standing) (pid : ℕ) (regs after : Regs) (image : ℕ) (top : List ℕ) (holds : Option (List NamedFile)) (i j : Option (List ℕ))
+starts_keep : (fits : Bool) (old new : Standing) (pid : ℕ) (regs after : Regs) (image : ℕ) (top : List ℕ)
+    (holds : Option (List NamedFile)) (i j : Option (List ℕ))
     → IsHolder (life_in old.kernel pid)
     → IsImageOf old image → StartsBy fits old new pid regs after image top holds i j → KeepsHolders old new
 starts_keep true old new pid regs after image top holds i j c known s n h =
@@ -145,7 +148,8 @@ abbrev pub StartsKnown : Standing → Result Reply Refused → Type 0
 StartsKnown m (Ok (Does after (Exec image top))) = IsImageOf m image
 StartsKnown m _ = Unit {0}
 
-pub execve_keeps : (old new : Standing) (pid : ℕ) (regs : Regs) (asked : Result Reply Refused) (holds : Option (List NamedFile)) (i j : Option (List ℕ)) (called : Called)
+pub execve_keeps : (old new : Standing) (pid : ℕ) (regs : Regs) (asked : Result Reply Refused) (holds : Option (List NamedFile))
+    (i j : Option (List ℕ)) (called : Called)
     → IsHolder (life_in old.kernel pid)
     → StartsKnown old asked → ExecComes old new pid regs asked holds i j called → KeepsHolders old new
 execve_keeps old new pid regs (Ok (Does after (Exec image top))) holds i j called c known r n h =

@@ -33,7 +33,8 @@ child_keeps : (old new : Standing) (pid : ℕ) (call : SystemCall) (regs : Regs)
     → MayKeep (facts_named old.images) (life_in old.kernel pid) change
     → HasChild old new pid call regs child change → KeepsHolders old new
 child_keeps old new pid call regs child change may c n h =
-    entered_keeps (with_pieces old c.found) new pid (replied_both regs child 0) (call_entry pid call (replied_both regs child 0)) change c.answer (pieces_numbered old.kernel c.found n) may (pieces_keep old.kernel c.found h)
+    entered_keeps (with_pieces old c.found) new pid (replied_both regs child 0) (call_entry pid call (replied_both regs child 0)) change c.answer (pieces_numbered old.kernel c.found n) may
+    (pieces_keep old.kernel c.found h)
 
 -- where there may be no child the call fails
 makes_child_keeps : (below finds : Bool) (old new : Standing) (pid : ℕ) (call : SystemCall) (regs : Regs) (Then : Type 0) → (Then → KeepsHolders old new)

@@ -85,7 +85,8 @@ growth_refused_keeps old new pid pages g h = subst (λ (m : Standing). HoldersSt
 -- an access comes to this, where a page that is served keeps the holders
 access_keeps : (Touched : Served → Page → Standing → Type 0) (new : Standing)
     → ((answer : Served) (q : Page) (from : Standing) → Touched answer q from → HoldersStand from.kernel → HoldersStand new.kernel)
-    → (access : Access) (answer : Served) (pid : ℕ) (old : Standing) (i j : Option (List ℕ)) → AccessComes Touched access answer pid old new i j → KeepsHolders old new
+    → (access : Access) (answer : Served) (pid : ℕ) (old : Standing) (i j : Option (List ℕ))
+    → AccessComes Touched access answer pid old new i j → KeepsHolders old new
 access_keeps Touched new keeps (accesses.Page q) answer pid old i j a n h = keeps answer q old a h
 access_keeps Touched new keeps (accesses.Refused signal) answer pid old i j a n h = subst (λ (m : Standing). HoldersStand m.kernel) (sym a.1.machine) h
 access_keeps Touched new keeps (accesses.Growth sid pages) answer pid old i j a n h = go answer a
@@ -105,7 +106,8 @@ pub served_keeps : (access : Access) (answer : Served) (pid : ℕ) (old new : St
 served_keeps access answer pid old new holds i j a =
     access_keeps (λ came q from. TouchedAs came q from new holds i j) new (λ came q from t h. touched_keeps came q from new holds i j t h) access answer pid old i j a
 
-pub served_now_keeps : (locked : List Page) (access : Access) (answer : Served) (pid : ℕ) (old new : Standing) (holds : Option (List NamedFile)) (i j : Option (List ℕ))
+pub served_now_keeps : (locked : List Page) (access : Access) (answer : Served) (pid : ℕ) (old new : Standing)
+    (holds : Option (List NamedFile)) (i j : Option (List ℕ))
     → AccessComes (λ came q from. TouchedNow locked came q from new holds i j) access answer pid old new i j → KeepsHolders old new
 served_now_keeps locked access answer pid old new holds i j a =
     access_keeps (λ came q from. TouchedNow locked came q from new holds i j) new (λ came q from t h. now_keeps locked came q from new holds i j t h) access answer pid old i j a

@@ -84,7 +84,8 @@ pub access_continues : (old new : Standing) (pid : ℕ) (access : Access) (answe
 access_continues old new pid access answer holds i j c h =
     access_on (λ a q from. TouchedAs a q from new holds i j) old new pid access answer i j c (λ a q from r t. touched_on a q from new holds i j r t) h
 
-pub access_now_continues : (old new : Standing) (pid : ℕ) (access : Access) (answer : Served) (locked : List Page) (holds : Option (List NamedFile)) (i j : Option (List ℕ))
+pub access_now_continues : (old new : Standing) (pid : ℕ) (access : Access) (answer : Served) (locked : List Page)
+    (holds : Option (List NamedFile)) (i j : Option (List ℕ))
     → IsCaller old pid
     → AccessComes (λ came q from. TouchedNow locked came q from new holds i j) access answer pid old new i j → Continues old new 0
 access_now_continues old new pid access answer locked holds i j c h =

@@ -59,7 +59,8 @@ forked_counts old between pid regs child c h =
     (caller_there old.kernel pid c.lends) h.made.answer in
     on.counted
 
-pub page_counts : (child parent : Page) (old new : Standing) (holds : Option (List NamedFile)) (i j : Option (List ℕ)) → CopiesPage child parent old new holds i j
+pub page_counts : (child parent : Page) (old new : Standing) (holds : Option (List NamedFile)) (i j : Option (List ℕ))
+    → CopiesPage child parent old new holds i j
     → instructions_of new.kernel.journal ≡ instructions_of old.kernel.journal
 page_counts child parent old new holds i j c =
     let s = c.serves.0 in
@@ -116,7 +117,8 @@ exec_on asked new pid after image top r d s h = record {
       ∙ filled_by (facts_named asked.images) asked.kernel after (call_entry pid system_calls.Execve after) image top (proc_in asked.kernel pid) s d;
 }
 
-pub start_continues : (old between new : Standing) (pid : ℕ) (after : Regs) (image : ℕ) (top : List ℕ) (holds later : Option (List NamedFile)) (h i j : Option (List ℕ))
+pub start_continues : (old between new : Standing) (pid : ℕ) (after : Regs) (image : ℕ) (top : List ℕ) (holds later : Option (List NamedFile))
+    (h i j : Option (List ℕ))
     → IsCaller old pid
     → HasStarted old between pid after image top holds h i → FillsStart (Stack old.kernel.next_sid 0) between new later i j → Continues old new 1
 start_continues old between new pid after image top holds later h i j c s f =
@@ -147,7 +149,8 @@ exec_comes old new pid regs (Ok (Fails error)) holds i j called c s h = call_con
 exec_comes old new pid regs (Err refused) holds i j called c s h = call_continues old new pid system_calls.Execve regs (Err refused) called c tt h.0
 exec_comes old new pid regs (Ok _) holds i j called c s h = absurd s
 
-pub exec_continues : (old new : Standing) (pid : ℕ) (regs : Regs) (known : List NamedImage) (memory : Answers) (holds : Option (List NamedFile)) (i j : Option (List ℕ)) (called : Called)
+pub exec_continues : (old new : Standing) (pid : ℕ) (regs : Regs) (known : List NamedImage) (memory : Answers) (holds : Option (List NamedFile))
+    (i j : Option (List ℕ)) (called : Called)
     → IsCaller old pid
     → ExecComes old new pid regs (run memory (execve_reply known regs)) holds i j called → Continues old new (called_count called)
 exec_continues old new pid regs known memory holds i j called c h =

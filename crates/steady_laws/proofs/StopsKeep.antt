@@ -56,7 +56,8 @@ pub kept_through : (a b c : Standing) (stop : Stop) → SameSizes a b → KeptAt
 kept_through a b c stop s k = record { sizes = same_through a b c s k.sizes; full = k.full }
 
 -- a stop of the machine at a call
-pub kept_here : (old new : Standing) (stop : Stop) → HasStopped old new → (stop ≡ stops.JournalFull → old.params.journal ≤ length old.kernel.journal) → KeptAtStop old new stop
+pub kept_here : (old new : Standing) (stop : Stop) → HasStopped old new → (stop ≡ stops.JournalFull → old.params.journal ≤ length old.kernel.journal)
+    → KeptAtStop old new stop
 kept_here old new stop h full = record {
   sizes = stopped_same old new h;
   full = λ e.
@@ -65,7 +66,8 @@ kept_here old new stop h full = record {
 }
 
 -- a stop at a unit
-pub kept_at : (e : Entry) (k : Kernel) (i j : Option (List ℕ)) (old new : Standing) (stop : Stop) → new.params ≡ old.params → new.images ≡ old.images → StopsAt e k i stop new j → KeptAtStop old new stop
+pub kept_at : (e : Entry) (k : Kernel) (i j : Option (List ℕ)) (old new : Standing) (stop : Stop) → new.params ≡ old.params → new.images ≡ old.images
+    → StopsAt e k i stop new j → KeptAtStop old new stop
 kept_at e k i j old new stop params images at = record {
   sizes = record { params = params; images = images };
   full = λ f. subst (λ (x : List Entry). new.params.journal ≤ length x) (sym at.journal) (at.full.0 f).0;
@@ -93,33 +95,40 @@ reading_same old new (Miss address write) stop h = starved_here old new stop h.0
 reading_same old new (Below address) stop h = before_same old new stop h
 reading_same old new (Signal number) stop h = before_same old new stop h
 
-settling_same : (old new : Standing) (sid : ℕ) (holds : Option (List NamedFile)) (i j : Option (List ℕ)) (stop : Stop) → StopsSettling sid old new holds i j stop → KeptAtStop old new stop
+settling_same : (old new : Standing) (sid : ℕ) (holds : Option (List NamedFile)) (i j : Option (List ℕ)) (stop : Stop)
+    → StopsSettling sid old new holds i j stop → KeptAtStop old new stop
 settling_same old new sid holds i j stop h =
     kept_through old h.between new stop (beside_same old h.between h.beside) (kept_here h.between new stop h.stops.stopped (λ e. (h.stops.full.0 e).1))
 
 -- Pages.
 
-forced_same : (locked : List Page) (old new : Standing) (holds : Option (List NamedFile)) (i j : Option (List ℕ)) → Forced locked old new holds i j → SameSizes old new
+forced_same : (locked : List Page) (old new : Standing) (holds : Option (List NamedFile)) (i j : Option (List ℕ))
+    → Forced locked old new holds i j → SameSizes old new
 forced_same locked old new holds i j h = beside_same old new h.makes.beside
 
-forcing_same : (locked : List Page) (old new : Standing) (holds : Option (List NamedFile)) (i j : Option (List ℕ)) (stop : Stop) → StopsForcing locked old stop new holds i j → KeptAtStop old new stop
+forcing_same : (locked : List Page) (old new : Standing) (holds : Option (List NamedFile)) (i j : Option (List ℕ)) (stop : Stop)
+    → StopsForcing locked old stop new holds i j → KeptAtStop old new stop
 forcing_same locked old new holds i j stop h = kept_at _ h.at h.image j old new stop h.params h.images h.stops
 
-serving_same : (now : Bool) (locked : List Page) (q : Page) (old new : Standing) (holds : Option (List NamedFile)) (i j : Option (List ℕ)) (stop : Stop) → StopsServing now locked q old new holds i j stop
+serving_same : (now : Bool) (locked : List Page) (q : Page) (old new : Standing) (holds : Option (List NamedFile)) (i j : Option (List ℕ)) (stop : Stop)
+    → StopsServing now locked q old new holds i j stop
     → KeptAtStop old new stop
 serving_same now locked q old new holds i j stop h = kept_at h.entry h.kernel h.image j old new stop h.params h.images h.at
 
-pub start_same : (page : Page) (old new : Standing) (holds : Option (List NamedFile)) (i j : Option (List ℕ)) (stop : Stop) → StopsStart page old new holds i j stop → KeptAtStop old new stop
+pub start_same : (page : Page) (old new : Standing) (holds : Option (List NamedFile)) (i j : Option (List ℕ)) (stop : Stop)
+    → StopsStart page old new holds i j stop → KeptAtStop old new stop
 start_same page old new holds i j stop h = elim h [
   | inl x ↦ forcing_same [] old new holds i j stop x
   | inr x ↦ kept_through old x.0 new stop (forced_same [] old x.0 holds i j x.1) (kept_at (entries.Zero page) x.0.kernel j j x.0 new stop x.3 x.4 x.2)
 ]
 
-pub filled_same : (page : Page) (old new : Standing) (holds : Option (List NamedFile)) (i j : Option (List ℕ)) → FillsStart page old new holds i j → SameSizes old new
+pub filled_same : (page : Page) (old new : Standing) (holds : Option (List NamedFile)) (i j : Option (List ℕ))
+    → FillsStart page old new holds i j → SameSizes old new
 filled_same page old new holds i j h =
     same_through old h.roomy new (forced_same [] old h.roomy holds i j h.forces) (record { params = ap (λ (m : Standing). m.params) h.fills; images = ap (λ (m : Standing). m.images) h.fills })
 
-pub page_same : (child parent : Page) (old new : Standing) (holds : Option (List NamedFile)) (i j : Option (List ℕ)) (stop : Stop) → StopsPage child parent old new holds i j stop → KeptAtStop old new stop
+pub page_same : (child parent : Page) (old new : Standing) (holds : Option (List NamedFile)) (i j : Option (List ℕ)) (stop : Stop)
+    → StopsPage child parent old new holds i j stop → KeptAtStop old new stop
 page_same child parent old new holds i j stop h = elim h [
   | inl x ↦ serving_same true (parent ∷ []) parent old new holds i j stop x
   | inr x ↦ kept_through old x.served new stop (beside_same old x.served x.serves.0.makes.beside) (elim x.stops [
@@ -128,13 +137,15 @@ page_same child parent old new holds i j stop h = elim h [
   ])
 ]
 
-copied_same : (child parent : Page) (old new : Standing) (holds : Option (List NamedFile)) (i j : Option (List ℕ)) → CopiesPage child parent old new holds i j → SameSizes old new
+copied_same : (child parent : Page) (old new : Standing) (holds : Option (List NamedFile)) (i j : Option (List ℕ))
+    → CopiesPage child parent old new holds i j → SameSizes old new
 copied_same child parent old new holds i j h =
     same_through old h.served new (beside_same old h.served h.serves.0.makes.beside)
     (same_through h.served h.roomy new (forced_same (parent ∷ []) h.served h.roomy holds h.behind j h.forces)
     (record { params = ap (λ (m : Standing). m.params) h.copies; images = ap (λ (m : Standing). m.images) h.copies }))
 
-copying_same : (ds : List Due) (old new : Standing) (holds : Option (List NamedFile)) (i j : Option (List ℕ)) (stop : Stop) → StopsCopying ds old new holds i j stop → KeptAtStop old new stop
+copying_same : (ds : List Due) (old new : Standing) (holds : Option (List NamedFile)) (i j : Option (List ℕ)) (stop : Stop)
+    → StopsCopying ds old new holds i j stop → KeptAtStop old new stop
 copying_same [] old new holds i j stop h = absurd h
 copying_same (Start q ∷ ds) old new holds i j stop h = absurd h
 copying_same (CopyOf child parent ∷ ds) old new holds i j stop h = elim h [
@@ -142,7 +153,8 @@ copying_same (CopyOf child parent ∷ ds) old new holds i j stop h = elim h [
   | inr x ↦ kept_through old x.0 new stop (copied_same child parent old x.0 holds i x.1 x.2) (copying_same ds x.0 new holds x.1 j stop x.3)
 ]
 
-pub access_same : (now : Bool) (locked : List Page) (access : Access) (pid : ℕ) (old new : Standing) (holds : Option (List NamedFile)) (i j : Option (List ℕ)) (stop : Stop)
+pub access_same : (now : Bool) (locked : List Page) (access : Access) (pid : ℕ) (old new : Standing) (holds : Option (List NamedFile))
+    (i j : Option (List ℕ)) (stop : Stop)
     → AccessStops now locked access pid old new holds i j stop → KeptAtStop old new stop
 access_same now locked (accesses.Page q) pid old new holds i j stop h = serving_same now locked q old new holds i j stop h.serving
 access_same now locked (accesses.Refused signal) pid old new holds i j stop h = absurd h
@@ -154,23 +166,27 @@ access_same now locked (accesses.Growth sid pages) pid old new holds i j stop h 
 
 -- Ends.
 
-left_by : (lent : Bool) (old new : Standing) (pid : ℕ) (holds : Option (List NamedFile)) (i j : Option (List ℕ)) → HasLeftBy lent old new pid holds i j → SameSizes old new
+left_by : (lent : Bool) (old new : Standing) (pid : ℕ) (holds : Option (List NamedFile)) (i j : Option (List ℕ))
+    → HasLeftBy lent old new pid holds i j → SameSizes old new
 left_by true old new pid holds i j h = record { params = ap (λ (m : Standing). m.params) h.step; images = ap (λ (m : Standing). m.images) h.step }
 left_by false old new pid holds i j h = beside_same old new h.rest
 
-leaving_same : (old new : Standing) (pid : ℕ) (holds : Option (List NamedFile)) (i j : Option (List ℕ)) (stop : Stop) → StopsLeaving old new pid holds i j stop → KeptAtStop old new stop
+leaving_same : (old new : Standing) (pid : ℕ) (holds : Option (List NamedFile)) (i j : Option (List ℕ)) (stop : Stop) → StopsLeaving old new pid holds i j stop
+    → KeptAtStop old new stop
 leaving_same old new pid holds i j stop h = elim h [
   | inl x ↦ settling_same old new _ holds i j stop x.settling
   | inr x ↦ before_same old new stop x.stops
 ]
 
-pub alive_same : (old new : Standing) (pid : ℕ) (holds : Option (List NamedFile)) (i j : Option (List ℕ)) (stop : Stop) → StopsAlive old new pid holds i j stop → KeptAtStop old new stop
+pub alive_same : (old new : Standing) (pid : ℕ) (holds : Option (List NamedFile)) (i j : Option (List ℕ)) (stop : Stop) → StopsAlive old new pid holds i j stop
+    → KeptAtStop old new stop
 alive_same old new pid holds i j stop h = elim h [
   | inl x ↦ leaving_same old new pid holds i j stop x
   | inr x ↦ kept_through old x.between new stop (left_by _ old x.between pid holds i j x.left) (before_same x.between new stop x.stops)
 ]
 
-pub exit_same : (old new : Standing) (pid : ℕ) (r : Result Reply Refused) (holds : Option (List NamedFile)) (i j : Option (List ℕ)) (stop : Stop) → StopsExit old new pid r holds i j stop → KeptAtStop old new stop
+pub exit_same : (old new : Standing) (pid : ℕ) (r : Result Reply Refused) (holds : Option (List NamedFile)) (i j : Option (List ℕ)) (stop : Stop)
+    → StopsExit old new pid r holds i j stop → KeptAtStop old new stop
 exit_same old new pid (Ok reply) holds i j stop h = alive_same old new pid holds i j stop h
 exit_same old new pid (Err refused) holds i j stop h = reading_same old new refused stop h.0
 
@@ -188,7 +204,8 @@ making_same old new pid change stop h = kept_through old h.between new stop (eli
   | inr n ↦ without_same old h.between pid (equal_same (without_pieces old pid) h.between n.refused)
 ]) (kept_here h.between new stop h.stopped h.full)
 
-child_same : (fewer finds : Bool) (old new : Standing) (pid : ℕ) (call : SystemCall) (regs : Regs) (Then : Type 0) → MakesChildBy fewer finds old new pid call regs Then
+child_same : (fewer finds : Bool) (old new : Standing) (pid : ℕ) (call : SystemCall) (regs : Regs) (Then : Type 0)
+    → MakesChildBy fewer finds old new pid call regs Then
     → (Then → SameSizes old new) → SameSizes old new
 child_same false finds old new pid call regs Then h more = entered_same old new pid _ _ _ h
 child_same true false old new pid call regs Then h more = without_same old new pid (entered_same (without_pieces old pid) new pid _ _ _ h.answer)
@@ -196,9 +213,11 @@ child_same true true old new pid call regs Then h more = more h
 
 answered_same : (old new : Standing) (pid : ℕ) (regs : Regs) → ForkAnswered old new pid regs → SameSizes old new
 answered_same old new pid regs h =
-    child_same _ _ old new pid _ regs _ h (λ (c : HasNewSpace old new pid regs old.kernel.next_pid). record { params = ap (λ (m : Standing). m.params) c.made.answer.rest; images = ap (λ (m : Standing). m.images) c.made.answer.rest })
+    child_same _ _ old new pid _ regs _ h
+    (λ (c : HasNewSpace old new pid regs old.kernel.next_pid). record { params = ap (λ (m : Standing). m.params) c.made.answer.rest; images = ap (λ (m : Standing). m.images) c.made.answer.rest })
 
-pub forking_same : (old new : Standing) (pid : ℕ) (regs : Regs) (holds : Option (List NamedFile)) (i j : Option (List ℕ)) (stop : Stop) → StopsForking old new pid regs holds i j stop → KeptAtStop old new stop
+pub forking_same : (old new : Standing) (pid : ℕ) (regs : Regs) (holds : Option (List NamedFile)) (i j : Option (List ℕ)) (stop : Stop)
+    → StopsForking old new pid regs holds i j stop → KeptAtStop old new stop
 forking_same old new pid regs holds i j stop h = elim h [
   | inl x ↦ making_same old new pid _ stop x.0
   | inr x ↦ kept_through old x.between new stop (answered_same old x.between pid regs x.answer) (copying_same x.between.kernel.place.due x.between new holds i j stop x.stops)
@@ -206,33 +225,39 @@ forking_same old new pid regs holds i j stop h = elim h [
 
 -- Images.
 
-finding_same : (pieces : Standing → Result Holdings ℕ) (old new : Standing) (pid : ℕ) (holds : Option (List NamedFile)) (i j : Option (List ℕ)) (stop : Stop) → StopsFinding pieces old new pid holds i j stop → KeptAtStop old new stop
+finding_same : (pieces : Standing → Result Holdings ℕ) (old new : Standing) (pid : ℕ) (holds : Option (List NamedFile)) (i j : Option (List ℕ)) (stop : Stop)
+    → StopsFinding pieces old new pid holds i j stop → KeptAtStop old new stop
 finding_same pieces old new pid holds i j stop h = elim h [
   | inl x ↦ before_same old new stop x.0
   | inr x ↦ alive_same old new pid holds i j stop x.1
 ]
 
-starting_same : (old new : Standing) (pid image : ℕ) (holds : Option (List NamedFile)) (i j : Option (List ℕ)) (stop : Stop) → StopsStarting old new pid image holds i j stop → KeptAtStop old new stop
+starting_same : (old new : Standing) (pid image : ℕ) (holds : Option (List NamedFile)) (i j : Option (List ℕ)) (stop : Stop)
+    → StopsStarting old new pid image holds i j stop → KeptAtStop old new stop
 starting_same old new pid image holds i j stop h = elim h [
   | inl x ↦ finding_same (image_found image) old new pid holds i j stop x
   | inr x ↦ kept_through old (without_pieces old pid) new stop (same_without old pid) (before_same (without_pieces old pid) new stop x.stops)
 ]
 
-leaves_same : (pieces : Standing → Result Holdings ℕ) (old new : Standing) (pid : ℕ) (holds : Option (List NamedFile)) (i j : Option (List ℕ)) → LeavesFor pieces old new pid holds i j → SameSizes old new
+leaves_same : (pieces : Standing → Result Holdings ℕ) (old new : Standing) (pid : ℕ) (holds : Option (List NamedFile)) (i j : Option (List ℕ))
+    → LeavesFor pieces old new pid holds i j → SameSizes old new
 leaves_same pieces old new pid holds i j h =
     same_through old h.between new (left_by _ old h.between pid holds i j h.left) (record { params = ap (λ (m : Standing). m.params) h.step; images = ap (λ (m : Standing). m.images) h.step })
 
-started_same : (old new : Standing) (pid : ℕ) (after : Regs) (image : ℕ) (top : List ℕ) (holds : Option (List NamedFile)) (i j : Option (List ℕ)) → HasStarted old new pid after image top holds i j → SameSizes old new
+started_same : (old new : Standing) (pid : ℕ) (after : Regs) (image : ℕ) (top : List ℕ) (holds : Option (List NamedFile)) (i j : Option (List ℕ))
+    → HasStarted old new pid after image top holds i j → SameSizes old new
 started_same old new pid after image top holds i j h = same_through old h.asked new (leaves_same (image_found image) old h.asked pid holds i j h.finds) (entered_same h.asked new pid _ _ _ h.answer)
 
-image_same : (old new : Standing) (pid : ℕ) (after : Regs) (image : ℕ) (top : List ℕ) (holds : Option (List NamedFile)) (i j : Option (List ℕ)) (stop : Stop) → StopsImage old new pid after image top holds i j stop
+image_same : (old new : Standing) (pid : ℕ) (after : Regs) (image : ℕ) (top : List ℕ) (holds : Option (List NamedFile)) (i j : Option (List ℕ)) (stop : Stop)
+    → StopsImage old new pid after image top holds i j stop
     → KeptAtStop old new stop
 image_same old new pid after image top holds i j stop h = elim h [
   | inl x ↦ starting_same old new pid image holds i j stop x
   | inr x ↦ kept_through old x.between new stop (started_same old x.between pid after image top holds i x.told x.started) (start_same _ x.between new holds x.told j stop x.stops)
 ]
 
-pub exec_same : (old new : Standing) (pid : ℕ) (r : Result Reply Refused) (holds : Option (List NamedFile)) (i j : Option (List ℕ)) (stop : Stop) → StopsExec old new pid r holds i j stop → KeptAtStop old new stop
+pub exec_same : (old new : Standing) (pid : ℕ) (r : Result Reply Refused) (holds : Option (List NamedFile)) (i j : Option (List ℕ)) (stop : Stop)
+    → StopsExec old new pid r holds i j stop → KeptAtStop old new stop
 exec_same old new pid (Ok (Does after (Exec image top))) holds i j stop h = image_same old new pid after image top holds i j stop h
 exec_same old new pid (Ok reply) holds i j stop h = before_same old new stop h.0
 exec_same old new pid (Err refused) holds i j stop h = reading_same old new refused stop h.0
@@ -245,7 +270,8 @@ plain_same old new pid pages stop h = elim h [
   | inr x ↦ let s = before_same _ new stop x.stops in record { sizes = record { params = s.sizes.params; images = s.sizes.images }; full = s.full }
 ]
 
-moving_same : (old new : Standing) (pid pages : ℕ) (holds : Option (List NamedFile)) (i j : Option (List ℕ)) (stop : Stop) → StopsMoving old new pid pages holds i j stop → KeptAtStop old new stop
+moving_same : (old new : Standing) (pid pages : ℕ) (holds : Option (List NamedFile)) (i j : Option (List ℕ)) (stop : Stop)
+    → StopsMoving old new pid pages holds i j stop → KeptAtStop old new stop
 moving_same old new pid pages holds i j stop h = elim h [
   | inl x ↦ plain_same old new pid pages stop x.0
   | inr x ↦ elim x.stops [
@@ -254,7 +280,8 @@ moving_same old new pid pages holds i j stop h = elim h [
   ]
 ]
 
-pub break_same : (old new : Standing) (pid : ℕ) (r : Result ℕ Refused) (holds : Option (List NamedFile)) (i j : Option (List ℕ)) (stop : Stop) → StopsBreak old new pid r holds i j stop → KeptAtStop old new stop
+pub break_same : (old new : Standing) (pid : ℕ) (r : Result ℕ Refused) (holds : Option (List NamedFile)) (i j : Option (List ℕ)) (stop : Stop)
+    → StopsBreak old new pid r holds i j stop → KeptAtStop old new stop
 break_same old new pid (Ok address) holds i j stop h = moving_same old new pid _ holds i j stop h
 break_same old new pid (Err refused) holds i j stop h = reading_same old new refused stop h.0
 

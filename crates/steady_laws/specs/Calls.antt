@@ -113,7 +113,8 @@ RefusalContinues =
 -- an execve, once its new stack page was filled
 abbrev pub StartContinues : Type 0
 StartContinues =
-    (old between new : Standing) (pid : ℕ) (after : Regs) (image : ℕ) (top : List ℕ) (holds later : Option (List NamedFile)) (h i j : Option (List ℕ)) → IsCaller old pid
+    (old between new : Standing) (pid : ℕ) (after : Regs) (image : ℕ) (top : List ℕ) (holds later : Option (List NamedFile))
+    (h i j : Option (List ℕ)) → IsCaller old pid
     → HasStarted old between pid after image top holds h i → FillsStart (Stack old.kernel.next_sid 0) between new later i j → Continues old new 1
 
 -- An execve replies nothing else, whatever the memory that it reads.
@@ -123,5 +124,6 @@ ExecStarts = (known : List NamedImage) (memory : Answers) (regs : Regs) → Star
 -- An execve, whatever the memory that it reads.
 abbrev pub ExecContinues : Type 0
 ExecContinues =
-    (old new : Standing) (pid : ℕ) (regs : Regs) (known : List NamedImage) (memory : Answers) (holds : Option (List NamedFile)) (i j : Option (List ℕ)) (called : Called)
+    (old new : Standing) (pid : ℕ) (regs : Regs) (known : List NamedImage) (memory : Answers) (holds : Option (List NamedFile))
+    (i j : Option (List ℕ)) (called : Called)
     → IsCaller old pid → ExecComes old new pid regs (run memory (execve_reply known regs)) holds i j called → Continues old new (called_count called)

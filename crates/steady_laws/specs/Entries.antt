@@ -27,7 +27,8 @@ LeavesNone _ = Unit {0}
 -- An entry of a process with its change: none of an instruction, and none of the hands.
 abbrev pub EntryContinues : Type 0
 EntryContinues =
-    (old new : Standing) (pid : ℕ) (regs : Regs) (e : Entry) (change : Change) → IsCaller old pid → IsPlain e → LeavesNone change → Entered old new pid regs e change
+    (old new : Standing) (pid : ℕ) (regs : Regs) (e : Entry) (change : Change) → IsCaller old pid → IsPlain e → LeavesNone change
+    → Entered old new pid regs e change
     → Continues old new (counted e)
 
 -- an entry of a process with its change, for which pieces were found before
@@ -39,7 +40,8 @@ FoundContinues =
 -- An entry that goes into the journal alone.
 abbrev pub NoteContinues : Type 0
 NoteContinues =
-    (old new : Standing) (e : Entry) → IsReady old → IsPlain e → new ≡ record old { kernel = note_step old.kernel e; room = None } → Continues old new (counted e)
+    (old new : Standing) (e : Entry) → IsReady old → IsPlain e → new ≡ record old { kernel = note_step old.kernel e; room = None }
+    → Continues old new (counted e)
 
 -- After it the last entry counts no moves of the hands, so after moves of them the machine goes on from before these.
 abbrev pub NoteCountsNone : Type 0

@@ -55,6 +55,7 @@ AccessNowKeeps =
 -- a process whose record says that it holds a space and isn't out may make a call
 abbrev pub CallerIsSeen : Type 0
 CallerIsSeen =
-    (m : Standing) (ps : List Record) (p : Record) (pid sid : ℕ) → m.kernel.stopped ≡ false → m.before ≡ m.kernel.holdings → m.kernel.place.due ≡ [] → HoldersStand m.kernel
+    (m : Standing) (ps : List Record) (p : Record) (pid sid : ℕ) → m.kernel.stopped ≡ false → m.before ≡ m.kernel.holdings
+    → m.kernel.place.due ≡ [] → HoldersStand m.kernel
     → m.kernel.processes ≡ processes_of ps m.kernel.next_pid → m.kernel.place.residents ≡ residents_of ps m.kernel.next_pid → AreRecords ps m.kernel.next_pid
     → find pid ps ≡ Some p → p.state ≡ Holds sid → p.out ≡ false → IsCaller m pid

@@ -18,7 +18,8 @@ use Rattle.steady_laws.specs.Ready.{IsRunning, IsReady, Continues, RunsDue, Runs
 -- Moves of the hands.
 abbrev pub MovesContinue : Type 0
 MovesContinue =
-    (old new : Standing) (n made : ℕ) (holds : Option (List NamedFile)) (i j : Option (List ℕ)) → IsReady old → Moved n old new made holds i j → RunsMoved old new made
+    (old new : Standing) (n made : ℕ) (holds : Option (List NamedFile)) (i j : Option (List ℕ)) → IsReady old → Moved n old new made holds i j
+    → RunsMoved old new made
 
 -- a frame that is forced: the hands move at most as often as there are frames
 abbrev pub ForcedContinues : Type 0
@@ -35,7 +36,8 @@ DoneContinues =
 -- A turn of the swapper.
 abbrev pub TurnContinues : Type 0
 TurnContinues =
-    (turned : Turned) (old new : Standing) (holds : Option (List NamedFile)) (i j : Option (List ℕ)) → IsReady old → Turns turned old new holds i j → Continues old new 0
+    (turned : Turned) (old new : Standing) (holds : Option (List NamedFile)) (i j : Option (List ℕ)) → IsReady old
+    → Turns turned old new holds i j → Continues old new 0
 
 -- A first process that begins: its stack page 0 is due after those that were.
 abbrev pub BeginContinues : Type 0

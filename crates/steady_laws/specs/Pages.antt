@@ -18,5 +18,6 @@ AccessContinues =
 -- until its page is valid
 abbrev pub AccessNowContinues : Type 0
 AccessNowContinues =
-    (old new : Standing) (pid : ℕ) (access : Access) (answer : Served) (locked : List Page) (holds : Option (List NamedFile)) (i j : Option (List ℕ)) → IsCaller old pid
+    (old new : Standing) (pid : ℕ) (access : Access) (answer : Served) (locked : List Page) (holds : Option (List NamedFile))
+    (i j : Option (List ℕ)) → IsCaller old pid
     → AccessComes (λ came q from. TouchedNow locked came q from new holds i j) access answer pid old new i j → Continues old new 0

@@ -85,12 +85,14 @@ NoneDueContinues = (old new : Standing) (n : ℕ) → RunsDue old new n [] → C
 -- where pages are due it runs, and the hands have the room that they had
 abbrev pub DueStaysRoomy : Type 0
 DueStaysRoomy =
-    (old new : Standing) (n : ℕ) (ds : List Due) (locked : List Page) → RunsDue old new n ds → HasRoom old.kernel.place locked → IsRunning new × HasRoom new.kernel.place locked
+    (old new : Standing) (n : ℕ) (ds : List Due) (locked : List Page) → RunsDue old new n ds → HasRoom old.kernel.place locked
+    → IsRunning new × HasRoom new.kernel.place locked
 
 -- where the hands moved it is ready, and they have the room that they had
 abbrev pub MovedStaysReady : Type 0
 MovedStaysReady =
-    (old new : Standing) (moves : ℕ) (locked : List Page) → RunsMoved old new moves → HasRoom old.kernel.place locked → IsReady new × HasRoom new.kernel.place locked
+    (old new : Standing) (moves : ℕ) (locked : List Page) → RunsMoved old new moves → HasRoom old.kernel.place locked
+    → IsReady new × HasRoom new.kernel.place locked
 
 -- A last entry counts no more instructions than the whole journal.
 abbrev pub LastCountsFew : Type 0

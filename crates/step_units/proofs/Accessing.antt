@@ -29,7 +29,8 @@ use Rattle.step_units.proofs.Serving.{same_space, WaitsFor, PageLeads, page_lead
 
 -- The page of an access.
 
-waits_for : (A : Inputs) (s : State) (m : Standing) (holds : Option (List NamedFile)) (image : List ℕ) (pid : ℕ) (now : Bool) (p : Process) (x : Space) (address : ℕ) (write : Bool)
+waits_for : (A : Inputs) (s : State) (m : Standing) (holds : Option (List NamedFile)) (image : List ℕ) (pid : ℕ) (now : Bool) (p : Process) (x : Space)
+    (address : ℕ) (write : Bool)
     → RunsOn A s m holds image pid now p x → (w : WantsPage A s m.kernel x address write) → WaitsFor A s m holds image pid now w.before w.page
 waits_for A s m holds image pid now p x address write r w = record {
   machine = r.machine;
@@ -40,7 +41,8 @@ waits_for A s m holds image pid now p x address write r w = record {
   valid = w.valid;
 }
 
-same_access : (A : Inputs) (s : State) (m : Standing) (holds : Option (List NamedFile)) (image : List ℕ) (pid : ℕ) (now : Bool) (p : Process) (x : Space) (address : ℕ) (write : Bool)
+same_access : (A : Inputs) (s : State) (m : Standing) (holds : Option (List NamedFile)) (image : List ℕ) (pid : ℕ) (now : Bool) (p : Process) (x : Space)
+    (address : ℕ) (write : Bool)
     → RunsOn A s m holds image pid now p x → access_by m.kernel pid address write ≡ access_to m.kernel.place x.sid address write
 same_access A s m holds image pid now p x address write r =
     ap (λ (n : ℕ). access_to m.kernel.place n address write) (same_space A s m.kernel image pid now p x r.machine.at r.running)
@@ -57,9 +59,11 @@ pub valid_locked : (A : Inputs) (s : State) (before : List Page) → s.place.due
 valid_locked A s before d e v = ap (locked_by A s) d ∙ ap (before_absent s.place) e ∙ all_before s.place before v
 
 -- what a page leads to, as what serving leads to
-served_leads : (A : Inputs) (s : State) (old new : Standing) (holds : Option (List NamedFile)) (image : List ℕ) (j : Option (List ℕ)) (pid : ℕ) (now : Bool) (p : Process) (x : Space)
+served_leads : (A : Inputs) (s : State) (old new : Standing) (holds : Option (List NamedFile)) (image : List ℕ) (j : Option (List ℕ)) (pid : ℕ) (now : Bool)
+    (p : Process) (x : Space)
     (before : List Page)
-    (answer : Served) → locked A s ≡ before → PageLeads A s old.kernel image before new.kernel j answer → ServeLeads A s old new holds image j pid now p x answer
+    (answer : Served) → locked A s ≡ before → PageLeads A s old.kernel image before new.kernel j answer
+    → ServeLeads A s old new holds image j pid now p x answer
 served_leads A s old new holds image j pid now p x before served.Valid e h =
     record { led = h.led; more = let z = ap (λ (qs : List Page). length qs) e in let m = h.more in omega (arith, z, m) }
 served_leads A s old new holds image j pid now p x before (served.Asleep q) e h = h
@@ -68,8 +72,10 @@ served_leads A s old new holds image j pid now p x before served.NoSpace e h = a
 served_leads A s old new holds image j pid now p x before (served.Signal number) e h = h
 
 -- after growth
-grown_page_leads : (A : Inputs) (s : State) (old between : Standing) (holds : Option (List NamedFile)) (image : List ℕ) (pid : ℕ) (now : Bool) (before : List Page) (q : Page) (l : Kernel)
-    (j : Option (List ℕ)) (answer : Served) → (b : GrownBefore A s old between holds image pid now before q) → PageLeads A (after A s b.entry) between.kernel image before l j answer
+grown_page_leads : (A : Inputs) (s : State) (old between : Standing) (holds : Option (List NamedFile)) (image : List ℕ) (pid : ℕ) (now : Bool)
+    (before : List Page) (q : Page) (l : Kernel)
+    (j : Option (List ℕ)) (answer : Served) → (b : GrownBefore A s old between holds image pid now before q)
+    → PageLeads A (after A s b.entry) between.kernel image before l j answer
     → PageLeads A s old.kernel image before l j answer
 grown_page_leads A s old between holds image pid now before q l j answer b h = go answer h
   where
@@ -86,9 +92,12 @@ abbrev pub Leading : (Served → Page → Standing → Type 0) → Inputs → St
 Leading Touched A new holds image j pid now before =
     (s : State) (old : Standing) (q : Page) (answer : Served) → WaitsFor A s old holds image pid now before q → Touched answer q old → PageLeads A s old.kernel image before new.kernel j answer
 
-pub access_leads : (Touched : Served → Page → Standing → Type 0) (A : Inputs) (s : State) (old new : Standing) (holds : Option (List NamedFile)) (image : List ℕ) (j : Option (List ℕ)) (pid : ℕ)
-    (now : Bool) (p : Process) (x : Space) (address : ℕ) (write : Bool) (before : List Page) (answer : Served) → Leading Touched A new holds image j pid now before
-    → RunsOn A s old holds image pid now p x → Waits A s old p x address write before → AccessComes Touched (access_by old.kernel pid address write) answer pid old new (Some image) j
+pub access_leads : (Touched : Served → Page → Standing → Type 0) (A : Inputs) (s : State) (old new : Standing) (holds : Option (List NamedFile))
+    (image : List ℕ) (j : Option (List ℕ)) (pid : ℕ)
+    (now : Bool) (p : Process) (x : Space) (address : ℕ) (write : Bool) (before : List Page) (answer : Served)
+    → Leading Touched A new holds image j pid now before
+    → RunsOn A s old holds image pid now p x → Waits A s old p x address write before
+    → AccessComes Touched (access_by old.kernel pid address write) answer pid old new (Some image) j
     → ServeLeads A s old new holds image j pid now p x answer
 access_leads Touched A s old new holds image j pid now p x address write before answer lead r (inl w) h =
     let asked : access_by old.kernel pid address write ≡ accesses.Page w.0.page = same_access A s old holds image pid now p x address write r ∙ w.0.asks in
@@ -127,7 +136,8 @@ access_leads Touched A s old new holds image j pid now p x address write before 
     go served.NoFrame g = served_leads A s old new holds image j pid now p x before served.NoFrame all_locked (grown served.NoFrame g)
     go (served.Signal number) g = served_leads A s old new holds image j pid now p x before (served.Signal number) all_locked (grown (served.Signal number) g)
 
-pub serve_made : (A : Inputs) (s : State) (old new : Standing) (holds : Option (List NamedFile)) (image : List ℕ) (j : Option (List ℕ)) (pid : ℕ) (p : Process) (x : Space) (address : ℕ)
+pub serve_made : (A : Inputs) (s : State) (old new : Standing) (holds : Option (List NamedFile)) (image : List ℕ) (j : Option (List ℕ)) (pid : ℕ) (p : Process)
+    (x : Space) (address : ℕ)
     (write : Bool) (before : List Page) (answer : Served) → RunsOn A s old holds image pid false p x → Waits A s old p x address write before
     → AccessComes (λ came q from. TouchedAs came q from new holds (Some image) j) (access_by old.kernel pid address write) answer pid old new (Some image) j
     → ServeLeads A s old new holds image j pid false p x answer
@@ -135,9 +145,11 @@ serve_made A s old new holds image j pid p x address write before answer r w h =
     access_leads (λ came q from. TouchedAs came q from new holds (Some image) j) A s old new holds image j pid false p x address write before answer
     (λ t from q came u k. page_leads A t from new holds image j pid before q came u k) r w h
 
-pub serve_now_made : (A : Inputs) (s : State) (old new : Standing) (holds : Option (List NamedFile)) (image : List ℕ) (j : Option (List ℕ)) (pid : ℕ) (p : Process) (x : Space) (address : ℕ)
+pub serve_now_made : (A : Inputs) (s : State) (old new : Standing) (holds : Option (List NamedFile)) (image : List ℕ) (j : Option (List ℕ)) (pid : ℕ)
+    (p : Process) (x : Space) (address : ℕ)
     (write : Bool) (before : List Page) (answer : Served) → RunsOn A s old holds image pid true p x → Waits A s old p x address write before
-    → AccessComes (λ came q from. TouchedNow before came q from new holds (Some image) j) (access_by old.kernel pid address write) answer pid old new (Some image) j
+    → AccessComes (λ came q from. TouchedNow before came q from new holds (Some image) j)
+    (access_by old.kernel pid address write) answer pid old new (Some image) j
     → ServeLeads A s old new holds image j pid true p x answer
 serve_now_made A s old new holds image j pid p x address write before answer r w h =
     access_leads (λ came q from. TouchedNow before came q from new holds (Some image) j) A s old new holds image j pid true p x address write before answer
@@ -145,8 +157,10 @@ serve_now_made A s old new holds image j pid p x address write before answer r w
 
 -- Stops.
 
-pub access_stops : (A : Inputs) (s : State) (old new : Standing) (holds : Option (List NamedFile)) (image : List ℕ) (j : Option (List ℕ)) (pid : ℕ) (now : Bool) (p : Process) (x : Space)
-    (address : ℕ) (write : Bool) (before kept : List Page) (stop : Stop) → (now ≡ true → kept ≡ before) → RunsOn A s old holds image pid now p x → Waits A s old p x address write before
+pub access_stops : (A : Inputs) (s : State) (old new : Standing) (holds : Option (List NamedFile)) (image : List ℕ) (j : Option (List ℕ)) (pid : ℕ) (now : Bool)
+    (p : Process) (x : Space)
+    (address : ℕ) (write : Bool) (before kept : List Page) (stop : Stop) → (now ≡ true → kept ≡ before) → RunsOn A s old holds image pid now p x
+    → Waits A s old p x address write before
     → AccessStops now kept (access_by old.kernel pid address write) pid old new holds (Some image) j stop → StopLeads A s old.kernel image stop new j
 access_stops A s old new holds image j pid now p x address write before kept stop k r (inl w) h =
     let asked : access_by old.kernel pid address write ≡ accesses.Page w.0.page = same_access A s old holds image pid now p x address write r ∙ w.0.asks in

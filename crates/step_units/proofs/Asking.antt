@@ -46,7 +46,8 @@ idle_ends A s c m e = record { clear = c.clear; between = c.between; over = ap (
 
 pub interrupt_made : (A : Inputs) (s : State) (old : Standing) (l : Kernel) (holds : Option (List NamedFile)) (image : List ℕ) (j : Option (List ℕ))
     → MachineAt A s old holds image → IsClear s
-    → s.mark ≡ interrupt_mark s.place.transfers → 0 < length s.place.transfers → IsDone (sources old holds) (Some image) old.kernel l → ImageAfter old.kernel (Some image) j
+    → s.mark ≡ interrupt_mark s.place.transfers → 0 < length s.place.transfers → IsDone (sources old holds) (Some image) old.kernel l
+    → ImageAfter old.kernel (Some image) j
     → LineLeads A s old.kernel image l j
 unfolding after
 interrupt_made A s old l holds image j at c m n d i =
@@ -67,7 +68,8 @@ interrupt_made A s old l holds image j at c m n d i =
 
 pub interrupt_stops : (A : Inputs) (s : State) (old new : Standing) (holds : Option (List NamedFile)) (image : List ℕ) (j : Option (List ℕ)) (stop : Stop)
     → MachineAt A s old holds image → IsClear s
-    → s.mark ≡ interrupt_mark s.place.transfers → 0 < length s.place.transfers → StopsEnding old new (Some image) j stop → StopLeads A s old.kernel image stop new j
+    → s.mark ≡ interrupt_mark s.place.transfers → 0 < length s.place.transfers → StopsEnding old new (Some image) j stop
+    → StopLeads A s old.kernel image stop new j
 interrupt_stops A s old new holds image j stop at c m n x = record {
   units = [];
   state = s;

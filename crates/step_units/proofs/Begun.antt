@@ -66,7 +66,8 @@ whole_due (Some (entries.Out p bytes)) pid es h = absurd h
 whole_due _ pid es h = refl
 
 -- the step's first entry comes, once its pieces are found and no space has to settle
-pub begins : (A : Inputs) (s : State) (k : Kernel) (image : List ℕ) (pid : ℕ) (now : Bool) (p : Process) (x : Space) (step : Step) (e : Entry) (es : List Entry) (found : Holdings)
+pub begins : (A : Inputs) (s : State) (k : Kernel) (image : List ℕ) (pid : ℕ) (now : Bool) (p : Process) (x : Space) (step : Step) (e : Entry)
+    (es : List Entry) (found : Holdings)
     → At A s k image → IsRunning A s pid now p x → IsBetween s.point.last → step_at A s.point pid ≡ step → step.entries ≡ e ∷ es
     → place_all A.swap_blocks k.holdings (asked (facts_of A.images) k pid step.change) ≡ Ok found → must_settle A s pid ≡ false → act A s pid ≡ Some e
 begins A s k image pid now p x step e es found at r b i first f t =
@@ -96,12 +97,14 @@ out_unrefused o pid bytes l = ap (λ (z : Option Entry). is_refused z pid) l
 
 -- the step of who was refused
 pub begins_refused : (A : Inputs) (s : State) (pid : ℕ) (now : Bool) (p : Process) (x : Space) (step : Step) (e : Entry) (es : List Entry)
-    → IsRunning A s pid now p x → s.point.last ≡ Some (entries.Refused pid) → step_at A s.point pid ≡ step → step.entries ≡ e ∷ es → must_settle A s pid ≡ false → act A s pid ≡ Some e
+    → IsRunning A s pid now p x → s.point.last ≡ Some (entries.Refused pid) → step_at A s.point pid ≡ step → step.entries ≡ e ∷ es
+    → must_settle A s pid ≡ false → act A s pid ≡ Some e
 begins_refused A s pid now p x step e es r l i first t =
     refused_comes A s pid e es (on_steps A s s.mark pid now r.runs.on) l (ap (λ (z : Step). z.entries) i ∙ first) t
 
 -- the rest of a step of which bytes went out
-pub goes_on_behind : (A : Inputs) (s : State) (k : Kernel) (image : List ℕ) (pid : ℕ) (now : Bool) (p : Process) (x : Space) (step : Step) (bytes : List ℕ) (o e : Entry) (es : List Entry)
+pub goes_on_behind : (A : Inputs) (s : State) (k : Kernel) (image : List ℕ) (pid : ℕ) (now : Bool) (p : Process) (x : Space) (step : Step) (bytes : List ℕ)
+    (o e : Entry) (es : List Entry)
     (found : Holdings)
     → At A s k image → IsRunning A s pid now p x → s.point.last ≡ Some (entries.Out pid bytes) → step_at A s.point pid ≡ step → step.entries ≡ o ∷ e ∷ es
     → place_all A.swap_blocks k.holdings (asked (facts_of A.images) k pid step.change) ≡ Ok found → must_settle A s pid ≡ false → act A s pid ≡ Some e

@@ -53,7 +53,13 @@ step_ends A s pid (entries.Ran q n) c d =
 step_ends A s pid (entries.Grew q n) c d =
     record { count = after_count A s (entries.Grew q n); lines = refl; mark = refl; last = last_is A s q pid (entries.Grew q n) c d; flat = flat_is A s q pid (entries.Grew q n) c d }
 step_ends A s pid (entries.Call q n b r0 r1) c d =
-    record { count = after_count A s (entries.Call q n b r0 r1); lines = refl; mark = refl; last = last_is A s q pid (entries.Call q n b r0 r1) c d; flat = flat_is A s q pid (entries.Call q n b r0 r1) c d }
+    record {
+      count = after_count A s (entries.Call q n b r0 r1);
+      lines = refl;
+      mark = refl;
+      last = last_is A s q pid (entries.Call q n b r0 r1) c d;
+      flat = flat_is A s q pid (entries.Call q n b r0 r1) c d;
+    }
 step_ends A s pid (entries.Sleeps q) c d =
     record { count = after_count A s (entries.Sleeps q); lines = refl; mark = refl; last = last_is A s q pid (entries.Sleeps q) c d; flat = flat_is A s q pid (entries.Sleeps q) c d }
 step_ends A s pid (entries.Ended q n) c d =

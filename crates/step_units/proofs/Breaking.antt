@@ -170,7 +170,8 @@ module _ (A : Inputs) (s : State) (old : Standing) (holds : Option (List NamedFi
             let few : pages ≤ 4096 = let a = few_held in let b = same in omega (arith, a, b) in
             let got : Replied old new pid system_calls.Break effect.regs (Does after change) c = subst (λ (y : Reply). Replied old new pid system_calls.Break effect.regs y c) (few_is few) g.replied in
             subst (λ (z : Called). CallLeads A s k image x z new.kernel (Some image)) (sym got.0)
-            (answers A s old new.kernel holds image pid now p x effect system_calls.Break r after change k.holdings h m.names called (ap (replied_step A.images flat p system_calls.Break effect) (few_is few)) tt tt
+            (answers A s old new.kernel holds image pid now p x effect system_calls.Break r after change k.holdings h m.names called
+            (ap (replied_step A.images flat p system_calls.Break effect) (few_is few)) tt tt
             (kept_pages x (is_borrower flat.processes pid) pages (stack_held k pid) (let a = data_is in let b = same in omega (arith, a, b)) stack_is)
             (none_wanted (let b = same in omega (arith, b))) got.1.step)
         go (inr many) =
@@ -185,7 +186,8 @@ module _ (A : Inputs) (s : State) (old : Standing) (holds : Option (List NamedFi
         let got : Replied (with_pieces old g.found) new pid system_calls.Break effect.regs (Does after change) c =
         subst (λ (y : Reply). Replied (with_pieces old g.found) new pid system_calls.Break effect.regs y c) (few_is g.few) g.replied in
         subst (λ (z : Called). CallLeads A s k image x z new.kernel (Some image)) (sym got.0)
-        (answers A s old new.kernel holds image pid now p x effect system_calls.Break r after change g.found h m.names called (ap (replied_step A.images flat p system_calls.Break effect) (few_is g.few)) tt tt
+        (answers A s old new.kernel holds image pid now p x effect system_calls.Break r after change g.found h m.names called
+        (ap (replied_step A.images flat p system_calls.Break effect) (few_is g.few)) tt tt
         (kept_pages x (is_borrower flat.processes pid) pages (stack_held k pid) (let a = data_is in let b = g.more in omega (arith, a, b)) stack_is)
         (sym found_is ∙ g.finds) got.1.step)
 

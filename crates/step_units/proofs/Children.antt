@@ -55,9 +55,11 @@ reply_told k F regs change t =
     ∙ ap (λ (n : ℕ). child_by (is_below_limit k) regs n (change n)) (sym t.next_pid)
 
 -- the process waits for no page, and its call comes to that
-pub child_called : (A : Inputs) (s : State) (old : Standing) (holds : Option (List NamedFile)) (image : List ℕ) (pid : ℕ) (now : Bool) (p : Process) (x : Space) (effect : Effect) (call : SystemCall)
+pub child_called : (A : Inputs) (s : State) (old : Standing) (holds : Option (List NamedFile)) (image : List ℕ) (pid : ℕ) (now : Bool) (p : Process) (x : Space)
+    (effect : Effect) (call : SystemCall)
     (change : ℕ → Change)
-    → AsksChild call change → RunsOn A s old holds image pid now p x → MakesCall old p x effect call → IsCalledFor A s p x call effect (Ok (child_told old.kernel effect.regs change))
+    → AsksChild call change → RunsOn A s old holds image pid now p x → MakesCall old p x effect call
+    → IsCalledFor A s p x call effect (Ok (child_told old.kernel effect.regs change))
 child_called A s old holds image pid now p x effect call change asks h m =
     let F : FlatState = s.point.flat in
     let memory : Answers = kernel_answers old.kernel x.sid in

@@ -32,7 +32,8 @@ use Rattle.step_units.proofs.Filling.{LeadsTo, stays, goes_on, forced_fill, forc
 -- The parent's page.
 
 -- once it is valid, the child's page is filled by a copy
-record Brought (A : Inputs) (s : State) (m served : Standing) (holds : Option (List NamedFile)) (image : List ℕ) (i : Option (List ℕ)) (child parent : Page) (ds : List Due) : Type 0 where
+record Brought (A : Inputs) (s : State) (m served : Standing) (holds : Option (List NamedFile)) (image : List ℕ) (i : Option (List ℕ)) (child parent : Page)
+    (ds : List Due) : Type 0 where
   pub units : List Entry
   pub led : LeadsDue A s m.kernel image units served.kernel i
   pub at : At A led.state served.kernel led.leads.behind
@@ -40,9 +41,11 @@ record Brought (A : Inputs) (s : State) (m served : Standing) (holds : Option (L
   pub due : led.state.place.due ≡ CopyOf child parent ∷ ds
   pub first : FillsFirst led.state.place led.state.place.due (entries.Copy child) (parent ∷ [])
 
-brought : (A : Inputs) (s : State) (m served : Standing) (holds : Option (List NamedFile)) (image : List ℕ) (i : Option (List ℕ)) (child parent : Page) (ds : List Due)
+brought : (A : Inputs) (s : State) (m served : Standing) (holds : Option (List NamedFile)) (image : List ℕ) (i : Option (List ℕ))
+    (child parent : Page) (ds : List Due)
     → At A s m.kernel image
-    → AreImages m.images holds A.images → s.place.due ≡ CopyOf child parent ∷ ds → ServesNow (parent ∷ []) parent m served holds (Some image) i → Brought A s m served holds image i child parent ds
+    → AreImages m.images holds A.images → s.place.due ≡ CopyOf child parent ∷ ds → ServesNow (parent ∷ []) parent m served holds (Some image) i
+    → Brought A s m served holds image i child parent ds
 brought A s m served holds image i child parent ds at images d serves =
     let us : List Entry = serves.0.units in
     let led : LeadsDue A s m.kernel image us served.kernel i =
@@ -67,9 +70,11 @@ copied_images A old new holds i j child parent images c =
     subst (λ (ns : List ImageNamed). AreImages ns holds A.images)
     (sym (ap (λ (m : Standing). m.images) c.copies ∙ c.forces.makes.beside.images ∙ c.serves.0.makes.beside.images)) images
 
-pub page_copied : (A : Inputs) (s : State) (old new : Standing) (holds : Option (List NamedFile)) (image : List ℕ) (j : Option (List ℕ)) (child parent : Page) (ds : List Due)
+pub page_copied : (A : Inputs) (s : State) (old new : Standing) (holds : Option (List NamedFile)) (image : List ℕ) (j : Option (List ℕ))
+    (child parent : Page) (ds : List Due)
     → At A s old.kernel image
-    → AreImages old.images holds A.images → s.place.due ≡ CopyOf child parent ∷ ds → CopiesPage child parent old new holds (Some image) j → LeadsTo A s old.kernel image ds new.kernel j
+    → AreImages old.images holds A.images → s.place.due ≡ CopyOf child parent ∷ ds → CopiesPage child parent old new holds (Some image) j
+    → LeadsTo A s old.kernel image ds new.kernel j
 page_copied A s old new holds image j child parent ds at images d c =
     let b : Brought A s old c.served holds image c.behind child parent ds = brought A s old c.served holds image c.behind child parent ds at images d c.serves in
     let t : State = b.led.state in
@@ -78,7 +83,8 @@ page_copied A s old new holds image j child parent ds at images d c =
     forced_fill A t c.served c.roomy holds behind j (CopyOf child parent) ds (parent ∷ []) b.at b.images b.due b.first
     (subst (λ (o : Option (List ℕ)). Forced (parent ∷ []) c.served c.roomy holds o j) b.led.leads.told c.forces) in
     subst (λ (m : Standing). LeadsTo A s old.kernel image ds m.kernel j) (sym c.copies)
-    (goes_on A s t old.kernel c.served.kernel (copy_step c.roomy.kernel child) image behind j b.units ds (led_told A s t old.kernel c.served.kernel image c.behind b.units b.led.leads) b.led.same filled)
+    (goes_on A s t old.kernel c.served.kernel (copy_step c.roomy.kernel child) image behind j b.units ds
+    (led_told A s t old.kernel c.served.kernel image c.behind b.units b.led.leads) b.led.same filled)
 
 -- All pages.
 
@@ -102,8 +108,10 @@ all_copied (CopyOf child parent ∷ ds) A s old new holds image j at images d c 
 
 -- Stops.
 
-serving_stops : (A : Inputs) (s : State) (m new : Standing) (holds : Option (List NamedFile)) (image : List ℕ) (j : Option (List ℕ)) (child parent : Page) (ds : List Due) (stop : Stop)
-    → At A s m.kernel image → AreImages m.images holds A.images → s.place.due ≡ CopyOf child parent ∷ ds → StopsServing true (parent ∷ []) parent m new holds (Some image) j stop
+serving_stops : (A : Inputs) (s : State) (m new : Standing) (holds : Option (List NamedFile)) (image : List ℕ) (j : Option (List ℕ)) (child parent : Page)
+    (ds : List Due) (stop : Stop)
+    → At A s m.kernel image → AreImages m.images holds A.images → s.place.due ≡ CopyOf child parent ∷ ds
+    → StopsServing true (parent ∷ []) parent m new holds (Some image) j stop
     → StopLeads A s m.kernel image stop new j
 serving_stops A s m new holds image j child parent ds stop at images d h =
     let led : LeadsDue A s m.kernel image h.units h.kernel h.image =
@@ -116,8 +124,10 @@ serving_stops A s m new holds image j child parent ds stop at images d h =
     stops_then A s t m.kernel h.kernel image behind j h.units stop new (led_told A s t m.kernel h.kernel image h.image h.units led.leads)
     (stop_at A t h.kernel behind h.entry stop new j next (subst (λ (o : Option (List ℕ)). StopsAt h.entry h.kernel o stop new j) led.leads.told h.at))
 
-behind_stops : (A : Inputs) (s : State) (old new : Standing) (holds : Option (List NamedFile)) (image : List ℕ) (j : Option (List ℕ)) (child parent : Page) (ds : List Due) (stop : Stop)
-    → At A s old.kernel image → AreImages old.images holds A.images → s.place.due ≡ CopyOf child parent ∷ ds → StopsBehind child parent old new holds (Some image) j stop
+behind_stops : (A : Inputs) (s : State) (old new : Standing) (holds : Option (List NamedFile)) (image : List ℕ) (j : Option (List ℕ)) (child parent : Page)
+    (ds : List Due) (stop : Stop)
+    → At A s old.kernel image → AreImages old.images holds A.images → s.place.due ≡ CopyOf child parent ∷ ds
+    → StopsBehind child parent old new holds (Some image) j stop
     → StopLeads A s old.kernel image stop new j
 behind_stops A s old new holds image j child parent ds stop at images d h =
     let b : Brought A s old h.served holds image h.behind child parent ds = brought A s old h.served holds image h.behind child parent ds at images d h.serves in
@@ -131,15 +141,18 @@ behind_stops A s old new holds image j child parent ds stop at images d h =
     ] in
     stops_then A s t old.kernel h.served.kernel image behind j b.units stop new (led_told A s t old.kernel h.served.kernel image h.behind b.units b.led.leads) stopped
 
-pub page_stops : (A : Inputs) (s : State) (old new : Standing) (holds : Option (List NamedFile)) (image : List ℕ) (j : Option (List ℕ)) (child parent : Page) (ds : List Due) (stop : Stop)
-    → At A s old.kernel image → AreImages old.images holds A.images → s.place.due ≡ CopyOf child parent ∷ ds → StopsPage child parent old new holds (Some image) j stop
+pub page_stops : (A : Inputs) (s : State) (old new : Standing) (holds : Option (List NamedFile)) (image : List ℕ) (j : Option (List ℕ)) (child parent : Page)
+    (ds : List Due) (stop : Stop)
+    → At A s old.kernel image → AreImages old.images holds A.images → s.place.due ≡ CopyOf child parent ∷ ds
+    → StopsPage child parent old new holds (Some image) j stop
     → StopLeads A s old.kernel image stop new j
 page_stops A s old new holds image j child parent ds stop at images d h = elim h [
   | inl x ↦ serving_stops A s old new holds image j child parent ds stop at images d x
   | inr x ↦ behind_stops A s old new holds image j child parent ds stop at images d x
 ]
 
-pub copying_stops : (ds : List Due) (A : Inputs) (s : State) (old new : Standing) (holds : Option (List NamedFile)) (image : List ℕ) (j : Option (List ℕ)) (stop : Stop)
+pub copying_stops : (ds : List Due) (A : Inputs) (s : State) (old new : Standing) (holds : Option (List NamedFile)) (image : List ℕ)
+    (j : Option (List ℕ)) (stop : Stop)
     → At A s old.kernel image
     → AreImages old.images holds A.images → s.place.due ≡ ds → StopsCopying ds old new holds (Some image) j stop → StopLeads A s old.kernel image stop new j
 copying_stops [] A s old new holds image j stop at images d h = absurd h

@@ -135,7 +135,8 @@ ends_step pid (entries.Ran q n) c = absurd c
 ends_step pid _ c = c
 
 -- an entry with the change of its step, once the pieces were found, where no space passes and no page is due after it
-pub entered : (A : Inputs) (s : State) (old : Standing) (l : Kernel) (holds : Option (List NamedFile)) (image : List ℕ) (pid : ℕ) (now : Bool) (p : Process) (x : Space) (step : Step) (e : Entry)
+pub entered : (A : Inputs) (s : State) (old : Standing) (l : Kernel) (holds : Option (List NamedFile)) (image : List ℕ) (pid : ℕ) (now : Bool) (p : Process)
+    (x : Space) (step : Step) (e : Entry)
     (found : Holdings)
     → MachineAt A s old holds image → IsRunning A s pid now p x → wanted A s ≡ None → act A s pid ≡ Some e → Completes pid e → due_at A s.point pid ≡ e ∷ []
     → step_at A s.point pid ≡ step → step.writes ≡ [] → PassesNone step.change → KeepsDue step.change
@@ -151,7 +152,8 @@ entered A s old l holds image pid now p x step e found h r w a c d i n passes du
     (ap (λ (y : Kernel). y.place.due) m ∙ change_due (facts_named old.images) (with_holdings k found) pid step.regs e step.change dues ∙ ap (λ (y : Placement). y.due) h.at.stands.place ∙ r.runs.clear)
 
 -- the same between two steps, where no space has to settle
-pub enters : (A : Inputs) (s : State) (old : Standing) (l : Kernel) (holds : Option (List NamedFile)) (image : List ℕ) (pid : ℕ) (now : Bool) (p : Process) (x : Space) (step : Step) (e : Entry)
+pub enters : (A : Inputs) (s : State) (old : Standing) (l : Kernel) (holds : Option (List NamedFile)) (image : List ℕ) (pid : ℕ) (now : Bool) (p : Process)
+    (x : Space) (step : Step) (e : Entry)
     (found : Holdings)
     → RunsOn A s old holds image pid now p x → wanted A s ≡ None → must_settle A s pid ≡ false → Completes pid e
     → step_at A s.point pid ≡ step → step.entries ≡ e ∷ [] → step.writes ≡ [] → PassesNone step.change → KeepsDue step.change
@@ -188,7 +190,8 @@ full_next A s k image (entries.Call q number carry r0 r1) new n o b =
     record { entry = entries.Call q number carry r0 r1; next = n; full = λ _. (b, longer k.journal (entries.Call q number carry r0 r1)); cause = inl refl; spoils = refl }
 full_next A s k image (entries.Refused q) new n o b = record { entry = entries.Refused q; next = n; full = λ _. (b, longer k.journal (entries.Refused q)); cause = inl refl; spoils = refl }
 full_next A s k image (entries.Sleeps q) new n o b = record { entry = entries.Sleeps q; next = n; full = λ _. (b, longer k.journal (entries.Sleeps q)); cause = inl refl; spoils = refl }
-full_next A s k image (entries.Ended q status) new n o b = record { entry = entries.Ended q status; next = n; full = λ _. (b, longer k.journal (entries.Ended q status)); cause = inl refl; spoils = refl }
+full_next A s k image (entries.Ended q status) new n o b =
+    record { entry = entries.Ended q status; next = n; full = λ _. (b, longer k.journal (entries.Ended q status)); cause = inl refl; spoils = refl }
 full_next A s k image _ new n o b = absurd o
 
 -- a run stops in a kernel, before an entry
@@ -236,7 +239,8 @@ pub stopped_before : (A : Inputs) (s : State) (old new : Standing) (image : List
 stopped_before A s old new image pid now e stop r w a o h = stopped_in A s old.kernel new image pid now e stop r w a o (stops_in old new stop h)
 
 -- for want of memory it stops anywhere
-pub stopped_short : (A : Inputs) (s : State) (old new : Standing) (image : List ℕ) (stop : Stop) → HasStopped old new → stop ≡ stops.NoMemory → old.before ≡ old.kernel.holdings
+pub stopped_short : (A : Inputs) (s : State) (old new : Standing) (image : List ℕ) (stop : Stop) → HasStopped old new → stop ≡ stops.NoMemory
+    → old.before ≡ old.kernel.holdings
     → StopLeads A s old.kernel image stop new (Some image)
 stopped_short A s old new image stop h c w = record {
   units = [];

@@ -162,7 +162,8 @@ module _ (A : Inputs) (s : State) (old : Standing) (holds : Option (List NamedFi
             filled c.between new c.told j (imaged A s old holds image pid now p x effect on makes after_regs number top reads c.between c.told ok c.started) c.fills
         go false none c =
             subst (λ (o : Option (List ℕ)). StepLeads A s old.kernel image 1 new.kernel o) (sym c.1)
-            (refused_fails A s old holds image pid now p x effect Execve (Ok (Does after_regs (changes.Exec number top))) after_regs (changes.Exec number top) makes.names called refl refl (no_pieces none) new.kernel c.0.answer.step)
+            (refused_fails A s old holds image pid now p x effect Execve (Ok (Does after_regs (changes.Exec number top))) after_regs (changes.Exec number top) makes.names called refl refl
+            (no_pieces none) new.kernel c.0.answer.step)
 
     -- as the process leaves its space
     finding_stops : (new : Standing) (j : Option (List ℕ)) (stop : Stop) → StopsFinding (image_found number) old new pid holds (Some image) j stop → StopLeads A s old.kernel image stop new j
@@ -180,14 +181,16 @@ module _ (A : Inputs) (s : State) (old : Standing) (holds : Option (List NamedFi
 
         alive : is_ok (image_found number old) ≡ true → StopsAlive old new pid holds (Some image) j stop → StopLeads A s old.kernel image stop new j
         alive ok y = elim y [
-          | inl z ↦ stops_leaving A s old holds image pid now p x on.machine (exec_gives A s old holds image pid now p x effect on makes after_regs number top reads ok) u new j stop (inl on.between) first tt z
+          | inl z ↦ stops_leaving A s old holds image pid now p x on.machine (exec_gives A s old holds image pid now p x effect on makes after_regs number top reads ok) u new j stop
+              (inl on.between) first tt z
           | inr z ↦ once ok z
         ]
 
     without_stops : (new : Standing) (j : Option (List ℕ)) (stop : Stop) → StopsWithout old new pid number (Some image) j stop → StopLeads A s old.kernel image stop new j
     without_stops new j stop h =
         subst (λ (o : Option (List ℕ)). StopLeads A s old.kernel image stop new o) (sym h.image_same)
-        (refused_stops A s old holds image pid now p x effect Execve (Ok (Does after_regs (changes.Exec number top))) after_regs (changes.Exec number top) makes.names called refl refl (no_pieces h.none) new stop h.stops)
+        (refused_stops A s old holds image pid now p x effect Execve (Ok (Does after_regs (changes.Exec number top))) after_regs (changes.Exec number top) makes.names called refl refl
+        (no_pieces h.none) new stop h.stops)
 
     behind_stops : (new : Standing) (j : Option (List ℕ)) (stop : Stop) → StopsBehindStart old new pid after_regs number top holds (Some image) j stop → StopLeads A s old.kernel image stop new j
     behind_stops new j stop h =

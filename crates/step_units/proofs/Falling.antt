@@ -76,7 +76,8 @@ ready_for : (A : Inputs) (s : State) (k : Kernel) (image : List ℕ) (pid : ℕ)
     → run (kernel_answers k x.sid) (instruction p.regs) ≡ r → IsWhole r → IsReadyFor A s p x r
 ready_for A s k image pid now p x r at i e w = subst (IsReadyFor A s p x) e (hit_ready A s k image pid now p x at i (subst IsWhole (sym e) w))
 
-pub falls : (A : Inputs) (s : State) (m : Standing) (holds : Option (List NamedFile)) (image : List ℕ) (pid : ℕ) (now : Bool) (p : Process) (x : Space) (address : ℕ)
+pub falls : (A : Inputs) (s : State) (m : Standing) (holds : Option (List NamedFile)) (image : List ℕ) (pid : ℕ) (now : Bool) (p : Process)
+    (x : Space) (address : ℕ)
     → RunsOn A s m holds image pid now p x → run (kernel_answers m.kernel x.sid) (instruction p.regs) ≡ Err (Below address) → Falls A s m pid p x address
 falls A s m holds image pid now p x address r e = record {
   ready = ready;
@@ -129,8 +130,10 @@ falls A s m holds image pid now p x address r e = record {
         ∙ step_same A m.kernel F pid at.fit at.stands.keeps.stands.texts at.stands.keeps.numbered at.run.numbers at.stands.keeps.coupled.tables (on_steps A s s.mark pid now i.runs.on)
 
 -- an access of the byte asks for growth
-pub asks_growth : (A : Inputs) (s : State) (m : Standing) (holds : Option (List NamedFile)) (image : List ℕ) (pid : ℕ) (now : Bool) (p : Process) (x : Space) (address : ℕ) (write : Bool)
-    → RunsOn A s m holds image pid now p x → Falls A s m pid p x address → access_to m.kernel.place x.sid address write ≡ accesses.Growth x.sid (pages_down_to address)
+pub asks_growth : (A : Inputs) (s : State) (m : Standing) (holds : Option (List NamedFile)) (image : List ℕ) (pid : ℕ) (now : Bool) (p : Process) (x : Space)
+    (address : ℕ) (write : Bool)
+    → RunsOn A s m holds image pid now p x → Falls A s m pid p x address
+    → access_to m.kernel.place x.sid address write ≡ accesses.Growth x.sid (pages_down_to address)
 asks_growth A s m holds image pid now p x address write r f =
     ap (λ (spot : Spot). access_at x.sid (image_of m.kernel.place x.sid) address spot write)
     ((same_spots A s m.kernel image pid p x r.machine.at r.running.here r.running.holds).spots address ∙ f.below)
@@ -174,7 +177,8 @@ grown_first A s m pid p x address f =
     ap (λ (z : Step). z.entries) f.step ∙ ap (λ (n : ℕ). let e : Entry = entries.Grew n (pages_down_to address) in e ∷ []) f.number
 
 -- it comes next where its pieces are found, or else the entry that says so
-pub growth_next : (A : Inputs) (s : State) (m : Standing) (holds : Option (List NamedFile)) (image : List ℕ) (pid : ℕ) (now : Bool) (p : Process) (x : Space) (address : ℕ)
+pub growth_next : (A : Inputs) (s : State) (m : Standing) (holds : Option (List NamedFile)) (image : List ℕ) (pid : ℕ) (now : Bool) (p : Process)
+    (x : Space) (address : ℕ)
     → RunsOn A s m holds image pid now p x → Falls A s m pid p x address → is_ok (growth_found m pid (pages_down_to address)) ≡ true
     → next_unit A s ≡ Some (entries.Grew pid (pages_down_to address))
 growth_next A s m holds image pid now p x address r f h =
@@ -183,7 +187,8 @@ growth_next A s m holds image pid now p x address r f h =
     (step_begins A s pid (entries.Grew pid (pages_down_to address)) [] (on_steps A s s.mark pid now i.runs.on) r.between (grown_first A s m pid p x address f) (f.finds ∙ h)
     (unsettled A s m pid now p x address i f))
 
-pub refusal_next : (A : Inputs) (s : State) (m : Standing) (holds : Option (List NamedFile)) (image : List ℕ) (pid : ℕ) (now : Bool) (p : Process) (x : Space) (address : ℕ)
+pub refusal_next : (A : Inputs) (s : State) (m : Standing) (holds : Option (List NamedFile)) (image : List ℕ) (pid : ℕ) (now : Bool) (p : Process)
+    (x : Space) (address : ℕ)
     → RunsOn A s m holds image pid now p x → Falls A s m pid p x address → is_ok (growth_found m pid (pages_down_to address)) ≡ false
     → next_unit A s ≡ Some (entries.Refused pid)
 refusal_next A s m holds image pid now p x address r f h =

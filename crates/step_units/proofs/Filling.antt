@@ -104,7 +104,8 @@ fill_leads A s k image d ds locked at e first free =
       units = u ∷ [];
       state = after A s u;
       leads = first_leads A s (after A s u) k (fill_step k d) (fill_step k d) image (Some image) (Some image) u [] next (fill_made A s k image d)
-          (subst (λ (x : List ℕ). Leads A (after A s u) (fill_step k d) x [] (after A s u) (fill_step k d) (Some image)) (sym (fill_image k image d)) (none_leads A (after A s u) (fill_step k d) image));
+          (subst (λ (x : List ℕ). Leads A (after A s u) (fill_step k d) x [] (after A s u) (fill_step k d) (Some image)) (sym (fill_image k image d))
+          (none_leads A (after A s u) (fill_step k d) image));
       same = same.same;
       due = ap (λ (p : Placement). p.due) same.place ∙ fill_due (locked_now A s) (place_at s u) s.place d ∙ ap (λ (l : List Due). due_after l (due_page d)) e ∙ first_after d ds;
     }
@@ -112,13 +113,15 @@ fill_leads A s k image d ds locked at e first free =
 -- A frame is forced for it first.
 
 -- what forcing led to
-forced_to : (A : Inputs) (s : State) (m : Standing) (l : Kernel) (holds : Option (List NamedFile)) (image : List ℕ) (j : Option (List ℕ)) (e : Entry) (locked : List Page) (us : List Entry)
+forced_to : (A : Inputs) (s : State) (m : Standing) (l : Kernel) (holds : Option (List NamedFile)) (image : List ℕ) (j : Option (List ℕ)) (e : Entry)
+    (locked : List Page) (us : List Entry)
     → At A s m.kernel image → AreImages m.images holds A.images → FillsFirst s.place s.place.due e locked → Forces us m.kernel.place locked l.place
     → Made (ground m holds locked) us m.kernel (Some image) l j
     → (led : LeadsDue A s m.kernel image us l j) × FillsFirst led.state.place led.state.place.due e locked
 forced_to A s m l holds image j e locked us at images first forces made = forcing A (ground m holds locked) s m.kernel l image j e us at images first forces made
 
-pub forced_fill : (A : Inputs) (s : State) (m roomy : Standing) (holds : Option (List NamedFile)) (image : List ℕ) (j : Option (List ℕ)) (d : Due) (ds : List Due) (locked : List Page)
+pub forced_fill : (A : Inputs) (s : State) (m roomy : Standing) (holds : Option (List NamedFile)) (image : List ℕ) (j : Option (List ℕ)) (d : Due)
+    (ds : List Due) (locked : List Page)
     → At A s m.kernel image → AreImages m.images holds A.images → s.place.due ≡ d ∷ ds → FillsFirst s.place s.place.due (fill_entry d) locked
     → Forced locked m roomy holds (Some image) j → LeadsTo A s m.kernel image ds (fill_step roomy.kernel d) j
 forced_fill A s m roomy holds image j d ds locked at images e first f =
@@ -132,7 +135,8 @@ forced_fill A s m roomy holds image j d ds locked at images e first f =
 
 -- Stops.
 
-pub forcing_stops : (A : Inputs) (s : State) (m new : Standing) (holds : Option (List NamedFile)) (image : List ℕ) (j : Option (List ℕ)) (e : Entry) (locked : List Page) (stop : Stop)
+pub forcing_stops : (A : Inputs) (s : State) (m new : Standing) (holds : Option (List NamedFile)) (image : List ℕ) (j : Option (List ℕ)) (e : Entry)
+    (locked : List Page) (stop : Stop)
     → At A s m.kernel image → AreImages m.images holds A.images → FillsFirst s.place s.place.due e locked → StopsForcing locked m stop new holds (Some image) j
     → StopLeads A s m.kernel image stop new j
 forcing_stops A s m new holds image j e locked stop at images first h =
@@ -146,7 +150,8 @@ forcing_stops A s m new holds image j e locked stop at images first h =
     stops_then A s t m.kernel h.at image behind j h.units stop new (led_told A s t m.kernel h.at image h.image h.units to.0.leads)
     (stop_at A t h.at behind u stop new j next (subst (λ (o : Option (List ℕ)). StopsAt u h.at o stop new j) to.0.leads.told h.stops))
 
-pub fill_stops : (A : Inputs) (s : State) (m roomy new : Standing) (holds : Option (List NamedFile)) (image : List ℕ) (i j : Option (List ℕ)) (e : Entry) (locked : List Page) (stop : Stop)
+pub fill_stops : (A : Inputs) (s : State) (m roomy new : Standing) (holds : Option (List NamedFile)) (image : List ℕ) (i j : Option (List ℕ)) (e : Entry)
+    (locked : List Page) (stop : Stop)
     → At A s m.kernel image → AreImages m.images holds A.images → FillsFirst s.place s.place.due e locked → Forced locked m roomy holds (Some image) i
     → StopsAt e roomy.kernel i stop new j → StopLeads A s m.kernel image stop new j
 fill_stops A s m roomy new holds image i j e locked stop at images first f h =

@@ -42,10 +42,12 @@ use Rattle.step_units.proofs.Filling.{LeadsTo}
 use Rattle.step_units.proofs.Copying.{all_copied, copying_stops}
 
 -- the entry of the step was made, and the pages that are due then are copied
-copied_behind : (A : Inputs) (s t : State) (old between new : Standing) (holds : Option (List NamedFile)) (image : List ℕ) (j : Option (List ℕ)) (us : List Entry)
+copied_behind : (A : Inputs) (s t : State) (old between new : Standing) (holds : Option (List NamedFile)) (image : List ℕ)
+    (j : Option (List ℕ)) (us : List Entry)
     → AreImages between.images holds A.images
     → Leads A s old.kernel image us t between.kernel (Some image) → At A t between.kernel image → IsBetween t.point.last
-    → t.count ≡ s.count + 1 → t.lines ≡ s.lines → t.mark ≡ s.mark → CopiesAll between.kernel.place.due between new holds (Some image) j → StepLeads A s old.kernel image 1 new.kernel j
+    → t.count ≡ s.count + 1 → t.lines ≡ s.lines → t.mark ≡ s.mark → CopiesAll between.kernel.place.due between new holds (Some image) j
+    → StepLeads A s old.kernel image 1 new.kernel j
 copied_behind A s t old between new holds image j us images led at last count lines mark copies =
     let to : LeadsTo A t between.kernel image [] new.kernel j =
     all_copied between.kernel.place.due A t between new holds image j at images (ap (λ (q : Placement). q.due) (sym at.stands.place)) copies in
@@ -72,7 +74,8 @@ record HasForked (A : Inputs) (s : State) (old between : Standing) (holds : Opti
   pub lines : state.lines ≡ s.lines
   pub mark : state.mark ≡ s.mark
 
-new_space : (A : Inputs) (s : State) (old between : Standing) (holds : Option (List NamedFile)) (image : List ℕ) (pid : ℕ) (now : Bool) (p : Process) (x : Space) (effect : Effect)
+new_space : (A : Inputs) (s : State) (old between : Standing) (holds : Option (List NamedFile)) (image : List ℕ) (pid : ℕ) (now : Bool) (p : Process)
+    (x : Space) (effect : Effect)
     → Asking A s old holds image pid now p x effect system_calls.Fork (λ child. changes.Fork child) → is_below_limit old.kernel ≡ true
     → HasNewSpace old between pid effect.regs old.kernel.next_pid → HasForked A s old between holds image
 new_space A s old between holds image pid now p x effect a b h =
@@ -100,8 +103,10 @@ new_space A s old between holds image pid now p x effect a b h =
       mark = ends.mark;
     }
 
-asking : (A : Inputs) (s : State) (old : Standing) (holds : Option (List NamedFile)) (image : List ℕ) (pid : ℕ) (now : Bool) (p : Process) (x : Space) (effect : Effect)
-    → RunsOn A s old holds image pid now p x → MakesCall old p x effect system_calls.Fork → Asking A s old holds image pid now p x effect system_calls.Fork (λ child. changes.Fork child)
+asking : (A : Inputs) (s : State) (old : Standing) (holds : Option (List NamedFile)) (image : List ℕ) (pid : ℕ) (now : Bool) (p : Process)
+    (x : Space) (effect : Effect)
+    → RunsOn A s old holds image pid now p x → MakesCall old p x effect system_calls.Fork
+    → Asking A s old holds image pid now p x effect system_calls.Fork (λ child. changes.Fork child)
 asking A s old holds image pid now p x effect runs makes = record {
   asks = fork_asks;
   runs = runs;
@@ -110,8 +115,10 @@ asking A s old holds image pid now p x effect runs makes = record {
 }
 
 -- the machine stands at a state after the step, where the pages that are due, if any, are copied
-forked_to : (A : Inputs) (s : State) (old between : Standing) (holds : Option (List NamedFile)) (image : List ℕ) (pid : ℕ) (now : Bool) (p : Process) (x : Space) (effect : Effect)
-    → RunsOn A s old holds image pid now p x → MakesCall old p x effect system_calls.Fork → ForkAnswered old between pid effect.regs → HasForked A s old between holds image
+forked_to : (A : Inputs) (s : State) (old between : Standing) (holds : Option (List NamedFile)) (image : List ℕ) (pid : ℕ) (now : Bool) (p : Process)
+    (x : Space) (effect : Effect)
+    → RunsOn A s old holds image pid now p x → MakesCall old p x effect system_calls.Fork → ForkAnswered old between pid effect.regs
+    → HasForked A s old between holds image
 forked_to A s old between holds image pid now p x effect runs makes h = go (is_below_limit old.kernel) (finds_pieces old pid (changes.Fork old.kernel.next_pid)) refl refl h
   where
     a : Asking A s old holds image pid now p x effect system_calls.Fork (λ child. changes.Fork child)
@@ -138,7 +145,8 @@ forked_to A s old between holds image pid now p x effect runs makes h = go (is_b
         failed (ap (λ (m : Standing). m.images) y.answer.rest) (without_place A s old between holds image pid now p x effect system_calls.Fork (λ child. changes.Fork child) a b f y)
     go true true b f y = new_space A s old between holds image pid now p x effect a b y
 
-pub fork_made : (A : Inputs) (s : State) (old new : Standing) (holds : Option (List NamedFile)) (image : List ℕ) (behind : Option (List ℕ)) (pid : ℕ) (now : Bool) (p : Process) (x : Space)
+pub fork_made : (A : Inputs) (s : State) (old new : Standing) (holds : Option (List NamedFile)) (image : List ℕ) (behind : Option (List ℕ)) (pid : ℕ)
+    (now : Bool) (p : Process) (x : Space)
     (effect : Effect)
     → RunsOn A s old holds image pid now p x → MakesCall old p x effect system_calls.Fork → Forked old new pid effect.regs holds (Some image) behind
     → StepLeads A s old.kernel image 1 new.kernel behind
@@ -149,16 +157,19 @@ fork_made A s old new holds image behind pid now p x effect runs makes h =
 -- Stops.
 
 -- as a page is copied
-pub fork_stops_behind : (A : Inputs) (s : State) (old new : Standing) (holds : Option (List NamedFile)) (image : List ℕ) (behind : Option (List ℕ)) (pid : ℕ) (now : Bool) (p : Process) (x : Space)
+pub fork_stops_behind : (A : Inputs) (s : State) (old new : Standing) (holds : Option (List NamedFile)) (image : List ℕ) (behind : Option (List ℕ)) (pid : ℕ)
+    (now : Bool) (p : Process) (x : Space)
     (effect : Effect) (stop : Stop)
-    → RunsOn A s old holds image pid now p x → MakesCall old p x effect system_calls.Fork → StopsBehindFork old new pid effect.regs holds (Some image) behind stop
+    → RunsOn A s old holds image pid now p x → MakesCall old p x effect system_calls.Fork
+    → StopsBehindFork old new pid effect.regs holds (Some image) behind stop
     → StopLeads A s old.kernel image stop new behind
 fork_stops_behind A s old new holds image behind pid now p x effect stop runs makes h =
     let to : HasForked A s old h.between holds image = forked_to A s old h.between holds image pid now p x effect runs makes h.answer in
     stops_then A s to.state old.kernel h.between.kernel image image behind to.units stop new to.leads
     (copying_stops h.between.kernel.place.due A to.state h.between new holds image behind stop to.at to.images (ap (λ (q : Placement). q.due) (sym to.at.stands.place)) h.stops)
 
-pub fork_stops : (A : Inputs) (s : State) (old new : Standing) (holds : Option (List NamedFile)) (image : List ℕ) (behind : Option (List ℕ)) (pid : ℕ) (now : Bool) (p : Process) (x : Space)
+pub fork_stops : (A : Inputs) (s : State) (old new : Standing) (holds : Option (List NamedFile)) (image : List ℕ) (behind : Option (List ℕ)) (pid : ℕ)
+    (now : Bool) (p : Process) (x : Space)
     (effect : Effect) (stop : Stop)
     → RunsOn A s old holds image pid now p x → MakesCall old p x effect system_calls.Fork → StopsForking old new pid effect.regs holds (Some image) behind stop
     → StopLeads A s old.kernel image stop new behind

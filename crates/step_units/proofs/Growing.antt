@@ -91,8 +91,10 @@ noted : (A : Inputs) (s : State) (pid : ℕ) → Noted A s pid
 unfolding after
 noted A s pid = record { point = refl; place = refl; count = refl; lines = refl; mark = refl; wants = refl }
 
-pub growth_refused : (A : Inputs) (s : State) (old new : Standing) (holds : Option (List NamedFile)) (image : List ℕ) (pid : ℕ) (now : Bool) (p : Process) (x : Space) (address : ℕ)
-    → RunsOn A s old holds image pid now p x → Falls A s old pid p x address → GrowthRefused old new pid (pages_down_to address) → EndsRefused A s old new holds image pid now p x
+pub growth_refused : (A : Inputs) (s : State) (old new : Standing) (holds : Option (List NamedFile)) (image : List ℕ) (pid : ℕ) (now : Bool) (p : Process)
+    (x : Space) (address : ℕ)
+    → RunsOn A s old holds image pid now p x → Falls A s old pid p x address → GrowthRefused old new pid (pages_down_to address)
+    → EndsRefused A s old new holds image pid now p x
 growth_refused A s old new holds image pid now p x address r f g = record {
   state = t;
   leads = first_leads A s t old.kernel new.kernel new.kernel image (Some image) (Some image) (entries.Refused pid) []
@@ -152,7 +154,8 @@ unfolding after
 behind_growth A s pid n e = record { point = ap (behind s.point (step_at A s.point pid).after) e; count = refl; lines = refl; mark = refl }
 
 -- the unit that was made, and the state after it, at which the new page is waited for
-pub record GrownBefore (A : Inputs) (s : State) (old between : Standing) (holds : Option (List NamedFile)) (image : List ℕ) (pid : ℕ) (now : Bool) (before : List Page) (q : Page) : Type 0 where
+pub record GrownBefore (A : Inputs) (s : State) (old between : Standing) (holds : Option (List NamedFile)) (image : List ℕ) (pid : ℕ) (now : Bool)
+    (before : List Page) (q : Page) : Type 0 where
   pub entry : Entry
   pub next : next_unit A s ≡ Some entry
   pub made : MadeAs A s old.kernel image entry between.kernel (Some image)
@@ -162,7 +165,8 @@ pub record GrownBefore (A : Inputs) (s : State) (old between : Standing) (holds 
   pub lines : (after A s entry).lines ≡ s.lines
   pub mark : (after A s entry).mark ≡ s.mark
 
-pub growth_before : (A : Inputs) (s : State) (old between : Standing) (holds : Option (List NamedFile)) (image : List ℕ) (pid : ℕ) (now : Bool) (p : Process) (x : Space) (address : ℕ)
+pub growth_before : (A : Inputs) (s : State) (old between : Standing) (holds : Option (List NamedFile)) (image : List ℕ) (pid : ℕ) (now : Bool) (p : Process)
+    (x : Space) (address : ℕ)
     (before : List Page) → RunsOn A s old holds image pid now p x → Falls A s old pid p x address → touched_next A s ≡ before → AllValid s.place before
     → Grown old between pid (pages_down_to address) → GrownBefore A s old between holds image pid now before (pages.Stack x.sid (pages_down_to address - 1))
 growth_before A s old between holds image pid now p x address before r f same valid g = record {
@@ -266,15 +270,19 @@ growth_before A s old between holds image pid now p x address before r f same va
 
 -- What comes after growth comes after the state before it.
 
-pub grown_leads : (A : Inputs) (s : State) (old between : Standing) (holds : Option (List NamedFile)) (image : List ℕ) (pid : ℕ) (now : Bool) (before : List Page) (q : Page) (us : List Entry)
-    (t : State) (l : Kernel) (j : Option (List ℕ)) → (b : GrownBefore A s old between holds image pid now before q) → Leads A (after A s b.entry) between.kernel image us t l j
+pub grown_leads : (A : Inputs) (s : State) (old between : Standing) (holds : Option (List NamedFile)) (image : List ℕ) (pid : ℕ) (now : Bool)
+    (before : List Page) (q : Page) (us : List Entry)
+    (t : State) (l : Kernel) (j : Option (List ℕ)) → (b : GrownBefore A s old between holds image pid now before q)
+    → Leads A (after A s b.entry) between.kernel image us t l j
     → Leads A s old.kernel image (b.entry ∷ us) t l j
 grown_leads A s old between holds image pid now before q us t l j b d =
     first_leads A s t old.kernel between.kernel l image (Some image) j b.entry us b.next b.made
     (subst (λ (z : List ℕ). Leads A (after A s b.entry) between.kernel z us t l j) (sym b.plain) d)
 
-pub grown_steps : (A : Inputs) (s : State) (old between : Standing) (holds : Option (List NamedFile)) (image : List ℕ) (pid : ℕ) (now : Bool) (before : List Page) (q : Page) (l : Kernel)
-    (j : Option (List ℕ)) → (b : GrownBefore A s old between holds image pid now before q) → StepLeads A (after A s b.entry) between.kernel image 0 l j → StepLeads A s old.kernel image 0 l j
+pub grown_steps : (A : Inputs) (s : State) (old between : Standing) (holds : Option (List NamedFile)) (image : List ℕ) (pid : ℕ) (now : Bool)
+    (before : List Page) (q : Page) (l : Kernel)
+    (j : Option (List ℕ)) → (b : GrownBefore A s old between holds image pid now before q) → StepLeads A (after A s b.entry) between.kernel image 0 l j
+    → StepLeads A s old.kernel image 0 l j
 grown_steps A s old between holds image pid now before q l j b d = record {
   units = b.entry ∷ d.units;
   state = d.state;
@@ -287,18 +295,24 @@ grown_steps A s old between holds image pid now before q l j b d = record {
 }
 
 -- and one page more is valid after both
-pub grown_more : (A : Inputs) (s : State) (old between : Standing) (holds : Option (List NamedFile)) (image : List ℕ) (pid : ℕ) (now : Bool) (before : List Page) (q : Page) (l : Kernel)
-    (j : Option (List ℕ)) → (b : GrownBefore A s old between holds image pid now before q) → LeadsMore A (after A s b.entry) between.kernel image before l j → LeadsMore A s old.kernel image before l j
+pub grown_more : (A : Inputs) (s : State) (old between : Standing) (holds : Option (List NamedFile)) (image : List ℕ) (pid : ℕ) (now : Bool)
+    (before : List Page) (q : Page) (l : Kernel)
+    (j : Option (List ℕ)) → (b : GrownBefore A s old between holds image pid now before q) → LeadsMore A (after A s b.entry) between.kernel image before l j
+    → LeadsMore A s old.kernel image before l j
 unfolding grown_steps
 grown_more A s old between holds image pid now before q l j b d = record { led = grown_steps A s old between holds image pid now before q l j b d.led; more = d.more }
 
-pub grown_ends : (A : Inputs) (s : State) (old between : Standing) (holds : Option (List NamedFile)) (image : List ℕ) (pid : ℕ) (now : Bool) (before : List Page) (q : Page) (l : Kernel)
-    (j : Option (List ℕ)) → (b : GrownBefore A s old between holds image pid now before q) → MarkEnds A (after A s b.entry) between.kernel image l j → MarkEnds A s old.kernel image l j
+pub grown_ends : (A : Inputs) (s : State) (old between : Standing) (holds : Option (List NamedFile)) (image : List ℕ) (pid : ℕ) (now : Bool)
+    (before : List Page) (q : Page) (l : Kernel)
+    (j : Option (List ℕ)) → (b : GrownBefore A s old between holds image pid now before q) → MarkEnds A (after A s b.entry) between.kernel image l j
+    → MarkEnds A s old.kernel image l j
 unfolding grown_steps
 grown_ends A s old between holds image pid now before q l j b d = record { led = grown_steps A s old between holds image pid now before q l j b d.led; over = d.over }
 
-pub grown_stops : (A : Inputs) (s : State) (old between new : Standing) (holds : Option (List NamedFile)) (image : List ℕ) (pid : ℕ) (now : Bool) (before : List Page) (q : Page) (stop : Stop)
-    (j : Option (List ℕ)) → (b : GrownBefore A s old between holds image pid now before q) → StopLeads A (after A s b.entry) between.kernel image stop new j → StopLeads A s old.kernel image stop new j
+pub grown_stops : (A : Inputs) (s : State) (old between new : Standing) (holds : Option (List NamedFile)) (image : List ℕ) (pid : ℕ) (now : Bool)
+    (before : List Page) (q : Page) (stop : Stop)
+    (j : Option (List ℕ)) → (b : GrownBefore A s old between holds image pid now before q) → StopLeads A (after A s b.entry) between.kernel image stop new j
+    → StopLeads A s old.kernel image stop new j
 grown_stops A s old between new holds image pid now before q stop j b d = record {
   units = b.entry ∷ d.units;
   state = d.state;
@@ -318,7 +332,8 @@ longer journal u = let k = length-append journal (u ∷ []) in omega arith
 -- neither is joined to another entry
 apart_next : (A : Inputs) (t : State) (k : Kernel) (image : List ℕ) (stop : Stop) (old new : Standing) (j : Option (List ℕ)) (pid n : ℕ) (u : Entry)
     → next_unit A t ≡ Some u
-    → (u ≡ entries.Grew pid n) ⊎ (u ≡ entries.Refused pid) → (stop ≡ stops.JournalFull) ⊎ (stop ≡ stops.NoMemory) → (stop ≡ stops.JournalFull → new.params.journal ≤ length k.journal) → j ≡ Some image
+    → (u ≡ entries.Grew pid n) ⊎ (u ≡ entries.Refused pid) → (stop ≡ stops.JournalFull) ⊎ (stop ≡ stops.NoMemory)
+    → (stop ≡ stops.JournalFull → new.params.journal ≤ length k.journal) → j ≡ Some image
     → StopsNext A t k image stop new j
 apart_next A t k image stop old new j pid n u next (inl e) c f i = record {
   entry = entries.Grew pid n;
@@ -335,8 +350,10 @@ apart_next A t k image stop old new j pid n u next (inr e) c f i = record {
   spoils = i;
 }
 
-pub growth_stops : (A : Inputs) (s : State) (old new : Standing) (holds : Option (List NamedFile)) (image : List ℕ) (j : Option (List ℕ)) (pid : ℕ) (now : Bool) (p : Process) (x : Space) (address : ℕ)
-    (stop : Stop) → RunsOn A s old holds image pid now p x → Falls A s old pid p x address → StopsGrowing old new (Some image) j stop → StopLeads A s old.kernel image stop new j
+pub growth_stops : (A : Inputs) (s : State) (old new : Standing) (holds : Option (List NamedFile)) (image : List ℕ) (j : Option (List ℕ)) (pid : ℕ) (now : Bool)
+    (p : Process) (x : Space) (address : ℕ)
+    (stop : Stop) → RunsOn A s old holds image pid now p x → Falls A s old pid p x address → StopsGrowing old new (Some image) j stop
+    → StopLeads A s old.kernel image stop new j
 growth_stops A s old new holds image j pid now p x address stop r f g = record {
   units = [];
   state = s;

@@ -217,7 +217,8 @@ all_accesses images F p s = refl
 
 pub touched_grown : (A : Inputs) (F G : FlatState) (pid : ℕ) (p : Process) (x : Space) (d a : ℕ) → process_of F pid ≡ Some p → p.holding ≡ Holds x
     → is_ready p ≡ true
-    → process_of G pid ≡ Some (record p { regs = p.regs; holding = Holds (resized x d (pages_down_to a)) }) → Bigger x d (pages_down_to a) a → instruction_in x p.regs ≡ Err (Below a)
+    → process_of G pid ≡ Some (record p { regs = p.regs; holding = Holds (resized x d (pages_down_to a)) }) → Bigger x d (pages_down_to a) a
+    → instruction_in x p.regs ≡ Err (Below a)
     → (more : List Page) × (touched A G pid ≡ touched A F pid ++ Stack x.sid (pages_down_to a - 1) ∷ more)
 touched_grown A F G pid p x d a here holds ready there b e =
     let t : ℕ = pages_down_to a in

@@ -87,7 +87,8 @@ stops_done A s old new image stop n some h = go h.cause
     go (inr c) = subst (λ (z : Stop). StopsBy A s old.kernel image z new (Some image)) (sym c) refl
 
 -- Where the entries of the step that aren't there yet begin with one that never joins another, it stops so before any of these.
-pub stopped_here : (A : Inputs) (s : State) (old new : Standing) (image : List ℕ) (pid : ℕ) (now : Bool) (p : Process) (x : Space) (e : Entry) (es : List Entry) (stop : Stop)
+pub stopped_here : (A : Inputs) (s : State) (old new : Standing) (image : List ℕ) (pid : ℕ) (now : Bool) (p : Process) (x : Space) (e : Entry)
+    (es : List Entry) (stop : Stop)
     → At A s old.kernel image → IsRunning A s pid now p x → wanted A s ≡ None → due_at A s.point pid ≡ e ∷ es → IsOwn e
     → StopsBefore old new stop → StopLeads A s old.kernel image stop new (Some image)
 stopped_here A s old new image pid now p x e es stop at r w d own g = go (must_refuse A s pid) (must_settle A s pid) refl refl

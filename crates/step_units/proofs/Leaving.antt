@@ -61,7 +61,8 @@ pub record GivesUp (A : Inputs) (s : State) (pid : ℕ) (now : Bool) (p : Proces
 
 -- units are next units, behind which the process's step comes next; the machine's kernel is the one there, but that a borrowed
 -- space is back, and then the journal has room
-pub record Left (A : Inputs) (s : State) (old between : Standing) (image : List ℕ) (pid : ℕ) (now : Bool) (p : Process) (x : Space) (j : Option (List ℕ)) : Type 0 where
+pub record Left (A : Inputs) (s : State) (old between : Standing) (image : List ℕ) (pid : ℕ) (now : Bool) (p : Process) (x : Space)
+    (j : Option (List ℕ)) : Type 0 where
   pub units : List Entry
   pub state : State
   pub kernel : Kernel
@@ -243,7 +244,9 @@ module _ (A : Inputs) (s : State) (old between : Standing) (image : List ℕ) (p
 
       -- where it went back it may be that the entry found no memory
       starves : (b : Bool) → has_lender l.kernel.processes pid ≡ b → new.kernel.stopped ≡ l.kernel.stopped → StaysStarved l.kernel new ⊎ StaysReturned l.kernel new
-      starves b e running = gave b (subst (λ (k : Kernel). StaysStarved k new) is (stays_starved between new h.stopped h.whole (running ∙ sym (returned_stopped b l.kernel pid) ∙ sym (ap (λ (k : Kernel). k.stopped) is))))
+      starves b e running =
+          gave b
+          (subst (λ (k : Kernel). StaysStarved k new) is (stays_starved between new h.stopped h.whole (running ∙ sym (returned_stopped b l.kernel pid) ∙ sym (ap (λ (k : Kernel). k.stopped) is))))
         where
           is : between.kernel ≡ returned b l.kernel pid
           is = l.back ∙ ap (λ (c : Bool). returned c l.kernel pid) e

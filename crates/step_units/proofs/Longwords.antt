@@ -41,7 +41,8 @@ one_stays : (A : Inputs) (s : State) (u : Entry) → AllImages A.images → IsRu
 one_stays A s u w r n l h =
     let e : flat_entry A s.point u ≡ Some (after A s u).point = next_entry A s u r n in
     record {
-      fit = entry_so (λ (F : FlatState). AllFit F.processes) A s.point (after A s u).point u (λ pid refused. step_regs A s.point.flat pid refused w r.numbers (let b = h.next in omega (arith, b, l)) h.fit) e h.fit;
+      fit = entry_so (λ (F : FlatState). AllFit F.processes) A s.point (after A s u).point u
+          (λ pid refused. step_regs A s.point.flat pid refused w r.numbers (let b = h.next in omega (arith, b, l)) h.fit) e h.fit;
       next = let a = entry_next A s.point (after A s u).point u e in let b = h.next in let c = after_count A s u in omega (arith, a, b, c);
     }
 

@@ -43,7 +43,8 @@ use Rattle.step_units.proofs.Refusing.{IsRefusal, call_refusal, refused_fails, r
 use Rattle.step_units.proofs.Children.{AsksChild, child_told}
 
 -- A call that asks for a child, made by a process of a machine that stands at a state of a run.
-pub record Asking (A : Inputs) (s : State) (old : Standing) (holds : Option (List NamedFile)) (image : List ℕ) (pid : ℕ) (now : Bool) (p : Process) (x : Space) (effect : Effect) (call : SystemCall) (change : ℕ → Change) : Type 0 where
+pub record Asking (A : Inputs) (s : State) (old : Standing) (holds : Option (List NamedFile)) (image : List ℕ) (pid : ℕ) (now : Bool) (p : Process) (x : Space)
+    (effect : Effect) (call : SystemCall) (change : ℕ → Change) : Type 0 where
   pub asks : AsksChild call change
   pub runs : RunsOn A s old holds image pid now p x
   pub makes : MakesCall old p x effect call
@@ -62,33 +63,39 @@ child_answer below old effect change = Ok (child_by below effect.regs old.kernel
 
 pub told_by : (A : Inputs) (s : State) (old : Standing) (p : Process) (x : Space) (effect : Effect) (call : SystemCall) (change : ℕ → Change) (below : Bool)
     → is_below_limit old.kernel ≡ below
-    → IsCalledFor A s p x call effect (Ok (child_told old.kernel effect.regs change)) → IsCalledFor A s p x call effect (Ok (child_by below effect.regs old.kernel.next_pid (own_change old change)))
+    → IsCalledFor A s p x call effect (Ok (child_told old.kernel effect.regs change))
+    → IsCalledFor A s p x call effect (Ok (child_by below effect.regs old.kernel.next_pid (own_change old change)))
 told_by A s old p x effect call change below b c =
     subst (λ (z : Bool). IsCalledFor A s p x call effect (Ok (child_by z effect.regs old.kernel.next_pid (own_change old change)))) b c
 
 -- the step of the process, where there are fewer
-pub making_step : (A : Inputs) (s : State) (old : Standing) (holds : Option (List NamedFile)) (image : List ℕ) (pid : ℕ) (now : Bool) (p : Process) (x : Space) (effect : Effect) (call : SystemCall)
+pub making_step : (A : Inputs) (s : State) (old : Standing) (holds : Option (List NamedFile)) (image : List ℕ) (pid : ℕ) (now : Bool) (p : Process) (x : Space)
+    (effect : Effect) (call : SystemCall)
     (change : ℕ → Change)
     → Asking A s old holds image pid now p x effect call change → is_below_limit old.kernel ≡ true
     → step_at A s.point pid ≡ replied_step A.images s.point.flat p call effect (Does (told_regs old effect) (own_change old change))
 making_step A s old holds image pid now p x effect call change a b =
-    called_step A s pid now p x effect call (Ok (Does (told_regs old effect) (own_change old change))) a.runs.running a.runs.between a.makes.names (told_by A s old p x effect call change true b a.called)
+    called_step A s pid now p x effect call (Ok (Does (told_regs old effect) (own_change old change))) a.runs.running a.runs.between a.makes.names
+    (told_by A s old p x effect call change true b a.called)
 
 -- what it asks for, of the machine and of the run
 pub same_pieces : (A : Inputs) (s : State) (old : Standing) (holds : Option (List NamedFile)) (image : List ℕ) (pid : ℕ) (change : Change)
     → MachineAt A s old holds image
-    → place_all old.params.swap_blocks old.kernel.holdings (asked (facts_named old.images) old.kernel pid change) ≡ place_all A.swap_blocks old.kernel.holdings (asked (facts_of A.images) old.kernel pid change)
+    → place_all old.params.swap_blocks old.kernel.holdings (asked (facts_named old.images) old.kernel pid change)
+    ≡ place_all A.swap_blocks old.kernel.holdings (asked (facts_of A.images) old.kernel pid change)
 same_pieces A s old holds image pid change h =
     ap (λ (n : ℕ). place_all n old.kernel.holdings (asked (facts_named old.images) old.kernel pid change)) h.blocks
     ∙ ap (λ (fs : List Image). place_all A.swap_blocks old.kernel.holdings (asked fs old.kernel pid change)) (headers A s old holds image h)
 
 none_found : (A : Inputs) (s : State) (old : Standing) (holds : Option (List NamedFile)) (image : List ℕ) (pid : ℕ) (change : ℕ → Change)
     → MachineAt A s old holds image
-    → finds_pieces old pid (own_change old change) ≡ false → is_ok (place_all A.swap_blocks old.kernel.holdings (asked (facts_of A.images) old.kernel pid (own_change old change))) ≡ false
+    → finds_pieces old pid (own_change old change) ≡ false
+    → is_ok (place_all A.swap_blocks old.kernel.holdings (asked (facts_of A.images) old.kernel pid (own_change old change))) ≡ false
 none_found A s old holds image pid change h f = ap (λ (o : Result Holdings ℕ). is_ok o) (sym (same_pieces A s old holds image pid (own_change old change) h)) ∙ f
 
 -- its pieces found no place
-pub making_refused : (A : Inputs) (s : State) (old : Standing) (holds : Option (List NamedFile)) (image : List ℕ) (pid : ℕ) (now : Bool) (p : Process) (x : Space) (effect : Effect)
+pub making_refused : (A : Inputs) (s : State) (old : Standing) (holds : Option (List NamedFile)) (image : List ℕ) (pid : ℕ) (now : Bool) (p : Process)
+    (x : Space) (effect : Effect)
     (call : SystemCall) (change : ℕ → Change)
     → Asking A s old holds image pid now p x effect call change → is_below_limit old.kernel ≡ true → finds_pieces old pid (own_change old change) ≡ false
     → IsRefusal A s old holds image pid now p x
@@ -97,15 +104,18 @@ making_refused A s old holds image pid now p x effect call change a b f =
     (told_by A s old p x effect call change true b a.called) refl (none_found A s old holds image pid change a.runs.machine f)
 
 -- The call fails, with no child.
-pub without_child : (A : Inputs) (s : State) (old new : Standing) (holds : Option (List NamedFile)) (image : List ℕ) (pid : ℕ) (now : Bool) (p : Process) (x : Space) (effect : Effect)
+pub without_child : (A : Inputs) (s : State) (old new : Standing) (holds : Option (List NamedFile)) (image : List ℕ) (pid : ℕ) (now : Bool) (p : Process)
+    (x : Space) (effect : Effect)
     (call : SystemCall) (change : ℕ → Change)
-    → Asking A s old holds image pid now p x effect call change → is_below_limit old.kernel ≡ false → Answered old new pid call (replied effect.regs true try_again) changes.Keep
+    → Asking A s old holds image pid now p x effect call change → is_below_limit old.kernel ≡ false
+    → Answered old new pid call (replied effect.regs true try_again) changes.Keep
     → StepLeads A s old.kernel image 1 new.kernel (Some image)
 without_child A s old new holds image pid now p x effect call change a b h =
     fails A s old new.kernel holds image pid now p x effect call (Ok (child_by false effect.regs old.kernel.next_pid (own_change old change))) try_again a.runs a.makes.names
     (told_by A s old p x effect call change false b a.called) refl h.step
 
-pub without_place : (A : Inputs) (s : State) (old new : Standing) (holds : Option (List NamedFile)) (image : List ℕ) (pid : ℕ) (now : Bool) (p : Process) (x : Space) (effect : Effect)
+pub without_place : (A : Inputs) (s : State) (old new : Standing) (holds : Option (List NamedFile)) (image : List ℕ) (pid : ℕ) (now : Bool) (p : Process)
+    (x : Space) (effect : Effect)
     (call : SystemCall) (change : ℕ → Change)
     → Asking A s old holds image pid now p x effect call change → is_below_limit old.kernel ≡ true → finds_pieces old pid (own_change old change) ≡ false
     → IsRefused old new pid call effect.regs → StepLeads A s old.kernel image 1 new.kernel (Some image)
@@ -114,13 +124,15 @@ without_place A s old new holds image pid now p x effect call change a b f h =
     (told_by A s old p x effect call change true b a.called) refl (a.asks.wants old.kernel.next_pid) (making_refused A s old holds image pid now p x effect call change a b f) new.kernel h.answer.step
 
 -- The pieces of the child were found.
-pub record Found (A : Inputs) (s : State) (old : Standing) (pid : ℕ) (p : Process) (effect : Effect) (call : SystemCall) (change : Change) (found : Holdings) : Type 0 where
+pub record Found (A : Inputs) (s : State) (old : Standing) (pid : ℕ) (p : Process) (effect : Effect) (call : SystemCall) (change : Change)
+    (found : Holdings) : Type 0 where
   pub step : step_at A s.point pid ≡ replied_step A.images s.point.flat p call effect (Does (told_regs old effect) change)
   pub due : due_at A s.point pid ≡ call_entry pid call (told_regs old effect) ∷ []
   pub next : act A s pid ≡ Some (call_entry pid call (told_regs old effect))
   pub pieces : place_all A.swap_blocks old.kernel.holdings (asked (facts_of A.images) old.kernel pid change) ≡ Ok found
 
-pub found_child : (A : Inputs) (s : State) (old : Standing) (holds : Option (List NamedFile)) (image : List ℕ) (pid : ℕ) (now : Bool) (p : Process) (x : Space) (effect : Effect) (call : SystemCall)
+pub found_child : (A : Inputs) (s : State) (old : Standing) (holds : Option (List NamedFile)) (image : List ℕ) (pid : ℕ) (now : Bool) (p : Process) (x : Space)
+    (effect : Effect) (call : SystemCall)
     (change : ℕ → Change)
     (found : Holdings) → Asking A s old holds image pid now p x effect call change → is_below_limit old.kernel ≡ true
     → place_all old.params.swap_blocks old.kernel.holdings (asked (facts_named old.images) old.kernel pid (own_change old change)) ≡ Ok found
@@ -143,9 +155,11 @@ found_child A s old holds image pid now p x effect call change found a b h =
 -- Stops.
 
 -- the entry of a call that fails is next
-fails_next : (A : Inputs) (s : State) (old : Standing) (holds : Option (List NamedFile)) (image : List ℕ) (pid : ℕ) (now : Bool) (p : Process) (x : Space) (effect : Effect) (call : SystemCall)
+fails_next : (A : Inputs) (s : State) (old : Standing) (holds : Option (List NamedFile)) (image : List ℕ) (pid : ℕ) (now : Bool) (p : Process) (x : Space)
+    (effect : Effect) (call : SystemCall)
     (change : ℕ → Change)
-    → Asking A s old holds image pid now p x effect call change → is_below_limit old.kernel ≡ false → act A s pid ≡ Some (call_entry pid call (replied effect.regs true try_again))
+    → Asking A s old holds image pid now p x effect call change → is_below_limit old.kernel ≡ false
+    → act A s pid ≡ Some (call_entry pid call (replied effect.regs true try_again))
 fails_next A s old holds image pid now p x effect call change a b =
     let step : Step = replied_step A.images s.point.flat p call effect (Fails try_again) in
     let is : step_at A s.point pid ≡ step =
@@ -159,7 +173,8 @@ some_found (Ok found) h = (found, refl)
 some_found (Err n) h = absurd cc
 
 -- the run stopped as it was
-stops_first : (A : Inputs) (s : State) (old new : Standing) (holds : Option (List NamedFile)) (image : List ℕ) (pid : ℕ) (now : Bool) (p : Process) (x : Space) (effect : Effect) (call : SystemCall)
+stops_first : (A : Inputs) (s : State) (old new : Standing) (holds : Option (List NamedFile)) (image : List ℕ) (pid : ℕ) (now : Bool) (p : Process) (x : Space)
+    (effect : Effect) (call : SystemCall)
     (change : ℕ → Change)
     (stop : Stop) → Asking A s old holds image pid now p x effect call change → StopsBefore old new stop → StopLeads A s old.kernel image stop new (Some image)
 stops_first A s old new holds image pid now p x effect call change stop a h = go (is_below_limit old.kernel) (finds_pieces old pid (own_change old change)) refl refl
@@ -169,13 +184,15 @@ stops_first A s old new holds image pid now p x effect call change stop a h = go
 
     go : (below finds : Bool) → is_below_limit old.kernel ≡ below → finds_pieces old pid (own_change old change) ≡ finds → StopLeads A s old.kernel image stop new (Some image)
     go false finds b f = before (call_entry pid call (replied effect.regs true try_again)) (fails_next A s old holds image pid now p x effect call change a b) tt
-    go true false b f = before (entries.Refused pid) (refuses A s old.kernel image pid now p x (replied_step A.images s.point.flat p call effect (Does (told_regs old effect) (own_change old change))) a.runs.machine.at a.runs.running
+    go true false b f = before (entries.Refused pid)
+        (refuses A s old.kernel image pid now p x (replied_step A.images s.point.flat p call effect (Does (told_regs old effect) (own_change old change))) a.runs.machine.at a.runs.running
         a.runs.between (making_step A s old holds image pid now p x effect call change a b) (none_found A s old holds image pid change a.runs.machine f)) tt
     go true true b f =
         let found = some_found (place_all old.params.swap_blocks old.kernel.holdings (asked (facts_named old.images) old.kernel pid (own_change old change))) f in
         before (call_entry pid call (told_regs old effect)) (found_child A s old holds image pid now p x effect call change found.0 a b found.1).next tt
 
-pub making_stops : (A : Inputs) (s : State) (old new : Standing) (holds : Option (List NamedFile)) (image : List ℕ) (pid : ℕ) (now : Bool) (p : Process) (x : Space) (effect : Effect)
+pub making_stops : (A : Inputs) (s : State) (old new : Standing) (holds : Option (List NamedFile)) (image : List ℕ) (pid : ℕ) (now : Bool) (p : Process)
+    (x : Space) (effect : Effect)
     (call : SystemCall) (change : ℕ → Change)
     (stop : Stop) → Asking A s old holds image pid now p x effect call change → StopsMaking old new pid (own_change old change) stop
     → StopLeads A s old.kernel image stop new (Some image)
@@ -193,5 +210,6 @@ making_stops A s old new holds image pid now p x effect call change stop a h = g
     go (inl e) = stops_first A s old new holds image pid now p x effect call change stop a (before old e)
     go (inr r) =
         refused_stops A s old holds image pid now p x effect call (child_answer true old effect change) (told_regs old effect) (own_change old change) a.makes.names
-        (told_by A s old p x effect call change true r.below a.called) refl (a.asks.wants old.kernel.next_pid) (making_refused A s old holds image pid now p x effect call change a r.below r.none) new stop
+        (told_by A s old p x effect call change true r.below a.called) refl (a.asks.wants old.kernel.next_pid)
+        (making_refused A s old holds image pid now p x effect call change a r.below r.none) new stop
         (before (without_pieces old pid) r.refused)

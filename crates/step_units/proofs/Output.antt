@@ -82,7 +82,8 @@ noted images k pid p x e d h =
 
 -- The bytes went out, and the call's own entry comes.
 
-pub record IsOutput (A : Inputs) (s : State) (old between : Standing) (holds : Option (List NamedFile)) (image : List ℕ) (pid : ℕ) (now : Bool) (p : Process) (x : Space) (u c : Entry) (step : Step) : Type 0 where
+pub record IsOutput (A : Inputs) (s : State) (old between : Standing) (holds : Option (List NamedFile)) (image : List ℕ) (pid : ℕ) (now : Bool) (p : Process)
+    (x : Space) (u c : Entry) (step : Step) : Type 0 where
   pub leads : Leads A s old.kernel image (u ∷ []) (after A s u) between.kernel (Some image)
   pub waits : StepWaits A s u (after A s u)
   pub machine : MachineAt A (after A s u) between holds image
@@ -92,12 +93,14 @@ pub record IsOutput (A : Inputs) (s : State) (old between : Standing) (holds : O
   pub acts : act A (after A s u) pid ≡ Some c
   pub left : due_at A (after A s u).point pid ≡ c ∷ []
 
-pub outputs : (A : Inputs) (s : State) (old between : Standing) (holds : Option (List NamedFile)) (image : List ℕ) (pid : ℕ) (now : Bool) (p : Process) (x : Space) (effect : Effect)
+pub outputs : (A : Inputs) (s : State) (old between : Standing) (holds : Option (List NamedFile)) (image : List ℕ) (pid : ℕ) (now : Bool) (p : Process)
+    (x : Space) (effect : Effect)
     (call : SystemCall)
     (r : Result Reply Refused) (byte : ℕ) (bytes : List ℕ)
     → RunsOn A s old holds image pid now p x → IsCallOf effect call → IsCalledFor A s p x call effect r → or_fault r ≡ Writes (byte ∷ bytes)
     → Entered old between pid (regs_of old.kernel pid) (entries.Out pid (byte ∷ bytes)) changes.Keep
-    → IsOutput A s old between holds image pid now p x (entries.Out pid (byte ∷ bytes)) (call_entry pid call (replied effect.regs false (length (byte ∷ bytes))))
+    → IsOutput A s old between holds image pid now p x (entries.Out pid (byte ∷ bytes))
+    (call_entry pid call (replied effect.regs false (length (byte ∷ bytes))))
     (replied_step A.images s.point.flat p call effect (Writes (byte ∷ bytes)))
 outputs A s old between holds image pid now p x effect call r byte bytes h m c e out =
     let F : FlatState = s.point.flat in
@@ -139,7 +142,8 @@ outputs A s old between holds image pid now p x effect call r byte bytes h m c e
       left = ap (λ (z : Step). due t.point.last pid z.entries) step_is ∙ ap (due t.point.last pid) first ∙ out_due t.point.last pid out_bytes u (v ∷ []) w.last;
     }
 
-pub writes_out : (A : Inputs) (s : State) (old new : Standing) (holds : Option (List NamedFile)) (image : List ℕ) (pid : ℕ) (now : Bool) (p : Process) (x : Space) (effect : Effect) (call : SystemCall)
+pub writes_out : (A : Inputs) (s : State) (old new : Standing) (holds : Option (List NamedFile)) (image : List ℕ) (pid : ℕ) (now : Bool) (p : Process)
+    (x : Space) (effect : Effect) (call : SystemCall)
     (r : Result Reply Refused) (byte : ℕ) (bytes : List ℕ)
     → RunsOn A s old holds image pid now p x → IsCallOf effect call → IsCalledFor A s p x call effect r → or_fault r ≡ Writes (byte ∷ bytes)
     → Written old new pid call (byte ∷ bytes) (replied effect.regs false (length (byte ∷ bytes)))

@@ -42,9 +42,11 @@ use Rattle.step_units.proofs.Quiet.{IsQuiet, IsQuietRead, comes_made, stops_quie
 
 -- What the calls ask.
 
-pub asked_plainly : (A : Inputs) (s : State) (old : Standing) (holds : Option (List NamedFile)) (image : List ℕ) (pid : ℕ) (now : Bool) (p : Process) (x : Space) (effect : Effect) (call : SystemCall)
+pub asked_plainly : (A : Inputs) (s : State) (old : Standing) (holds : Option (List NamedFile)) (image : List ℕ) (pid : ℕ) (now : Bool) (p : Process)
+    (x : Space) (effect : Effect) (call : SystemCall)
     → RunsOn A s old holds image pid now p x → MakesCall old p x effect call
-    → run (kernel_answers old.kernel x.sid) (reply_asked A.images s.point.flat p x call effect) ≡ run (kernel_answers old.kernel x.sid) (reply_of A.images s.point.flat p x call effect.regs)
+    → run (kernel_answers old.kernel x.sid) (reply_asked A.images s.point.flat p x call effect)
+    ≡ run (kernel_answers old.kernel x.sid) (reply_of A.images s.point.flat p x call effect.regs)
 asked_plainly A s old holds image pid now p x effect call h m =
     ap (run (kernel_answers old.kernel x.sid))
     (asked_here A s pid p x call effect h.running.here h.running.holds (calls_write_none (kernel_answers old.kernel x.sid) p.regs effect m.names.number m.made m.names.is_number))
@@ -64,7 +66,8 @@ writes_run : (images : List NamedImage) (F : FlatState) (p : Process) (x : Space
 unfolding reply_of
 writes_run images F p x regs memory = refl
 
-wait_asked : (A : Inputs) (s : State) (old : Standing) (holds : Option (List NamedFile)) (image : List ℕ) (pid : ℕ) (now : Bool) (p : Process) (x : Space) (effect : Effect)
+wait_asked : (A : Inputs) (s : State) (old : Standing) (holds : Option (List NamedFile)) (image : List ℕ) (pid : ℕ) (now : Bool) (p : Process)
+    (x : Space) (effect : Effect)
     → RunsOn A s old holds image pid now p x → MakesCall old p x effect system_calls.Wait
     → run (kernel_answers old.kernel x.sid) (reply_asked A.images s.point.flat p x system_calls.Wait effect) ≡ Ok (wait_reply old.kernel pid effect.regs)
 wait_asked A s old holds image pid now p x effect h m =
@@ -73,17 +76,21 @@ wait_asked A s old holds image pid now p x effect h m =
     ∙ ap (λ (z : Reply). let r : Result Reply Refused = Ok z in r)
     (ap (λ (n : ℕ). flat_wait s.point.flat n effect.regs) kept.number ∙ sym (wait_is old.kernel s.point.flat pid effect.regs h.machine.at.stands.keeps.coupled.tables))
 
-number_asked : (A : Inputs) (s : State) (old : Standing) (holds : Option (List NamedFile)) (image : List ℕ) (pid : ℕ) (now : Bool) (p : Process) (x : Space) (effect : Effect)
+number_asked : (A : Inputs) (s : State) (old : Standing) (holds : Option (List NamedFile)) (image : List ℕ) (pid : ℕ) (now : Bool) (p : Process)
+    (x : Space) (effect : Effect)
     → RunsOn A s old holds image pid now p x → MakesCall old p x effect system_calls.Getpid
-    → run (kernel_answers old.kernel x.sid) (reply_asked A.images s.point.flat p x system_calls.Getpid effect) ≡ Ok (Does (replied_both effect.regs pid (parent_of old.kernel pid)) changes.Keep)
+    → run (kernel_answers old.kernel x.sid) (reply_asked A.images s.point.flat p x system_calls.Getpid effect)
+    ≡ Ok (Does (replied_both effect.regs pid (parent_of old.kernel pid)) changes.Keep)
 number_asked A s old holds image pid now p x effect h m =
     let kept : IsKept old.kernel pid p x = is_kept A s old.kernel image pid now p x h.machine.at h.running in
     asked_plainly A s old holds image pid now p x effect system_calls.Getpid h m ∙ numbers_run A.images s.point.flat p x effect.regs (kernel_answers old.kernel x.sid)
     ∙ ap₂ (λ (n parent : ℕ). let r : Result Reply Refused = Ok (Does (replied_both effect.regs n parent) changes.Keep) in r) kept.number (sym (parent_is old.kernel pid p x kept))
 
-write_asked : (A : Inputs) (s : State) (old : Standing) (holds : Option (List NamedFile)) (image : List ℕ) (pid : ℕ) (now : Bool) (p : Process) (x : Space) (effect : Effect)
+write_asked : (A : Inputs) (s : State) (old : Standing) (holds : Option (List NamedFile)) (image : List ℕ) (pid : ℕ) (now : Bool) (p : Process)
+    (x : Space) (effect : Effect)
     → RunsOn A s old holds image pid now p x → MakesCall old p x effect system_calls.Write
-    → run (kernel_answers old.kernel x.sid) (reply_asked A.images s.point.flat p x system_calls.Write effect) ≡ run (kernel_answers old.kernel x.sid) (write_reply effect.regs)
+    → run (kernel_answers old.kernel x.sid) (reply_asked A.images s.point.flat p x system_calls.Write effect)
+    ≡ run (kernel_answers old.kernel x.sid) (write_reply effect.regs)
 write_asked A s old holds image pid now p x effect h m =
     asked_plainly A s old holds image pid now p x effect system_calls.Write h m ∙ writes_run A.images s.point.flat p x effect.regs (kernel_answers old.kernel x.sid)
 
@@ -139,7 +146,8 @@ pub refused_stops : RefusedCallStops
 refused_stops = stops_reading
 
 -- a write stops before the bytes that go out, or after them
-stops_writing : (A : Inputs) (s : State) (old new : Standing) (holds : Option (List NamedFile)) (image : List ℕ) (pid : ℕ) (now : Bool) (p : Process) (x : Space) (effect : Effect)
+stops_writing : (A : Inputs) (s : State) (old new : Standing) (holds : Option (List NamedFile)) (image : List ℕ) (pid : ℕ) (now : Bool) (p : Process)
+    (x : Space) (effect : Effect)
     (reply : Reply) (stop : Stop)
     → RunsOn A s old holds image pid now p x → IsCallOf effect system_calls.Write → IsCalledFor A s p x system_calls.Write effect (Ok reply) → IsQuiet reply
     → StopsWriting old new pid (bytes_of (Ok reply)) stop → StopLeads A s old.kernel image stop new (Some image)

@@ -53,7 +53,8 @@ use Rattle.step_units.proofs.Choosing.{runners_same}
 
 -- the mark is that of the choice that was made
 chosen_mark : (A : Inputs) (s : State) (old : Standing) (holds : Option (List NamedFile)) (image : List ℕ) (t : Turned) → MachineAt A s old holds image
-    → s.mark ≡ swap_mark (swap_choice s.place (runners s.point.flat)) → choice_of t ≡ swap_choice old.kernel.place (runners_of old.kernel) → s.mark ≡ swap_mark (choice_of t)
+    → s.mark ≡ swap_mark (swap_choice s.place (runners s.point.flat)) → choice_of t ≡ swap_choice old.kernel.place (runners_of old.kernel)
+    → s.mark ≡ swap_mark (choice_of t)
 chosen_mark A s old holds image t at m c =
     m ∙ ap swap_mark (ap (swap_choice s.place) (sym (runners_same old.kernel s.point.flat at.at.stands.keeps.coupled.tables))
     ∙ ap (λ (p : Placement). swap_choice p (runners_of old.kernel)) (sym at.at.stands.place) ∙ sym c)
@@ -154,7 +155,8 @@ nothing_made : (A : Inputs) (s : State) (old new : Standing) (image : List ℕ) 
 nothing_made A s old new image j c m e i = record {
   units = [];
   state = s;
-  leads = subst (λ (n : Standing). Leads A s old.kernel image [] s n.kernel j) (sym e) (subst (λ (o : Option (List ℕ)). Leads A s old.kernel image [] s old.kernel o) (sym i) (none_leads A s old.kernel image));
+  leads = subst (λ (n : Standing). Leads A s old.kernel image [] s n.kernel j) (sym e)
+      (subst (λ (o : Option (List ℕ)). Leads A s old.kernel image [] s old.kernel o) (sym i) (none_leads A s old.kernel image));
   over = record { clear = c.clear; between = c.between; over = ap (under A s) m };
   point = refl;
   count = refl;
@@ -186,7 +188,8 @@ puts_process s k pid sid c m h = record { mark = m; clear = c.clear; own = own_s
 -- after the units that put a process out it goes out
 last_out : (A : Inputs) (s : State) (k l : Kernel) (image : List ℕ) (j : Option (List ℕ)) (pid sid : ℕ) → At A s k image → IsBetween s.point.last
     → PutsProcess s pid sid → Holder s.point.flat pid sid
-    → is_out s.place pid ≡ false → AllFit s.point.flat.processes → entries.SwapOut pid ≡ put_out_unit s.place pid sid → l ≡ out_step k pid → WritesU k pid (Some image) j → LineLeads A s k image l j
+    → is_out s.place pid ≡ false → AllFit s.point.flat.processes → entries.SwapOut pid ≡ put_out_unit s.place pid sid → l ≡ out_step k pid
+    → WritesU k pid (Some image) j → LineLeads A s k image l j
 unfolding after
 last_out A s k l image j pid sid at b p h o fit e step w =
     let u : Entry = entries.SwapOut pid in
@@ -205,7 +208,8 @@ last_out A s k l image j pid sid at b p h o fit e step w =
 
 pub out_comes : (A : Inputs) (s : State) (old new : Standing) (holds : Option (List NamedFile)) (image : List ℕ) (j : Option (List ℕ)) (pid sid : ℕ)
     → MachineAt A s old holds image → IsClear s
-    → AllFit s.point.flat.processes → s.mark ≡ marks.PutOut pid → HoldsThere old.kernel pid sid → PutOut pid sid old new holds (Some image) j → LineLeads A s old.kernel image new.kernel j
+    → AllFit s.point.flat.processes → s.mark ≡ marks.PutOut pid → HoldsThere old.kernel pid sid → PutOut pid sid old new holds (Some image) j
+    → LineLeads A s old.kernel image new.kernel j
 out_comes A s old new holds image j pid sid at c fit m there o =
     let g : Ground = ground old holds [] in
     let n : ℕ = length old.kernel.journal in
@@ -238,15 +242,18 @@ out_comes A s old new holds image j pid sid at c fit m there o =
 
 pub swapper_made : (A : Inputs) (s : State) (old new : Standing) (holds : Option (List NamedFile)) (image : List ℕ) (j : Option (List ℕ)) (t : Turned)
     → MachineAt A s old holds image → IsClear s
-    → AllFit s.point.flat.processes → s.mark ≡ swap_mark (swap_choice s.place (runners s.point.flat)) → choice_of t ≡ swap_choice old.kernel.place (runners_of old.kernel)
+    → AllFit s.point.flat.processes → s.mark ≡ swap_mark (swap_choice s.place (runners s.point.flat))
+    → choice_of t ≡ swap_choice old.kernel.place (runners_of old.kernel)
     → Turns t old new holds (Some image) j → LineLeads A s old.kernel image new.kernel j
 swapper_made A s old new holds image j turns.Nothing at c fit m e t = nothing_made A s old new image j c (chosen_mark A s old holds image turns.Nothing at m e) t.0 t.1
 swapper_made A s old new holds image j (turns.In pid) at c fit m e t = in_comes A s old new image j pid c (chosen_mark A s old holds image (turns.In pid) at m e) t.0 t.2
 swapper_made A s old new holds image j (turns.Out pid) at c fit m e t =
     out_comes A s old new holds image j pid t.0 at c fit (chosen_mark A s old holds image (turns.Out pid) at m e) t.1 t.2
 
-pub out_stops : (A : Inputs) (s : State) (old new : Standing) (holds : Option (List NamedFile)) (image : List ℕ) (j : Option (List ℕ)) (pid sid : ℕ) (stop : Stop)
-    → MachineAt A s old holds image → IsClear s → s.mark ≡ marks.PutOut pid → HoldsThere old.kernel pid sid → StopsPutting pid sid old stop new holds (Some image) j
+pub out_stops : (A : Inputs) (s : State) (old new : Standing) (holds : Option (List NamedFile)) (image : List ℕ) (j : Option (List ℕ))
+    (pid sid : ℕ) (stop : Stop)
+    → MachineAt A s old holds image → IsClear s → s.mark ≡ marks.PutOut pid → HoldsThere old.kernel pid sid
+    → StopsPutting pid sid old stop new holds (Some image) j
     → StopLeads A s old.kernel image stop new j
 out_stops A s old new holds image j pid sid stop at c m there o =
     let g : Ground = ground old holds [] in
@@ -260,7 +267,8 @@ out_stops A s old new holds image j pid sid stop at c m there o =
     (put_next A led.state pid sid led.puts ∙ ap (λ (y : Placement). Some (put_out_unit y pid sid)) (sym behind.stands.place))
     (subst (λ (z : Option (List ℕ)). StopsAt (put_out_unit o.at.place pid sid) o.at z stop new j) led.leads.told o.stops)
 
-pub swapper_stops : (A : Inputs) (s : State) (old new : Standing) (holds : Option (List NamedFile)) (image : List ℕ) (j : Option (List ℕ)) (t : Turned) (stop : Stop)
+pub swapper_stops : (A : Inputs) (s : State) (old new : Standing) (holds : Option (List NamedFile)) (image : List ℕ) (j : Option (List ℕ))
+    (t : Turned) (stop : Stop)
     → MachineAt A s old holds image
     → IsClear s → s.mark ≡ swap_mark (swap_choice s.place (runners s.point.flat)) → choice_of t ≡ swap_choice old.kernel.place (runners_of old.kernel)
     → StopsTurning t old stop new holds (Some image) j

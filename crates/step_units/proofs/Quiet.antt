@@ -56,7 +56,8 @@ IsQuietRead (Err refused) = Unit {0}
 
 -- What such a call comes to is the step.
 
-pub quiet_made : (A : Inputs) (s : State) (old new : Standing) (holds : Option (List NamedFile)) (image : List ℕ) (pid : ℕ) (now : Bool) (p : Process) (x : Space) (effect : Effect) (call : SystemCall)
+pub quiet_made : (A : Inputs) (s : State) (old new : Standing) (holds : Option (List NamedFile)) (image : List ℕ) (pid : ℕ) (now : Bool) (p : Process)
+    (x : Space) (effect : Effect) (call : SystemCall)
     (r : Result Reply Refused) (reply : Reply) (called : Called)
     → RunsOn A s old holds image pid now p x → IsCallOf effect call → IsCalledFor A s p x call effect r → or_fault r ≡ reply → IsQuiet reply
     → Replied old new pid call effect.regs reply called → CallLeads A s old.kernel image x called new.kernel (Some image)
@@ -72,7 +73,8 @@ quiet_made A s old new holds image pid now p x effect call r (Does after (change
     (none_asked A.swap_blocks old.kernel).0 g.1.step)
 quiet_made A s old new holds image pid now p x effect call r (Does after change) called h m c e q g = absurd q
 quiet_made A s old new holds image pid now p x effect call r (Writes []) called h m c e q g =
-    let answer : Answered old new pid call (replied effect.regs false 0) changes.Keep = subst (λ (n : Standing). Answered n new pid call (replied effect.regs false 0) changes.Keep) g.1.out g.1.answer in
+    let answer : Answered old new pid call (replied effect.regs false 0) changes.Keep =
+    subst (λ (n : Standing). Answered n new pid call (replied effect.regs false 0) changes.Keep) g.1.out g.1.answer in
     subst (λ (z : Called). CallLeads A s old.kernel image x z new.kernel (Some image)) (sym g.0)
     (answers A s old new.kernel holds image pid now p x effect call r (replied effect.regs false 0) changes.Keep old.kernel.holdings h m c
     (ap (replied_step A.images s.point.flat p call effect) e) tt tt refl (none_asked A.swap_blocks old.kernel).0 answer.step)
@@ -83,7 +85,8 @@ quiet_made A s old new holds image pid now p x effect call r Waits called h m c 
 quiet_made A s old new holds image pid now p x effect call r (Exits status) called h m c e q g = absurd q
 
 -- where a byte misses nothing was done, and the process waits for its page
-missed : (A : Inputs) (s : State) (old new : Standing) (holds : Option (List NamedFile)) (image : List ℕ) (pid : ℕ) (now : Bool) (p : Process) (x : Space) (effect : Effect) (call : SystemCall)
+missed : (A : Inputs) (s : State) (old new : Standing) (holds : Option (List NamedFile)) (image : List ℕ) (pid : ℕ) (now : Bool) (p : Process) (x : Space)
+    (effect : Effect) (call : SystemCall)
     (address : ℕ) (write : Bool) (called : Called)
     → RunsOn A s old holds image pid now p x → MakesCall old p x effect call
     → run (kernel_answers old.kernel x.sid) (reply_asked A.images s.point.flat p x call effect) ≡ Err (Miss address write)
@@ -95,7 +98,8 @@ missed A s old new holds image pid now p x effect call address write called h m 
     subst (λ (z : Called). CallLeads A s old.kernel image x z new.kernel (Some image)) (sym g.0)
     (ap (λ (n : Standing). n.kernel) g.1, refl, subst (WantsPage A s old.kernel x address) reads wants)
 
-pub comes_made : (A : Inputs) (s : State) (old new : Standing) (holds : Option (List NamedFile)) (image : List ℕ) (pid : ℕ) (now : Bool) (p : Process) (x : Space) (effect : Effect) (call : SystemCall)
+pub comes_made : (A : Inputs) (s : State) (old new : Standing) (holds : Option (List NamedFile)) (image : List ℕ) (pid : ℕ) (now : Bool) (p : Process)
+    (x : Space) (effect : Effect) (call : SystemCall)
     (r : Result Reply Refused) (called : Called)
     → RunsOn A s old holds image pid now p x → MakesCall old p x effect call
     → run (kernel_answers old.kernel x.sid) (reply_asked A.images s.point.flat p x call effect) ≡ r → IsQuietRead r
@@ -133,7 +137,8 @@ first_entry A s k pid p x effect call (Writes (byte ∷ bytes)) q = record { ent
 first_entry A s k pid p x effect call Waits q = record { entry = _; rest = []; first = refl; own = tt; found = (none_asked A.swap_blocks k).0; loses = refl }
 first_entry A s k pid p x effect call (Exits status) q = absurd q
 
-pub stops_quiet : (A : Inputs) (s : State) (old new : Standing) (holds : Option (List NamedFile)) (image : List ℕ) (pid : ℕ) (now : Bool) (p : Process) (x : Space) (effect : Effect)
+pub stops_quiet : (A : Inputs) (s : State) (old new : Standing) (holds : Option (List NamedFile)) (image : List ℕ) (pid : ℕ) (now : Bool) (p : Process)
+    (x : Space) (effect : Effect)
     (call : SystemCall)
     (r : Result Reply Refused) (stop : Stop)
     → RunsOn A s old holds image pid now p x → IsCallOf effect call → IsCalledFor A s p x call effect r → IsQuiet (or_fault r)
@@ -146,7 +151,8 @@ stops_quiet A s old new holds image pid now p x effect call r stop h m c q g =
     (begins A s old.kernel image pid now p x step f.entry f.rest old.kernel.holdings h.machine.at h.running h.between is f.first f.found (none_lost A s pid now p x step h.running is f.loses)) f.own g
 
 -- a call whose read was refused
-pub stops_reading : (A : Inputs) (s : State) (old new : Standing) (holds : Option (List NamedFile)) (image : List ℕ) (pid : ℕ) (now : Bool) (p : Process) (x : Space) (effect : Effect)
+pub stops_reading : (A : Inputs) (s : State) (old new : Standing) (holds : Option (List NamedFile)) (image : List ℕ) (pid : ℕ) (now : Bool) (p : Process)
+    (x : Space) (effect : Effect)
     (call : SystemCall)
     (refused : Refused) (stop : Stop)
     → RunsOn A s old holds image pid now p x → MakesCall old p x effect call

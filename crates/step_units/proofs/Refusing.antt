@@ -49,7 +49,8 @@ abbrev pub with_refusal : Standing → ℕ → Standing
 with_refusal m pid = record m { kernel = note_step m.kernel (entries.Refused pid); room = None }
 
 -- After the entry the process runs on, and waits for the same page; a step of it is refused.
-pub record IsRefusal (A : Inputs) (s : State) (old : Standing) (holds : Option (List NamedFile)) (image : List ℕ) (pid : ℕ) (now : Bool) (p : Process) (x : Space) : Type 0 where
+pub record IsRefusal (A : Inputs) (s : State) (old : Standing) (holds : Option (List NamedFile)) (image : List ℕ) (pid : ℕ) (now : Bool) (p : Process)
+    (x : Space) : Type 0 where
   pub leads : Leads A s old.kernel image (entries.Refused pid ∷ []) (after A s (entries.Refused pid)) (note_step old.kernel (entries.Refused pid)) (Some image)
   pub waits : StepWaits A s (entries.Refused pid) (after A s (entries.Refused pid))
   pub machine : MachineAt A (after A s (entries.Refused pid)) (with_refusal old pid) holds image
@@ -57,9 +58,11 @@ pub record IsRefusal (A : Inputs) (s : State) (old : Standing) (holds : Option (
   pub unwanted : wanted A (after A s (entries.Refused pid)) ≡ None
 
 -- any step whose pieces find no place
-pub refusal : (A : Inputs) (s : State) (old : Standing) (holds : Option (List NamedFile)) (image : List ℕ) (pid : ℕ) (now : Bool) (p : Process) (x : Space) (step : Step)
+pub refusal : (A : Inputs) (s : State) (old : Standing) (holds : Option (List NamedFile)) (image : List ℕ) (pid : ℕ) (now : Bool) (p : Process)
+    (x : Space) (step : Step)
     → RunsOn A s old holds image pid now p x → wanted A s ≡ None → step_at A s.point pid ≡ step
-    → is_ok (place_all A.swap_blocks old.kernel.holdings (asked (facts_of A.images) old.kernel pid step.change)) ≡ false → IsRefusal A s old holds image pid now p x
+    → is_ok (place_all A.swap_blocks old.kernel.holdings (asked (facts_of A.images) old.kernel pid step.change)) ≡ false
+    → IsRefusal A s old holds image pid now p x
 refusal A s old holds image pid now p x step h w is f =
     let k : Kernel = old.kernel in
     let u : Entry = entries.Refused pid in
@@ -77,7 +80,8 @@ refusal A s old holds image pid now p x step h w is f =
     }
 
 -- the pieces of a call
-pub call_refusal : (A : Inputs) (s : State) (old : Standing) (holds : Option (List NamedFile)) (image : List ℕ) (pid : ℕ) (now : Bool) (p : Process) (x : Space) (effect : Effect) (call : SystemCall)
+pub call_refusal : (A : Inputs) (s : State) (old : Standing) (holds : Option (List NamedFile)) (image : List ℕ) (pid : ℕ) (now : Bool) (p : Process) (x : Space)
+    (effect : Effect) (call : SystemCall)
     (r : Result Reply Refused) (regs : Regs) (change : Change)
     → RunsOn A s old holds image pid now p x → IsCallOf effect call → IsCalledFor A s p x call effect r → or_fault r ≡ Does regs change
     → is_ok (place_all A.swap_blocks old.kernel.holdings (asked (facts_of A.images) old.kernel pid change)) ≡ false → IsRefusal A s old holds image pid now p x
@@ -86,9 +90,11 @@ call_refusal A s old holds image pid now p x effect call r regs change h m c e f
     refusal A s old holds image pid now p x step h c.unwanted (called_step A s pid now p x effect call r h.running h.between m c ∙ ap (replied_step A.images s.point.flat p call effect) e) f
 
 -- after it the step is the failure of the call
-pub failing_step : (A : Inputs) (s : State) (old : Standing) (holds : Option (List NamedFile)) (image : List ℕ) (pid : ℕ) (now : Bool) (p : Process) (x : Space) (effect : Effect) (call : SystemCall)
+pub failing_step : (A : Inputs) (s : State) (old : Standing) (holds : Option (List NamedFile)) (image : List ℕ) (pid : ℕ) (now : Bool) (p : Process) (x : Space)
+    (effect : Effect) (call : SystemCall)
     (r : Result Reply Refused) (regs : Regs) (change : Change)
-    → IsCallOf effect call → IsCalledFor A s p x call effect r → or_fault r ≡ Does regs change → wants_space change ≡ true → IsRefusal A s old holds image pid now p x
+    → IsCallOf effect call → IsCalledFor A s p x call effect r → or_fault r ≡ Does regs change → wants_space change ≡ true
+    → IsRefusal A s old holds image pid now p x
     → step_at A (after A s (entries.Refused pid)).point pid ≡ replied_step A.images s.point.flat p call effect (Fails no_memory)
 failing_step A s old holds image pid now p x effect call r regs change m c e wants h =
     let t : State = after A s (entries.Refused pid) in
@@ -124,7 +130,8 @@ module _ (A : Inputs) (s : State) (old : Standing) (holds : Option (List NamedFi
 
   -- the call fails
   pub refused_fails : (l : Kernel)
-      → l ≡ change_step (facts_named old.images) (note_step old.kernel (entries.Refused pid)) pid (replied effect.regs true no_memory) (call_entry pid call (replied effect.regs true no_memory)) changes.Keep
+      → l ≡ change_step (facts_named old.images) (note_step old.kernel (entries.Refused pid)) pid (replied effect.regs true no_memory)
+      (call_entry pid call (replied effect.regs true no_memory)) changes.Keep
       → StepLeads A s old.kernel image 1 l (Some image)
   refused_fails l made =
       let k : Kernel = note_step old.kernel (entries.Refused pid) in

@@ -62,7 +62,8 @@ asked_here A s pid p x call effect here holds w =
     ∙ ap (λ (q : Process). reply_of A.images F q x call effect.regs) (process_self p x holds)
 
 -- a call whose reads miss no byte waits for no page
-pub ready : (A : Inputs) (s : State) (old : Standing) (holds : Option (List NamedFile)) (image : List ℕ) (pid : ℕ) (now : Bool) (p : Process) (x : Space) (effect : Effect) (call : SystemCall)
+pub ready : (A : Inputs) (s : State) (old : Standing) (holds : Option (List NamedFile)) (image : List ℕ) (pid : ℕ) (now : Bool) (p : Process) (x : Space)
+    (effect : Effect) (call : SystemCall)
     (r : Result Reply Refused)
     → RunsOn A s old holds image pid now p x → MakesCall old p x effect call
     → run (kernel_answers old.kernel x.sid) (reply_asked A.images s.point.flat p x call effect) ≡ r → IsAnswered r → IsCalledFor A s p x call effect r
@@ -101,7 +102,8 @@ refused_step A s pid now p x effect call r i l m h =
 
 -- A call that answers, and makes a change with which no space passes and behind which no page is due, is the step, where no space
 -- has to settle.
-pub answers_settled : (A : Inputs) (s : State) (old : Standing) (l : Kernel) (holds : Option (List NamedFile)) (image : List ℕ) (pid : ℕ) (now : Bool) (p : Process) (x : Space) (effect : Effect)
+pub answers_settled : (A : Inputs) (s : State) (old : Standing) (l : Kernel) (holds : Option (List NamedFile)) (image : List ℕ) (pid : ℕ) (now : Bool)
+    (p : Process) (x : Space) (effect : Effect)
     (call : SystemCall)
     (r : Result Reply Refused) (after : Regs) (change : Change) (found : Holdings)
     → RunsOn A s old holds image pid now p x → IsCallOf effect call → IsCalledFor A s p x call effect r
@@ -119,7 +121,8 @@ answers_settled A s old l holds image pid now p x effect call r after change fou
     (ap (λ (n : ℕ). call_entry n call after ∷ []) (found_at s.point.flat pid p h.running.here).0) c.writes passes dues f made)
 
 -- the same where the step gives up no space and drops no page
-pub answers : (A : Inputs) (s : State) (old : Standing) (l : Kernel) (holds : Option (List NamedFile)) (image : List ℕ) (pid : ℕ) (now : Bool) (p : Process) (x : Space) (effect : Effect)
+pub answers : (A : Inputs) (s : State) (old : Standing) (l : Kernel) (holds : Option (List NamedFile)) (image : List ℕ) (pid : ℕ) (now : Bool) (p : Process)
+    (x : Space) (effect : Effect)
     (call : SystemCall)
     (r : Result Reply Refused) (after : Regs) (change : Change) (found : Holdings)
     → RunsOn A s old holds image pid now p x → IsCallOf effect call → IsCalledFor A s p x call effect r
@@ -133,11 +136,13 @@ answers A s old l holds image pid now p x effect call r after change found h m c
     (none_lost A s pid now p x (replied_step A.images s.point.flat p call effect (Does after change)) h.running (called_step A s pid now p x effect call r h.running h.between m c ∙ e) loses) f made
 
 -- a call that fails
-pub fails : (A : Inputs) (s : State) (old : Standing) (l : Kernel) (holds : Option (List NamedFile)) (image : List ℕ) (pid : ℕ) (now : Bool) (p : Process) (x : Space) (effect : Effect)
+pub fails : (A : Inputs) (s : State) (old : Standing) (l : Kernel) (holds : Option (List NamedFile)) (image : List ℕ) (pid : ℕ) (now : Bool) (p : Process)
+    (x : Space) (effect : Effect)
     (call : SystemCall)
     (r : Result Reply Refused) (error : ℕ)
     → RunsOn A s old holds image pid now p x → IsCallOf effect call → IsCalledFor A s p x call effect r → or_fault r ≡ Fails error
-    → l ≡ change_step (facts_named old.images) old.kernel pid (replied effect.regs true error) (call_entry pid call (replied effect.regs true error)) changes.Keep
+    → l ≡ change_step (facts_named old.images) old.kernel pid (replied effect.regs true error)
+    (call_entry pid call (replied effect.regs true error)) changes.Keep
     → StepLeads A s old.kernel image 1 l (Some image)
 fails A s old l holds image pid now p x effect call r error h m c e made =
     answers A s old l holds image pid now p x effect call r (replied effect.regs true error) changes.Keep old.kernel.holdings h m c

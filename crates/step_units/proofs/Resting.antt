@@ -66,7 +66,8 @@ data Known (A : Inputs) (s : State) (m : Standing) (p : Process) (x : Space) : T
   Called : (effect : Effect) (call : SystemCall) (r : Result Reply Refused) → MakesCall m p x effect call
       → run (kernel_answers m.kernel x.sid) (reply_asked A.images s.point.flat p x call effect) ≡ r → IsCalledFor A s p x call effect r → Known A s m p x
 
-never_wanted : (A : Inputs) (s : State) (k : Kernel) (x : Space) (address : ℕ) (write : Bool) → s.place.due ≡ [] → wanted A s ≡ None → WantsPage A s k x address write → ⊥
+never_wanted : (A : Inputs) (s : State) (k : Kernel) (x : Space) (address : ℕ) (write : Bool) → s.place.due ≡ [] → wanted A s ≡ None
+    → WantsPage A s k x address write → ⊥
 never_wanted A s k x address write clear none w =
     let some : wanted A s ≡ Some w.page = splits_wanted A s w.before w.page clear (record { behind = w.rest; whole = w.touched; valid = w.valid; absent = w.absent }) in
     let no : None ≡ Some w.page = sym none ∙ some in cc
@@ -314,8 +315,10 @@ sent_few images F p x system_calls.Wait regs memory bytes e =
     (silent_wait (find (λ q. q.parent == p.pid) F.processes) (find (is_zombie_child p.pid) F.processes) regs) e)
 
 -- a reply of which bytes go out writes them
-out_writes : (images : List NamedImage) (F : FlatState) (p : Process) (call : SystemCall) (effect : Effect) (reply : Reply) (pid : ℕ) (bytes : List ℕ) (behind : List Entry)
-    → (replied_step images F p call effect reply).entries ≡ entries.Out pid bytes ∷ behind → (byte : ℕ) × (more : List ℕ) × (reply ≡ Writes (byte ∷ more)) × (byte ∷ more ≡ bytes)
+out_writes : (images : List NamedImage) (F : FlatState) (p : Process) (call : SystemCall) (effect : Effect) (reply : Reply) (pid : ℕ)
+    (bytes : List ℕ) (behind : List Entry)
+    → (replied_step images F p call effect reply).entries ≡ entries.Out pid bytes ∷ behind
+    → (byte : ℕ) × (more : List ℕ) × (reply ≡ Writes (byte ∷ more)) × (byte ∷ more ≡ bytes)
 out_writes images F p call effect (Fails error) pid bytes behind e = absurd cc
 out_writes images F p call effect (Does regs change) pid bytes behind e = absurd cc
 out_writes images F p call effect (Writes []) pid bytes behind e = absurd cc
@@ -324,7 +327,8 @@ out_writes images F p call effect Waits pid bytes behind e = absurd cc
 out_writes images F p call effect (Exits status) pid bytes behind e = absurd cc
 
 -- which an instruction that makes no call doesn't
-none_out : (images : List NamedImage) (F : FlatState) (p : Process) (x : Space) (y : Result Effect Refused) (pid : ℕ) (bytes : List ℕ) (behind : List Entry) → IsWhole y
+none_out : (images : List NamedImage) (F : FlatState) (p : Process) (x : Space) (y : Result Effect Refused) (pid : ℕ) (bytes : List ℕ)
+    (behind : List Entry) → IsWhole y
     → (step_of images F p x false y).entries ≡ entries.Out pid bytes ∷ behind → ⊥
 none_out images F p x (Err (Miss address write)) pid bytes behind w e = w
 none_out images F p x (Err (Below address)) pid bytes behind w e = absurd cc

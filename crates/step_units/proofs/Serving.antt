@@ -50,7 +50,8 @@ same_space A s k image pid now p x at r =
 
 -- A process of a machine runs between two steps, and this page of its next instruction, after valid ones, is served; in a turn the
 -- hands pass over those.
-pub record WaitsFor (A : Inputs) (s : State) (m : Standing) (holds : Option (List NamedFile)) (image : List ℕ) (pid : ℕ) (now : Bool) (before : List Page) (q : Page) : Type 0 where
+pub record WaitsFor (A : Inputs) (s : State) (m : Standing) (holds : Option (List NamedFile)) (image : List ℕ) (pid : ℕ) (now : Bool) (before : List Page)
+    (q : Page) : Type 0 where
   pub machine : MachineAt A s m holds image
   pub runs : Runs A s pid now
   pub between : IsBetween s.point.last
@@ -71,7 +72,8 @@ waiting A s m holds image pid now before kept q w f = record {
 
 -- what serving leads to
 
-pub leads_on : (A : Inputs) (g : Ground) (s : State) (k l : Kernel) (image : List ℕ) (j : Option (List ℕ)) (pid : ℕ) (now : Bool) (before : List Page) (q : Page) (us : List Entry)
+pub leads_on : (A : Inputs) (g : Ground) (s : State) (k l : Kernel) (image : List ℕ) (j : Option (List ℕ)) (pid : ℕ) (now : Bool) (before : List Page)
+    (q : Page) (us : List Entry)
     → IsBetween s.point.last → Served A g s k image pid now before q us l j → StepLeads A s k image 0 l j
 leads_on A g s k l image j pid now before q us b v = record {
   units = us;
@@ -116,8 +118,10 @@ nothing_more A g s pid before q w n u =
     let d : Splits s.place (touched_next A s) before q = record { behind = w.rest; whole = w.touched; valid = w.valid; absent = n } in
     runs_work A s pid false w.runs ∙ ap (work_by A s pid false) (splits_wanted A s before q w.runs.clear d) ∙ u
 
-pub ends_mark : (A : Inputs) (g : Ground) (s : State) (k l : Kernel) (image : List ℕ) (j : Option (List ℕ)) (pid : ℕ) (before : List Page) (q : Page) (us : List Entry)
-    → At A s k image → IsBetween s.point.last → Served A g s k image pid false before q us l j → (is_valid (state_of l.place q) ≡ false) × (serve_unit l.place q false ≡ None)
+pub ends_mark : (A : Inputs) (g : Ground) (s : State) (k l : Kernel) (image : List ℕ) (j : Option (List ℕ)) (pid : ℕ) (before : List Page)
+    (q : Page) (us : List Entry)
+    → At A s k image → IsBetween s.point.last → Served A g s k image pid false before q us l j
+    → (is_valid (state_of l.place q) ≡ false) × (serve_unit l.place q false ≡ None)
     → MarkEnds A s k image l j
 unfolding leads_on
 ends_mark A g s k l image j pid before q us at b v n =
@@ -142,8 +146,10 @@ PageLeads A s k image before l j served.NoFrame = MarkEnds A s k image l j
 PageLeads A s k image before l j served.NoSpace = ⊥
 PageLeads A s k image before l j (served.Signal number) = ⊥
 
-leads_more : (A : Inputs) (g : Ground) (s : State) (k l : Kernel) (image : List ℕ) (j : Option (List ℕ)) (pid : ℕ) (now : Bool) (before : List Page) (q : Page) (us : List Entry)
-    → At A s k image → IsBetween s.point.last → Served A g s k image pid now before q us l j → is_valid (state_of l.place q) ≡ true → LeadsMore A s k image before l j
+leads_more : (A : Inputs) (g : Ground) (s : State) (k l : Kernel) (image : List ℕ) (j : Option (List ℕ)) (pid : ℕ) (now : Bool) (before : List Page)
+    (q : Page) (us : List Entry)
+    → At A s k image → IsBetween s.point.last → Served A g s k image pid now before q us l j → is_valid (state_of l.place q) ≡ true
+    → LeadsMore A s k image before l j
 unfolding leads_on
 leads_more A g s k l image j pid now before q us at b v h =
     let here : l.place ≡ v.state.place =
@@ -156,14 +162,17 @@ leads_more A g s k l image j pid now before q us at b v h =
       more = let e = ap (λ (qs : List Page). length qs) kept in omega (arith, longer, e);
     }
 
-pub served_to : (A : Inputs) (s : State) (old new : Standing) (holds : Option (List NamedFile)) (image : List ℕ) (j : Option (List ℕ)) (pid : ℕ) (now : Bool) (before kept : List Page) (q : Page)
+pub served_to : (A : Inputs) (s : State) (old new : Standing) (holds : Option (List NamedFile)) (image : List ℕ) (j : Option (List ℕ)) (pid : ℕ) (now : Bool)
+    (before kept : List Page) (q : Page)
     → WaitsFor A s old holds image pid now before q → (now ≡ true → kept ≡ before) → (t : ServesTo now kept q old new holds (Some image) j)
     → Served A (ground old holds kept) s old.kernel image pid now before q t.units new.kernel j
 served_to A s old new holds image j pid now before kept q w f t =
     served t.units A (ground old holds kept) s old.kernel new.kernel image j pid now before q w.machine.at (waiting A s old holds image pid now before kept q w f) t.leads t.makes.made
 
-pub page_leads : (A : Inputs) (s : State) (old new : Standing) (holds : Option (List NamedFile)) (image : List ℕ) (j : Option (List ℕ)) (pid : ℕ) (before : List Page) (q : Page) (answer : Touch)
-    → WaitsFor A s old holds image pid false before q → TouchedAs answer q old new holds (Some image) j → PageLeads A s old.kernel image before new.kernel j answer
+pub page_leads : (A : Inputs) (s : State) (old new : Standing) (holds : Option (List NamedFile)) (image : List ℕ) (j : Option (List ℕ)) (pid : ℕ)
+    (before : List Page) (q : Page) (answer : Touch)
+    → WaitsFor A s old holds image pid false before q → TouchedAs answer q old new holds (Some image) j
+    → PageLeads A s old.kernel image before new.kernel j answer
 page_leads A s old new holds image j pid before q answer w h = go answer h
   where
     done : (t : ServesTo false [] q old new holds (Some image) j) → Served A (ground old holds []) s old.kernel image pid false before q t.units new.kernel j
@@ -182,8 +191,10 @@ page_leads A s old new holds image j pid before q answer w h = go answer h
     go served.NoSpace c = absurd c
     go (served.Signal number) c = absurd c
 
-pub page_leads_now : (A : Inputs) (s : State) (old new : Standing) (holds : Option (List NamedFile)) (image : List ℕ) (j : Option (List ℕ)) (pid : ℕ) (before : List Page) (q : Page) (answer : Touch)
-    → WaitsFor A s old holds image pid true before q → TouchedNow before answer q old new holds (Some image) j → PageLeads A s old.kernel image before new.kernel j answer
+pub page_leads_now : (A : Inputs) (s : State) (old new : Standing) (holds : Option (List NamedFile)) (image : List ℕ) (j : Option (List ℕ)) (pid : ℕ)
+    (before : List Page) (q : Page) (answer : Touch)
+    → WaitsFor A s old holds image pid true before q → TouchedNow before answer q old new holds (Some image) j
+    → PageLeads A s old.kernel image before new.kernel j answer
 page_leads_now A s old new holds image j pid before q answer w h = go answer h
   where
     go : (answer : Touch) → TouchedNow before answer q old new holds (Some image) j → PageLeads A s old.kernel image before new.kernel j answer
@@ -214,8 +225,10 @@ stops_by A t k behind stops.FileFault entry new j n s = record { entry = entry; 
 stops_by A t k behind stops.SwapReadFault entry new j n s = record { entry = entry; next = n; full = s.full.0; cause = s.cause; spoils = s.image }
 stops_by A t k behind stops.SwapWriteFault entry new j n s = record { entry = entry; next = n; full = s.full.0; cause = s.cause; spoils = s.image }
 
-pub page_stops : (A : Inputs) (s : State) (old new : Standing) (holds : Option (List NamedFile)) (image : List ℕ) (j : Option (List ℕ)) (pid : ℕ) (now : Bool) (before kept : List Page) (q : Page)
-    (stop : Stop) → WaitsFor A s old holds image pid now before q → (now ≡ true → kept ≡ before) → StopsAtPage now kept q old new holds (Some image) j stop → StopLeads A s old.kernel image stop new j
+pub page_stops : (A : Inputs) (s : State) (old new : Standing) (holds : Option (List NamedFile)) (image : List ℕ) (j : Option (List ℕ)) (pid : ℕ) (now : Bool)
+    (before kept : List Page) (q : Page)
+    (stop : Stop) → WaitsFor A s old holds image pid now before q → (now ≡ true → kept ≡ before) → StopsAtPage now kept q old new holds (Some image) j stop
+    → StopLeads A s old.kernel image stop new j
 page_stops A s old new holds image j pid now before kept q stop w f c =
     let g : Ground = ground old holds kept in
     let d : StopsServing now kept q old new holds (Some image) j stop = c.serving in

@@ -68,7 +68,8 @@ pub refused_once : (A : Inputs) (s : State) (pid : ℕ) → is_refused s.point.l
 refused_once A s pid u = ap (λ (b : Bool). not b && not (fits A.swap_blocks s.holdings (asks A s.point.flat pid))) u
 
 -- It has settled: the process runs on, its step is the same, and needn't wait.
-pub record IsSettled (A : Inputs) (s : State) (old between : Standing) (holds : Option (List NamedFile)) (image : List ℕ) (j : Option (List ℕ)) (pid : ℕ) (now : Bool) (p : Process) (x : Space) : Type 0 where
+pub record IsSettled (A : Inputs) (s : State) (old between : Standing) (holds : Option (List NamedFile)) (image : List ℕ) (j : Option (List ℕ)) (pid : ℕ)
+    (now : Bool) (p : Process) (x : Space) : Type 0 where
   pub units : List Entry
   pub state : State
   pub behind : List ℕ

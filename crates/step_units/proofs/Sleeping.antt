@@ -70,7 +70,8 @@ asleep A F pid p x effect here holds w =
     ∙ applied A.images F p.pid p.regs changes.Sleep p x own holds in
     ap (λ (G : FlatState). can_step G pid) slept ∙ ap ready_if (found_after F pid p q here number)
 
-pub sleeps : (A : Inputs) (s : State) (old : Standing) (l : Kernel) (holds : Option (List NamedFile)) (image : List ℕ) (pid : ℕ) (now : Bool) (p : Process) (x : Space) (effect : Effect)
+pub sleeps : (A : Inputs) (s : State) (old : Standing) (l : Kernel) (holds : Option (List NamedFile)) (image : List ℕ) (pid : ℕ) (now : Bool) (p : Process)
+    (x : Space) (effect : Effect)
     (call : SystemCall)
     (r : Result Reply Refused)
     → RunsOn A s old holds image pid now p x → IsCallOf effect call → IsCalledFor A s p x call effect r → or_fault r ≡ Waits

@@ -199,7 +199,8 @@ module _ (A : Inputs) (s : State) (old : Standing) (holds : Option (List NamedFi
             ∙ ap (λ (z : Step). (place_behind A t pid z u).due) (step_stays A s old between image pid now p x j l ∙ exec_step)
             ∙ exec_due facts t.point.flat pid (place_at t u) (pages_written t.point.flat pid step) number top t.place header.0 header.1
             ∙ ap (λ (n : ℕ). let ds : List Due = Start (Stack n 0) ∷ [] in ds) (ap (λ (y : Point). y.flat.next_sid) l.same.point ∙ sym on.machine.at.stands.keeps.coupled.tables.next_sid);
-        images = subst (λ (ns : List ImageNamed). AreImages ns holds A.images) (sym (ap (λ (m : Standing). m.images) h.answer.rest ∙ ap (λ (m : Standing). m.images) f.step ∙ l.images)) on.machine.images;
+        images =
+            subst (λ (ns : List ImageNamed). AreImages ns holds A.images) (sym (ap (λ (m : Standing). m.images) h.answer.rest ∙ ap (λ (m : Standing). m.images) f.step ∙ l.images)) on.machine.images;
         between = subst IsBetween (sym ends.last) tt;
         count = ends.count ∙ ap (λ (n : ℕ). n + 1) l.same.count;
         lines = ends.lines ∙ l.same.lines;

@@ -32,7 +32,8 @@ stops_by A t k image stops.NoMemory new j n = same_image n.entry k (Some image) 
 stops_by A t k image _ new j n = n
 
 -- units lead to where this one is next, and there the run stopped
-pub stops_behind : (A : Inputs) (s t : State) (k l : Kernel) (image behind : List ℕ) (us : List Entry) (stop : Stop) (new : Standing) (j : Option (List ℕ)) (e : Entry)
+pub stops_behind : (A : Inputs) (s t : State) (k l : Kernel) (image behind : List ℕ) (us : List Entry) (stop : Stop) (new : Standing)
+    (j : Option (List ℕ)) (e : Entry)
     → Leads A s k image us t l (Some behind) → next_unit A t ≡ Some e → StopsAt e l (Some behind) stop new j → StopLeads A s k image stop new j
 stops_behind A s t k l image behind us stop new j e leads n at = record {
   units = us;

@@ -106,7 +106,8 @@ comes_next A s pid since c m g o =
 
 pub comes_in : (A : Inputs) (s : State) (old new : Standing) (holds : Option (List NamedFile)) (image : List ℕ) (pid since : ℕ)
     → MachineAt A s old holds image → IsClear s
-    → s.mark ≡ marks.Turn pid since → goes_on A s pid (since + turn_instructions) ≡ true → is_out s.place pid ≡ true → IsIn old.kernel new.kernel pid (Some image)
+    → s.mark ≡ marks.Turn pid since → goes_on A s pid (since + turn_instructions) ≡ true → is_out s.place pid ≡ true
+    → IsIn old.kernel new.kernel pid (Some image)
     → CameIn A s old.kernel image pid since new.kernel
 unfolding after
 comes_in A s old new holds image pid since at c m g o i =
@@ -123,7 +124,8 @@ comes_in A s old new holds image pid since at c m g o i =
       on = g;
     }
 
-pub coming_in_stops : (A : Inputs) (s : State) (old new : Standing) (holds : Option (List NamedFile)) (image : List ℕ) (j : Option (List ℕ)) (pid since : ℕ) (stop : Stop)
+pub coming_in_stops : (A : Inputs) (s : State) (old new : Standing) (holds : Option (List NamedFile)) (image : List ℕ) (j : Option (List ℕ))
+    (pid since : ℕ) (stop : Stop)
     → MachineAt A s old holds image
     → IsClear s → s.mark ≡ marks.Turn pid since → goes_on A s pid (since + turn_instructions) ≡ true → is_out s.place pid ≡ true
     → StopsAt (entries.SwapIn pid) old.kernel (Some image) stop new j → StopLeads A s old.kernel image stop new j

@@ -43,20 +43,24 @@ SignalEnds =
 -- and so does one that makes none of the eight calls
 abbrev pub NoCallEnds : Type 0
 NoCallEnds =
-    (A : Inputs) (s : State) (m : Standing) (holds : Option (List NamedFile)) (image : List ℕ) (pid : ℕ) (now : Bool) (p : Process) (x : Space) (effect : Effect) (number : ℤ)
-    → RunsOn A s m holds image pid now p x → run (kernel_answers m.kernel x.sid) (instruction p.regs) ≡ Ok effect → effect.call ≡ Some number → call_of number ≡ None → EndsWith A s pid p 12
+    (A : Inputs) (s : State) (m : Standing) (holds : Option (List NamedFile)) (image : List ℕ) (pid : ℕ) (now : Bool) (p : Process) (x : Space)
+    (effect : Effect) (number : ℤ)
+    → RunsOn A s m holds image pid now p x → run (kernel_answers m.kernel x.sid) (instruction p.regs) ≡ Ok effect → effect.call ≡ Some number
+    → call_of number ≡ None → EndsWith A s pid p 12
 
 -- the end of a process, once it left its space, is its step
 abbrev pub EndIsMade : Type 0
 EndIsMade =
-    (A : Inputs) (s : State) (old new : Standing) (holds : Option (List NamedFile)) (image : List ℕ) (behind : Option (List ℕ)) (pid : ℕ) (now : Bool) (p : Process) (x : Space) (status : ℕ)
+    (A : Inputs) (s : State) (old new : Standing) (holds : Option (List NamedFile)) (image : List ℕ) (behind : Option (List ℕ)) (pid : ℕ) (now : Bool)
+    (p : Process) (x : Space) (status : ℕ)
     → MachineAt A s old holds image → IsRunning A s pid now p x → EndsWith A s pid p status → HasEnded old new pid status holds (Some image) behind
     → StepLeads A s old.kernel image 1 new.kernel behind
 
 -- where the machine stops before that, next units lead to the stop
 abbrev pub EndStops : Type 0
 EndStops =
-    (A : Inputs) (s : State) (old new : Standing) (holds : Option (List NamedFile)) (image : List ℕ) (behind : Option (List ℕ)) (pid : ℕ) (now : Bool) (p : Process) (x : Space) (status : ℕ)
+    (A : Inputs) (s : State) (old new : Standing) (holds : Option (List NamedFile)) (image : List ℕ) (behind : Option (List ℕ)) (pid : ℕ) (now : Bool)
+    (p : Process) (x : Space) (status : ℕ)
     (stop : Stop)
     → MachineAt A s old holds image → IsRunning A s pid now p x → EndsWith A s pid p status → StopsAlive old new pid holds (Some image) behind stop
     → StopLeads A s old.kernel image stop new behind
@@ -64,7 +68,8 @@ EndStops =
 -- an exit is the process's step
 abbrev pub ExitIsMade : Type 0
 ExitIsMade =
-    (A : Inputs) (s : State) (old new : Standing) (holds : Option (List NamedFile)) (image : List ℕ) (behind : Option (List ℕ)) (pid : ℕ) (now : Bool) (p : Process) (x : Space) (effect : Effect)
+    (A : Inputs) (s : State) (old new : Standing) (holds : Option (List NamedFile)) (image : List ℕ) (behind : Option (List ℕ)) (pid : ℕ) (now : Bool)
+    (p : Process) (x : Space) (effect : Effect)
     (called : Called)
     → RunsOn A s old holds image pid now p x → MakesCall old p x effect system_calls.Exit
     → ExitComes old new pid effect.regs (run (kernel_answers old.kernel x.sid) (exit_reply effect.regs)) holds (Some image) behind called
@@ -73,7 +78,8 @@ ExitIsMade =
 -- where the machine stops in it, next units lead to the stop
 abbrev pub ExitStops : Type 0
 ExitStops =
-    (A : Inputs) (s : State) (old new : Standing) (holds : Option (List NamedFile)) (image : List ℕ) (behind : Option (List ℕ)) (pid : ℕ) (now : Bool) (p : Process) (x : Space) (effect : Effect)
+    (A : Inputs) (s : State) (old new : Standing) (holds : Option (List NamedFile)) (image : List ℕ) (behind : Option (List ℕ)) (pid : ℕ) (now : Bool)
+    (p : Process) (x : Space) (effect : Effect)
     (stop : Stop)
     → RunsOn A s old holds image pid now p x → MakesCall old p x effect system_calls.Exit
     → StopsExit old new pid (run (kernel_answers old.kernel x.sid) (exit_reply effect.regs)) holds (Some image) behind stop
@@ -84,7 +90,8 @@ ExitStops =
 -- an execve is the process's step, and after it the new stack page is filled
 abbrev pub ExecIsMade : Type 0
 ExecIsMade =
-    (A : Inputs) (s : State) (old new : Standing) (holds : Option (List NamedFile)) (image : List ℕ) (behind : Option (List ℕ)) (pid : ℕ) (now : Bool) (p : Process) (x : Space) (effect : Effect)
+    (A : Inputs) (s : State) (old new : Standing) (holds : Option (List NamedFile)) (image : List ℕ) (behind : Option (List ℕ)) (pid : ℕ) (now : Bool)
+    (p : Process) (x : Space) (effect : Effect)
     (called : Called)
     → RunsOn A s old holds image pid now p x → MakesCall old p x effect system_calls.Execve
     → ExecComes old new pid effect.regs (run (kernel_answers old.kernel x.sid) (execve_reply A.images effect.regs)) holds (Some image) behind called
@@ -93,7 +100,8 @@ ExecIsMade =
 -- where the machine stops in it, next units lead to the stop
 abbrev pub ExecStops : Type 0
 ExecStops =
-    (A : Inputs) (s : State) (old new : Standing) (holds : Option (List NamedFile)) (image : List ℕ) (behind : Option (List ℕ)) (pid : ℕ) (now : Bool) (p : Process) (x : Space) (effect : Effect)
+    (A : Inputs) (s : State) (old new : Standing) (holds : Option (List NamedFile)) (image : List ℕ) (behind : Option (List ℕ)) (pid : ℕ) (now : Bool)
+    (p : Process) (x : Space) (effect : Effect)
     (stop : Stop)
     → RunsOn A s old holds image pid now p x → MakesCall old p x effect system_calls.Execve
     → StopsExec old new pid (run (kernel_answers old.kernel x.sid) (execve_reply A.images effect.regs)) holds (Some image) behind stop

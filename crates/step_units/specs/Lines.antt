@@ -67,7 +67,8 @@ pub record LineBegun (A : Inputs) (s : State) (k : Kernel) (image : List ℕ) (e
 -- the entry of the next line, noted by a machine between two lines, begins it
 abbrev pub LineBegins : Type 0
 LineBegins =
-    (A : Inputs) (s : State) (old : Standing) (l : Kernel) (holds : Option (List NamedFile)) (image : List ℕ) (e : Event) → MachineAt A s old holds image → IsOver A s → s.count < A.limit
+    (A : Inputs) (s : State) (old : Standing) (l : Kernel) (holds : Option (List NamedFile)) (image : List ℕ) (e : Event) → MachineAt A s old holds image
+    → IsOver A s → s.count < A.limit
     → slice_get A.lines s.lines ≡ Some e → l ≡ note_step old.kernel (entries.Event (s.lines + 1)) → LineBegun A s old.kernel image e l
 
 -- A machine that stops before an entry that goes into the journal alone: for want of memory, or since the journal is at its bound.
@@ -81,7 +82,8 @@ pub record StopsNoting (old new : Standing) (stop : Stop) : Type 0 where
 -- where the machine stops so before a line's entry, next units lead to the stop
 abbrev pub LineStops : Type 0
 LineStops =
-    (A : Inputs) (s : State) (old new : Standing) (holds : Option (List NamedFile)) (image : List ℕ) (e : Event) (stop : Stop) → MachineAt A s old holds image → IsOver A s → s.count < A.limit
+    (A : Inputs) (s : State) (old new : Standing) (holds : Option (List NamedFile)) (image : List ℕ) (e : Event) (stop : Stop) → MachineAt A s old holds image
+    → IsOver A s → s.count < A.limit
     → slice_get A.lines s.lines ≡ Some e → StopsNoting old new stop → StopLeads A s old.kernel image stop new (Some image)
 
 -- What the lines ask for.
@@ -89,8 +91,10 @@ LineStops =
 -- the oldest transfer ends, where one is in flight
 abbrev pub InterruptIsMade : Type 0
 InterruptIsMade =
-    (A : Inputs) (s : State) (old : Standing) (l : Kernel) (holds : Option (List NamedFile)) (image : List ℕ) (j : Option (List ℕ)) → MachineAt A s old holds image → IsClear s
-    → s.mark ≡ interrupt_mark s.place.transfers → 0 < length s.place.transfers → IsDone (sources old holds) (Some image) old.kernel l → ImageAfter old.kernel (Some image) j
+    (A : Inputs) (s : State) (old : Standing) (l : Kernel) (holds : Option (List NamedFile)) (image : List ℕ) (j : Option (List ℕ))
+    → MachineAt A s old holds image → IsClear s
+    → s.mark ≡ interrupt_mark s.place.transfers → 0 < length s.place.transfers → IsDone (sources old holds) (Some image) old.kernel l
+    → ImageAfter old.kernel (Some image) j
     → LineLeads A s old.kernel image l j
 
 -- else the line is over at once
@@ -100,45 +104,54 @@ IdleInterruptEnds = (A : Inputs) (s : State) → IsClear s → s.mark ≡ interr
 -- where the machine stops as it ends, next units lead to the stop
 abbrev pub InterruptStops : Type 0
 InterruptStops =
-    (A : Inputs) (s : State) (old new : Standing) (holds : Option (List NamedFile)) (image : List ℕ) (j : Option (List ℕ)) (stop : Stop) → MachineAt A s old holds image → IsClear s
-    → s.mark ≡ interrupt_mark s.place.transfers → 0 < length s.place.transfers → StopsEnding old new (Some image) j stop → StopLeads A s old.kernel image stop new j
+    (A : Inputs) (s : State) (old new : Standing) (holds : Option (List NamedFile)) (image : List ℕ) (j : Option (List ℕ)) (stop : Stop)
+    → MachineAt A s old holds image → IsClear s
+    → s.mark ≡ interrupt_mark s.place.transfers → 0 < length s.place.transfers → StopsEnding old new (Some image) j stop
+    → StopLeads A s old.kernel image stop new j
 
 -- the hands move
 abbrev pub HandsAreMade : Type 0
 HandsAreMade =
-    (A : Inputs) (s : State) (old new : Standing) (holds : Option (List NamedFile)) (image : List ℕ) (j : Option (List ℕ)) (n made : ℕ) → MachineAt A s old holds image → IsClear s
+    (A : Inputs) (s : State) (old new : Standing) (holds : Option (List NamedFile)) (image : List ℕ) (j : Option (List ℕ)) (n made : ℕ)
+    → MachineAt A s old holds image → IsClear s
     → s.mark ≡ marks.Hands n → Moved n old new made holds (Some image) j → LineLeads A s old.kernel image new.kernel j
 
 -- where the machine stops as they move, next units lead to the stop
 abbrev pub HandsStop : Type 0
 HandsStop =
-    (A : Inputs) (s : State) (old new : Standing) (holds : Option (List NamedFile)) (image : List ℕ) (j : Option (List ℕ)) (n : ℕ) (stop : Stop) → MachineAt A s old holds image → IsClear s
+    (A : Inputs) (s : State) (old new : Standing) (holds : Option (List NamedFile)) (image : List ℕ) (j : Option (List ℕ)) (n : ℕ) (stop : Stop)
+    → MachineAt A s old holds image → IsClear s
     → s.mark ≡ marks.Hands n → StopsMoving n old stop new holds (Some image) j → StopLeads A s old.kernel image stop new j
 
 -- the swapper has a turn
 abbrev pub SwapperIsMade : Type 0
 SwapperIsMade =
-    (A : Inputs) (s : State) (old new : Standing) (holds : Option (List NamedFile)) (image : List ℕ) (j : Option (List ℕ)) (t : Turned) → MachineAt A s old holds image → IsClear s
-    → AllFit s.point.flat.processes → s.mark ≡ swap_mark (swap_choice s.place (runners s.point.flat)) → choice_of t ≡ swap_choice old.kernel.place (runners_of old.kernel)
+    (A : Inputs) (s : State) (old new : Standing) (holds : Option (List NamedFile)) (image : List ℕ) (j : Option (List ℕ)) (t : Turned)
+    → MachineAt A s old holds image → IsClear s
+    → AllFit s.point.flat.processes → s.mark ≡ swap_mark (swap_choice s.place (runners s.point.flat))
+    → choice_of t ≡ swap_choice old.kernel.place (runners_of old.kernel)
     → Turns t old new holds (Some image) j → LineLeads A s old.kernel image new.kernel j
 
 -- where the machine stops in that turn, next units lead to the stop
 abbrev pub SwapperStops : Type 0
 SwapperStops =
-    (A : Inputs) (s : State) (old new : Standing) (holds : Option (List NamedFile)) (image : List ℕ) (j : Option (List ℕ)) (t : Turned) (stop : Stop) → MachineAt A s old holds image → IsClear s
+    (A : Inputs) (s : State) (old new : Standing) (holds : Option (List NamedFile)) (image : List ℕ) (j : Option (List ℕ)) (t : Turned) (stop : Stop)
+    → MachineAt A s old holds image → IsClear s
     → s.mark ≡ swap_mark (swap_choice s.place (runners s.point.flat)) → choice_of t ≡ swap_choice old.kernel.place (runners_of old.kernel)
     → StopsTurning t old stop new holds (Some image) j → StopLeads A s old.kernel image stop new j
 
 -- the numbers of frames and blocks are noted
 abbrev pub AuditIsMade : Type 0
 AuditIsMade =
-    (A : Inputs) (s : State) (old : Standing) (l : Kernel) (holds : Option (List NamedFile)) (image : List ℕ) → MachineAt A s old holds image → IsClear s → s.mark ≡ marks.Audit
+    (A : Inputs) (s : State) (old : Standing) (l : Kernel) (holds : Option (List NamedFile)) (image : List ℕ) → MachineAt A s old holds image
+    → IsClear s → s.mark ≡ marks.Audit
     → l ≡ note_step old.kernel (owners_of old.kernel.place old.kernel.holdings) → LineLeads A s old.kernel image l (Some image)
 
 -- where the machine stops before that entry, next units lead to the stop
 abbrev pub AuditStops : Type 0
 AuditStops =
-    (A : Inputs) (s : State) (old new : Standing) (holds : Option (List NamedFile)) (image : List ℕ) (stop : Stop) → MachineAt A s old holds image → IsClear s → s.mark ≡ marks.Audit
+    (A : Inputs) (s : State) (old new : Standing) (holds : Option (List NamedFile)) (image : List ℕ) (stop : Stop) → MachineAt A s old holds image
+    → IsClear s → s.mark ≡ marks.Audit
     → StopsNoting old new stop → StopLeads A s old.kernel image stop new (Some image)
 
 -- Turns of the closing phase.
@@ -165,13 +178,15 @@ pub record TurnBegun (A : Inputs) (s : State) (k : Kernel) (image : List ℕ) (p
 -- the entry of a turn that is due begins it
 abbrev pub TurnBegins : Type 0
 TurnBegins =
-    (A : Inputs) (s : State) (old : Standing) (l : Kernel) (holds : Option (List NamedFile)) (image : List ℕ) (pid : ℕ) → MachineAt A s old holds image → TurnDue A s pid
+    (A : Inputs) (s : State) (old : Standing) (l : Kernel) (holds : Option (List NamedFile)) (image : List ℕ) (pid : ℕ)
+    → MachineAt A s old holds image → TurnDue A s pid
     → l ≡ note_step old.kernel (entries.Turn pid) → TurnBegun A s old.kernel image pid l
 
 -- where the machine stops before that entry, next units lead to the stop
 abbrev pub TurnStops : Type 0
 TurnStops =
-    (A : Inputs) (s : State) (old new : Standing) (holds : Option (List NamedFile)) (image : List ℕ) (pid : ℕ) (stop : Stop) → MachineAt A s old holds image → TurnDue A s pid
+    (A : Inputs) (s : State) (old new : Standing) (holds : Option (List NamedFile)) (image : List ℕ) (pid : ℕ) (stop : Stop)
+    → MachineAt A s old holds image → TurnDue A s pid
     → StopsNoting old new stop → StopLeads A s old.kernel image stop new (Some image)
 
 -- A process whose turn it is and that is out comes in first: it has its turn yet, and is in.
@@ -189,12 +204,15 @@ pub record CameIn (A : Inputs) (s : State) (k : Kernel) (image : List ℕ) (pid 
 -- the entry by which it comes in is the next unit
 abbrev pub ComingInIsMade : Type 0
 ComingInIsMade =
-    (A : Inputs) (s : State) (old new : Standing) (holds : Option (List NamedFile)) (image : List ℕ) (pid since : ℕ) → MachineAt A s old holds image → IsClear s → s.mark ≡ marks.Turn pid since
-    → goes_on A s pid (since + turn_instructions) ≡ true → is_out s.place pid ≡ true → IsIn old.kernel new.kernel pid (Some image) → CameIn A s old.kernel image pid since new.kernel
+    (A : Inputs) (s : State) (old new : Standing) (holds : Option (List NamedFile)) (image : List ℕ) (pid since : ℕ) → MachineAt A s old holds image → IsClear s
+    → s.mark ≡ marks.Turn pid since
+    → goes_on A s pid (since + turn_instructions) ≡ true → is_out s.place pid ≡ true → IsIn old.kernel new.kernel pid (Some image)
+    → CameIn A s old.kernel image pid since new.kernel
 
 -- where the machine stops before that entry, next units lead to the stop
 abbrev pub ComingInStops : Type 0
 ComingInStops =
-    (A : Inputs) (s : State) (old new : Standing) (holds : Option (List NamedFile)) (image : List ℕ) (j : Option (List ℕ)) (pid since : ℕ) (stop : Stop) → MachineAt A s old holds image → IsClear s
+    (A : Inputs) (s : State) (old new : Standing) (holds : Option (List NamedFile)) (image : List ℕ) (j : Option (List ℕ)) (pid since : ℕ) (stop : Stop)
+    → MachineAt A s old holds image → IsClear s
     → s.mark ≡ marks.Turn pid since → goes_on A s pid (since + turn_instructions) ≡ true → is_out s.place pid ≡ true
     → StopsAt (entries.SwapIn pid) old.kernel (Some image) stop new j → StopLeads A s old.kernel image stop new j

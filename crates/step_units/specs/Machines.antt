@@ -23,7 +23,8 @@ pub record MachineAt (A : Inputs) (s : State) (m : Standing) (holds : Option (Li
   pub blocks : m.params.swap_blocks ≡ A.swap_blocks
 
 -- Between two steps a process runs.
-pub record RunsOn (A : Inputs) (s : State) (m : Standing) (holds : Option (List NamedFile)) (image : List ℕ) (pid : ℕ) (now : Bool) (p : Process) (x : Space) : Type 0 where
+pub record RunsOn (A : Inputs) (s : State) (m : Standing) (holds : Option (List NamedFile)) (image : List ℕ) (pid : ℕ) (now : Bool) (p : Process)
+    (x : Space) : Type 0 where
   pub machine : MachineAt A s m holds image
   pub running : IsRunning A s pid now p x
   pub between : IsBetween s.point.last

@@ -17,5 +17,6 @@ pub record HasLongwords (A : Inputs) (s : State) : Type 0 where
 -- next units keep that, while the numbers of processes are longwords
 abbrev pub LongwordsStay : Type 0
 LongwordsStay =
-    (A : Inputs) (s t : State) (k l : Kernel) (image : List ℕ) (j : Option (List ℕ)) (us : List Entry) → AllImages A.images → At A s k image → Leads A s k image us t l j
+    (A : Inputs) (s t : State) (k l : Kernel) (image : List ℕ) (j : Option (List ℕ)) (us : List Entry) → AllImages A.images → At A s k image
+    → Leads A s k image us t l j
     → length A.first + 1 + t.count < 2 ^ 32 → HasLongwords A s → HasLongwords A t

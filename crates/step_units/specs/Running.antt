@@ -29,7 +29,8 @@ use Rattle.step_units.specs.Leaving.{EndsWith}
 -- An instruction that makes no call, whose bytes were written and which was counted, is the process's step.
 abbrev pub InstructionIsMade : Type 0
 InstructionIsMade =
-    (A : Inputs) (s : State) (m : Standing) (l : Kernel) (holds : Option (List NamedFile)) (image : List ℕ) (pid : ℕ) (now : Bool) (p : Process) (x : Space) (effect : Effect)
+    (A : Inputs) (s : State) (m : Standing) (l : Kernel) (holds : Option (List NamedFile)) (image : List ℕ) (pid : ℕ) (now : Bool) (p : Process)
+    (x : Space) (effect : Effect)
     → RunsOn A s m holds image pid now p x → run (kernel_answers m.kernel x.sid) (instruction p.regs) ≡ Ok effect → effect.call ≡ None
     → l ≡ ran_by (writes_in m.kernel x.sid effect.writes) pid effect.regs (entries.Ran pid 1) → StepLeads A s m.kernel image 1 l (Some image)
 
@@ -37,11 +38,13 @@ InstructionIsMade =
 abbrev pub Waits : Inputs → State → Standing → Process → Space → ℕ → Bool → List Page → Type 0
 Waits A s m p x address write before =
     ((wants : WantsPage A s m.kernel x address write) × (wants.before ≡ before))
-    ⊎ ((run (kernel_answers m.kernel x.sid) (instruction p.regs) ≡ Err (Below address)) × (write ≡ false) × (touched_next A s ≡ before) × AllValid s.place before)
+    ⊎ ((run (kernel_answers m.kernel x.sid) (instruction p.regs) ≡ Err (Below address)) × (write ≡ false) × (touched_next A s ≡ before)
+    × AllValid s.place before)
 
 -- units lead to a state under the same mark, between two steps and with nothing due, or after the entry that says that the pieces
 -- of growth find no place; that ends the process by signal 11
-pub record EndsRefused (A : Inputs) (s : State) (m new : Standing) (holds : Option (List NamedFile)) (image : List ℕ) (pid : ℕ) (now : Bool) (p : Process) (x : Space) : Type 0 where
+pub record EndsRefused (A : Inputs) (s : State) (m new : Standing) (holds : Option (List NamedFile)) (image : List ℕ) (pid : ℕ) (now : Bool) (p : Process)
+    (x : Space) : Type 0 where
   pub state : State
   pub leads : Leads A s m.kernel image (entries.Refused pid ∷ []) state new.kernel (Some image)
   pub running : IsRunning A state pid now p x
@@ -66,7 +69,8 @@ ServeLeads A s old new holds image j pid now p x (served.Signal number) = ⊥
 -- a page is served as far as that needs no waiting
 abbrev pub ServeIsMade : Type 0
 ServeIsMade =
-    (A : Inputs) (s : State) (old new : Standing) (holds : Option (List NamedFile)) (image : List ℕ) (j : Option (List ℕ)) (pid : ℕ) (p : Process) (x : Space) (address : ℕ) (write : Bool)
+    (A : Inputs) (s : State) (old new : Standing) (holds : Option (List NamedFile)) (image : List ℕ) (j : Option (List ℕ)) (pid : ℕ) (p : Process) (x : Space)
+    (address : ℕ) (write : Bool)
     (before : List Page) (answer : Served)
     → RunsOn A s old holds image pid false p x → Waits A s old p x address write before
     → AccessComes (λ came q from. TouchedAs came q from new holds (Some image) j) (access_by old.kernel pid address write) answer pid old new (Some image) j
@@ -75,7 +79,8 @@ ServeIsMade =
 -- where the machine stops in that, next units lead to the stop
 abbrev pub ServeStops : Type 0
 ServeStops =
-    (A : Inputs) (s : State) (old new : Standing) (holds : Option (List NamedFile)) (image : List ℕ) (j : Option (List ℕ)) (pid : ℕ) (p : Process) (x : Space) (address : ℕ) (write : Bool)
+    (A : Inputs) (s : State) (old new : Standing) (holds : Option (List NamedFile)) (image : List ℕ) (j : Option (List ℕ)) (pid : ℕ) (p : Process) (x : Space)
+    (address : ℕ) (write : Bool)
     (before : List Page) (stop : Stop)
     → RunsOn A s old holds image pid false p x → Waits A s old p x address write before
     → AccessStops false [] (access_by old.kernel pid address write) pid old new holds (Some image) j stop → StopLeads A s old.kernel image stop new j
@@ -83,16 +88,19 @@ ServeStops =
 -- in a turn it is served until it is valid, by hands that pass over the pages before it
 abbrev pub ServeNowIsMade : Type 0
 ServeNowIsMade =
-    (A : Inputs) (s : State) (old new : Standing) (holds : Option (List NamedFile)) (image : List ℕ) (j : Option (List ℕ)) (pid : ℕ) (p : Process) (x : Space) (address : ℕ) (write : Bool)
+    (A : Inputs) (s : State) (old new : Standing) (holds : Option (List NamedFile)) (image : List ℕ) (j : Option (List ℕ)) (pid : ℕ) (p : Process) (x : Space)
+    (address : ℕ) (write : Bool)
     (before : List Page) (answer : Served)
     → RunsOn A s old holds image pid true p x → Waits A s old p x address write before
-    → AccessComes (λ came q from. TouchedNow before came q from new holds (Some image) j) (access_by old.kernel pid address write) answer pid old new (Some image) j
+    → AccessComes (λ came q from. TouchedNow before came q from new holds (Some image) j)
+    (access_by old.kernel pid address write) answer pid old new (Some image) j
     → ServeLeads A s old new holds image j pid true p x answer
 
 -- where the machine stops in that, next units lead to the stop
 abbrev pub ServeNowStops : Type 0
 ServeNowStops =
-    (A : Inputs) (s : State) (old new : Standing) (holds : Option (List NamedFile)) (image : List ℕ) (j : Option (List ℕ)) (pid : ℕ) (p : Process) (x : Space) (address : ℕ) (write : Bool)
+    (A : Inputs) (s : State) (old new : Standing) (holds : Option (List NamedFile)) (image : List ℕ) (j : Option (List ℕ)) (pid : ℕ) (p : Process) (x : Space)
+    (address : ℕ) (write : Bool)
     (before : List Page) (stop : Stop)
     → RunsOn A s old holds image pid true p x → Waits A s old p x address write before
     → AccessStops true before (access_by old.kernel pid address write) pid old new holds (Some image) j stop → StopLeads A s old.kernel image stop new j

@@ -19,7 +19,8 @@ use Rattle.step_units.specs.Stepped.{CallLeads, StopLeads}
 -- A break is the process's step.
 abbrev pub BreakIsMade : Type 0
 BreakIsMade =
-    (A : Inputs) (s : State) (old new : Standing) (holds : Option (List NamedFile)) (image : List ℕ) (behind : Option (List ℕ)) (pid : ℕ) (now : Bool) (p : Process) (x : Space) (effect : Effect)
+    (A : Inputs) (s : State) (old new : Standing) (holds : Option (List NamedFile)) (image : List ℕ) (behind : Option (List ℕ)) (pid : ℕ) (now : Bool)
+    (p : Process) (x : Space) (effect : Effect)
     (called : Called)
     → RunsOn A s old holds image pid now p x → MakesCall old p x effect system_calls.Break
     → BreakComes old new pid effect.regs (run (kernel_answers old.kernel x.sid) (argument effect.regs 1)) holds (Some image) behind called
@@ -28,7 +29,8 @@ BreakIsMade =
 -- where the machine stops in it, next units lead to the stop
 abbrev pub BreakStops : Type 0
 BreakStops =
-    (A : Inputs) (s : State) (old new : Standing) (holds : Option (List NamedFile)) (image : List ℕ) (behind : Option (List ℕ)) (pid : ℕ) (now : Bool) (p : Process) (x : Space) (effect : Effect)
+    (A : Inputs) (s : State) (old new : Standing) (holds : Option (List NamedFile)) (image : List ℕ) (behind : Option (List ℕ)) (pid : ℕ) (now : Bool)
+    (p : Process) (x : Space) (effect : Effect)
     (stop : Stop)
     → RunsOn A s old holds image pid now p x → MakesCall old p x effect system_calls.Break
     → StopsBreak old new pid (run (kernel_answers old.kernel x.sid) (argument effect.regs 1)) holds (Some image) behind stop

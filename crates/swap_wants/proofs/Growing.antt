@@ -224,7 +224,8 @@ found_later b now hs (Err n) y e f t = absurd cc
 pub behind_kept : (b now later : Book) (w : Want) (ws : List Want) (keeps : Bool) (r : Result Bool NoMemory) → Behind b now later w ws keeps r
     → is_kept keeps r ≡ true → OnOk r (later ≡ book_asked keeps b (w ∷ ws))
 behind_kept b now later w ws true (Ok true) g k =
-    g.book ∙ found_later b now g.hs (found_for now.size now.holdings ws) (found_for b.size b.holdings (w ∷ ws)) (now_with b now later w ws true (Ok true) g) (same_found b now later w ws true (Ok true) g) g.answer
+    g.book ∙ found_later b now g.hs (found_for now.size now.holdings ws) (found_for b.size b.holdings (w ∷ ws)) (now_with b now later w ws true (Ok true) g)
+    (same_found b now later w ws true (Ok true) g) g.answer
 behind_kept b now later w ws true (Ok false) g k = absurd cc
 behind_kept b now later w ws true (Err e) g k = tt
 behind_kept b now later w ws false (Ok fits) g k = absurd cc

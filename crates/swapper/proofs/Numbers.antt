@@ -101,7 +101,8 @@ above_none test ps next last low = none_follows (λ o. kept test (runner_from (p
 
 -- The one that is in or out longest.
 
-longest_cons : (p : Placement) (best : Option Runner) (x : Runner) (xs : List Runner) → longest_from p best (x ∷ xs) ≡ longest_from p (Some (longer_of p best x)) xs
+longest_cons : (p : Placement) (best : Option Runner) (x : Runner) (xs : List Runner)
+    → longest_from p best (x ∷ xs) ≡ longest_from p (Some (longer_of p best x)) xs
 longest_cons p None x xs = refl
 longest_cons p (Some r) x xs = refl
 
@@ -142,7 +143,8 @@ seen_from ps next pid x sid h e s =
 
 -- What the placement has of a record.
 
-pub placed : (p : Placement) (ps : List Record) (next pid : ℕ) (x : Record) (sid : ℕ) → HasResidents p ps next → 1 ≤ pid → pid < next → find pid ps ≡ Some x → x.state ≡ lives.Holds sid
+pub placed : (p : Placement) (ps : List Record) (next pid : ℕ) (x : Record) (sid : ℕ) → HasResidents p ps next → 1 ≤ pid → pid < next → find pid ps ≡ Some x
+    → x.state ≡ lives.Holds sid
     → (x.out ≡ is_out p x.pid) × (x.since ≡ (swapper.residence_of p.residents x.pid).since)
 placed p ps next pid x sid h l m e s = (ap (λ (y : Residence). y.out) same, ap (λ (y : Residence). y.since) same)
   where

@@ -110,7 +110,8 @@ alike p q r = go (is_dirty p q) refl r
     )
     go false e f = refl
 
-pub can_push : (p : Placement) (sid n : ℕ) (q : Page) → p.due ≡ [] → IsOfSegment sid q → is_seated p q ≡ true → (is_dirty p q && is_full p) ≡ false → n ≡ (run_put p q).n → CanPush p q n
+pub can_push : (p : Placement) (sid n : ℕ) (q : Page) → p.due ≡ [] → IsOfSegment sid q → is_seated p q ≡ true → (is_dirty p q && is_full p) ≡ false
+    → n ≡ (run_put p q).n → CanPush p q n
 can_push p sid n q d o s r e = subst (CanPush p q) (sym e) (record {
   clear = d;
   writable = own_writable sid q o;
@@ -122,7 +123,8 @@ can_push p sid n q d o s r e = subst (CanPush p q) (sym e) (record {
 
 -- What each unit is.
 
-pub step_case : (P : Entry → Type 0) (p : Placement) (pid sid : ℕ) (step : Step) → IsStep p sid step → P entries.Done → ((q : Page) → P (entries.Put q (run_put p q).n)) → P (put_out_unit p pid sid)
+pub step_case : (P : Entry → Type 0) (p : Placement) (pid sid : ℕ) (step : Step) → IsStep p sid step → P entries.Done
+    → ((q : Page) → P (entries.Put q (run_put p q).n)) → P (put_out_unit p pid sid)
 step_case P p pid sid steps.Wait s d u = subst P (sym (s.1 pid)) d
 step_case P p pid sid (steps.Put q) s d u =
     subst P (sym (ap (put_out_if p pid sid) s.0 ∙ ap (put_out_by p pid) s.1 ∙ ap (put_unit_by p q) s.2)) (u q)
@@ -242,7 +244,8 @@ module _ (old next : Standing) (pid sid : ℕ) (step : Step) (holds : Option (Li
     images = f.images ∙ m.beside.images;
   }
 
-pub stops_here : (pid sid : ℕ) (old : Standing) (stop : Stop) (new : Standing) (holds : Option (List NamedFile)) (i j : Option (List ℕ)) → is_out old.kernel.place pid ≡ false → new.params ≡ old.params → new.images ≡ old.images
+pub stops_here : (pid sid : ℕ) (old : Standing) (stop : Stop) (new : Standing) (holds : Option (List NamedFile)) (i j : Option (List ℕ))
+    → is_out old.kernel.place pid ≡ false → new.params ≡ old.params → new.images ≡ old.images
     → StopsAt (put_out_unit old.kernel.place pid sid) old.kernel i stop new j → StopsPutting pid sid old stop new holds i j
 stops_here pid sid old stop new holds i j n a b s = record { units = []; at = old.kernel; image = i; made = (refl, refl); puts = refl; still = n; stops = s; params = a; images = b }
 
@@ -265,7 +268,8 @@ holder_resides k pid sid r e = r pid (lives_holding (numbered (λ (p : Proc). p.
 pub can_go_out : (k : Kernel) (pid sid : ℕ) → k.place.due ≡ [] → HoldsThere k pid sid → is_out k.place pid ≡ false → IsNext k.place sid None → CanGoOut k pid
 can_go_out k pid sid d h r n = record { clear = d; sid = sid; holds = h.holds; there = h.there; resident = r; settled = n.0; empty = n.1 }
 
-pub put_last : (pid sid : ℕ) (old new : Standing) (holds : Option (List NamedFile)) (i j : Option (List ℕ)) → IsResident old.kernel.place pid → is_out old.kernel.place pid ≡ false → IsNext old.kernel.place sid None
+pub put_last : (pid sid : ℕ) (old new : Standing) (holds : Option (List NamedFile)) (i j : Option (List ℕ)) → IsResident old.kernel.place pid
+    → is_out old.kernel.place pid ≡ false → IsNext old.kernel.place sid None
     → new.kernel ≡ out_step old.kernel pid → IsSameBeside old new → WritesU old.kernel pid i j → PutOut pid sid old new holds i j
 put_last pid sid old new holds i j r n l e b w =
     let p = old.kernel.place in
@@ -306,7 +310,8 @@ u_cause stop kind c = elim c [
 ]
 
 -- no file is the cause
-never_file : (stop kind : Stop) → (kind ≡ stops.FileFault → ⊥) → (let r : Result (Unit {0}) Stop = Err stop in (r ≡ Err stops.JournalFull) ⊎ ((r ≡ Err stops.NoMemory) ⊎ (r ≡ Err kind)))
+never_file : (stop kind : Stop) → (kind ≡ stops.FileFault → ⊥)
+    → (let r : Result (Unit {0}) Stop = Err stop in (r ≡ Err stops.JournalFull) ⊎ ((r ≡ Err stops.NoMemory) ⊎ (r ≡ Err kind)))
     → stop ≡ stops.FileFault → ⊥
 never_file stop kind other c e = elim (u_cause stop kind c) [
   | inl h ↦ (let z : stops.JournalFull ≡ stops.FileFault = sym h ∙ e in cc)
@@ -316,7 +321,8 @@ never_file stop kind other c e = elim (u_cause stop kind c) [
   ]
 ]
 
-pub out_stops : (pid sid : ℕ) (old new : Standing) (holds : Option (List NamedFile)) (i j : Option (List ℕ)) (r : Result (Unit {0}) Stop) → is_out old.kernel.place pid ≡ false → IsNext old.kernel.place sid None
+pub out_stops : (pid sid : ℕ) (old new : Standing) (holds : Option (List NamedFile)) (i j : Option (List ℕ)) (r : Result (Unit {0}) Stop)
+    → is_out old.kernel.place pid ≡ false → IsNext old.kernel.place sid None
     → OnErr r (HasStopped old new) → OnErr r ((r ≡ Err stops.JournalFull) ⊎ ((r ≡ Err stops.NoMemory) ⊎ (r ≡ Err stops.SwapWriteFault)))
     → ((r ≡ Err stops.JournalFull) ↔ (old.params.journal ≤ length old.kernel.journal)) → FailsFor r old new → OnErr r (SwapBehind r old.kernel pid i j)
     → old.before ≡ old.kernel.holdings → IfErr r (λ stop. StopsPutting pid sid old stop new holds i j)
@@ -325,7 +331,8 @@ out_stops pid sid old new holds i j (Err stop) n l s c f failed b w =
     stops_here pid sid old stop new holds i j n s.params s.images (subst (λ (e : Entry). StopsAt e old.kernel i stop new j) (sym (last_unit old.kernel.place pid sid l)) (record {
       journal = s.journal;
       held = moved_left stop old new s w (λ h. f.0 (ap (λ (t : Stop). let z : Result (Unit {0}) Stop = Err t in z) h)) (never_file stop stops.SwapWriteFault (λ e. cc) c) failed;
-      full = subst (λ (p : Params). (stop ≡ stops.JournalFull) ↔ ((p.journal ≤ length old.kernel.journal) × (length old.kernel.journal < length (append old.kernel.journal (entries.SwapOut pid))))) (sym s.params)
+      full = subst (λ (p : Params). (stop ≡ stops.JournalFull) ↔ ((p.journal ≤ length old.kernel.journal) × (length old.kernel.journal < length (append old.kernel.journal (entries.SwapOut pid)))))
+          (sym s.params)
           (ok_is {A = Unit {0}} (Err stop) old.params.journal old.kernel.journal pid stop stops.JournalFull refl f);
       cause = u_cause stop stops.SwapWriteFault c;
       image = spoils stop b;
@@ -340,7 +347,8 @@ out_stops pid sid old new holds i j (Err stop) n l s c f failed b w =
 
 -- Where its u page isn't read, a process stops the run as it comes in.
 
-in_is : (limit : ℕ) (journal : List Entry) (pid : ℕ) (s : Stop) → ((let r : Result (Unit {0}) Stop = Err s in r ≡ Err stops.JournalFull) ↔ (limit ≤ length journal))
+in_is : (limit : ℕ) (journal : List Entry) (pid : ℕ) (s : Stop)
+    → ((let r : Result (Unit {0}) Stop = Err s in r ≡ Err stops.JournalFull) ↔ (limit ≤ length journal))
     → (s ≡ stops.JournalFull) ↔ ((limit ≤ length journal) × (length journal < length (append journal (entries.SwapIn pid))))
 in_is limit journal pid s f = (
   (λ h. (f.0 (ap (λ (x : Stop). let z : Result (Unit {0}) Stop = Err x in z) h), plain_longer journal (entries.SwapIn pid) tt)),
@@ -355,7 +363,8 @@ in_stops pid old new i j (Ok x) s c f failed same w = tt
 in_stops pid old new i j (Err stop) s c f failed same w = record {
   journal = s.journal;
   held = moved_left stop old new s w (λ h. f.0 (ap (λ (t : Stop). let z : Result (Unit {0}) Stop = Err t in z) h)) (never_file stop stops.SwapReadFault (λ e. cc) c) failed;
-  full = subst (λ (p : Params). (stop ≡ stops.JournalFull) ↔ ((p.journal ≤ length old.kernel.journal) × (length old.kernel.journal < length (append old.kernel.journal (entries.SwapIn pid))))) (sym s.params)
+  full = subst (λ (p : Params). (stop ≡ stops.JournalFull) ↔ ((p.journal ≤ length old.kernel.journal) × (length old.kernel.journal < length (append old.kernel.journal (entries.SwapIn pid)))))
+      (sym s.params)
       (in_is old.params.journal old.kernel.journal pid stop f);
   cause = u_cause stop stops.SwapReadFault c;
   image = same;
@@ -386,7 +395,8 @@ pub puts_none : (pid sid : ℕ) (old : Standing) (holds : Option (List NamedFile
 puts_none pid sid old holds i = record { more = λ new j p. p; stops = λ stop new j s. s; keeps = λ new j k. k }
 
 pub puts_one : (pid sid : ℕ) (old now next : Standing) (step : Step) (holds later latest : Option (List NamedFile)) (i h k : Option (List ℕ)) → latest ≡ later
-    → IsStep now.kernel.place sid step → is_out now.kernel.place pid ≡ false → MakesUnit (ground now later []) (put_out_unit now.kernel.place pid sid) now next h k
+    → IsStep now.kernel.place sid step → is_out now.kernel.place pid ≡ false
+    → MakesUnit (ground now later []) (put_out_unit now.kernel.place pid sid) now next h k
     → KeepsThrough now next later h k → PutsSoFar pid sid old now holds later i h → PutsSoFar pid sid old next holds latest i k
 puts_one pid sid old now next step holds later latest i h k e s n m t so = record {
   more = λ new j p. so.more new j (put_first now next pid sid step later h k s m latest new j e n p);

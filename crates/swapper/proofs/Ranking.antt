@@ -36,7 +36,8 @@ moved_list (Some x) [] = refl
 moved_list None (w ∷ os) = refl
 moved_list (Some x) (w ∷ os) = ap (λ (ys : List Runner). runner_seen x.seen ∷ ys) (moved_list w os)
 
-pub placed_list : (p : Placement) (x : Measured) (os : List (Option Measured)) → listed_in (placed_in p x os) ≡ take (length os) (ranked_in p (runner_seen x.seen) (listed_in os))
+pub placed_list : (p : Placement) (x : Measured) (os : List (Option Measured))
+    → listed_in (placed_in p x os) ≡ take (length os) (ranked_in p (runner_seen x.seen) (listed_in os))
 placed_list p x [] = refl
 placed_list p x (None ∷ os) = ap (λ (ys : List Runner). runner_seen x.seen ∷ ys) (moved_list None os)
 placed_list p x (Some y ∷ os) = go (is_larger p (runner_seen y.seen) (runner_seen x.seen)) (placed_list p x os)
@@ -47,7 +48,8 @@ placed_list p x (Some y ∷ os) = go (is_larger p (runner_seen y.seen) (runner_s
     go true more = ap (λ (ys : List Runner). runner_seen y.seen ∷ ys) more
     go false more = ap (λ (ys : List Runner). runner_seen x.seen ∷ ys) (moved_list (Some y) os)
 
-pub ranked_step : (p : Placement) (o : Option Measured) (os : List (Option Measured)) (g : ℕ → Option Runner) (v w next : ℕ) → length os ≡ 4 → v < next → w ≡ v + 1 → runner_measured o ≡ g v
+pub ranked_step : (p : Placement) (o : Option Measured) (os : List (Option Measured)) (g : ℕ → Option Runner) (v w next : ℕ) → length os ≡ 4 → v < next
+    → w ≡ v + 1 → runner_measured o ≡ g v
     → listed_in os ≡ take 4 (ranked p (over g w next)) → listed_in (placed_with p o os) ≡ take 4 (ranked p (over g v next))
 ranked_step p None os g v w next n l i e h =
     h ∙ ap (λ (k : ℕ). take 4 (ranked p (over g k next))) i ∙ sym (ap (λ (rs : List Runner). take 4 (ranked p rs)) (over_none g v next l (sym e)))

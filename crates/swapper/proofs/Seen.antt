@@ -67,7 +67,8 @@ absent_page p core s q h n e =
     let x : ShowsPage p core.slots q None = subst (ShowsPage p core.slots q) e (h.pages q n) in
     none_by (is_seated p q) (λ t. x (seated_there p q t))
 
-pub shown_page : (p : Placement) (core : Frames) (s : Places) (q : Page) (place : Place) → ShowsSpace p core s → IsNamedBy s q → place_in s q ≡ Some place → ShowsPage p core.slots q (Some place)
+pub shown_page : (p : Placement) (core : Frames) (s : Places) (q : Page) (place : Place) → ShowsSpace p core s → IsNamedBy s q → place_in s q ≡ Some place
+    → ShowsPage p core.slots q (Some place)
 shown_page p core s q place h n e = subst (ShowsPage p core.slots q) e (h.pages q n)
 
 -- The pages of a segment, from one on.
@@ -171,8 +172,10 @@ first_append p (q ∷ qs) rs o w e f = go (is_seated p q) e (λ k. first_append 
     go true k ih = sym (ap (λ (x : Option Page). first_of x w) k)
     go false k ih = ih k
 
-pub first_whole : (p : Placement) (core : Frames) (s : Places) (sid a b : ℕ) (o w : Option Page) → ShowsSpace p core s → sid ≡ s.sid → a ≡ length s.data → b ≡ length s.stack
-    → o ≡ first_seated p (pages_from (Data sid 0) 0 a) → w ≡ first_seated p (pages_from (Stack sid 0) 0 b) → first_of o w ≡ first_seated p (pages_of_space p s.sid)
+pub first_whole : (p : Placement) (core : Frames) (s : Places) (sid a b : ℕ) (o w : Option Page) → ShowsSpace p core s → sid ≡ s.sid
+    → a ≡ length s.data → b ≡ length s.stack
+    → o ≡ first_seated p (pages_from (Data sid 0) 0 a) → w ≡ first_seated p (pages_from (Stack sid 0) 0 b)
+    → first_of o w ≡ first_seated p (pages_of_space p s.sid)
 first_whole p core s sid a b o w h i x y e f = sym (first_append p (data_from s.sid 0 (data_count p s.sid)) (stack_from s.sid 0 (stack_count p s.sid)) o w
     (e ∙ ap₂ (λ (k n : ℕ). first_seated p (pages_from (Data k 0) 0 n)) i (x ∙ data_pages p core s h))
     (f ∙ ap₂ (λ (k n : ℕ). first_seated p (pages_from (Stack k 0) 0 n)) i (y ∙ stack_pages p core s h)))

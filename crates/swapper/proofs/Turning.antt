@@ -34,21 +34,25 @@ is_enough d f l = grind (arith, nat_tests)
 is_short : (d f : ℕ) → f < d → nat_le d f ≡ false
 is_short d f l = grind (arith, nat_tests)
 
-pub choice_in : (p : Placement) (rs : List Runner) (c : Choice) → desired_free p ≤ length p.free → c ≡ brings (longest p (filter (may_come_in p) rs)) → c ≡ swap_choice p rs
+pub choice_in : (p : Placement) (rs : List Runner) (c : Choice) → desired_free p ≤ length p.free
+    → c ≡ brings (longest p (filter (may_come_in p) rs)) → c ≡ swap_choice p rs
 choice_in p rs c l e = e ∙ sym (ap (choice_by p rs) (is_enough (desired_free p) (length p.free) l))
 
-pub choice_out : (p : Placement) (rs : List Runner) (c : Choice) → length p.free < desired_free p → c ≡ choice_of_out p (filter (may_go_out p) rs) → c ≡ swap_choice p rs
+pub choice_out : (p : Placement) (rs : List Runner) (c : Choice) → length p.free < desired_free p
+    → c ≡ choice_of_out p (filter (may_go_out p) rs) → c ≡ swap_choice p rs
 choice_out p rs c l e = e ∙ sym (ap (choice_by p rs) (is_short (desired_free p) (length p.free) l))
 
 -- A sleeper before all others.
 
-pub out_sleeper : (p : Placement) (rs : List Runner) (o : Option Seen) (seen : Seen) → runner_of o ≡ longest p (filter (passes p kinds.Sleeper) rs) → o ≡ Some seen
+pub out_sleeper : (p : Placement) (rs : List Runner) (o : Option Seen) (seen : Seen)
+    → runner_of o ≡ longest p (filter (passes p kinds.Sleeper) rs) → o ≡ Some seen
     → Out seen.pid ≡ choice_of_out p (filter (may_go_out p) rs)
 out_sleeper p rs o seen e f =
     ap (out_of p (filter (may_go_out p) rs)) (sym (ap runner_of f) ∙ e ∙ ap (longest p) (sym (filter_both (λ r. r.asleep) (may_go_out p) rs)))
 
 pub out_large : (p : Placement) (rs : List Runner) (o w : Option Seen) (c : Choice) → runner_of o ≡ longest p (filter (passes p kinds.Sleeper) rs) → o ≡ None
-    → runner_of w ≡ longest p (take 4 (ranked p (filter (passes p kinds.GoesOut) rs))) → c ≡ puts_out (runner_of w) → c ≡ choice_of_out p (filter (may_go_out p) rs)
+    → runner_of w ≡ longest p (take 4 (ranked p (filter (passes p kinds.GoesOut) rs))) → c ≡ puts_out (runner_of w)
+    → c ≡ choice_of_out p (filter (may_go_out p) rs)
 out_large p rs o w c e f g h =
     h ∙ ap puts_out g
     ∙ ap (out_of p (filter (may_go_out p) rs)) (sym (ap runner_of f) ∙ e ∙ ap (longest p) (sym (filter_both (λ r. r.asleep) (may_go_out p) rs)))
@@ -81,7 +85,8 @@ shown_by all q r (HoldsSpace sid) e s =
 shown_by all q r (LendsSpace sid child) e s = none_some r s
 shown_by all q r (Ended status) e s = none_some r s
 
-holder : (all qs : List Proc) (r : Runner) → AllDistinct (map (λ (q : Proc). q.pid) qs) → OneOf r (filter_map (λ q. runner_by all q q.life) qs) → Holder all qs r
+holder : (all qs : List Proc) (r : Runner) → AllDistinct (map (λ (q : Proc). q.pid) qs)
+    → OneOf r (filter_map (λ q. runner_by all q q.life) qs) → Holder all qs r
 holder all [] r d o = absurd o
 holder all (q ∷ qs) r d o = go (runner_by all q q.life) refl (holder all qs r d.1)
   where
@@ -103,7 +108,8 @@ holder all (q ∷ qs) r d o = go (runner_by all q q.life) refl (holder all qs r 
           | inr t ↦ later (more t)
         ]
 
-pub may_turn : (k : Kernel) (t : Turned) → AllDistinct (map (λ (q : Proc). q.pid) k.processes) → HoldersHaveSpaces k → choice_of t ≡ swap_choice k.place (runners_of k) → MayTurn k t
+pub may_turn : (k : Kernel) (t : Turned) → AllDistinct (map (λ (q : Proc). q.pid) k.processes) → HoldersHaveSpaces k
+    → choice_of t ≡ swap_choice k.place (runners_of k) → MayTurn k t
 may_turn k turns.Nothing d s e = tt
 may_turn k (turns.In pid) d s e =
     let c : ComesIn k.place (runners_of k) pid = chosen_in k.place (runners_of k) pid (sym e) in

@@ -201,7 +201,8 @@ pub(crate) fn longest_of_largest(m: &Machine, processes: &ProcTable, next: u32) 
     requires residents { m.now.kernel.place.residents ≡ residents_of processes.now next }
     requires records { AreRecords processes.now next }
     ensures { runner_of result
-        ≡ longest m.now.kernel.place (take 4 (ranked m.now.kernel.place (filter (passes m.now.kernel.place kinds.GoesOut) (runners_in (processes_of processes.now next))))) }
+        ≡ longest m.now.kernel.place
+        (take 4 (ranked m.now.kernel.place (filter (passes m.now.kernel.place kinds.GoesOut) (runners_in (processes_of processes.now next))))) }
 {
     longest_of_four(four_largest(m, processes, next, 0))
 }

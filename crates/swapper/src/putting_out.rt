@@ -132,7 +132,8 @@ fn put_page(m: &mut Machine, sid: u32, page: Page) -> Result<(), Stop>
     ensures made { (holds : Option (List NamedFile)) (i : Option (List ℕ))
         → OnOk result (MakesUnit (ground m.old holds []) (entries.Put page (run_put m.old.kernel.place page).n) m.old m.new i i) }
     ensures keeps { OnOk result (KeepsFlat m.old.kernel m.new.kernel) }
-    ensures stopped { (i : Option (List ℕ)) → IfErr result (λ stop. StopsAt (entries.Put page (run_put m.old.kernel.place page).n) m.old.kernel i stop m.new i) }
+    ensures stopped { (i : Option (List ℕ))
+        → IfErr result (λ stop. StopsAt (entries.Put page (run_put m.old.kernel.place page).n) m.old.kernel i stop m.new i) }
     ensures params { m.new.params ≡ m.old.params }
     ensures images { m.new.images ≡ m.old.images }
     ensures cause { OnErr result ((result ≡ Err Stop.JournalFull) ⊎ (result ≡ Err Stop.NoMemory)) }

@@ -163,8 +163,10 @@ fork_applied t v u p since parent life o clear f h =
           ∙ ap (λ (n : ℕ). record (place_in v) { residents = (place_in v).residents ++ record { pid = n; out = false; since = since } ∷ [] }) pid_same
           ∙ ap (λ (q : Placement). record q { residents = q.residents ++ record { pid = t.next_pid; out = false; since = since } ∷ [] }) f.shows.place
           ∙ ap (λ (l : Life). place_change (lists_of t).facts (place_in t) p.pid (space_of_life l) (gave_back l) t.next_sid since (Fork t.next_pid)) (sym life);
-      frames = procs_frames v u (v.next_pid + 1) (processes_in v ++ child_proc p v.next_pid (HoldsSpace t.next_sid) ∷ []) (residents_in v ++ record { pid = v.next_pid; out = false; since = since } ∷ []) h ∙ f.shows.frames;
-      tied = procs_tied v u (v.next_pid + 1) (processes_in v ++ child_proc p v.next_pid (HoldsSpace t.next_sid) ∷ []) (residents_in v ++ record { pid = v.next_pid; out = false; since = since } ∷ []) h f.shows.known.tied;
+      frames = procs_frames v u (v.next_pid + 1) (processes_in v ++ child_proc p v.next_pid (HoldsSpace t.next_sid) ∷ [])
+          (residents_in v ++ record { pid = v.next_pid; out = false; since = since } ∷ []) h ∙ f.shows.frames;
+      tied = procs_tied v u (v.next_pid + 1) (processes_in v ++ child_proc p v.next_pid (HoldsSpace t.next_sid) ∷ [])
+          (residents_in v ++ record { pid = v.next_pid; out = false; since = since } ∷ []) h f.shows.known.tied;
       book = ap (λ (x : Tables). x.book) h.rest ∙ ap (λ (x : Tables). x.book) f.rest;
       processes = h.processes ∙ ap (λ (ps : List Proc). ps ++ child_proc p v.next_pid (HoldsSpace t.next_sid) ∷ []) (ap processes_in f.rest ∙ sym (with_self (processes_in t) p o))
           ∙ ap (λ (n : ℕ). with_proc (processes_in t) p ++ child_proc p n (HoldsSpace t.next_sid) ∷ []) pid_same;
@@ -233,7 +235,8 @@ module _ (t v w u : Tables) (p : Proc) (since image : ℕ) (facts : Image) (top 
             ∙ ap (λ (i : ℕ). with_holdings t.book (space_given_back t.book.holdings sid i (sharers (place_in w) i))) image_same
             ∙ ap (λ (q : Placement). with_holdings t.book (space_given_back t.book.holdings sid (image_at t sid) (sharers q (image_at t sid)))) (sym now)
             ∙ ap (λ (l : Life). with_holdings t.book (holdings_after t.book.holdings (place_in t) (place_in u) p.pid (space_of_life l) (gave_back l) (Exec image top))) (sym life);
-        processes = h.processes ∙ ap (λ (x : Tables). with_proc (processes_in x) record p { life = HoldsSpace t.next_sid }) g.rest ∙ ap (λ (x : Tables). with_proc (processes_in x) record p { life = HoldsSpace t.next_sid }) e.rest;
+        processes = h.processes ∙ ap (λ (x : Tables). with_proc (processes_in x) record p { life = HoldsSpace t.next_sid }) g.rest
+            ∙ ap (λ (x : Tables). with_proc (processes_in x) record p { life = HoldsSpace t.next_sid }) e.rest;
         records = h.records;
         next_pid = h.number ∙ ap (λ (x : Tables). x.next_pid) g.rest ∙ ap (λ (x : Tables). x.next_pid) e.rest;
         next_sid = ap (λ (x : Tables). x.next_sid) h.rest ∙ ap (λ (x : Tables). x.next_sid) g.rest ∙ e.number;
@@ -286,7 +289,8 @@ module _ (t v w u : Tables) (p : Proc) (since status : ℕ) (same : w ≡ withou
     records = h.records;
     next_pid = h.number ∙ ap (λ (x : Tables). x.next_pid) same ∙ ap (λ (x : Tables). x.next_pid) e;
     next_sid = ended_by (λ (x : Tables). x.next_sid) (ap (λ (x : Tables). x.next_sid) h.rest) (ap (λ (x : Tables). x.next_sid) same) (ap (λ (x : Tables). x.next_sid) e);
-    starts = ended_by (λ (x : Tables). starts_of x.fills.items) (ap (λ (x : Tables). starts_of x.fills.items) h.rest) (ap (λ (x : Tables). starts_of x.fills.items) same) (ap (λ (x : Tables). starts_of x.fills.items) e);
+    starts = ended_by (λ (x : Tables). starts_of x.fills.items) (ap (λ (x : Tables). starts_of x.fills.items) h.rest) (ap (λ (x : Tables). starts_of x.fills.items) same)
+        (ap (λ (x : Tables). starts_of x.fills.items) e);
     params = ended_by (λ (x : Tables). x.params) (ap (λ (x : Tables). x.params) h.rest) (ap (λ (x : Tables). x.params) same) (ap (λ (x : Tables). x.params) e);
     images = ap (λ (x : Tables). x.images) h.rest ∙ ap (λ (x : Tables). x.images) same ∙ ap (λ (x : Tables). x.images) e;
     ring = ap (λ (x : Tables). x.ring) h.rest ∙ ap (λ (x : Tables). x.ring) same ∙ ap (λ (x : Tables). x.ring) e;
@@ -309,7 +313,8 @@ module _ (t v w u : Tables) (p : Proc) (since status : ℕ) (same : w ≡ withou
         records = h.records;
         next_pid = h.number ∙ ap (λ (x : Tables). x.next_pid) same ∙ ap (λ (x : Tables). x.next_pid) g.rest;
         next_sid = ended_by (λ (x : Tables). x.next_sid) (ap (λ (x : Tables). x.next_sid) h.rest) (ap (λ (x : Tables). x.next_sid) same) (ap (λ (x : Tables). x.next_sid) g.rest);
-        starts = ended_by (λ (x : Tables). starts_of x.fills.items) (ap (λ (x : Tables). starts_of x.fills.items) h.rest) (ap (λ (x : Tables). starts_of x.fills.items) same) (ap (λ (x : Tables). starts_of x.fills.items) g.rest);
+        starts = ended_by (λ (x : Tables). starts_of x.fills.items) (ap (λ (x : Tables). starts_of x.fills.items) h.rest) (ap (λ (x : Tables). starts_of x.fills.items) same)
+            (ap (λ (x : Tables). starts_of x.fills.items) g.rest);
         params = ended_by (λ (x : Tables). x.params) (ap (λ (x : Tables). x.params) h.rest) (ap (λ (x : Tables). x.params) same) (ap (λ (x : Tables). x.params) g.rest);
         images = ap (λ (x : Tables). x.images) h.rest ∙ ap (λ (x : Tables). x.images) same ∙ ap (λ (x : Tables). x.images) g.rest;
         ring = ap (λ (x : Tables). x.ring) h.rest ∙ ap (λ (x : Tables). x.ring) same ∙ ap (λ (x : Tables). x.ring) g.rest;

@@ -172,7 +172,8 @@ image_facts t pid image top m =
     let b = map_length image_shown t.images.items in
     facts_there (lists_of t).facts image m.whole.0 (let l : image ≤ length (images_of t) = m.whole.1 in omega arith)
 
-module _ (t v : Tables) (pid image : ℕ) (top : List ℕ) (m : MayApply t pid (Exec image top)) (facts : Image) (known : facts_numbered (lists_of t).facts image ≡ Some facts) (e : EnteredImage t v image facts top) where
+module _ (t v : Tables) (pid image : ℕ) (top : List ℕ) (m : MayApply t pid (Exec image top)) (facts : Image) (known : facts_numbered (lists_of t).facts image ≡ Some facts)
+    (e : EnteredImage t v image facts top) where
   entered_is : place_in v ≡ enter_image (place_in t) t.next_sid image (facts_numbered (lists_of t).facts image)
   entered_is = e.shows.place ∙ entered_place t image facts m.clear known
 
@@ -204,7 +205,8 @@ module _ (t v : Tables) (pid image : ℕ) (top : List ℕ) (m : MayApply t pid (
           stack_rests = λ n. subst (λ (o : Option SpacePages). AtRest (get_or (stack_in o) n no_slot).state) (sym (exec_spaces sid life)) (s.stack_rests n);
         };
     forgets =
-        let f : MayForget (lists_of t).facts (place_in t) sid false t.next_sid (Exec image top) = subst (λ (l : Life). MayForget (lists_of t).facts (place_in t) (space_of_life l) (gave_back l) t.next_sid (Exec image top)) life m.forgets in
+        let f : MayForget (lists_of t).facts (place_in t) sid false t.next_sid (Exec image top) =
+        subst (λ (l : Life). MayForget (lists_of t).facts (place_in t) (space_of_life l) (gave_back l) t.next_sid (Exec image top)) life m.forgets in
         subst (λ (q : Placement). CanForget q sid) (sym entered_is) (f refl);
   }
 
@@ -249,7 +251,8 @@ module _ (t v : Tables) (pid image : ℕ) (top : List ℕ) (m : MayApply t pid (
 
         go : (x : Life) → m.process.life ≡ x → MayAct x (Exec image top) → LeftSpace v w (life_held x)
             → Applied t u m.process since (Exec image top)
-        go New j a k = exec_new t v w u m.process since image facts top (only t pid (Exec image top) m) m.clear known e j (subst (λ (x : Tables). HasChanged x u (record m.process { life = HoldsSpace t.next_sid })) k now)
+        go New j a k = exec_new t v w u m.process since image facts top (only t pid (Exec image top) m) m.clear known e j
+            (subst (λ (x : Tables). HasChanged x u (record m.process { life = HoldsSpace t.next_sid })) k now)
         go (HoldsSpace n) j a k = exec_held t v w u m.process since image facts top (only t pid (Exec image top) m) m.clear known e n j (exec_apart n j) k now
         go (LendsSpace n child) j a k = absurd a
         go (Ended status) j a k = absurd a
@@ -268,7 +271,8 @@ module _ (t : Tables) (pid status : ℕ) (m : MayApply t pid (End status)) where
       go (HoldsSpace sid) i a =
           let r : ReadySpace (place_in t) sid false (End status) = subst (λ (l : Life). ReadySpace (place_in t) (space_of_life l) (gave_back l) (End status)) i m.space in
           let k : CanChange (place_in t) sid false t.next_sid (End status) = subst (λ (l : Life). CanChange (place_in t) (space_of_life l) (gave_back l) t.next_sid (End status)) i m.can in
-          let f : MayForget (lists_of t).facts (place_in t) sid false t.next_sid (End status) = subst (λ (l : Life). MayForget (lists_of t).facts (place_in t) (space_of_life l) (gave_back l) t.next_sid (End status)) i m.forgets in
+          let f : MayForget (lists_of t).facts (place_in t) sid false t.next_sid (End status) =
+          subst (λ (l : Life). MayForget (lists_of t).facts (place_in t) (space_of_life l) (gave_back l) t.next_sid (End status)) i m.forgets in
           record { there = (r refl).0; settled = k refl; forgets = f refl }
       go (LendsSpace sid child) i a = absurd a
       go (Ended s) i a = absurd a

@@ -47,8 +47,10 @@ stack_few slots (s ∷ ss) n h = elim (cases_eq s.sid n) [
 ]
 
 pub page_low : (t : Lists) (q : Page) → Known t → IsThere (placement_of t) q → number_of q < 4096
-page_low t (Data n v) k there = let a : v < length (data_in (numbered space_number n (map (space_shown t.slots) t.spaces))) = there in let b = data_few t.slots t.spaces n k.tied.few_pages in omega arith
-page_low t (Stack n v) k there = let a : v < length (stack_in (numbered space_number n (map (space_shown t.slots) t.spaces))) = there in let b = stack_few t.slots t.spaces n k.tied.few_pages in omega arith
+page_low t (Data n v) k there =
+    let a : v < length (data_in (numbered space_number n (map (space_shown t.slots) t.spaces))) = there in let b = data_few t.slots t.spaces n k.tied.few_pages in omega arith
+page_low t (Stack n v) k there =
+    let a : v < length (stack_in (numbered space_number n (map (space_shown t.slots) t.spaces))) = there in let b = stack_few t.slots t.spaces n k.tied.few_pages in omega arith
 page_low t (Text i v) k there = let a = (text_low t i v k there).2 in omega arith
 
 -- the end of a run of pages that are there

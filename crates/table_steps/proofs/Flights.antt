@@ -105,4 +105,6 @@ in_flight t q e f k h =
     go : (r : Page) → state_of (placement_of t) r ≡ moving_state e f → IsThere (placement_of t) r → (x : Place) → entry_in t.spaces r ≡ Some x → is_away (slot_at t.slots f) ≡ true
     go (Data n v) m th x i = away_named t.slots x e f (sym (ap (λ (y : Slot). y.state) (data_shown t.slots t.spaces n v k.differ ∙ ap (slot_or (slot_shown t.slots)) i)) ∙ m)
     go (Stack n v) m th x i = away_named t.slots x e f (sym (ap (λ (y : Slot). y.state) (stack_shown t.slots t.spaces n v k.differ ∙ ap (slot_or (slot_shown t.slots)) i)) ∙ m)
-    go (Text a v) m th x i = away_named t.slots x e f (sym (ap (λ (y : Slot). y.state) (text_at t a v (text_within t a v th) ∙ ap (λ (o : Option Place). text_shown t.slots (is_saved (text_of t.texts a) v) (text_place_by o t.slots (Text a v) v)) i)) ∙ m)
+    go (Text a v) m th x i = away_named t.slots x e f (sym
+        (ap (λ (y : Slot). y.state) (text_at t a v (text_within t a v th) ∙ ap (λ (o : Option Place). text_shown t.slots (is_saved (text_of t.texts a) v) (text_place_by o t.slots (Text a v) v)) i))
+        ∙ m)

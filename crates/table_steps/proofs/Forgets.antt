@@ -169,7 +169,8 @@ forget_is t q f valid changed token m e =
     (record { there = m.there; slot = arrived t n q f places.Zero a ∙ zero_anywhere t n q m.writable ∙ no_filling t q (places.Frame f valid changed) m e refl }) in
     placement_ext (placement_of n) (drop_at p q (Some f)) b.spaces b.texts
     (ap (λ (k : ℕ). map (page_held n) (range_with_len 1 (k - 1))) (length-set t.slots f (tokens.Free token None))
-    ∙ frames_set None (page_held t) (page_held n) (length t.slots - 1) f (λ g d. ap (λ (y : Token). page_by y (flown_at t.flown g)) (get_or-set_other t.slots f g (tokens.Free token None) tokens.Away d))
+    ∙ frames_set None (page_held t) (page_held n) (length t.slots - 1) f
+    (λ g d. ap (λ (y : Token). page_by y (flown_at t.flown g)) (get_or-set_other t.slots f g (tokens.Free token None) tokens.Away d))
     ∙ ap (set_frame p.holds f) (ap (λ (y : Token). page_by y (flown_at t.flown f)) (get_or-set_same t.slots f (tokens.Free token None) tokens.Away below)))
     refl refl refl refl refl refl
     ∙ sym (ap (drop_at p q) named)
@@ -291,7 +292,8 @@ unfilled_is t q x m e h =
 
 forgets : (t u : Tables) (q : Page) (n : Lists) → MayForgetPage (lists_of t) q → lists_of u ≡ n → placement_of n ≡ drop_page (placement_of (lists_of t)) q
     → frames_of n ≡ frames_of (lists_of t) → Ties (lists_of t) n
-    → IsSound u.core.free u.core.slots → n.transfers ≡ (lists_of t).transfers → n.flown ≡ (lists_of t).flown → u ≡ record t { core = u.core; spaces = u.spaces } → Dropped t u (q ∷ [])
+    → IsSound u.core.free u.core.slots → n.transfers ≡ (lists_of t).transfers → n.flown ≡ (lists_of t).flown
+    → u ≡ record t { core = u.core; spaces = u.spaces } → Dropped t u (q ∷ [])
 forgets t u q n m is place frames ties core ts fs rest =
     let was : Lists = lists_of t in
     let p : Placement = placement_of was in
@@ -335,7 +337,8 @@ pub forgets_framed : (t u : Tables) (q : Page) (f : ℕ) (valid changed : Bool) 
 forgets_framed t u q f valid changed m e d =
     let l : Lists = lists_of t in
     let token : Frame = token_of (slot_at t.core.slots f) in
-    forgets t u q (forgotten l q f token) m (forgotten_lists t u q f d) (forget_is l q f valid changed token m e) (forget_frames l q f valid changed m e) (forget_ties l q f valid changed token m e) d.sound refl refl d.rest
+    forgets t u q (forgotten l q f token) m (forgotten_lists t u q f d) (forget_is l q f valid changed token m e) (forget_frames l q f valid changed m e)
+    (forget_ties l q f valid changed token m e) d.sound refl refl d.rest
 
 pub forgets_swapped : (t u : Tables) (q : Page) → MayForgetPage (lists_of t) q → entry_in t.spaces q ≡ Some places.Swap
     → u ≡ record t { spaces = map (placed q places.Zero) t.spaces } → Dropped t u (q ∷ [])
@@ -343,7 +346,8 @@ forgets_swapped t u q m e is =
     let l : Lists = lists_of t in
     let core = ap (λ (x : Tables). x.core) is in
     forgets t u q (blanked l q) m (ap lists_of is) (blank_is l q m e) refl (blank_ties l q m e) (subst (λ (c : Frames). IsSound c.free c.slots) (sym core) m.known.core) refl refl
-    (is ∙ ap (λ (c : Frames). record t { core = c; spaces = map (placed q places.Zero) t.spaces }) (sym core) ∙ ap (λ (ss : List Places). record t { core = u.core; spaces = ss }) (sym (ap (λ (x : Tables). x.spaces) is)))
+    (is ∙ ap (λ (c : Frames). record t { core = c; spaces = map (placed q places.Zero) t.spaces }) (sym core)
+    ∙ ap (λ (ss : List Places). record t { core = u.core; spaces = ss }) (sym (ap (λ (x : Tables). x.spaces) is)))
 
 pub no_entry : (t : Tables) (q : Page) → MayForgetPage (lists_of t) q → entry_in t.spaces q ≡ None → Dropped t t (q ∷ [])
 no_entry t q m e = absurd (let h = subst IsSome e (has_entry (lists_of t) q m) in cc)
@@ -409,7 +413,8 @@ writable_beside _ v w = tt
 
 -- the next page of a segment
 pub next_may : (t u : Tables) (q : Page) (from to v : ℕ) → Dropped t u (pages_from q from (v - from)) → from ≤ v → v < to → IsWritable q
-    → EachPage (IsThere (placement_of (lists_of t))) (pages_from q from (to - from)) → EachPage (λ r. AtRest (state_of (placement_of (lists_of t)) r)) (pages_from q from (to - from))
+    → EachPage (IsThere (placement_of (lists_of t))) (pages_from q from (to - from))
+    → EachPage (λ r. AtRest (state_of (placement_of (lists_of t)) r)) (pages_from q from (to - from))
     → MayForgetPage (lists_of u) (beside q v)
 next_may t u q from to v d l m w th r =
     still_may t u (pages_from q from (v - from)) (beside q v) d (writable_beside q v w)

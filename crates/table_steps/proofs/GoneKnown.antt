@@ -257,7 +257,8 @@ module _ (l : Lists) (sid : ℕ) (s : Places) (g : Gives l sid s) where
     counted_then j a b = elim (cases_eq j s.image) [
       | inl h ↦ subst (λ (k : ℕ). (text_of (texts_then l s) k).sharers ≡ sharers (placement_of (gone l sid s)) k) (sym h)
           (let n = shared_by l sid s g.known g.there (gives_image l sid s g) in
-          let k : (text_of (texts_then l s) s.image).sharers ≡ (text_of l.texts s.image).sharers - 1 = ap (λ (y : SharedText). y.sharers) (left_same l.texts s.image (left_by_one (text_of l.texts s.image)) (omega arith)) in
+          let k : (text_of (texts_then l s) s.image).sharers ≡ (text_of l.texts s.image).sharers - 1 =
+          ap (λ (y : SharedText). y.sharers) (left_same l.texts s.image (left_by_one (text_of l.texts s.image)) (omega arith)) in
           k ∙ (omega arith) ∙ sharers_heads l.slots (gone l sid s).slots (without_space sid l.spaces) (without_space sid l.spaces) s.image refl)
       | inr d ↦
           ap (λ (y : SharedText). y.sharers) (left_other l.texts s.image j (left_by_one (text_of l.texts s.image)) (gives_image l sid s g).0 a d)

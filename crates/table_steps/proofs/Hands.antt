@@ -173,7 +173,8 @@ expired_mark ss ts f b c (Text i v) e = refl
 expired_mark ss ts f b c _ e = ap changed_named e
 
 expiring : (t : Lists) (q : Page) (f : ℕ) → Known t → (r : Resides t q f)
-    → Turning t (record t { spaces = map (placed q (places.Frame f false r.changed)) t.spaces }) q f (places.Frame f false r.changed) (Invalid f) (mark_of (placement_of t) q)
+    → Turning t (record t { spaces = map (placed q (places.Frame f false r.changed)) t.spaces }) q f (places.Frame f false r.changed) (Invalid f)
+    (mark_of (placement_of t) q)
 expiring t q f k r = record {
   known = k;
   shared = r.shared;
@@ -198,7 +199,8 @@ expiring t q f k r = record {
 }
   where
     same_shown : (w : Page) → page_shown t w (places.Frame f false r.changed) ≡ record { state = Invalid f; mark = mark_of (placement_of t) w; filling = Zeros }
-        → page_shown (record t { spaces = map (placed q (places.Frame f false r.changed)) t.spaces }) w (places.Frame f false r.changed) ≡ record { state = Invalid f; mark = mark_of (placement_of t) w; filling = Zeros }
+        → page_shown (record t { spaces = map (placed q (places.Frame f false r.changed)) t.spaces }) w (places.Frame f false r.changed)
+        ≡ record { state = Invalid f; mark = mark_of (placement_of t) w; filling = Zeros }
     same_shown (Data n v) h = h
     same_shown (Stack n v) h = h
     same_shown (Text i v) h = h
@@ -239,7 +241,8 @@ expired_is t locked k = go (slot_at t.slots t.front) refl
     from : (o : Option (Page × Bool)) → under t locked t.front ≡ o → expired t locked ≡ record t { spaces = expired_by o t.front t.spaces }
     from o e = ap (λ (x : Option (Page × Bool)). record t { spaces = expired_by x t.front t.spaces }) e
 
-    none : (x : Token) → slot_at t.slots t.front ≡ x → ((token : Frame) (q : Page) (dirty : Bool) → x ≢ tokens.Resident token q dirty) → under_by t.spaces locked x ≡ None → Expired t (expired t locked) locked
+    none : (x : Token) → slot_at t.slots t.front ≡ x → ((token : Frame) (q : Page) (dirty : Bool) → x ≢ tokens.Resident token q dirty) → under_by t.spaces locked x ≡ None
+        → Expired t (expired t locked) locked
     none x h never e = expired_kept t (expired t locked) locked k (from None (ap (under_by t.spaces locked) h ∙ e))
         (expire_kept p locked (λ q f held b v. vacant_by t t.front k (λ token w dirty i. never token w dirty (sym h ∙ i)) q f held (record { state = inl v })))
 
@@ -257,7 +260,8 @@ expired_is t locked k = go (slot_at t.slots t.front) refl
       where
         by : (r : Resides t q t.front) (v : Bool) → r.valid ≡ v → under t locked t.front ≡ Some (q, r.valid) → Expired t (expired t locked) locked
         by r true e u = expired_turn t (expired t locked) locked q t.front k r refl b (resides_state t q t.front r ∙ ap (λ (x : Bool). cond x (Valid t.front) (Invalid t.front)) e)
-            (from (Some (q, true)) (u ∙ ap (λ (x : Bool). Some (q, x)) e) ∙ ap (λ (o : Option Place). record t { spaces = map (placed q (places.Frame t.front false (changed_named o))) t.spaces }) r.entry)
+            (from (Some (q, true)) (u ∙ ap (λ (x : Bool). Some (q, x)) e)
+            ∙ ap (λ (o : Option Place). record t { spaces = map (placed q (places.Frame t.front false (changed_named o))) t.spaces }) r.entry)
         by r false e u = expired_kept t (expired t locked) locked k (from (Some (q, false)) (u ∙ ap (λ (x : Bool). Some (q, x)) e))
             (expire_kept p locked (λ w f at a v.
             let same : w ≡ q = same_Some w q (sym at ∙ resides_page t q t.front k r) in
@@ -278,7 +282,8 @@ pub record IdleBack (t : Lists) (locked : List Page) (q : Page) : Type 0 where
 pub idle_back : (t : Lists) (locked : List Page) (q : Page) → Known t → under t locked t.back ≡ Some (q, false) → IdleBack t locked q
 idle_back t locked q k e = go (slot_at t.slots t.back) refl
   where
-    at : (token : Frame) (w : Page) (dirty b : Bool) → slot_at t.slots t.back ≡ tokens.Resident token w dirty → is_among w locked ≡ b → under_if b w (valid_named (entry_in t.spaces w)) ≡ Some (q, false) → IdleBack t locked q
+    at : (token : Frame) (w : Page) (dirty b : Bool) → slot_at t.slots t.back ≡ tokens.Resident token w dirty → is_among w locked ≡ b
+        → under_if b w (valid_named (entry_in t.spaces w)) ≡ Some (q, false) → IdleBack t locked q
     at token w dirty true h b i = none_some (q, false) i
     at token w dirty false h b i =
         let both : (w, valid_named (entry_in t.spaces w)) ≡ (q, false) = same_Some (w, valid_named (entry_in t.spaces w)) (q, false) i in
@@ -316,7 +321,8 @@ pub record Puts (p : Placement) (q : Page) (lo n : ℕ) (next : Placement) : Typ
 run_dirty : (p : Placement) (locked : List Page) (q : Page) → is_dirty p q ≡ true → EachPage (λ r. is_dirty p r ≡ true) (pages_of_run q (run_out p locked q))
 run_dirty p locked q d = run_each (λ r. is_dirty p r ≡ true) (λ w. goes_along p locked (beside q w) && is_near q w) q (run_out p locked q)
     (run_both_in (λ w. goes_along p locked (beside q w) && is_near q w) (number_of q) most_written) d
-    (λ w e. (and_parts (is_dirty p (beside q w)) (not (is_among (beside q w) locked)) (and_parts (is_idle p (beside q w)) (is_dirty p (beside q w) && not (is_among (beside q w) locked)) (and_parts (goes_along p locked (beside q w)) (is_near q w) e).0).1).0)
+    (λ w e. (and_parts (is_dirty p (beside q w)) (not (is_among (beside q w) locked))
+    (and_parts (is_idle p (beside q w)) (is_dirty p (beside q w) && not (is_among (beside q w) locked)) (and_parts (goes_along p locked (beside q w)) (is_near q w) e).0).1).0)
 
 may_some : (p : Placement) (q : Page) (lo n : ℕ) → 0 < n → MayWrite p q lo n → MayPutOut p q lo n
 may_some p q lo zero l h = absurd (omega arith)
@@ -361,7 +367,8 @@ moved_none t p k e = record { place = sym e; frames = refl; tied = k.tied; image
 pub blocks_heads : (t n : Lists) (hs : Holdings) → map head_of n.spaces ≡ map head_of t.spaces → n.facts ≡ t.facts → HasBlocks (placement_of t) hs
     → HasBlocks (placement_of n) hs
 blocks_heads t n hs h f b q there sh =
-    let there_as : (q : Page) → length (Rattle.page_model.specs.Placement.slots_of (placement_of n) q) ≡ length (Rattle.page_model.specs.Placement.slots_of (placement_of t) q) → IsThere (placement_of n) q → IsThere (placement_of t) q = λ q e l.
+    let there_as : (q : Page) → length (Rattle.page_model.specs.Placement.slots_of (placement_of n) q) ≡ length (Rattle.page_model.specs.Placement.slots_of (placement_of t) q)
+    → IsThere (placement_of n) q → IsThere (placement_of t) q = λ q e l.
     subst (λ (k : ℕ). number_of q < k) e l in
     b q (let e = lengths_same t n h f q in there_as q e there) (shared_as (placement_of n) (placement_of t) q (λ i. sym (sharers_heads n.slots t.slots n.spaces t.spaces i h)) sh)
 
@@ -386,7 +393,8 @@ ready t u locked k is rest =
       known = subst Known (sym is) x.known;
       frames = ap frames_of is ∙ x.frames;
       heads = heads;
-      blocks = λ b. subst (HasBlocks (placement_of (lists_of u))) (sym (ap (λ (z : Tables). z.book.holdings) rest)) (blocks_heads (lists_of t) (lists_of u) t.book.holdings heads (expired_facts t u locked is) b);
+      blocks = λ b. subst (HasBlocks (placement_of (lists_of u))) (sym (ap (λ (z : Tables). z.book.holdings) rest))
+          (blocks_heads (lists_of t) (lists_of u) t.book.holdings heads (expired_facts t u locked is) b);
     }
 
 frame_count : (t u : Tables) → frames_of (lists_of u) ≡ frames_of (lists_of t) → length u.core.slots - 1 ≡ length t.core.slots - 1
@@ -400,9 +408,11 @@ hand_within t u f e l m = let a = frame_count t u e in omega arith
 
 pub moved_hands : (t u v w : Tables) (locked : List Page) → Known (lists_of t) → lists_of u ≡ expired (lists_of t) locked
     → u ≡ record t { spaces = u.spaces } → MovedOn u v (sweep (placement_of (lists_of u)) locked)
-    → w.front ≡ next_frame (length v.core.slots - 1) v.front → w.back ≡ next_frame (length v.core.slots - 1) v.back → w ≡ record v { front = w.front; back = w.back } → MovedOn t w (hand_move (placement_of (lists_of t)) locked)
+    → w.front ≡ next_frame (length v.core.slots - 1) v.front → w.back ≡ next_frame (length v.core.slots - 1) v.back
+    → w ≡ record v { front = w.front; back = w.back } → MovedOn t w (hand_move (placement_of (lists_of t)) locked)
 moved_hands t u v w locked k is rest m ef eb rw =
-    let rest_hands : (t u v w : Tables) → u ≡ record t { spaces = u.spaces } → v ≡ record u { core = v.core; spaces = v.spaces; ring = v.ring; front = v.front; back = v.back } → w ≡ record v { front = w.front; back = w.back }
+    let rest_hands : (t u v w : Tables) → u ≡ record t { spaces = u.spaces } → v ≡ record u { core = v.core; spaces = v.spaces; ring = v.ring; front = v.front; back = v.back }
+    → w ≡ record v { front = w.front; back = w.back }
     → w ≡ record t { core = w.core; spaces = w.spaces; ring = w.ring; front = w.front; back = w.back } = λ t u v w e f g.
     let x : w ≡ record t { core = v.core; spaces = v.spaces; ring = v.ring; front = w.front; back = w.back } =
     g ∙ ap (λ (z : Tables). record z { front = w.front; back = w.back }) f ∙ ap (λ (z : Tables). record z { core = v.core; spaces = v.spaces; ring = v.ring; front = w.front; back = w.back }) e in
@@ -417,7 +427,20 @@ moved_hands t u v w locked k is rest m ef eb rw =
     record {
       place = stepped ∙ ap advance (m.place ∙ ap (λ (q : Placement). sweep q locked) r.place);
       frames = ap (λ (z : Tables). frames_of (lists_of z)) rw ∙ m.frames ∙ r.frames;
-      tied = subst (λ (z : Tables). Rattle.kernel_tables.specs.Tied.Tied (lists_of z)) (sym rw) (record { few_frames = m.tied.few_frames; few_images = m.tied.few_images; few_pages = m.tied.few_pages; sound = m.tied.sound; small_texts = m.tied.small_texts; shared = m.tied.shared; alike = m.tied.alike; filled = m.tied.filled; counted = m.tied.counted; marked = m.tied.marked; whole = m.tied.whole; once = m.tied.once });
+      tied = subst (λ (z : Tables). Rattle.kernel_tables.specs.Tied.Tied (lists_of z)) (sym rw) (record {
+        few_frames = m.tied.few_frames;
+        few_images = m.tied.few_images;
+        few_pages = m.tied.few_pages;
+        sound = m.tied.sound;
+        small_texts = m.tied.small_texts;
+        shared = m.tied.shared;
+        alike = m.tied.alike;
+        filled = m.tied.filled;
+        counted = m.tied.counted;
+        marked = m.tied.marked;
+        whole = m.tied.whole;
+        once = m.tied.once;
+      });
       images = λ sid. ap (λ (z : Tables). image_at z sid) rw ∙ m.images sid ∙ Rattle.kernel_tables.proofs.Stills.images_heads t u r.heads sid;
       ring = subst (λ (hs : Holdings). Rattle.kernel_tables.specs.Launches.AddsWrite hs t.ring w.ring) (ap (λ (z : Tables). z.book.holdings) rest)
           (subst (λ (z : Tables). Rattle.kernel_tables.specs.Launches.AddsWrite u.book.holdings z.ring w.ring) rest

@@ -78,7 +78,8 @@ module _ (says : Entry → Option ℕ) (counted : ℕ → Entry) (kind : IsKind 
   counts_alone journal h = kind.unit journal ∙ alone_joined journal h
 
   -- and else the last entry counts one more
-  joined_after : (e : Entry) (journal : List Entry) (count : ℕ) → last_says says (e ∷ journal) ≡ Some count → append_after e journal (counted 1) ≡ set (e ∷ journal) (length journal) (counted (count + 1))
+  joined_after : (e : Entry) (journal : List Entry) (count : ℕ) → last_says says (e ∷ journal) ≡ Some count
+      → append_after e journal (counted 1) ≡ set (e ∷ journal) (length journal) (counted (count + 1))
   joined_after e [] count h = kind.joins e count h
   joined_after e (f ∷ journal) count h = ap (λ (es : List Entry). e ∷ es) (joined_after f journal count h)
 

@@ -124,7 +124,8 @@ seat_mark ts f b _ = refl
 -- One page.
 
 pub record Landed (t u : Tables) (e : Errand) (x : Part) (xs : List Part) (y : Flown) (fs : List Flown) : Type 0 where
-  pub place : placement_of (closing u e xs fs) ≡ land (placement_of (closing t e (x ∷ xs) (y ∷ fs))) e x (record { errand = e; parts = xs } ∷ map transfer_shown t.ring)
+  pub place : placement_of (closing u e xs fs)
+      ≡ land (placement_of (closing t e (x ∷ xs) (y ∷ fs))) e x (record { errand = e; parts = xs } ∷ map transfer_shown t.ring)
   pub frames : frames_of (closing u e xs fs) ≡ frames_of (closing t e (x ∷ xs) (y ∷ fs))
   pub known : Known (closing u e xs fs)
   pub images : (sid : ℕ) → image_at u sid ≡ image_at t sid
@@ -133,11 +134,16 @@ pub record Landed (t u : Tables) (e : Errand) (x : Part) (xs : List Part) (y : F
 rest_texts : (t u : Tables) → u ≡ record t { core = u.core; spaces = u.spaces } → u ≡ record t { core = u.core; spaces = u.spaces; texts = u.texts }
 rest_texts t u e = e ∙ ap (λ (x : List SharedText). record t { core = u.core; spaces = u.spaces; texts = x }) (sym (ap (λ (z : Tables). z.texts) e))
 
-landed_by : (t u : Tables) (e : Errand) (xs : List Part) (q : Page) (token : Frame) (fs : List Flown) (x : Token) (place : Place) (texts : List SharedText) (free : List ℕ) (s : PageState) (m : Bool)
-    → Landing (closing t e (record { page = q; frame = token.number } ∷ xs) (record { page = q; token = token } ∷ fs)) q token.number token (fs ++ flown t.ring) x place texts s m
-    → closing u e xs fs ≡ landed (closing t e (record { page = q; frame = token.number } ∷ xs) (record { page = q; token = token } ∷ fs)) q token.number x place free texts (record { errand = e; parts = xs } ∷ map transfer_shown t.ring) (fs ++ flown t.ring)
-    → turn (placement_of (closing t e (record { page = q; frame = token.number } ∷ xs) (record { page = q; token = token } ∷ fs))) q s m free (record { errand = e; parts = xs } ∷ map transfer_shown t.ring)
-    ≡ land (placement_of (closing t e (record { page = q; frame = token.number } ∷ xs) (record { page = q; token = token } ∷ fs))) e (record { page = q; frame = token.number }) (record { errand = e; parts = xs } ∷ map transfer_shown t.ring)
+landed_by : (t u : Tables) (e : Errand) (xs : List Part) (q : Page) (token : Frame) (fs : List Flown) (x : Token) (place : Place) (texts : List SharedText)
+    (free : List ℕ) (s : PageState) (m : Bool)
+    → Landing (closing t e (record { page = q; frame = token.number } ∷ xs) (record { page = q; token = token } ∷ fs)) q token.number token
+    (fs ++ flown t.ring) x place texts s m
+    → closing u e xs fs ≡ landed (closing t e (record { page = q; frame = token.number } ∷ xs) (record { page = q; token = token } ∷ fs)) q token.number x place
+    free texts (record { errand = e; parts = xs } ∷ map transfer_shown t.ring) (fs ++ flown t.ring)
+    → turn (placement_of (closing t e (record { page = q; frame = token.number } ∷ xs) (record { page = q; token = token } ∷ fs))) q s m free
+    (record { errand = e; parts = xs } ∷ map transfer_shown t.ring)
+    ≡ land (placement_of (closing t e (record { page = q; frame = token.number } ∷ xs) (record { page = q; token = token } ∷ fs))) e
+    (record { page = q; frame = token.number }) (record { errand = e; parts = xs } ∷ map transfer_shown t.ring)
     → IsSound u.core.free u.core.slots → u ≡ record t { core = u.core; spaces = u.spaces; texts = u.texts } → map head_of u.spaces ≡ map head_of t.spaces
     → Landed t u e (record { page = q; frame = token.number }) xs (record { page = q; token = token }) fs
 landed_by t u e xs q token fs x place texts free s m l is turns core rest heads =
@@ -184,13 +190,16 @@ first_flight : (t : Tables) (e : Errand) (xs : List Part) (q : Page) (token : Fr
     → InFlight (closing t e (record { page = q; frame = token.number } ∷ xs) (record { page = q; token = token } ∷ fs)) q token.number
 first_flight t e xs q token fs k =
     in_flight (closing t e (record { page = q; frame = token.number } ∷ xs) (record { page = q; token = token } ∷ fs)) q e token.number k
-    (landing_state (placement_of (closing t e (record { page = q; frame = token.number } ∷ xs) (record { page = q; token = token } ∷ fs))) e (record { page = q; frame = token.number }) (record { errand = e; parts = xs } ∷ map transfer_shown t.ring) k.owns (record { parts = refl }))
+    (landing_state (placement_of (closing t e (record { page = q; frame = token.number } ∷ xs) (record { page = q; token = token } ∷ fs))) e (record { page = q; frame = token.number })
+    (record { errand = e; parts = xs } ∷ map transfer_shown t.ring) k.owns (record { parts = refl }))
 
 pub text_mark : (t : Lists) (q : Page) → IsThere (placement_of t) q → (i v : ℕ) → q ≡ Text i v → mark_of (placement_of t) q ≡ is_saved (text_of t.texts i) v
-text_mark t q there i v e = subst (λ (r : Page). IsThere (placement_of t) r → mark_of (placement_of t) r ≡ is_saved (text_of t.texts i) v) (sym e) (λ h. ap (λ (s : Slot). s.mark) (text_at t i v (text_within t i v h))) there
+text_mark t q there i v e =
+    subst (λ (r : Page). IsThere (placement_of t) r → mark_of (placement_of t) r ≡ is_saved (text_of t.texts i) v) (sym e) (λ h. ap (λ (s : Slot). s.mark) (text_at t i v (text_within t i v h))) there
 
 pub seat_lands : (t u : Tables) (b : Bool) (demanded : Page) (xs : List Part) (q : Page) (token : Frame) (fs : List Flown) → same_page q demanded ≡ true
-    → Known (closing t (Reads (source_by b) demanded) (record { page = q; frame = token.number } ∷ xs) (record { page = q; token = token } ∷ fs)) → SeatedPage t u token q (arrives_dirty t.texts q b) → IsSound u.core.free u.core.slots
+    → Known (closing t (Reads (source_by b) demanded) (record { page = q; frame = token.number } ∷ xs) (record { page = q; token = token } ∷ fs))
+    → SeatedPage t u token q (arrives_dirty t.texts q b) → IsSound u.core.free u.core.slots
     → Landed t u (Reads (source_by b) demanded) (record { page = q; frame = token.number }) xs (record { page = q; token = token }) fs
 seat_lands t u b demanded xs q token fs same k s core =
     let e : Errand = Reads (source_by b) demanded in
@@ -228,7 +237,8 @@ seat_lands t u b demanded xs q token fs same k s core =
     core (rest_texts t u s.rest) (ap (map head_of) s.spaces ∙ placed_heads t.spaces q (places.Frame f true d))
 
 pub rest_lands : (t u : Tables) (b : Bool) (demanded : Page) (xs : List Part) (q : Page) (token : Frame) (fs : List Flown) → same_page q demanded ≡ false
-    → Known (closing t (Reads (source_by b) demanded) (record { page = q; frame = token.number } ∷ xs) (record { page = q; token = token } ∷ fs)) → RestedPage t u token q → IsSound u.core.free u.core.slots
+    → Known (closing t (Reads (source_by b) demanded) (record { page = q; frame = token.number } ∷ xs) (record { page = q; token = token } ∷ fs))
+    → RestedPage t u token q → IsSound u.core.free u.core.slots
     → Landed t u (Reads (source_by b) demanded) (record { page = q; frame = token.number }) xs (record { page = q; token = token }) fs
 rest_lands t u b demanded xs q token fs same k s core =
     let e : Errand = Reads (source_by b) demanded in
@@ -255,7 +265,8 @@ rest_lands t u b demanded xs q token fs same k s core =
       marks = λ a r mark h. absurd cc;
       fits = frame_fits q f _ _;
       filling = λ y. refl;
-      shows = λ free rest. rested_shown (landed was q f x (places.Frame f false false) free t.texts rest (fs ++ flown t.ring)) q f (mark_of p q) (ap is_away (get_or-set_same t.core.slots f x tokens.Away g.below)) clean (text_mark was q g.there);
+      shows = λ free rest. rested_shown (landed was q f x (places.Frame f false false) free t.texts rest (fs ++ flown t.ring)) q f (mark_of p q)
+          (ap is_away (get_or-set_same t.core.slots f x tokens.Away g.below)) clean (text_mark was q g.there);
     })
     (ap (λ (z : Tables). closing z e xs fs) s.rest
     ∙ ap (λ (z : List Token). record (closing t e xs fs) { slots = z; free = u.core.free; spaces = u.spaces }) s.slots
@@ -270,12 +281,14 @@ pub read_lands : (t u : Tables) (b : Bool) (demanded : Page) (xs : List Part) (q
     → Landed t u (Reads (source_by b) demanded) (record { page = q; frame = token.number }) xs (record { page = q; token = token }) fs
 read_lands t u b demanded xs q token fs k l core = go (same_page q demanded) refl l
   where
-    go : (c : Bool) → same_page q demanded ≡ c → LandedIn c t u token q (arrives_dirty t.texts q b) → Landed t u (Reads (source_by b) demanded) (record { page = q; frame = token.number }) xs (record { page = q; token = token }) fs
+    go : (c : Bool) → same_page q demanded ≡ c → LandedIn c t u token q (arrives_dirty t.texts q b)
+        → Landed t u (Reads (source_by b) demanded) (record { page = q; frame = token.number }) xs (record { page = q; token = token }) fs
     go true e h = seat_lands t u b demanded xs q token fs e k h core
     go false e h = rest_lands t u b demanded xs q token fs e k h core
 
 pub write_lands : (t u : Tables) (xs : List Part) (q : Page) (token : Frame) (fs : List Flown) → ((i v : ℕ) → q ≡ Text i v → (1 ≤ i) × (i ≤ 16) × (v < 2048))
-    → Known (closing t Writes (record { page = q; frame = token.number } ∷ xs) (record { page = q; token = token } ∷ fs)) → LandedOut t u token q → IsSound u.core.free u.core.slots
+    → Known (closing t Writes (record { page = q; frame = token.number } ∷ xs) (record { page = q; token = token } ∷ fs)) → LandedOut t u token q
+    → IsSound u.core.free u.core.slots
     → Landed t u Writes (record { page = q; frame = token.number }) xs (record { page = q; token = token }) fs
 write_lands t u xs q token fs low k s core =
     let f : ℕ = token.number in
@@ -299,14 +312,20 @@ write_lands t u xs q token fs low k s core =
       marks = λ a r mark h. absurd cc;
       fits = frame_fits q f false false;
       filling = λ y. refl;
-      shows = λ free rest. rested_shown (landed was q f x (places.Frame f false false) free texts rest (fs ++ flown t.ring)) q f (written_mark q) (ap is_away (get_or-set_same t.core.slots f x tokens.Away g.below)) (written_clean q)
+      shows = λ free rest. rested_shown (landed was q f x (places.Frame f false false) free texts rest (fs ++ flown t.ring)) q f (written_mark q)
+          (ap is_away (get_or-set_same t.core.slots f x tokens.Away g.below)) (written_clean q)
           (λ i v e. subst (λ (r : Page). written_mark r ≡ is_saved (text_of (saved_texts t.texts r) i) v) (sym e) (sym (save_marked t.texts i v (s.table i v e) (low i v e))));
     })
     (ap (λ (z : Tables). closing z Writes xs fs) s.rest
     ∙ ap (λ (z : List Token). record (closing t Writes xs fs) { slots = z; free = u.core.free; spaces = u.spaces; texts = u.texts }) s.slots
     ∙ ap (λ (z : List ℕ). record (closing t Writes xs fs) { slots = set t.core.slots f x; free = z; spaces = u.spaces; texts = u.texts }) s.free
     ∙ ap (λ (z : List Places). record (closing t Writes xs fs) { slots = set t.core.slots f x; free = t.core.free ++ f ∷ []; spaces = z; texts = u.texts }) s.spaces
-    ∙ ap (λ (z : List SharedText). record (closing t Writes xs fs) { slots = set t.core.slots f x; free = t.core.free ++ f ∷ []; spaces = map (placed q (places.Frame f false false)) t.spaces; texts = z }) s.texts)
+    ∙ ap (λ (z : List SharedText). record (closing t Writes xs fs) {
+      slots = set t.core.slots f x;
+      free = t.core.free ++ f ∷ [];
+      spaces = map (placed q (places.Frame f false false)) t.spaces;
+      texts = z;
+    }) s.texts)
     refl
     core s.rest (ap (map head_of) s.spaces ∙ placed_heads t.spaces q (places.Frame f false false))
 
@@ -340,7 +359,8 @@ may_land t e xs q token fs k =
 
 pub may_read : (t : Tables) (b : Bool) (demanded : Page) (xs rest : List Inbound) (x : Inbound) → xs ≡ x ∷ rest → Known (closing_in t b demanded xs)
     → MayLand t x.page x.token.number
-may_read t b demanded xs rest x e k = may_land t (Reads (source_by b) demanded) (map in_part rest) x.page x.token (map inbound_flown rest) (subst (λ (ys : List Inbound). Known (closing_in t b demanded ys)) e k)
+may_read t b demanded xs rest x e k =
+    may_land t (Reads (source_by b) demanded) (map in_part rest) x.page x.token (map inbound_flown rest) (subst (λ (ys : List Inbound). Known (closing_in t b demanded ys)) e k)
 
 pub may_write : (t : Tables) (xs rest : List Outbound) (x : Outbound) → xs ≡ x ∷ rest → Known (closing_out t xs) → MayLand t x.page x.token.number
 may_write t xs rest x e k = may_land t Writes (map out_part rest) x.page x.token (map outbound_flown rest) (subst (λ (ys : List Outbound). Known (closing_out t ys)) e k)

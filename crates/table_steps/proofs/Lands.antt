@@ -32,7 +32,8 @@ use Rattle.kernel_tables.proofs.Comes.{shared_entry}
 use Rattle.kernel_tables.proofs.Marks.{placed_mark}
 
 -- What is known of the page: its token is the first in flight, and comes into the map with the page and its bytes.
-pub record Landing (t : Lists) (q : Page) (f : ℕ) (token : Frame) (rest : List Flown) (x : Token) (place : Place) (texts : List SharedText) (s : PageState) (m : Bool) : Type 0 where
+pub record Landing (t : Lists) (q : Page) (f : ℕ) (token : Frame) (rest : List Flown) (x : Token) (place : Place) (texts : List SharedText) (s : PageState)
+    (m : Bool) : Type 0 where
   pub known : Known t
   pub shared : IsShared (placement_of t) q
   pub frame : frame_of (state_of (placement_of t) q) ≡ Some f
@@ -54,7 +55,8 @@ held_by : (x : Token) (q : Page) (o : Option Flown) → token_page x ≡ Some q 
 held_by tokens.Away q o e = none_some q e
 held_by _ q o e = e
 
-pub land_is : (t : Lists) (q : Page) (f : ℕ) (token : Frame) (rest : List Flown) (x : Token) (place : Place) (texts : List SharedText) (s : PageState) (m : Bool) (free : List ℕ) (ts : List Transfer)
+pub land_is : (t : Lists) (q : Page) (f : ℕ) (token : Frame) (rest : List Flown) (x : Token) (place : Place) (texts : List SharedText) (s : PageState)
+    (m : Bool) (free : List ℕ) (ts : List Transfer)
     → Landing t q f token rest x place texts s m
     → placement_of (landed t q f x place free texts ts rest) ≡ turn (placement_of t) q s m free ts
 land_is t q f token rest x place texts s m free ts l =
@@ -75,20 +77,25 @@ land_is t q f token rest x place texts s m free ts l =
       entry = shared_entry t q l.known.tied l.shared there;
     } in
     let b : SameLists n (put p q s m) = segments_are t n q f s m (arrives_moved t n q f place a)
-    (record { there = there; slot = arrived t n q f place a ∙ l.shows free ts ∙ ap (λ (z : Filling). let w : Slot = record { state = s; mark = m; filling = z } in w) (sym (l.filling (slot_of p q).filling)) }) in
+    (record {
+      there = there;
+      slot = arrived t n q f place a ∙ l.shows free ts ∙ ap (λ (z : Filling). let w : Slot = record { state = s; mark = m; filling = z } in w) (sym (l.filling (slot_of p q).filling));
+    }) in
     placement_ext (placement_of n) (turn p q s m free ts) b.spaces b.texts
     (ap (λ (k : ℕ). map (page_held n) (range_with_len 1 (k - 1))) (length-set t.slots f x)
     ∙ frames_same (page_held t) (page_held n) (range_with_len 1 (length t.slots - 1)) (λ g. elim (cases_eq g f) [
       | inl h ↦ subst (λ (k : ℕ). page_held n k ≡ page_held t k) (sym h)
           (ap (λ (z : Token). page_by z (flown_at rest f)) (get_or-set_same t.slots f x tokens.Away l.below) ∙ held_by x q (flown_at rest f) l.holds
-          ∙ sym (ap (λ (z : Token). page_by z (flown_at t.flown f)) l.away ∙ ap Rattle.kernel_tables.specs.View.page_flown (ap (λ (fs : List Flown). flown_at fs f) l.first ∙ flown_hit y rest f l.number)))
+          ∙ sym (ap (λ (z : Token). page_by z (flown_at t.flown f)) l.away
+          ∙ ap Rattle.kernel_tables.specs.View.page_flown (ap (λ (fs : List Flown). flown_at fs f) l.first ∙ flown_hit y rest f l.number)))
       | inr d ↦ ap (λ (z : Token). page_by z (flown_at rest g)) (get_or-set_other t.slots f g x tokens.Away d)
           ∙ ap (page_by (slot_at t.slots g)) (sym (ap (λ (fs : List Flown). flown_at fs g) l.first ∙ flown_miss y rest g (λ e. d (sym e ∙ l.number))))
     ]))
     refl refl refl refl refl refl
 
 -- The bytes of the frames stay.
-pub land_frames : (t : Lists) (q : Page) (f : ℕ) (token : Frame) (rest : List Flown) (x : Token) (place : Place) (texts : List SharedText) (s : PageState) (m : Bool) (free : List ℕ) (ts : List Transfer)
+pub land_frames : (t : Lists) (q : Page) (f : ℕ) (token : Frame) (rest : List Flown) (x : Token) (place : Place) (texts : List SharedText) (s : PageState)
+    (m : Bool) (free : List ℕ) (ts : List Transfer)
     → Landing t q f token rest x place texts s m
     → frames_of (landed t q f x place free texts ts rest) ≡ frames_of t
 land_frames t q f token rest x place texts s m free ts l =
@@ -98,7 +105,8 @@ land_frames t q f token rest x place texts s m free ts l =
     ∙ frames_same (bytes_held t) (bytes_held n) (range_with_len 1 (length t.slots - 1)) (λ g. elim (cases_eq g f) [
       | inl h ↦ subst (λ (k : ℕ). bytes_held n k ≡ bytes_held t k) (sym h)
           (ap (λ (z : Token). bytes_by z (flown_at rest f)) (get_or-set_same t.slots f x tokens.Away l.below) ∙ l.bytes (flown_at rest f)
-          ∙ sym (ap (λ (z : Token). bytes_by z (flown_at t.flown f)) l.away ∙ ap Rattle.kernel_tables.specs.View.bytes_flown (ap (λ (fs : List Flown). flown_at fs f) l.first ∙ flown_hit y rest f l.number)))
+          ∙ sym (ap (λ (z : Token). bytes_by z (flown_at t.flown f)) l.away
+          ∙ ap Rattle.kernel_tables.specs.View.bytes_flown (ap (λ (fs : List Flown). flown_at fs f) l.first ∙ flown_hit y rest f l.number)))
       | inr d ↦ ap (λ (z : Token). bytes_by z (flown_at rest g)) (get_or-set_other t.slots f g x tokens.Away d)
           ∙ ap (bytes_by (slot_at t.slots g)) (sym (ap (λ (fs : List Flown). flown_at fs g) l.first ∙ flown_miss y rest g (λ e. d (sym e ∙ l.number))))
     ])

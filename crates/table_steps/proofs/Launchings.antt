@@ -81,7 +81,8 @@ launches t q f ts k r dirty =
     let here : slot_at n.slots f ≡ tokens.Away = get_or-set_same t.slots f tokens.Away tokens.Away r.below in
     let other : (g : ℕ) → g ≢ f → slot_at n.slots g ≡ slot_at t.slots g = λ g d. get_or-set_other t.slots f g tokens.Away tokens.Away d in
     let alone : times f (map flown_number t.flown) ≡ 0 = sym (ap (times f) k.numbers) ∙ (seated_alone (placement_of t) q f k.owns (resides_seat t q f r)).1 in
-    let last : flown_at n.flown f ≡ Some x = subst (λ (g : ℕ). flown_at n.flown g ≡ Some x) r.number (flown_last t.flown x (subst (λ (g : ℕ). times g (map flown_number t.flown) ≡ 0) (sym r.number) alone)) in
+    let last : flown_at n.flown f ≡ Some x =
+    subst (λ (g : ℕ). flown_at n.flown g ≡ Some x) r.number (flown_last t.flown x (subst (λ (g : ℕ). times g (map flown_number t.flown) ≡ 0) (sym r.number) alone)) in
     let more : (g : ℕ) → g ≢ f → flown_at n.flown g ≡ flown_at t.flown g = λ g d. flown_more t.flown x g (λ e. d (e ∙ r.number)) in
     record {
       known = k;
@@ -178,10 +179,12 @@ launching_step t u xs q f x r b =
     ∙ ap (λ (fs : List ℕ). record (launching t (xs ++ x ∷ [])) { slots = set t.core.slots f tokens.Away; free = fs; spaces = u.spaces }) b.free
     ∙ ap (λ (ss : List Places). record (launching t (xs ++ x ∷ [])) { slots = set t.core.slots f tokens.Away; spaces = ss }) b.spaces
     ∙ ap (λ (ts : List Transfer). record (next_launch t xs q f r.token) { transfers = ts; flown = flown t.ring ++ map outbound_flown (xs ++ x ∷ []) })
-    (ap (λ (ps : List Part). map transfer_shown t.ring ++ record { errand = Writes; parts = ps } ∷ []) (map-append out_part xs (x ∷ []) ∙ ap (λ (z : Part). map out_part xs ++ z ∷ []) (part_is x q f b.page b.number))
+    (ap (λ (ps : List Part). map transfer_shown t.ring ++ record { errand = Writes; parts = ps } ∷ [])
+    (map-append out_part xs (x ∷ []) ∙ ap (λ (z : Part). map out_part xs ++ z ∷ []) (part_is x q f b.page b.number))
     ∙ sym (join_snoc (map transfer_shown t.ring) Writes (map out_part xs) part))
     ∙ ap (λ (fs : List Flown). record (next_launch t xs q f r.token) { flown = fs })
-    (ap (λ (fs : List Flown). flown t.ring ++ fs) (map-append outbound_flown xs (x ∷ []) ∙ ap (λ (z : Flown). map outbound_flown xs ++ z ∷ []) (flown_is x q r.token b.page e)) ∙ sym (append_assoc (flown t.ring) (map outbound_flown xs) (y ∷ [])))
+    (ap (λ (fs : List Flown). flown t.ring ++ fs) (map-append outbound_flown xs (x ∷ []) ∙ ap (λ (z : Flown). map outbound_flown xs ++ z ∷ []) (flown_is x q r.token b.page e))
+    ∙ sym (append_assoc (flown t.ring) (map outbound_flown xs) (y ∷ [])))
 
 -- What one page more gives, where a run of these pages may be written.
 pub record Launched (t u : Tables) (xs : List Outbound) (q : Page) (x : Outbound) (lo m : ℕ) : Type 0 where
@@ -222,17 +225,32 @@ launched_by t u xs q f x lo m may r b core =
 
 -- The beginning of it all.
 pub begun_place : (t : Tables) → placement_of (launching t []) ≡ begin (placement_of (lists_of t)) Writes
-begun_place t = ap (λ (fs : List Flown). placement_of (record (lists_of t) { transfers = map transfer_shown t.ring ++ record { errand = Writes; parts = [] } ∷ []; flown = fs })) (append-nil (flown t.ring))
+begun_place t =
+    ap (λ (fs : List Flown). placement_of (record (lists_of t) { transfers = map transfer_shown t.ring ++ record { errand = Writes; parts = [] } ∷ []; flown = fs })) (append-nil (flown t.ring))
 
 pub begun_frames : (t : Tables) → frames_of (launching t []) ≡ frames_of (lists_of t)
-begun_frames t = ap (λ (fs : List Flown). frames_of (record (lists_of t) { transfers = map transfer_shown t.ring ++ record { errand = Writes; parts = [] } ∷ []; flown = fs })) (append-nil (flown t.ring))
+begun_frames t =
+    ap (λ (fs : List Flown). frames_of (record (lists_of t) { transfers = map transfer_shown t.ring ++ record { errand = Writes; parts = [] } ∷ []; flown = fs })) (append-nil (flown t.ring))
 
 begun_known : (t : Tables) → Known (lists_of t) → Known (launching t [])
 begun_known t k = record {
   core = k.core;
   owns = subst OwnsFrames (sym (begun_place t)) (begin_owner (placement_of (lists_of t)) Writes k.owns);
   aside = λ i n z. let a = k.aside i n z in record { unsaved = a.unsaved; rests = a.rests };
-  tied = record { few_frames = k.tied.few_frames; few_images = k.tied.few_images; few_pages = k.tied.few_pages; sound = k.tied.sound; small_texts = k.tied.small_texts; shared = k.tied.shared; alike = k.tied.alike; filled = k.tied.filled; counted = k.tied.counted; marked = k.tied.marked; whole = k.tied.whole; once = k.tied.once };
+  tied = record {
+    few_frames = k.tied.few_frames;
+    few_images = k.tied.few_images;
+    few_pages = k.tied.few_pages;
+    sound = k.tied.sound;
+    small_texts = k.tied.small_texts;
+    shared = k.tied.shared;
+    alike = k.tied.alike;
+    filled = k.tied.filled;
+    counted = k.tied.counted;
+    marked = k.tied.marked;
+    whole = k.tied.whole;
+    once = k.tied.once;
+  };
   differ = k.differ;
   numbers = ap flying (parts_begin (map transfer_shown t.ring) Writes) ∙ k.numbers ∙ ap (map flown_number) (sym (append-nil (flown t.ring)));
 }
@@ -241,7 +259,10 @@ pub may_begin : (t : Tables) (q : Page) (lo n : ℕ) → MayLaunch (lists_of t) 
 may_begin t q lo n may = record {
   known = begun_known t may.known;
   seats = subst (λ (z : Placement). EachPage (HasSeat z) (pages_from q lo n)) (sym (begun_place t))
-      (each_page_imp (HasSeat (placement_of (lists_of t))) (HasSeat (begin (placement_of (lists_of t)) Writes)) (pages_from q lo n) may.seats (λ w h. record { frame = h.frame; seat = record { state = let k : IsSeated (placement_of (lists_of t)) w h.frame = h.seat in k.state } }));
+      (each_page_imp (HasSeat (placement_of (lists_of t))) (HasSeat (begin (placement_of (lists_of t)) Writes)) (pages_from q lo n) may.seats (λ w h. record {
+        frame = h.frame;
+        seat = record { state = let k : IsSeated (placement_of (lists_of t)) w h.frame = h.seat in k.state };
+      }));
   dirty = subst (λ (z : Placement). EachPage (λ w. is_dirty z w ≡ true) (pages_from q lo n)) (sym (begun_place t))
       (each_page_imp (λ w. is_dirty (placement_of (lists_of t)) w ≡ true) (λ w. is_dirty (begin (placement_of (lists_of t)) Writes) w ≡ true) (pages_from q lo n) may.dirty (λ w h. h));
 }

@@ -131,7 +131,8 @@ left_some map q f s e k = ap (left_in map) e ∙ ap (left_at map f) k
 
 -- what is so of the map as it was, and with a resident frame on the free list
 left_cases : (P : Frames → Type 0) (map : Frames) (q : Page) → P map
-    → ((f : ℕ) (token : Frame) (page : Page) (dirty : Bool) → frame_holding map.slots q ≡ Some f → slot_at map.slots f ≡ tokens.Resident token page dirty → P (left_at map f (tokens.Resident token page dirty)))
+    → ((f : ℕ) (token : Frame) (page : Page) (dirty : Bool) → frame_holding map.slots q ≡ Some f → slot_at map.slots f ≡ tokens.Resident token page dirty
+    → P (left_at map f (tokens.Resident token page dirty)))
     → P (left_page map q)
 left_cases P map q still moved = go (frame_holding map.slots q) refl
   where
@@ -190,7 +191,8 @@ left_resident : (map : Frames) (q : Page) (g : ℕ) (token : Frame) (r : Page) (
     → slot_at (left_page map q).slots g ≡ tokens.Resident token r mark → slot_at map.slots g ≡ tokens.Resident token r mark
 left_resident map q g token r mark = left_cases (λ (m : Frames). slot_at m.slots g ≡ tokens.Resident token r mark → slot_at map.slots g ≡ tokens.Resident token r mark) map q (λ h. h)
     (λ f t page dirty e k h. elim (cases_eq g f) [
-      | inl i ↦ absurd (let z : tokens.Free t (Some page) ≡ tokens.Resident token r mark = sym (ap (slot_at (set map.slots f (tokens.Free t (Some page)))) i ∙ set_here map.slots f t page dirty (tokens.Free t (Some page)) k) ∙ h in cc)
+      | inl i ↦ absurd (let z : tokens.Free t (Some page) ≡ tokens.Resident token r mark =
+          sym (ap (slot_at (set map.slots f (tokens.Free t (Some page)))) i ∙ set_here map.slots f t page dirty (tokens.Free t (Some page)) k) ∙ h in cc)
       | inr n ↦ sym (get_or-set_other map.slots f g (tokens.Free t (Some page)) tokens.Away n) ∙ h
     ])
 
@@ -291,5 +293,6 @@ found_resident map lifted next token given page q f u e o t n lf ls g nf ns = go
         frames_ext next (left_at map f (tokens.Resident a b d))
         (nf ∙ ap (λ (x : List ℕ). x ++ given.number ∷ []) lf ∙ ap (λ (m : ℕ). map.free ++ m ∷ []) number)
         (ns ∙ ap (λ (x : List Token). set x given.number (tokens.Free given (Some page))) ls ∙ ap (λ (m : ℕ). set (set map.slots f tokens.Away) m (tokens.Free given (Some page))) number
-        ∙ set-set map.slots f tokens.Away (tokens.Free given (Some page)) ∙ ap (λ (x : Frame). set map.slots f (tokens.Free x (Some page))) is ∙ ap (λ (r : Page). set map.slots f (tokens.Free a (Some r))) same)
+        ∙ set-set map.slots f tokens.Away (tokens.Free given (Some page)) ∙ ap (λ (x : Frame). set map.slots f (tokens.Free x (Some page))) is
+        ∙ ap (λ (r : Page). set map.slots f (tokens.Free a (Some r))) same)
         ∙ sym (left_some map q f (tokens.Resident a b d) (holding_here map.slots f q e (λ h j. u h f q j e)) k)

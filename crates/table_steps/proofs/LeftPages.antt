@@ -104,7 +104,8 @@ leave_one t p q map u s listed here there is filling free r = go r
         → slot_of l q ≡ record { state = Unfilled; mark = false; filling = (slot_of p q).filling } → l.free ≡ p.free
         → Leaves p (leave_page p q) q (frame_holding t.slots q) (left_page map q)
     nowhere l n e sl fr = record {
-      slot = ap (λ (x : Placement). slot_of x q) e ∙ sl ∙ ap (λ (y : Filling). let z : Slot = record { state = Unfilled; mark = false; filling = y } in z) (ap (λ (x : Slot). x.filling) is ∙ filling) ∙ ap rest_slot (sym n);
+      slot = ap (λ (x : Placement). slot_of x q) e ∙ sl
+          ∙ ap (λ (y : Filling). let z : Slot = record { state = Unfilled; mark = false; filling = y } in z) (ap (λ (x : Slot). x.filling) is ∙ filling) ∙ ap rest_slot (sym n);
       free = ap (λ (x : Placement). x.free) e ∙ fr ∙ free ∙ sym (ap (λ (m : Frames). m.free) (left_none map q (same_found t.slots map.slots q s ∙ n)));
     }
 
@@ -154,7 +155,8 @@ pub record LeftTo (t : Lists) (p l : Placement) (i v : ℕ) (map : Frames) : Typ
   pub behind : (w : ℕ) → v ≤ w → slot_of l (Text i w) ≡ slot_of p (Text i w)
 
 pub leave_pages : (t : Lists) (p : Placement) (i v : ℕ) (map : Frames) → Known t → map.slots ≡ t.slots → p.free ≡ map.free → AreListed map
-    → ((w : ℕ) → w < v → IsThere p (Text i w)) → ((w : ℕ) → slot_of p (Text i w) ≡ slot_of (placement_of t) (Text i w)) → ((w : ℕ) → w < v → (slot_of (placement_of t) (Text i w)).filling ≡ Zeros)
+    → ((w : ℕ) → w < v → IsThere p (Text i w)) → ((w : ℕ) → slot_of p (Text i w) ≡ slot_of (placement_of t) (Text i w))
+    → ((w : ℕ) → w < v → (slot_of (placement_of t) (Text i w)).filling ≡ Zeros)
     → ((w : ℕ) → w < v → Rests t (Text i w)) → LeftTo t p (leave_all p (first_pages i v)) i v (left_pages map i v)
 leave_pages t p i zero map k is free listed there same filling r = record { free = free; before = λ w l. absurd (omega arith); behind = λ w l. refl }
 leave_pages t p i (suc v) map k is free listed there same filling r =
@@ -172,7 +174,8 @@ leave_pages t p i (suc v) map k is free listed there same filling r =
     record {
       free = ap (λ (x : Placement). x.free) to ∙ one.free;
       before = λ w m. elim (cases_eq w v) [
-        | inl e ↦ subst (λ (n : ℕ). slot_of (leave_all p (first_pages i (suc v))) (Text i n) ≡ rest_slot (frame_holding t.slots (Text i n))) (sym e) (ap (λ (x : Placement). slot_of x (Text i v)) to ∙ one.slot)
+        | inl e ↦ subst (λ (n : ℕ). slot_of (leave_all p (first_pages i (suc v))) (Text i n) ≡ rest_slot (frame_holding t.slots (Text i n))) (sym e)
+            (ap (λ (x : Placement). slot_of x (Text i v)) to ∙ one.slot)
         | inr d ↦ ap (λ (x : Placement). slot_of x (Text i w)) to ∙ leave_other l (Text i v) (Text i w) (λ e. d (page_number i v w e)) ∙ h.before w (omega arith)
       ];
       behind = λ w m. ap (λ (x : Placement). slot_of x (Text i w)) to ∙ leave_other l (Text i v) (Text i w) (λ e. let x = page_number i v w e in absurd (omega arith)) ∙ h.behind w (omega arith);

@@ -101,13 +101,15 @@ module _ (l : Lists) (m : Frames) (sid : ℕ) (texts : List SharedText) (s : Sam
   -- a page of text that no space shares any more, of which nothing is saved
   pub left_text : (i v : ℕ) → v < pages_in 1 i l.facts → entry_in (without_space sid l.spaces) (Text i v) ≡ None
       → is_saved (text_of texts i) v ≡ false
-      → ((f : ℕ) → token_page (slot_at l.slots f) ≡ Some (Text i v) → is_away (slot_at l.slots f) ≡ false) → slot_of (placement_of (gone_to l m sid texts)) (Text i v) ≡ rest_slot (frame_holding l.slots (Text i v))
+      → ((f : ℕ) → token_page (slot_at l.slots f) ≡ Some (Text i v) → is_away (slot_at l.slots f) ≡ false)
+      → slot_of (placement_of (gone_to l m sid texts)) (Text i v) ≡ rest_slot (frame_holding l.slots (Text i v))
   left_text i v b e k here =
       text_at (gone_to l m sid texts) i v b
       ∙ ap (λ (o : Option Place). text_shown m.slots (is_saved (text_of texts i) v) (text_place_by o m.slots (Text i v) v)) e
       ∙ ap (λ (x : Bool). text_shown m.slots x (cached_place m.slots (Text i v) v)) k
       ∙ ap (λ (x : PageState). let z : Slot = record { state = x; mark = false; filling = Zeros } in z)
-      (ap (λ (o : Option ℕ). state_shown m.slots (cached_by o v)) (same_found l.slots m.slots (Text i v) s) ∙ same_state l.slots m.slots s (cached_place l.slots (Text i v) v) ∙ state (frame_holding l.slots (Text i v)) refl)
+      (ap (λ (o : Option ℕ). state_shown m.slots (cached_by o v)) (same_found l.slots m.slots (Text i v) s) ∙ same_state l.slots m.slots s (cached_place l.slots (Text i v) v)
+      ∙ state (frame_holding l.slots (Text i v)) refl)
     where
       state : (o : Option ℕ) → frame_holding l.slots (Text i v) ≡ o → state_shown l.slots (cached_by o v) ≡ rest_state o
       state None h = refl

@@ -82,7 +82,8 @@ brings t u xs s q c x lo m is b core may =
     ap placement_of step ∙ come_is l (token_page (slot_at t.core.slots x.token.number)) u.core.free x.token x.token x.page e may.known h sh can ∙ ap (get_one (placement_of l) e) is in
     record {
       place = place;
-      frames = ap frames_of step ∙ come_frames l (token_page (slot_at t.core.slots x.token.number)) u.core.free x.token x.page (join_last l.transfers e (record { page = x.page; frame = x.token.number })) may.known h;
+      frames = ap frames_of step
+          ∙ come_frames l (token_page (slot_at t.core.slots x.token.number)) u.core.free x.token x.page (join_last l.transfers e (record { page = x.page; frame = x.token.number })) may.known h;
       may = record {
         known = subst Known (sym step) (come_known l (token_page (slot_at t.core.slots x.token.number)) u.core.free x.token x.token x.page q s may.known h sh can latest sound);
         enter = subst (λ (p : Placement). EachPage (CanEnter p) (pages_from q (lo + 1) m)) (sym place)
@@ -98,17 +99,32 @@ brings t u xs s q c x lo m is b core may =
 
 -- The beginning of it all.
 pub opened_place : (t : Tables) (s : Source) (q : Page) → placement_of (opened t [] s q) ≡ begin (placement_of (lists_of t)) (Reads s q)
-opened_place t s q = ap (λ (fs : List Flown). placement_of (record (lists_of t) { transfers = map transfer_shown t.ring ++ record { errand = Reads s q; parts = [] } ∷ []; flown = fs })) (append-nil (flown t.ring))
+opened_place t s q =
+    ap (λ (fs : List Flown). placement_of (record (lists_of t) { transfers = map transfer_shown t.ring ++ record { errand = Reads s q; parts = [] } ∷ []; flown = fs })) (append-nil (flown t.ring))
 
 pub opened_frames : (t : Tables) (s : Source) (q : Page) → frames_of (opened t [] s q) ≡ frames_of (lists_of t)
-opened_frames t s q = ap (λ (fs : List Flown). frames_of (record (lists_of t) { transfers = map transfer_shown t.ring ++ record { errand = Reads s q; parts = [] } ∷ []; flown = fs })) (append-nil (flown t.ring))
+opened_frames t s q =
+    ap (λ (fs : List Flown). frames_of (record (lists_of t) { transfers = map transfer_shown t.ring ++ record { errand = Reads s q; parts = [] } ∷ []; flown = fs })) (append-nil (flown t.ring))
 
 pub opened_known : (t : Tables) (s : Source) (q : Page) → Known (lists_of t) → Known (opened t [] s q)
 opened_known t s q k = record {
   core = k.core;
   owns = subst Rattle.page_model.specs.Ownership.OwnsFrames (sym (opened_place t s q)) (begin_owner (placement_of (lists_of t)) (Reads s q) k.owns);
   aside = λ i n z. let a = k.aside i n z in record { unsaved = a.unsaved; rests = a.rests };
-  tied = record { few_frames = k.tied.few_frames; few_images = k.tied.few_images; few_pages = k.tied.few_pages; sound = k.tied.sound; small_texts = k.tied.small_texts; shared = k.tied.shared; alike = k.tied.alike; filled = k.tied.filled; counted = k.tied.counted; marked = k.tied.marked; whole = k.tied.whole; once = k.tied.once };
+  tied = record {
+    few_frames = k.tied.few_frames;
+    few_images = k.tied.few_images;
+    few_pages = k.tied.few_pages;
+    sound = k.tied.sound;
+    small_texts = k.tied.small_texts;
+    shared = k.tied.shared;
+    alike = k.tied.alike;
+    filled = k.tied.filled;
+    counted = k.tied.counted;
+    marked = k.tied.marked;
+    whole = k.tied.whole;
+    once = k.tied.once;
+  };
   differ = k.differ;
   numbers = ap flying (parts_begin (map transfer_shown t.ring) (Reads s q)) ∙ k.numbers ∙ ap (map flown_number) (sym (append-nil (flown t.ring)));
 }

@@ -178,8 +178,10 @@ module _ (ps : List Proc) (p : Proc) (regs : Regs) (o : OnlyOne p ps) where
   -- a change makes the same of the processes
   pub regs_after : (next : ℕ) (change : Change)
       → procs_after (with_proc ps (record p { regs = regs })) (record p { regs = regs }) next change ≡ procs_after ps (record p { regs = regs }) next change
-  regs_after next (Fork child) = ap (λ (xs : List Proc). xs ++ child_proc (record p { regs = regs }) child (HoldsSpace next) ∷ []) (twins_with p.pid (record p { regs = regs }) refl (with_proc ps (record p { regs = regs })) ps twins)
-  regs_after next (Lend child) = ap (λ (xs : List Proc). xs ++ child_proc (record p { regs = regs }) child New ∷ []) (twins_with p.pid (record p { regs = regs }) refl (with_proc ps (record p { regs = regs })) ps twins)
+  regs_after next (Fork child) = ap (λ (xs : List Proc). xs ++ child_proc (record p { regs = regs }) child (HoldsSpace next) ∷ [])
+      (twins_with p.pid (record p { regs = regs }) refl (with_proc ps (record p { regs = regs })) ps twins)
+  regs_after next (Lend child) =
+      ap (λ (xs : List Proc). xs ++ child_proc (record p { regs = regs }) child New ∷ []) (twins_with p.pid (record p { regs = regs }) refl (with_proc ps (record p { regs = regs })) ps twins)
   regs_after next (Exec image top) = twins_with p.pid (record p { regs = regs; life = HoldsSpace next }) refl (with_proc ps (record p { regs = regs })) ps twins
   regs_after next (Reap child) = twins_with p.pid (record p { regs = regs }) refl (without_proc (with_proc ps (record p { regs = regs })) child) (without_proc ps child)
       (twins_filter p.pid (λ (q : Proc). not (q.pid == child)) (λ x y t. ap (λ (n : ℕ). not (n == child)) (t.first ∙ sym t.second)) (with_proc ps (record p { regs = regs })) ps twins)
@@ -192,7 +194,8 @@ module _ (ps : List Proc) (p : Proc) (regs : Regs) (o : OnlyOne p ps) where
       go : (b : Bool)
           → left_procs b (orphaned_procs (with_proc ps (record p { regs = regs })) p.pid) (record p { regs = regs }) status ≡ left_procs b (orphaned_procs ps p.pid) (record p { regs = regs }) status
       go true = twins_without p.pid (orphaned_procs (with_proc ps (record p { regs = regs })) p.pid) (orphaned_procs ps p.pid) t
-      go false = ap (λ (xs : List Proc). woken_procs xs p.parent) (twins_with p.pid (record p { regs = regs; life = Ended status }) refl (orphaned_procs (with_proc ps (record p { regs = regs })) p.pid) (orphaned_procs ps p.pid) t)
+      go false = ap (λ (xs : List Proc). woken_procs xs p.parent)
+          (twins_with p.pid (record p { regs = regs; life = Ended status }) refl (orphaned_procs (with_proc ps (record p { regs = regs })) p.pid) (orphaned_procs ps p.pid) t)
   regs_after next _ = twins_with p.pid (record p { regs = regs }) refl (with_proc ps (record p { regs = regs })) ps twins
 
   pub regs_lender : (n : ℕ) → has_lender (with_proc ps (record p { regs = regs })) n ≡ has_lender ps n

@@ -53,7 +53,8 @@ pub record InvalidEntry (t : Lists) (q : Page) (f : ℕ) : Type 0 where
   pub changed : Bool
   pub entry : entry_in t.spaces q ≡ Some (places.Frame f false changed)
   pub held : token_page (slot_at t.slots f) ≡ Some q
-  pub mark : page_shown t q (places.Frame f true (dirty_shown t.spaces t.texts q)) ≡ record { state = Valid f; mark = mark_of (placement_of t) q; filling = Zeros }
+  pub mark : page_shown t q (places.Frame f true (dirty_shown t.spaces t.texts q))
+      ≡ record { state = Valid f; mark = mark_of (placement_of t) q; filling = Zeros }
 
 idle_is : (slots : List Token) (x : Place) (f : ℕ) → state_shown slots x ≡ Invalid f
     → (c : Bool) × (x ≡ places.Frame f false c) × (is_away (slot_at slots f) ≡ false)
@@ -81,7 +82,8 @@ held_is t q f k e a =
     present (slot_at t.slots f) (flown_at t.flown f) q a (sym (held_at t f (above_zero t.free t.slots f k.core n) (below_length t.slots f n)) ∙ k.owns.names q f (ap frame_of e))
 
 pub invalid_entry : (t : Lists) (q : Page) (f : ℕ) → Known t → IsShared (placement_of t) q → state_of (placement_of t) q ≡ Invalid f → InvalidEntry t q f
-invalid_entry t q f k sh e = go q sh e (page_in (placement_of t) q f (ap frame_of e)) (some_of (entry_in t.spaces q) (shared_entry t q k.tied sh (page_in (placement_of t) q f (ap frame_of e)))).0 (some_of (entry_in t.spaces q) (shared_entry t q k.tied sh (page_in (placement_of t) q f (ap frame_of e)))).1
+invalid_entry t q f k sh e = go q sh e (page_in (placement_of t) q f (ap frame_of e)) (some_of (entry_in t.spaces q) (shared_entry t q k.tied sh (page_in (placement_of t) q f (ap frame_of e)))).0
+    (some_of (entry_in t.spaces q) (shared_entry t q k.tied sh (page_in (placement_of t) q f (ap frame_of e)))).1
   where
     go : (r : Page) → IsShared (placement_of t) r → state_of (placement_of t) r ≡ Invalid f → IsThere (placement_of t) r → (x : Place) → entry_in t.spaces r ≡ Some x → InvalidEntry t r f
     go (Data n v) s i th x h =
@@ -91,7 +93,8 @@ invalid_entry t q f k sh e = go q sh e (page_in (placement_of t) q f (ap frame_o
           changed = d.0;
           entry = h ∙ ap (λ (y : Place). Some y) d.1;
           held = held_is t (Data n v) f k i d.2;
-          mark = ap (λ (b : Bool). let z : Slot = record { state = Valid f; mark = b; filling = Zeros } in z) (ap changed_named (h ∙ ap (λ (y : Place). Some y) d.1) ∙ sym (ap (λ (y : Slot). y.mark) was ∙ ap changed_shown d.1));
+          mark = ap (λ (b : Bool). let z : Slot = record { state = Valid f; mark = b; filling = Zeros } in z)
+              (ap changed_named (h ∙ ap (λ (y : Place). Some y) d.1) ∙ sym (ap (λ (y : Slot). y.mark) was ∙ ap changed_shown d.1));
         }
     go (Stack n v) s i th x h =
         let was : slot_of (placement_of t) (Stack n v) ≡ slot_shown t.slots x = stack_shown t.slots t.spaces n v k.differ ∙ ap (slot_or (slot_shown t.slots)) h in
@@ -100,7 +103,8 @@ invalid_entry t q f k sh e = go q sh e (page_in (placement_of t) q f (ap frame_o
           changed = d.0;
           entry = h ∙ ap (λ (y : Place). Some y) d.1;
           held = held_is t (Stack n v) f k i d.2;
-          mark = ap (λ (b : Bool). let z : Slot = record { state = Valid f; mark = b; filling = Zeros } in z) (ap changed_named (h ∙ ap (λ (y : Place). Some y) d.1) ∙ sym (ap (λ (y : Slot). y.mark) was ∙ ap changed_shown d.1));
+          mark = ap (λ (b : Bool). let z : Slot = record { state = Valid f; mark = b; filling = Zeros } in z)
+              (ap changed_named (h ∙ ap (λ (y : Place). Some y) d.1) ∙ sym (ap (λ (y : Slot). y.mark) was ∙ ap changed_shown d.1));
         }
     go (Text a v) s i th x h =
         let was : slot_of (placement_of t) (Text a v) ≡ text_shown t.slots (is_saved (text_of t.texts a) v) x =
@@ -133,7 +137,8 @@ below : (t : Lists) (f : ℕ) (q : Page) → token_page (slot_at t.slots f) ≡ 
 below t f q e = below_length t.slots f (λ n. none_some q (sym (ap token_page n) ∙ e))
 
 pub reclaim_is : (t : Lists) (q : Page) (f : ℕ) (i : InvalidEntry t q f) → Known t → state_of (placement_of t) q ≡ Invalid f
-    → placement_of (reclaimed t q f (revived (slot_at t.slots f) q (dirty_shown t.spaces t.texts q)) (dirty_shown t.spaces t.texts q)) ≡ reclaim (placement_of t) q
+    → placement_of (reclaimed t q f (revived (slot_at t.slots f) q (dirty_shown t.spaces t.texts q)) (dirty_shown t.spaces t.texts q))
+    ≡ reclaim (placement_of t) q
 reclaim_is t q f i k e =
     let s : Token = revived (slot_at t.slots f) q (dirty_shown t.spaces t.texts q) in
     let n : Lists = reclaimed t q f s (dirty_shown t.spaces t.texts q) in
@@ -144,7 +149,8 @@ reclaim_is t q f i k e =
       differ = k.differ;
       apart = λ w d m. d (same_Some w q (sym (k.owns.names w f m) ∙ holds));
       slots = λ g d. get_or-set_other t.slots f g s tokens.Away d;
-      cached = λ x v d. holding_set t.slots f s (Text x v) (λ m. d (same_Some (Text x v) q (sym m ∙ i.held))) (λ m. d (same_Some (Text x v) q (sym m ∙ revived_page (slot_at t.slots f) q (dirty_shown t.spaces t.texts q) i.held)));
+      cached = λ x v d. holding_set t.slots f s (Text x v) (λ m. d (same_Some (Text x v) q (sym m ∙ i.held)))
+          (λ m. d (same_Some (Text x v) q (sym m ∙ revived_page (slot_at t.slots f) q (dirty_shown t.spaces t.texts q) i.held)));
       spaces = refl;
       saved = λ x v d l. refl;
       facts = refl;
@@ -152,17 +158,20 @@ reclaim_is t q f i k e =
       entry = subst IsSome (sym i.entry) refl;
     } in
     let shown : page_shown n q place ≡ page_shown t q place = same_shown q place in
-    let l : SameLists n (put p q (Valid f) (mark_of p q)) = segments_are t n q f (Valid f) (mark_of p q) (arrives_moved t n q f place a) (record { there = a.there; slot = arrived t n q f place a ∙ shown ∙ i.mark }) in
+    let l : SameLists n (put p q (Valid f) (mark_of p q)) =
+    segments_are t n q f (Valid f) (mark_of p q) (arrives_moved t n q f place a) (record { there = a.there; slot = arrived t n q f place a ∙ shown ∙ i.mark }) in
     placement_ext (placement_of n) (reclaim_to p q (Invalid f)) l.spaces l.texts
     (ap (λ (m : ℕ). map (page_held n) (range_with_len 1 (m - 1))) (length-set t.slots f s)
     ∙ frames_same (page_held t) (page_held n) (range_with_len 1 (length t.slots - 1)) (λ g. elim (cases_eq g f) [
-      | inl h ↦ subst (λ (m : ℕ). page_held n m ≡ page_held t m) (sym h) (ap (λ (y : Token). page_by y (flown_at t.flown f)) (get_or-set_same t.slots f s tokens.Away (below t f q i.held)) ∙ revived_held (slot_at t.slots f) q (dirty_shown t.spaces t.texts q) (flown_at t.flown f) i.held)
+      | inl h ↦ subst (λ (m : ℕ). page_held n m ≡ page_held t m) (sym h) (ap (λ (y : Token). page_by y (flown_at t.flown f)) (get_or-set_same t.slots f s tokens.Away (below t f q i.held))
+          ∙ revived_held (slot_at t.slots f) q (dirty_shown t.spaces t.texts q) (flown_at t.flown f) i.held)
       | inr d ↦ ap (λ (y : Token). page_by y (flown_at t.flown g)) (get_or-set_other t.slots f g s tokens.Away d)
     ]))
     refl refl refl refl refl refl
     ∙ sym (ap (reclaim_to p q) e)
   where
-    same_shown : (r : Page) (x : Place) → page_shown (reclaimed t q f (revived (slot_at t.slots f) q (dirty_shown t.spaces t.texts q)) (dirty_shown t.spaces t.texts q)) r (places.Frame f true (dirty_shown t.spaces t.texts q)) ≡ page_shown t r (places.Frame f true (dirty_shown t.spaces t.texts q))
+    same_shown : (r : Page) (x : Place) → page_shown (reclaimed t q f (revived (slot_at t.slots f) q (dirty_shown t.spaces t.texts q)) (dirty_shown t.spaces t.texts q)) r
+        (places.Frame f true (dirty_shown t.spaces t.texts q)) ≡ page_shown t r (places.Frame f true (dirty_shown t.spaces t.texts q))
     same_shown (Data a v) x = refl
     same_shown (Stack a v) x = refl
     same_shown (Text a v) x = refl
@@ -174,7 +183,8 @@ reclaim_frames t q f c e =
     let n : Lists = reclaimed t q f s c in
     ap (λ (m : ℕ). map (bytes_held n) (range_with_len 1 (m - 1))) (length-set t.slots f s)
     ∙ frames_same (bytes_held t) (bytes_held n) (range_with_len 1 (length t.slots - 1)) (λ g. elim (cases_eq g f) [
-      | inl h ↦ subst (λ (m : ℕ). bytes_held n m ≡ bytes_held t m) (sym h) (ap (λ (y : Token). bytes_by y (flown_at t.flown f)) (get_or-set_same t.slots f s tokens.Away (below t f q e)) ∙ revived_bytes (slot_at t.slots f) q c (flown_at t.flown f))
+      | inl h ↦ subst (λ (m : ℕ). bytes_held n m ≡ bytes_held t m) (sym h)
+          (ap (λ (y : Token). bytes_by y (flown_at t.flown f)) (get_or-set_same t.slots f s tokens.Away (below t f q e)) ∙ revived_bytes (slot_at t.slots f) q c (flown_at t.flown f))
       | inr d ↦ ap (λ (y : Token). bytes_by y (flown_at t.flown g)) (get_or-set_other t.slots f g s tokens.Away d)
     ])
 
@@ -192,7 +202,11 @@ reclaiming_lists t u q f r =
     ap lists_of r.revived_it.rest
     ∙ ap (λ (ss : List Token). record (lists_of t) { slots = ss; free = u.core.free; spaces = u.spaces }) r.revived_it.slots
     ∙ ap (λ (fs : List ℕ). record (lists_of t) { slots = set t.core.slots f (revived (slot_at t.core.slots f) q (dirty_shown t.spaces t.texts q)); free = fs; spaces = u.spaces }) r.revived_it.free
-    ∙ ap (λ (ss : List Places). record (lists_of t) { slots = set t.core.slots f (revived (slot_at t.core.slots f) q (dirty_shown t.spaces t.texts q)); free = without f t.core.free; spaces = ss }) r.revived_it.spaces
+    ∙ ap (λ (ss : List Places). record (lists_of t) {
+      slots = set t.core.slots f (revived (slot_at t.core.slots f) q (dirty_shown t.spaces t.texts q));
+      free = without f t.core.free;
+      spaces = ss;
+    }) r.revived_it.spaces
 
 pub reclaim_kernel : (t u : Tables) (q : Page) (f : ℕ) (journal : List Entry) (stopped : Bool) → Reclaiming t u q f
     → kernel_by u (journal ++ entries.Reclaim q ∷ []) stopped ≡ reclaim_step (kernel_by t journal stopped) q

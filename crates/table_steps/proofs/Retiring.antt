@@ -53,7 +53,8 @@ retiring t q f k r clean =
         | inr d ↦ ap (λ (y : Token). page_by y (flown_at t.flown g)) (other g d)
       ];
       bytes = λ g. elim (cases_eq g f) [
-        | inl e ↦ subst (λ (m : ℕ). bytes_held n m ≡ bytes_held t m) (sym e) (ap (λ (y : Token). bytes_by y (flown_at t.flown f)) here ∙ sym (ap (λ (y : Token). bytes_by y (flown_at t.flown f)) r.slot))
+        | inl e ↦ subst (λ (m : ℕ). bytes_held n m ≡ bytes_held t m) (sym e)
+            (ap (λ (y : Token). bytes_by y (flown_at t.flown f)) here ∙ sym (ap (λ (y : Token). bytes_by y (flown_at t.flown f)) r.slot))
         | inr d ↦ ap (λ (y : Token). bytes_by y (flown_at t.flown g)) (other g d)
       ];
       spaces = refl;
@@ -91,7 +92,8 @@ pub retire_moves : (t u : Tables) (q : Page) (f : ℕ) → Known (lists_of t) �
     → is_marked_dirty q (mark_of (placement_of (lists_of t)) q) ≡ false → RetiredPage t u q f
     → MovedOn t u (retire (placement_of (lists_of t)) q)
 retire_moves t u q f k r clean m =
-    let rest_wide : (t u : Tables) → u ≡ record t { core = u.core; spaces = u.spaces } → record t { core = u.core; spaces = u.spaces } ≡ record t { core = u.core; spaces = u.spaces; ring = u.ring; front = u.front; back = u.back } = λ t u e.
+    let rest_wide : (t u : Tables) → u ≡ record t { core = u.core; spaces = u.spaces }
+    → record t { core = u.core; spaces = u.spaces } ≡ record t { core = u.core; spaces = u.spaces; ring = u.ring; front = u.front; back = u.back } = λ t u e.
     ap (λ r. record t { core = u.core; spaces = u.spaces; ring = r }) (sym (ap (λ (x : Tables). x.ring) e))
     ∙ ap (λ (n : ℕ). record t { core = u.core; spaces = u.spaces; ring = u.ring; front = n }) (sym (ap (λ (x : Tables). x.front) e))
     ∙ ap (λ (n : ℕ). record t { core = u.core; spaces = u.spaces; ring = u.ring; front = u.front; back = n }) (sym (ap (λ (x : Tables). x.back) e)) in

@@ -124,13 +124,16 @@ none_shares facts slots (s ∷ ss) h =
 
 pub settled_names : (t : Tables) (sid : ℕ) → list_any (names_space sid) t.ring ≡ true → is_settled (placement_of (lists_of t)) sid ≡ false
 settled_names t sid e =
-    ap (λ (b : Bool). not b && not ((sharers (placement_of (lists_of t)) (image_of (placement_of (lists_of t)) sid) == 1) && names_page (is_of_text (image_of (placement_of (lists_of t)) sid)) (parts_of (map transfer_shown t.ring))))
+    ap (λ (b : Bool). not b && not ((sharers (placement_of (lists_of t)) (image_of (placement_of (lists_of t)) sid) == 1)
+    && names_page (is_of_text (image_of (placement_of (lists_of t)) sid)) (parts_of (map transfer_shown t.ring))))
     (sym (ring_names (whose.Space sid) (is_of_space sid) t.ring (λ q. refl)) ∙ e)
 
 settled_rest : (t : Tables) (sid : ℕ) → list_any (names_space sid) t.ring ≡ false
-    → is_settled (placement_of (lists_of t)) sid ≡ not ((sharers (placement_of (lists_of t)) (image_of (placement_of (lists_of t)) sid) == 1) && names_page (is_of_text (image_of (placement_of (lists_of t)) sid)) (parts_of (map transfer_shown t.ring)))
+    → is_settled (placement_of (lists_of t)) sid ≡ not ((sharers (placement_of (lists_of t)) (image_of (placement_of (lists_of t)) sid) == 1)
+    && names_page (is_of_text (image_of (placement_of (lists_of t)) sid)) (parts_of (map transfer_shown t.ring)))
 settled_rest t sid e =
-    ap (λ (b : Bool). not b && not ((sharers (placement_of (lists_of t)) (image_of (placement_of (lists_of t)) sid) == 1) && names_page (is_of_text (image_of (placement_of (lists_of t)) sid)) (parts_of (map transfer_shown t.ring))))
+    ap (λ (b : Bool). not b && not ((sharers (placement_of (lists_of t)) (image_of (placement_of (lists_of t)) sid) == 1)
+    && names_page (is_of_text (image_of (placement_of (lists_of t)) sid)) (parts_of (map transfer_shown t.ring))))
     (sym (ring_names (whose.Space sid) (is_of_space sid) t.ring (λ q. refl)) ∙ e)
 
 pub settled_none : (t : Tables) (sid : ℕ) → Tied (lists_of t) → list_any (names_space sid) t.ring ≡ false → image_found t.spaces sid ≡ None

@@ -326,7 +326,8 @@ numbers_stay : (n : ℕ) (change : SpacePages → SpacePages) → ((x : SpacePag
 numbers_stay n change k [] = refl
 numbers_stay n change k (x ∷ xs) = go (x.sid == n) (numbers_stay n change k xs)
   where
-    go : (b : Bool) → map space_number (changed space_number n change xs) ≡ map space_number xs → map space_number (cond b (change x ∷ xs) (x ∷ changed space_number n change xs)) ≡ map space_number (x ∷ xs)
+    go : (b : Bool) → map space_number (changed space_number n change xs) ≡ map space_number xs
+        → map space_number (cond b (change x ∷ xs) (x ∷ changed space_number n change xs)) ≡ map space_number (x ∷ xs)
     go true e = ap (λ (m : ℕ). m ∷ map space_number xs) (k x)
     go false e = ap (λ (ms : List ℕ). x.sid ∷ ms) e
 
@@ -362,7 +363,8 @@ count_in (Some n) = n
 
 counted : (slots : List Token) (ss : List Places) (i sid a b : ℕ) → AllDistinct (sids_of ss) → slice_get (sids_of ss) i ≡ Some sid
     → Some a ≡ option_map (λ (s : Places). length s.data) (slice_get ss i) → Some b ≡ option_map (λ (s : Places). length s.stack) (slice_get ss i)
-    → (a ≡ length (data_in (numbered space_number sid (map (space_shown slots) ss)))) × (b ≡ length (stack_in (numbered space_number sid (map (space_shown slots) ss))))
+    → (a ≡ length (data_in (numbered space_number sid (map (space_shown slots) ss))))
+    × (b ≡ length (stack_in (numbered space_number sid (map (space_shown slots) ss))))
 counted slots [] i sid a b h e k l = absurd cc
 counted slots (s ∷ ss) zero sid a b h e k l =
     let same : s.sid ≡ sid = cc in

@@ -184,7 +184,8 @@ swap_block size k q so e =
 -- all pages of a run have a source of the kind that they are read from
 pub run_sources : (t : Tables) (k : Kernel) (b : Bool) (demanded : Page) (qs : List Page) → Known (lists_of t) → Sound t.book.size k
     → k.place ≡ placement_of (lists_of t) → k.holdings ≡ t.book.holdings
-    → EachPage (CanEnter (placement_of (lists_of t))) qs → EachPage (ReadsFrom (placement_of (lists_of t)) (source_by b) demanded) qs → EachPage (HasSource t b) qs
+    → EachPage (CanEnter (placement_of (lists_of t))) qs → EachPage (ReadsFrom (placement_of (lists_of t)) (source_by b) demanded) qs
+    → EachPage (HasSource t b) qs
 run_sources t k b demanded qs known so e h c r =
     let p : Placement = placement_of (lists_of t) in
     each_page_both (CanEnter p) (ReadsFrom p (source_by b) demanded) (HasSource t b) qs c r (λ w x y. one b w x y)

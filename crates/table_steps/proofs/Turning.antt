@@ -78,7 +78,10 @@ turn_is t n q f place s m d =
       entry = shared_entry t q d.known.tied d.shared there;
     } in
     let b : SameLists n (put p q s m) = segments_are t n q f s m (arrives_moved t n q f place a)
-    (record { there = there; slot = arrived t n q f place a ∙ d.shows ∙ ap (λ (z : Filling). let w : Slot = record { state = s; mark = m; filling = z } in w) (sym (d.filling (slot_of p q).filling)) }) in
+    (record {
+      there = there;
+      slot = arrived t n q f place a ∙ d.shows ∙ ap (λ (z : Filling). let w : Slot = record { state = s; mark = m; filling = z } in w) (sym (d.filling (slot_of p q).filling));
+    }) in
     placement_ext (placement_of n) (turn p q s m n.free n.transfers) b.spaces b.texts
     (ap (λ (k : ℕ). map (page_held n) (range_with_len 1 (k - 1))) d.count ∙ frames_same (page_held t) (page_held n) (range_with_len 1 (length t.slots - 1)) d.held)
     refl refl d.front d.back d.residents (ap (map due_shown) d.fills)

@@ -45,7 +45,8 @@ pub numbered_shown : (slots : List Token) (ss : List Places) (sid : ℕ)
 numbered_shown slots [] sid = refl
 numbered_shown slots (s ∷ ss) sid = elim (cases_eq s.sid sid) [
   | inl e ↦ numbered_hit space_number sid (space_shown slots s) (map (space_shown slots) ss) e ∙ sym (ap (option_map (space_shown slots)) (numbered_hit (λ (s : Places). s.sid) sid s ss e))
-  | inr n ↦ numbered_miss space_number sid (space_shown slots s) (map (space_shown slots) ss) n ∙ numbered_shown slots ss sid ∙ sym (ap (option_map (space_shown slots)) (numbered_miss (λ (s : Places). s.sid) sid s ss n))
+  | inr n ↦ numbered_miss space_number sid (space_shown slots s) (map (space_shown slots) ss) n ∙ numbered_shown slots ss sid
+      ∙ sym (ap (option_map (space_shown slots)) (numbered_miss (λ (s : Places). s.sid) sid s ss n))
 ]
 
 pub stands_shown : (t : Lists) (sid i : ℕ) → AllDistinct (sids_of t.spaces) → StandsAt t.spaces sid i
@@ -106,11 +107,13 @@ settled_yet p qs sid h = record {
 
 pub space_dropped : (t u w : Tables) (sid n m : ℕ) → n ≡ data_count (placement_of (lists_of t)) sid
     → m ≡ stack_count (placement_of (lists_of t)) sid
-    → Dropped t u (pages_from (Data sid 0) 0 (n - 0)) → Dropped u w (pages_from (Stack sid 0) 0 (m - 0)) → Dropped t w (pages_of_space (placement_of (lists_of t)) sid)
+    → Dropped t u (pages_from (Data sid 0) 0 (n - 0)) → Dropped u w (pages_from (Stack sid 0) 0 (m - 0))
+    → Dropped t w (pages_of_space (placement_of (lists_of t)) sid)
 space_dropped t u w sid n m a b d e =
     let k : (x : ℕ) → x - 0 ≡ x = λ x. omega arith in
     subst (λ (qs : List Page). Dropped t w (qs ++ stack_from sid 0 (stack_count (placement_of (lists_of t)) sid))) (ap (pages_from (Data sid 0) 0) (k n ∙ a))
-    (subst (λ (qs : List Page). Dropped t w (pages_from (Data sid 0) 0 (n - 0) ++ qs)) (ap (pages_from (Stack sid 0) 0) (k m ∙ b)) (dropped_more t u w (pages_from (Data sid 0) 0 (n - 0)) (pages_from (Stack sid 0) 0 (m - 0)) d e))
+    (subst (λ (qs : List Page). Dropped t w (pages_from (Data sid 0) 0 (n - 0) ++ qs)) (ap (pages_from (Stack sid 0) 0) (k m ∙ b))
+    (dropped_more t u w (pages_from (Data sid 0) 0 (n - 0)) (pages_from (Stack sid 0) 0 (m - 0)) d e))
 
 -- The spaces have the names that they had.
 
@@ -127,4 +130,5 @@ drop_names qs p = drop_all_kept names_by_puts qs p
 pub dropped_numbers : (t u : Tables) (qs : List Page) → Dropped t u qs → sids_of u.spaces ≡ sids_of t.spaces
 dropped_numbers t u qs d =
     let p : Placement = placement_of (lists_of t) in
-    sym (sids_shown u.core.slots u.spaces) ∙ ap (λ (x : Placement). map space_number x.spaces) d.shows.place ∙ names_sids (drop_all p qs).spaces p.spaces (drop_names qs p) ∙ sids_shown t.core.slots t.spaces
+    sym (sids_shown u.core.slots u.spaces) ∙ ap (λ (x : Placement). map space_number x.spaces) d.shows.place ∙ names_sids (drop_all p qs).spaces p.spaces (drop_names qs p)
+    ∙ sids_shown t.core.slots t.spaces

@@ -32,9 +32,11 @@ pub fn make_room_to_move(
     limit: u32,
 ) -> Result<(), Stop>
     ensures same { journal.new.items ≡ journal.old.items }
-    ensures has_room { OnOk result (last_says moves_in journal.old.items ≡ None → (length journal.old.items < limit) × (vec_len journal.new < vec_capacity journal.new)) }
+    ensures has_room { OnOk result
+        (last_says moves_in journal.old.items ≡ None → (length journal.old.items < limit) × (vec_len journal.new < vec_capacity journal.new)) }
     ensures room { room.new ≡ None }
-    ensures full { (result ≡ Err Stop.JournalFull) ↔ ((limit ≤ length journal.old.items) × (length journal.old.items < length (append journal.old.items (Hands 1)))) }
+    ensures full { (result ≡ Err Stop.JournalFull)
+        ↔ ((limit ≤ length journal.old.items) × (length journal.old.items < length (append journal.old.items (Hands 1)))) }
     ensures cause { OnErr result ((result ≡ Err Stop.JournalFull) ⊎ (result ≡ Err Stop.NoMemory)) }
 {
     if last_moves(journal.as_slice()).is_some() {
@@ -84,9 +86,11 @@ pub fn make_room_to_run(
     pid: u32,
 ) -> Result<(), Stop>
     ensures same { journal.new.items ≡ journal.old.items }
-    ensures has_room { OnOk result (last_says (instructions_in pid) journal.old.items ≡ None → (length journal.old.items < limit) × (vec_len journal.new < vec_capacity journal.new)) }
+    ensures has_room { OnOk result
+        (last_says (instructions_in pid) journal.old.items ≡ None → (length journal.old.items < limit) × (vec_len journal.new < vec_capacity journal.new)) }
     ensures room { room.new ≡ None }
-    ensures full { (result ≡ Err Stop.JournalFull) ↔ ((limit ≤ length journal.old.items) × (length journal.old.items < length (append journal.old.items (Ran pid 1)))) }
+    ensures full { (result ≡ Err Stop.JournalFull)
+        ↔ ((limit ≤ length journal.old.items) × (length journal.old.items < length (append journal.old.items (Ran pid 1)))) }
     ensures cause { OnErr result ((result ≡ Err Stop.JournalFull) ⊎ (result ≡ Err Stop.NoMemory)) }
 {
     if last_instructions(journal.as_slice(), pid).is_some() {

@@ -78,7 +78,8 @@ fn launch_all(tables: &mut Tables, parts: &mut Vec<Outbound>, page: Page, lo: u3
     requires blocks { EachPage (λ q. IsSome (block_of tables.old.book.holdings q)) (pages_from page lo n) }
     requires room { vec_len parts.old + n ≤ vec_capacity parts.old }
     requires fits { lo + n < 2 ^ 32 }
-    ensures place { placement_of (launching tables.new parts.new.items) ≡ launch_all (placement_of (launching tables.old parts.old.items)) (pages_from page lo n) }
+    ensures place { placement_of (launching tables.new parts.new.items)
+        ≡ launch_all (placement_of (launching tables.old parts.old.items)) (pages_from page lo n) }
     ensures frames { frames_of (launching tables.new parts.new.items) ≡ frames_of (launching tables.old parts.old.items) }
     ensures known { Known (launching tables.new parts.new.items) }
     ensures pages { outbound_pages parts.new.items ≡ outbound_pages parts.old.items ++ pages_from page lo n }
@@ -179,7 +180,8 @@ fn expire(tables: &mut Tables, locked: &[Page])
 // there and clean. `parts` is empty and has room for the run.
 fn sweep(tables: &mut Tables, locked: &[Page], parts: Vec<Outbound>, lo: u32, n: u32)
     requires known { Known (lists_of tables.old) }
-    requires run { IsRunOf (write_of (placement_of (lists_of tables.old)) locked.now tables.old.back (page_of (placement_of (lists_of tables.old)) tables.old.back)) lo n }
+    requires run { IsRunOf
+        (write_of (placement_of (lists_of tables.old)) locked.now tables.old.back (page_of (placement_of (lists_of tables.old)) tables.old.back)) lo n }
     requires room { 0 < n → length (lists_of tables.old).transfers < 16 }
     requires blocks { HasBlocks (placement_of (lists_of tables.old)) tables.old.book.holdings }
     requires empty { parts.items ≡ [] }

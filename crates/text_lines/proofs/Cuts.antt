@@ -95,7 +95,8 @@ has_no_more c (x ∷ xs) ys a b = (a.0, has_no_more c xs ys a.1 b)
 abbrev blank : List ℕ → ℕ
 blank text = position_or_len (λ (b : ℕ). b == 32) text
 
-cut_by : (text rest : List ℕ) (t : Bool) → nat_lt (blank text) (length text) ≡ t → option_map (λ (place : ℕ). drop (place + 1) text) (cond t (Some (blank text)) None) ≡ Some rest
+cut_by : (text rest : List ℕ) (t : Bool) → nat_lt (blank text) (length text) ≡ t
+    → option_map (λ (place : ℕ). drop (place + 1) text) (cond t (Some (blank text)) None) ≡ Some rest
     → text ≡ word_by (cond t (Some (blank text)) None) text ++ 32 ∷ rest
 cut_by text rest true within e =
     let small : blank text < length text = grind (arith, nat_tests, within) in
@@ -111,7 +112,8 @@ pub text_cut : (text rest : List ℕ) → rest_in text ≡ Some rest → text �
 unfolding word_in rest_in
 text_cut text rest e = cut_by text rest (nat_lt (blank text) (length text)) refl e
 
-whole_by : (text : List ℕ) (t : Bool) → option_map (λ (place : ℕ). drop (place + 1) text) (cond t (Some (blank text)) None) ≡ None → text ≡ word_by (cond t (Some (blank text)) None) text
+whole_by : (text : List ℕ) (t : Bool) → option_map (λ (place : ℕ). drop (place + 1) text) (cond t (Some (blank text)) None) ≡ None
+    → text ≡ word_by (cond t (Some (blank text)) None) text
 whole_by text true e = absurd cc
 whole_by text false e = refl
 

@@ -163,11 +163,14 @@ all_among : (s : Space) (starts : List ℕ) (list : List Access) (q : Page) → 
 all_among s starts [] q w h k = absurd cc
 all_among s starts (access ∷ list) q w h k = go (λ l. all_among s starts list q w h.1 l) (page_of_access s access) refl k
   where
-    here : (r : Page) → page_of_access s access ≡ Some r → (is_among q (filter_map (page_of_access s) list) ≡ true → is_among q (pages_of s starts) ≡ true) → (b : Bool) → same_page q r ≡ b → (b || is_among q (filter_map (page_of_access s) list)) ≡ true → is_among q (pages_of s starts) ≡ true
-    here r e later true f l = near_among s starts (address_of_access access) q h.0 (subst (λ (p : Page). IsBlock s (address_of_access access) p) (sym (same_page_is q r f)) (access_block s access r w e))
+    here : (r : Page) → page_of_access s access ≡ Some r → (is_among q (filter_map (page_of_access s) list) ≡ true → is_among q (pages_of s starts) ≡ true) → (b : Bool) → same_page q r ≡ b
+        → (b || is_among q (filter_map (page_of_access s) list)) ≡ true → is_among q (pages_of s starts) ≡ true
+    here r e later true f l =
+        near_among s starts (address_of_access access) q h.0 (subst (λ (p : Page). IsBlock s (address_of_access access) p) (sym (same_page_is q r f)) (access_block s access r w e))
     here r e later false f l = later l
 
-    go : (is_among q (filter_map (page_of_access s) list) ≡ true → is_among q (pages_of s starts) ≡ true) → (o : Option Page) → page_of_access s access ≡ o → is_among q (cons_option o (filter_map (page_of_access s) list)) ≡ true → is_among q (pages_of s starts) ≡ true
+    go : (is_among q (filter_map (page_of_access s) list) ≡ true → is_among q (pages_of s starts) ≡ true) → (o : Option Page) → page_of_access s access ≡ o
+        → is_among q (cons_option o (filter_map (page_of_access s) list)) ≡ true → is_among q (pages_of s starts) ≡ true
     go later None e l = later l
     go later (Some r) e l = here r e later (same_page q r) refl l
 

@@ -30,7 +30,8 @@ unfolding bytes_from
 within_bytes zero start most address h l = tt
 within_bytes (suc count) start most address h l = (
   at_more start most 1023 address (omega arith) h,
-  λ byte. within_bind start (λ _. Unit {0}) (λ _. Unit {0}) (bytes_from count (past address 1)) _ (within_bytes count start (most + 1) (past address 1) (at_past start most 1 address h) (omega arith)) (λ more _. tt),
+  λ byte. within_bind start (λ _. Unit {0}) (λ _. Unit {0}) (bytes_from count (past address 1)) _
+      (within_bytes count start (most + 1) (past address 1) (at_past start most 1 address h) (omega arith)) (λ more _. tt),
 )
 
 within_string : (left start most address : ℕ) → IsAt start most address → most + left ≤ 1024 → Within start (λ _. Unit {0}) (string_from left address)
@@ -71,7 +72,8 @@ pointers_covered memory (suc left) start most address h l =
     go later zero = covered_gives memory start (suc left) _
     go later (suc n) =
         covered_more memory start (1 + left) (suc left) _ (omega arith)
-        (covered_bind memory start 1 left (string_from string_limit (suc n)) (string_before (arguments_from left (past address 4))) (string_covered memory start (suc n)) (λ string e. before later string))
+        (covered_bind memory start 1 left (string_from string_limit (suc n)) (string_before (arguments_from left (past address 4))) (string_covered memory start (suc n))
+        (λ string e. before later string))
 
 arguments_covered : (memory : Answers) (base address : ℕ) → Covered memory base 9 (arguments_at address)
 arguments_covered memory base zero = covered_gives memory base 9 _
@@ -91,12 +93,14 @@ execve_covered memory base images regs =
 write_covered : (memory : Answers) (base : ℕ) (regs : Regs) → Covered memory base 2 (write_reply regs)
 unfolding write_reply written_to
 write_covered memory base regs =
-    covered_bind memory base 1 1 (three_arguments regs) _ (within_one memory base (register regs 12) (λ _. Unit {0}) (three_arguments regs) (within_three regs)) (λ asked e. go (asked.0 == 1 || asked.0 == 2) asked.1 asked.2)
+    covered_bind memory base 1 1 (three_arguments regs) _ (within_one memory base (register regs 12) (λ _. Unit {0}) (three_arguments regs) (within_three regs))
+    (λ asked e. go (asked.0 == 1 || asked.0 == 2) asked.1 asked.2)
   where
     go : (b : Bool) (buffer count : ℕ) → Covered memory base 1 (written_to b buffer count)
     go true buffer count =
         covered_bind memory base 1 0 (bytes_from (min count write_limit) buffer) _
-        (within_one memory base buffer (λ _. Unit {0}) (bytes_from (min count write_limit) buffer) (within_bytes (min count write_limit) buffer 0 buffer (at_self buffer) (omega arith))) (λ bytes e. covered_gives memory base 0 _)
+        (within_one memory base buffer (λ _. Unit {0}) (bytes_from (min count write_limit) buffer) (within_bytes (min count write_limit) buffer 0 buffer (at_self buffer) (omega arith)))
+        (λ bytes e. covered_gives memory base 0 _)
     go false buffer count = covered_gives memory base 1 _
 
 argument_covered : (memory : Answers) (base : ℕ) (regs : Regs) → Covered memory base 1 (argument regs 1)

@@ -105,5 +105,6 @@ computation_modest names.Ashl regs a b c other = given _ (store_light _ 4 _ _ (o
 computation_modest names.Mnegl regs a b c other = given _ (store_light _ 4 _ _ (omega arith))
 computation_modest names.Chmk regs a b c other = absurd cc
 computation_modest names.Callg regs a b c other = call_modest (back (sp regs) 200) 200 (registers_only regs) false a.value b.value (omega arith) (may_push regs) refl
-computation_modest names.Calls regs a b c other = call_modest (back (sp regs) 200) 196 (push_effect regs a.value) true (register (push_effect regs a.value).regs 14) b.value (omega arith) (may_push_again regs a.value) (push_light regs a.value).call
+computation_modest names.Calls regs a b c other = call_modest (back (sp regs) 200) 196 (push_effect regs a.value) true (register (push_effect regs a.value).regs 14) b.value (omega arith)
+    (may_push_again regs a.value) (push_light regs a.value).call
 computation_modest _ regs a b c other = given _ (plain_light _)

@@ -77,14 +77,16 @@ accesses_bind : {A B : Type 0} (memory : Answers) (p : Program A) (f : A → Pro
     → accesses memory (p >>= f) ≡ accesses memory p ++ accesses_then memory (run memory p) f
 accesses_bind memory (Reads address next) f = ap (λ (list : List Access). ReadOf address ∷ list) (go (λ byte. accesses_bind memory (next byte) f) (memory.read address))
   where
-    go : ((byte : ℕ) → accesses memory (next byte >>= f) ≡ accesses memory (next byte) ++ accesses_then memory (run memory (next byte)) f) → (answer : ByteRead) → rest_of_read answer (λ byte. accesses memory (next byte >>= f)) ≡ rest_of_read answer (λ byte. accesses memory (next byte)) ++ accesses_then memory (after_read answer address (λ byte. run memory (next byte))) f
+    go : ((byte : ℕ) → accesses memory (next byte >>= f) ≡ accesses memory (next byte) ++ accesses_then memory (run memory (next byte)) f) → (answer : ByteRead) → rest_of_read answer
+        (λ byte. accesses memory (next byte >>= f)) ≡ rest_of_read answer (λ byte. accesses memory (next byte)) ++ accesses_then memory (after_read answer address (λ byte. run memory (next byte))) f
     go later (bytes.Is byte) = later byte
     go later bytes.Miss = refl
     go later bytes.Below = refl
     go later bytes.Outside = refl
 accesses_bind memory (Tests address next) f = ap (λ (list : List Access). TestOf address ∷ list) (go (accesses_bind memory next f) (memory.may_write address))
   where
-    go : accesses memory (next >>= f) ≡ accesses memory next ++ accesses_then memory (run memory next) f → (answer : MayWrite) → rest_of_test answer (accesses memory (next >>= f)) ≡ rest_of_test answer (accesses memory next) ++ accesses_then memory (after_test answer address (run memory next)) f
+    go : accesses memory (next >>= f) ≡ accesses memory next ++ accesses_then memory (run memory next) f → (answer : MayWrite)
+        → rest_of_test answer (accesses memory (next >>= f)) ≡ rest_of_test answer (accesses memory next) ++ accesses_then memory (after_test answer address (run memory next)) f
     go later tests.May = later
     go later tests.Miss = refl
     go later tests.Below = refl

@@ -27,11 +27,13 @@ filtered_among : (test : Page → Bool) (q : Page) (xs : List Page) → is_among
 filtered_among test q [] h = absurd cc
 filtered_among test q (x ∷ xs) h = go (λ k. filtered_among test q xs k) (test x) refl h
   where
-    here : (is_among q (filter test xs) ≡ true → (is_among q xs ≡ true) × (test q ≡ true)) → test x ≡ true → (a : Bool) → same_page q x ≡ a → (a || is_among q (filter test xs)) ≡ true → (is_among q (x ∷ xs) ≡ true) × (test q ≡ true)
+    here : (is_among q (filter test xs) ≡ true → (is_among q xs ≡ true) × (test q ≡ true)) → test x ≡ true → (a : Bool) → same_page q x ≡ a → (a || is_among q (filter test xs)) ≡ true
+        → (is_among q (x ∷ xs) ≡ true) × (test q ≡ true)
     here later t true e k = (ap (λ (a : Bool). a || is_among q xs) e, ap test (same_page_is q x e) ∙ t)
     here later t false e k = (among_later q x xs (later k).0, (later k).1)
 
-    go : (is_among q (filter test xs) ≡ true → (is_among q xs ≡ true) × (test q ≡ true)) → (b : Bool) → test x ≡ b → is_among q (cond b (x ∷ filter test xs) (filter test xs)) ≡ true → (is_among q (x ∷ xs) ≡ true) × (test q ≡ true)
+    go : (is_among q (filter test xs) ≡ true → (is_among q xs ≡ true) × (test q ≡ true)) → (b : Bool) → test x ≡ b → is_among q (cond b (x ∷ filter test xs) (filter test xs)) ≡ true
+        → (is_among q (x ∷ xs) ≡ true) × (test q ≡ true)
     go later true t k = here later t (same_page q x) refl k
     go later false t k = (among_later q x xs (later k).0, (later k).1)
 

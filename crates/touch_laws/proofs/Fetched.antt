@@ -49,7 +49,8 @@ within_fetch (suc more) pc bytes l =
     (at_more pc (0 + length bytes) 1023 (past pc (length bytes)) (omega arith) (at_past pc 0 (length bytes) pc (at_self pc)))
     (λ byte. within_fetch more pc (bytes ++ byte ∷ []) (let n = length-append bytes (byte ∷ []) in omega arith))
   where
-    go : (found : Decoded) → decoded bytes ≡ found → IsAt pc 1023 (past pc (length bytes)) → ((byte : ℕ) → Within pc IsFetched (fetch more pc (bytes ++ byte ∷ []))) → Within pc IsFetched (on_decoded found (Reads (past pc (length bytes)) (λ byte. fetch more pc (bytes ++ byte ∷ []))))
+    go : (found : Decoded) → decoded bytes ≡ found → IsAt pc 1023 (past pc (length bytes)) → ((byte : ℕ) → Within pc IsFetched (fetch more pc (bytes ++ byte ∷ [])))
+        → Within pc IsFetched (on_decoded found (Reads (past pc (length bytes)) (λ byte. fetch more pc (bytes ++ byte ∷ []))))
     go (decodings.Is instr) e here later = record { bytes = bytes; is = e }
     go decodings.Reserved e here later = tt
     go decodings.NeedMore e here later = (here, later)
@@ -110,7 +111,8 @@ operand_covered memory base slot regs (operands.AutoIncDef reg) l = through_cove
 operand_covered memory base slot regs (operands.Absolute address) l = through_covered memory base slot regs (bases.Absolute address) l
 operand_covered memory base slot regs (operands.Disp reg by deferred) l = through_covered memory base slot regs (bases.Disp reg by deferred) l
 operand_covered memory base slot regs (operands.Indexed index b) l =
-    covered_bind memory base 1 1 (address_of regs slot.size b) _ (address_covered memory base regs slot.size b) (λ found e. evaluated_covered memory base slot found.0 (past found.1 (slot.size * register found.0 index)) l)
+    covered_bind memory base 1 1 (address_of regs slot.size b) _ (address_covered memory base regs slot.size b)
+    (λ found e. evaluated_covered memory base slot found.0 (past found.1 (slot.size * register found.0 index)) l)
 operand_covered memory base slot regs _ l = covered_gives memory base 2 _
 
 literal_covered : (memory : Answers) (base : ℕ) (slot : Slot) (regs : Regs) (operand : Operand) → operand ≡ operands.Literal 0

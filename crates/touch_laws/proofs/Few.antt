@@ -56,7 +56,8 @@ step_few images F p s = go (instruction_in s p.regs) refl
     no_call : AreFew (accesses (answers_of s) (instruction p.regs) ++ [])
     no_call = alone (answers_of s) (register p.regs 15) (instruction p.regs) (instruction_covered (answers_of s) p.regs)
 
-    calls : (effect : Effect) (number : ℤ) (call : Option SystemCall) → run (answers_of s) (instruction p.regs) ≡ Ok effect → effect.call ≡ Some number → AreFew (accesses (answers_of s) (instruction p.regs) ++ call_accesses images F p s effect call)
+    calls : (effect : Effect) (number : ℤ) (call : Option SystemCall) → run (answers_of s) (instruction p.regs) ≡ Ok effect → effect.call ≡ Some number
+        → AreFew (accesses (answers_of s) (instruction p.regs) ++ call_accesses images F p s effect call)
     calls effect number None e c = no_call
     calls effect number (Some call) e c =
         both (answers_of s) (answers_of (puts s effect.writes)) (register p.regs 15) (instruction p.regs)
@@ -64,7 +65,8 @@ step_few images F p s = go (instruction_in s p.regs) refl
         (call_instruction_covered (answers_of s) p.regs effect number e c)
         (reply_covered (answers_of (puts s effect.writes)) (register p.regs 15) images (apply_writes F p.pid effect.writes) (written_process p s effect.writes) (puts s effect.writes) call effect.regs)
 
-    by : (effect : Effect) (o : Option ℤ) → run (answers_of s) (instruction p.regs) ≡ Ok effect → effect.call ≡ o → AreFew (accesses (answers_of s) (instruction p.regs) ++ accesses_behind images F p s effect o)
+    by : (effect : Effect) (o : Option ℤ) → run (answers_of s) (instruction p.regs) ≡ Ok effect → effect.call ≡ o
+        → AreFew (accesses (answers_of s) (instruction p.regs) ++ accesses_behind images F p s effect o)
     by effect None e c = no_call
     by effect (Some number) e c = calls effect number (call_of number) e c
 

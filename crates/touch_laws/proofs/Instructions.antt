@@ -23,7 +23,8 @@ use Rattle.touch_laws.proofs.Computing.{computation_modest}
 tested_covered : (memory : Answers) (base start : ℕ) (effect : Effect) → AreWrittenAt start effect.writes → Covered memory base 1 (tested_effect effect)
 unfolding tested_effect
 tested_covered memory base start effect h =
-    covered_bind memory base 1 0 (write_tests effect.writes) _ (within_one memory base start (λ _. Unit {0}) (write_tests effect.writes) (within_tests start effect.writes h)) (λ _ e. covered_gives memory base 0 effect)
+    covered_bind memory base 1 0 (write_tests effect.writes) _ (within_one memory base start (λ _. Unit {0}) (write_tests effect.writes) (within_tests start effect.writes h))
+    (λ _ e. covered_gives memory base 0 effect)
 
 -- what an instruction other than a call computes, and the tests of its bytes
 modest_covered : (memory : Answers) (base : ℕ) (name : Name) (regs : Regs) (a b c : Evaluated) → is_chmk name ≡ false
@@ -115,7 +116,8 @@ unfolding instruction
 call_instruction_covered memory regs effect number h calls =
     let parts = ok_of_bind memory (fetch 20 (register regs 15) []) (λ instr. execution_by (row_for instr.op) regs instr) effect h in
     let within = within_fetch 20 (register regs 15) [] (omega arith) in
-    let fetched : IsFetched parts.0 = yields_ok memory IsFetched (fetch 20 (register regs 15) []) parts.0 (within_yields (register regs 15) IsFetched (fetch 20 (register regs 15) []) within) parts.1 in
+    let fetched : IsFetched parts.0 =
+    yields_ok memory IsFetched (fetch 20 (register regs 15) []) parts.0 (within_yields (register regs 15) IsFetched (fetch 20 (register regs 15) []) within) parts.1 in
     covered_along memory (register regs 15) 0 2 (fetch 20 (register regs 15) []) _ parts.0 parts.1
     (within_base memory (register regs 15) IsFetched (fetch 20 (register regs 15) []) within)
     (call_by memory (register regs 15) (row_for parts.0.op) regs parts.0 effect number fetched refl parts.2 calls)

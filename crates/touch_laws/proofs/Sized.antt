@@ -121,7 +121,8 @@ entered_sized : (images : List NamedImage) (F : FlatState) (p : Process) (s : Sp
 entered_sized images F p s number None top w e h k = h
 entered_sized images F p s number (Some named) top w e h k =
     let loaded : ImageWhole named → IsSized (record { sid = F.next_sid; image = number; text_bytes = named.image.text; data_bytes = named.image.data; stack_bytes = top }) = λ fits.
-    let a = fits.text in let b = fits.text_fits in let c = fits.data in let d = fits.data_fits in record { text = omega arith; text_fits = omega arith; «data» = omega arith; data_fits = omega arith } in
+    let a =
+    fits.text in let b = fits.text_fits in let c = fits.data in let d = fits.data_fits in record { text = omega arith; text_fits = omega arith; «data» = omega arith; data_fits = omega arith } in
     sized_returned p.pid s _ (sized_replaced F.processes _ h (loaded (w number named e))) k
 
 changed_sized : (images : List NamedImage) (F : FlatState) (p : Process) (s : Space) (change : Change) → ImagesWhole images → MayResize change
@@ -203,9 +204,11 @@ all_resize : (images : List NamedImage) (F : FlatState) (p : Process) (s : Space
 unfolding reply_of exit_reply write_reply break_reply execve_reply
 all_resize images F p s calls.Exit regs = yields_bind (λ _. Unit {0}) ReplyResizes (argument regs 1) _ (yields_any (argument regs 1)) (λ code _. tt)
 all_resize images F p s calls.Fork regs = (child_resizes (nat_lt (length F.processes) process_limit) regs F.next_pid).0
-all_resize images F p s calls.Write regs = yields_bind (λ _. Unit {0}) ReplyResizes (three_arguments regs) _ (yields_any (three_arguments regs)) (λ asked _. written_resizes (asked.0 == 1 || asked.0 == 2) asked.1 asked.2)
+all_resize images F p s calls.Write regs =
+    yields_bind (λ _. Unit {0}) ReplyResizes (three_arguments regs) _ (yields_any (three_arguments regs)) (λ asked _. written_resizes (asked.0 == 1 || asked.0 == 2) asked.1 asked.2)
 all_resize images F p s calls.Break regs =
-    yields_bind (λ _. Unit {0}) ReplyResizes (argument regs 1) _ (yields_any (argument regs 1)) (λ address _. break_resizes (nat_le (pages_up_to s address) data_limit) regs (pages_up_to s address) (stack_pages_of s) refl)
+    yields_bind (λ _. Unit {0}) ReplyResizes (argument regs 1) _ (yields_any (argument regs 1))
+    (λ address _. break_resizes (nat_le (pages_up_to s address) data_limit) regs (pages_up_to s address) (stack_pages_of s) refl)
 all_resize images F p s calls.Getpid regs = tt
 all_resize images F p s calls.Execve regs =
     yields_bind (λ _. Unit {0}) ReplyResizes (three_arguments regs) _ (yields_any (three_arguments regs)) (λ asked _.
@@ -342,7 +345,8 @@ unfolding flat_units
 units_sized A [] point q w h k = where_sized true point q h k
 units_sized A (u ∷ us) point q w h k = go (λ next l m. units_sized A us next q w l m) (flat_entry A point u) refl h
   where
-    go : ((next : Point) → flat_units A (Some next) us ≡ Some q → AllSized next.flat.processes → AllSized q.flat.processes) → (o : Option Point) → flat_entry A point u ≡ o → flat_units A o us ≡ Some q → AllSized q.flat.processes
+    go : ((next : Point) → flat_units A (Some next) us ≡ Some q → AllSized next.flat.processes → AllSized q.flat.processes) → (o : Option Point) → flat_entry A point u ≡ o → flat_units A o us ≡ Some q
+        → AllSized q.flat.processes
     go later None e l = absurd cc
     go later (Some next) e l = later next l (entry_sized A point next u w e k)
 

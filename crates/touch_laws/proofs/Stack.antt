@@ -65,8 +65,10 @@ within_linkage : (start most : ℕ) (regs : Regs) → IsAt start most (sp regs) 
     → Within start (λ (r : Regs). IsAt start (most + 4 + 4 + 4) (sp r)) (linkage regs)
 unfolding linkage
 within_linkage start most regs h l =
-    within_bind start (λ (r : Regs). IsAt start (most + 4) (sp r)) (λ (r : Regs). IsAt start (most + 4 + 4 + 4) (sp r)) (pop_into regs 12) _ (within_pop_into start most regs 12 (λ e. absurd (omega (arith, e))) h (omega arith)) (λ r k.
-    within_bind start (λ (r : Regs). IsAt start (most + 4 + 4) (sp r)) (λ (r : Regs). IsAt start (most + 4 + 4 + 4) (sp r)) (pop_into r 13) _ (within_pop_into start (most + 4) r 13 (λ e. absurd (omega (arith, e))) k (omega arith)) (λ q m.
+    within_bind start (λ (r : Regs). IsAt start (most + 4) (sp r)) (λ (r : Regs). IsAt start (most + 4 + 4 + 4) (sp r)) (pop_into regs 12) _
+    (within_pop_into start most regs 12 (λ e. absurd (omega (arith, e))) h (omega arith)) (λ r k.
+    within_bind start (λ (r : Regs). IsAt start (most + 4 + 4) (sp r)) (λ (r : Regs). IsAt start (most + 4 + 4 + 4) (sp r)) (pop_into r 13) _
+    (within_pop_into start (most + 4) r 13 (λ e. absurd (omega (arith, e))) k (omega arith)) (λ q m.
     within_pop_into start (most + 4 + 4) q 15 (λ e. absurd (omega (arith, e))) m (omega arith)))
 
 dropped_covered : (memory : Answers) (base : ℕ) (counted : Bool) (regs : Regs) → Covered memory base 1 (arguments_dropped counted regs)
@@ -91,7 +93,8 @@ registers_covered memory base regs =
     (covered_behind memory (sp popping) 1 (λ (r : Regs × ℕ). IsAt (sp popping) 4 (sp r.0)) (pop popping) _ (within_pop (sp popping) 0 popping (at_self (sp popping)) (omega arith)) (λ state k.
     go (sp popping) state.0 state.1 k (state.1 / 2 ^ 4 % 2 ^ 12 == 0)))
   where
-    go : (start : ℕ) (after : Regs) (state : ℕ) → IsAt start 4 (sp after) → (b : Bool) → Covered memory start 1 (cond b (unwound state after >>= λ last. Gives (with_state_codes last state)) (Refuses 4))
+    go : (start : ℕ) (after : Regs) (state : ℕ) → IsAt start 4 (sp after) → (b : Bool)
+        → Covered memory start 1 (cond b (unwound state after >>= λ last. Gives (with_state_codes last state)) (Refuses 4))
     go start after state k true = covered_bind memory start 1 0 (unwound state after) _ (unwound_covered memory start state after k) (λ last e. covered_gives memory start 0 _)
     go start after state k false = covered_refuses memory start 1 4
 
@@ -102,7 +105,8 @@ return_covered memory base regs = covered_bind memory base 2 0 (registers_return
 pub subroutine_covered : (memory : Answers) (base : ℕ) (regs : Regs) → Covered memory base 1 (subroutine_return regs)
 unfolding subroutine_return
 subroutine_covered memory base regs =
-    covered_bind memory base 1 0 (pop_into regs 15) _ (within_one memory base (sp regs) _ (pop_into regs 15) (within_pop_into (sp regs) 0 regs 15 (λ e. absurd (omega (arith, e))) (at_self (sp regs)) (omega arith))) (λ last e. covered_gives memory base 0 _)
+    covered_bind memory base 1 0 (pop_into regs 15) _ (within_one memory base (sp regs) _ (pop_into regs 15)
+    (within_pop_into (sp regs) 0 regs 15 (λ e. absurd (omega (arith, e))) (at_self (sp regs)) (omega arith))) (λ last e. covered_gives memory base 0 _)
 
 -- Writes.
 
@@ -138,7 +142,8 @@ unfolding push_onto
 push_near start least effect value h = record {
   written = written_append start effect.writes (bytes_at 4 (back (sp effect.regs) 4) value) h.written
       (bytes_written 4 start 1019 (back (sp effect.regs) 4) value (at_pushed start least (sp effect.regs) h.room) (omega arith));
-  room = sp_put (λ (x : ℕ). IsFrom start least x) effect.regs (back (sp effect.regs) 4) (from_pushed start least (sp effect.regs) h.room) (from_less start (least + 4) least (sp effect.regs) (omega arith) h.room);
+  room = sp_put (λ (x : ℕ). IsFrom start least x) effect.regs (back (sp effect.regs) 4) (from_pushed start least (sp effect.regs) h.room)
+      (from_less start (least + 4) least (sp effect.regs) (omega arith) h.room);
 }
 
 pushes_near : (values : List ℕ) (start : ℕ) (effect : Effect) → MayPush start (4 * length values) effect → AreWrittenAt start (push_all effect values).writes
@@ -171,7 +176,8 @@ frame_near start least before counted mask l h =
     (record {
       written = h.written;
       room = sp_put (λ (x : ℕ). IsFrom start (4 * length (frame before.regs counted mask)) x) before.regs (sp before.regs / 4 * 4)
-          (from_aligned start (4 * length (frame before.regs counted mask)) (sp before.regs) (from_less start least (4 * length (frame before.regs counted mask) + 3) (sp before.regs) (omega arith) h.room))
+          (from_aligned start (4 * length (frame before.regs counted mask)) (sp before.regs)
+          (from_less start least (4 * length (frame before.regs counted mask) + 3) (sp before.regs) (omega arith) h.room))
           (from_less start least (4 * length (frame before.regs counted mask)) (sp before.regs) (omega arith) h.room);
     })
 

@@ -19,7 +19,8 @@ use Rattle.proc_calls.specs.Reading.{refusal_of}
 use Rattle.touched_pages.specs.Missed.{missed_byte, missed_by_call, missed_behind_by, missed_behind, first_missed}
 use Rattle.touched_pages.proofs.Names.{missed_refusal}
 
-pub one_call : (known : List NamedImage) (F : FlatState) (p : Process) (s : Space) (memory : Answers) (regs : Regs) (call : SystemCall) (asked : Result (Unit {0}) Refused) (byte : Option ℕ)
+pub one_call : (known : List NamedImage) (F : FlatState) (p : Process) (s : Space) (memory : Answers) (regs : Regs) (call : SystemCall)
+    (asked : Result (Unit {0}) Refused) (byte : Option ℕ)
     → asked ≡ refusal_of (run memory (reply_of known F p s call regs)) → byte ≡ missed_byte asked → byte ≡ missed_by_call known F p s memory regs (Some call)
 one_call known F p s memory regs call asked byte read is = is ∙ ap missed_byte read ∙ missed_refusal (run memory (reply_of known F p s call regs))
 

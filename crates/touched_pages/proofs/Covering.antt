@@ -48,7 +48,8 @@ covers_self memory = record { reads = λ a. inr refl; tests = λ a. inr refl }
 pub still_quiet : (k : Kernel) (sid : ℕ) (pages : List Page) (regs : Regs) → writes_of (run (kernel_answers k sid) (instruction regs)) ≡ []
     → writes_of (run (shown_in k sid pages) (instruction regs)) ≡ []
 still_quiet k sid pages regs h =
-    elim (same_or_misses (shown_in k sid pages) (kernel_answers k sid) (instruction regs) (only_covers k.place sid pages (kernel_answers k sid) (kernel_answers k sid) (covers_self (kernel_answers k sid)))) [
+    elim (same_or_misses (shown_in k sid pages) (kernel_answers k sid) (instruction regs)
+    (only_covers k.place sid pages (kernel_answers k sid) (kernel_answers k sid) (covers_self (kernel_answers k sid)))) [
       | inl e ↦ ap writes_of e.0 ∙ h
       | inr m ↦ ap writes_of m.2
     ]

@@ -90,7 +90,8 @@ left_behind : (pages front back : List Page) → AllAmong pages front → filter
 unfolding distinct
 left_behind pages [] back h = refl
 left_behind pages (p ∷ front) back h =
-    ap (λ (b : Bool). cond (not b) (p ∷ filter (left pages) (filter (λ q. not (same_page p q)) (distinct (front ++ back)))) (filter (left pages) (filter (λ q. not (same_page p q)) (distinct (front ++ back))))) h.0
+    ap (λ (b : Bool). cond (not b) (p ∷ filter (left pages) (filter (λ q. not (same_page p q)) (distinct (front ++ back))))
+    (filter (left pages) (filter (λ q. not (same_page p q)) (distinct (front ++ back))))) h.0
     ∙ filter_both (left pages) (λ q. not (same_page p q)) (left pages) (λ q. left_other pages p q h.0) (distinct (front ++ back))
     ∙ left_behind pages front back h.1
 

@@ -147,7 +147,8 @@ beyond k x e ps (ReadOf b) address write v h = go (is_shown ps (page_in k.place 
     same reads.Below m = absurd cc
     same reads.Outside m = absurd cc
 
-    go : (s : Bool) → is_shown ps (page_in k.place x.sid b) ≡ s → read_refusal (read_where s (read_spot k x.sid (spot_in k.place x.sid b))) b ≡ Some (Miss address write) → Beyond k x ps (ReadOf b) address
+    go : (s : Bool) → is_shown ps (page_in k.place x.sid b) ≡ s → read_refusal (read_where s (read_spot k x.sid (spot_in k.place x.sid b))) b ≡ Some (Miss address write)
+        → Beyond k x ps (ReadOf b) address
     go true f m =
         absurd (shown_valid k x ps (page_read x (address_in x b)) (address_in x b) v (ap (λ (z : Spot). is_shown ps (page_at_spot k.place x.sid z)) (sym (e.spots b)) ∙ f)
         (read_missing k x e.image (address_in x b) b address write (subst (λ (z : Spot). read_refusal (read_spot k x.sid z) b ≡ Some (Miss address write)) (e.spots b) m)))
@@ -198,7 +199,8 @@ pub record NextAt (k : Kernel) (x : Space) (ps : List Page) (list : List Access)
 
 next_at : (k : Kernel) (x : Space) (e : SameSpots k x) (ps : List Page) (list front rest : List Access) (last : Access) (address : ℕ) (write : Bool)
     → AllValid k.place ps
-    → list ≡ front ++ last ∷ rest → AllHit (shown_in k x.sid ps) front → refusal (shown_in k x.sid ps) last ≡ Some (Miss address write) → NextAt k x ps list address
+    → list ≡ front ++ last ∷ rest → AllHit (shown_in k x.sid ps) front → refusal (shown_in k x.sid ps) last ≡ Some (Miss address write)
+    → NextAt k x ps list address
 next_at k x e ps list front rest last address write v whole hits miss =
     let b : Beyond k x ps last address = beyond k x e ps last address write v miss in
     record {
@@ -226,7 +228,8 @@ hit_both memory [] ys h k = k
 hit_both memory (x ∷ xs) ys h k = (h.0, hit_both memory xs ys h.1 k)
 
 -- a computation that misses, after accesses that don't, and before others
-pub program_misses : {B : Type 0} (k : Kernel) (x : Space) (e : SameSpots k x) (ps : List Page) (q : Program B) (before after : List Access) (address : ℕ) (write : Bool)
+pub program_misses : {B : Type 0} (k : Kernel) (x : Space) (e : SameSpots k x) (ps : List Page) (q : Program B) (before after : List Access)
+    (address : ℕ) (write : Bool)
     → AllValid k.place ps
     → Covers (shown_in k x.sid ps) (answers_of x) → AllHit (shown_in k x.sid ps) before → run (shown_in k x.sid ps) q ≡ Err (Miss address write)
     → NextAt k x ps (before ++ (accesses (answers_of x) q ++ after)) address

@@ -171,7 +171,8 @@ module _ (A : Inputs) (s : State) (now : Bool) (m : Standing) (pid : ℕ) (regs 
   pub more_so_far : (ps : List Page) (q : Page) → AreSoFar ps → Some q ≡ valid_only k.place (beyond_so_far ps) → AreSoFar (ps ++ q ∷ [])
   more_so_far ps q h e = go (beyond_so_far ps) (beyond ps h) e
     where
-      taken : (o : Page) → ((rest : List Page) × (distinct all_pages ≡ ps ++ o ∷ rest)) × AreFirst (ps ++ o ∷ []) all_pages → (b : Bool) → is_valid (state_of k.place o) ≡ b → Some q ≡ valid_by b o → AreSoFar (ps ++ q ∷ [])
+      taken : (o : Page) → ((rest : List Page) × (distinct all_pages ≡ ps ++ o ∷ rest)) × AreFirst (ps ++ o ∷ []) all_pages → (b : Bool) → is_valid (state_of k.place o) ≡ b → Some q ≡ valid_by b o
+          → AreSoFar (ps ++ q ∷ [])
       taken o w true v z =
           let same : o ≡ q = cc in
           subst (λ (y : Page). AreSoFar (ps ++ y ∷ [])) same (record { valid = more_valid ps o h.valid v; first = w.1 })
@@ -223,6 +224,8 @@ module _ (A : Inputs) (s : State) (now : Bool) (m : Standing) (pid : ℕ) (regs 
       let F : FlatState = apply_writes flat p.pid (writes ps) in
       let y : Process = written_process p x (writes ps) in
       let z : Space = puts x (writes ps) in
-      (subst (λ (i : Standing). AreNamed A.images i.images → o ≡ valid_only i.kernel.place (page_missed i.kernel pid (first_missed A.images F y z (shown_in i.kernel (space_held i.kernel pid) ps) regs))) same
-      (subst (λ (pages : List Page). AreNamed A.images n.images → o ≡ valid_only n.kernel.place (page_missed n.kernel pid (first_missed A.images F y z (shown_in n.kernel (space_held n.kernel pid) pages) regs)))
+      (subst (λ (i : Standing). AreNamed A.images i.images
+      → o ≡ valid_only i.kernel.place (page_missed i.kernel pid (first_missed A.images F y z (shown_in i.kernel (space_held i.kernel pid) ps) regs))) same
+      (subst (λ (pages : List Page). AreNamed A.images n.images
+      → o ≡ valid_only n.kernel.place (page_missed n.kernel pid (first_missed A.images F y z (shown_in n.kernel (space_held n.kernel pid) pages) regs)))
       list (h F y z))) r.named

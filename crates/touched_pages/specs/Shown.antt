@@ -30,7 +30,8 @@ abbrev pub shown_in : Kernel → ℕ → List Page → Answers
 shown_in k sid pages = only k.place sid pages (kernel_answers k sid)
 
 -- bytes of shown pages were written, and the same pages are shown
-pub record WroteShown (m : MutBor Standing) (l : Layout) (pages : List Page) (ws : List ByteWrite) (n : MutBor Standing) (k : Layout) (after : List Page) : Type 0 where
+pub record WroteShown (m : MutBor Standing) (l : Layout) (pages : List Page) (ws : List ByteWrite) (n : MutBor Standing) (k : Layout)
+    (after : List Page) : Type 0 where
   pub through : WroteThrough m l ws n k
   pub kept : after ≡ pages
   pub answers : shown_in n.now.kernel k.sid after ≡ written (shown_in m.now.kernel l.sid pages) ws

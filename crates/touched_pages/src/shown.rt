@@ -73,7 +73,8 @@ impl Memory for Shown<'_, '_> {
 
     ghost wrote_none = { λ s. shown_none s.memory.machine s.memory.layout s.pages.now };
 
-    ghost wrote_more = { λ s t u xs ys. shown_more s.memory.machine t.memory.machine u.memory.machine s.memory.layout t.memory.layout u.memory.layout s.pages.now t.pages.now u.pages.now xs ys };
+    ghost wrote_more = { λ s t u xs ys. shown_more s.memory.machine t.memory.machine u.memory.machine s.memory.layout t.memory.layout u.memory.layout
+        s.pages.now t.pages.now u.pages.now xs ys };
 
     ghost wrote_answers = { λ s t ws. shown_after s.memory.machine t.memory.machine s.memory.layout t.memory.layout s.pages.now t.pages.now ws };
 }

@@ -118,7 +118,8 @@ fn next_page(
     requires lends { CanLend m.old.kernel pid }
     requires quiet { WritesNothing m.old.kernel pid regs.now }
     ensures value { (known : List NamedImage) (F : FlatState) (p : Process) (s : Space) → AreNamed known m.old.images
-        → IfOk result (λ page. page ≡ page_missed m.old.kernel pid (first_missed known F p s (shown_in m.old.kernel (space_held m.old.kernel pid) pages.now) regs.now)) }
+        → IfOk result
+        (λ page. page ≡ page_missed m.old.kernel pid (first_missed known F p s (shown_in m.old.kernel (space_held m.old.kernel pid) pages.now) regs.now)) }
     ensures same { m.new ≡ m.old }
 {
     match first_missed(alloc, m, pid, regs, pages)? {
@@ -157,7 +158,8 @@ fn next_valid(
     requires lends { CanLend m.old.kernel pid }
     requires quiet { WritesNothing m.old.kernel pid regs.now }
     ensures value { (known : List NamedImage) (F : FlatState) (p : Process) (s : Space) → AreNamed known m.old.images
-        → IfOk result (λ page. page ≡ valid_only m.old.kernel.place (page_missed m.old.kernel pid (first_missed known F p s (shown_in m.old.kernel (space_held m.old.kernel pid) pages.now) regs.now))) }
+        → IfOk result (λ page. page ≡ valid_only m.old.kernel.place
+        (page_missed m.old.kernel pid (first_missed known F p s (shown_in m.old.kernel (space_held m.old.kernel pid) pages.now) regs.now))) }
     ensures same { m.new ≡ m.old }
 {
     let page = next_page(alloc, m, pid, regs, pages)?;

@@ -22,7 +22,8 @@ front_run A entries q k h = front_some A (units_of (take k entries)) (units_of (
     (ap (flat_units A (Some (start_point A))) (sym (units-append (take k entries) (drop k entries)) ∙ ap units_of (take-append-drop k entries)) ∙ h)
 
 front_count : (entries : List Entry) (k : ℕ) → instructions_of (take k entries) ≤ instructions_of entries
-front_count entries k = let a = count-append (take k entries) (drop k entries) in let b : instructions_of (take k entries ++ drop k entries) ≡ instructions_of entries = ap instructions_of (take-append-drop k entries) in omega arith
+front_count entries k = let a = count-append (take k entries) (drop k entries) in
+    let b : instructions_of (take k entries ++ drop k entries) ≡ instructions_of entries = ap instructions_of (take-append-drop k entries) in omega arith
 
 pub none_is_bad : (A : Inputs) (entries : List Entry) (q : Point) → flat_run A entries ≡ Some q → instructions_of entries ≤ instruction_limit
     → first_bad A entries ≡ None

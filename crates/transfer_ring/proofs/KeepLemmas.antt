@@ -236,7 +236,8 @@ pub begin_kept : (slots slots' : List (Option Transfer)) (order order' spare res
     → IsKept slots order spare → spare ≡ rest ++ slot ∷ []
     → slots' ≡ set slots slot (Some t) → order' ≡ order ++ slot ∷ [] → IsKept slots' order' rest
 begin_kept slots slots' order order' spare rest slot t flight k e now now_order =
-    subst (λ (l : List (Option Transfer)). IsKept l order' rest) (sym now) (subst (λ (l : List ℕ). IsKept (set slots slot (Some t)) l rest) (sym now_order) (kept_begin slots order rest slot t flight (subst (λ (l : List ℕ). IsKept slots order l) e k)))
+    subst (λ (l : List (Option Transfer)). IsKept l order' rest) (sym now)
+    (subst (λ (l : List ℕ). IsKept (set slots slot (Some t)) l rest) (sym now_order) (kept_begin slots order rest slot t flight (subst (λ (l : List ℕ). IsKept slots order l) e k)))
 
 pub begin_view : (slots slots' : List (Option Transfer)) (order order' spare rest : List ℕ) (slot : ℕ) (t : Transfer) → IsKept slots order spare
     → spare ≡ rest ++ slot ∷ []
@@ -254,7 +255,8 @@ pub abandon_kept : (slots slots' : List (Option Transfer)) (order order' spare s
     → order ≡ slot ∷ order' → slots' ≡ set slots slot None
     → spare' ≡ spare ++ slot ∷ [] → IsKept slots' order' spare'
 abandon_kept slots slots' order order' spare spare' slot k e now now_spare =
-    subst (λ (l : List (Option Transfer)). IsKept l order' spare') (sym now) (subst (λ (l : List ℕ). IsKept (set slots slot None) order' l) (sym now_spare) (kept_abandon slots order' spare slot (subst (λ (l : List ℕ). IsKept slots l spare) e k)))
+    subst (λ (l : List (Option Transfer)). IsKept l order' spare') (sym now)
+    (subst (λ (l : List ℕ). IsKept (set slots slot None) order' l) (sym now_spare) (kept_abandon slots order' spare slot (subst (λ (l : List ℕ). IsKept slots l spare) e k)))
 
 pub abandon_view : (slots slots' : List (Option Transfer)) (order order' spare : List ℕ) (slot : ℕ) (t : Transfer) → IsKept slots order spare
     → order ≡ slot ∷ order' → slots' ≡ set slots slot None

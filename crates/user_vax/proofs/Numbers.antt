@@ -13,7 +13,10 @@ pub past-past : (address more : ℕ) → past (past address more) 1 ≡ past add
 past-past address more = grind arith
 
 pub bytes_at-four : (size address value : ℕ) (bytes : List ℕ) → size ≡ 4 → bytes ≡ little_bytes 4 value ++ []
-    → (record { address = address; byte = get_or bytes 0 0 } ∷ record { address = past address 1; byte = get_or bytes 1 0 } ∷ record { address = past address 2; byte = get_or bytes 2 0 } ∷ record { address = past address 3; byte = get_or bytes 3 0 } ∷ []) ≡ bytes_at size address value
+    → (record { address = address; byte = get_or bytes 0 0 } ∷ record { address = past address 1; byte = get_or bytes 1 0 } ∷ record {
+      address = past address 2;
+      byte = get_or bytes 2 0;
+    } ∷ record { address = past address 3; byte = get_or bytes 3 0 } ∷ []) ≡ bytes_at size address value
 unfolding bytes_at
 bytes_at-four size address value bytes four is =
     let third : value / 256 / 256 % 256 ≡ get_or (little_bytes 4 value) 2 0 = grind arith in

@@ -31,14 +31,16 @@ ends : {A : Type 0} (memory : Answers) (p : Program A) → Ends memory (accesses
 ends memory (Gives x) = inl (tt, tt)
 ends memory (Refuses signal) = inl (tt, tt)
 ends memory (Reads address next) =
-    (elim (memory.read address) as (λ answer. memory.read address ≡ answer → Ends memory (ReadOf address ∷ rest_of_read answer (λ byte. accesses memory (next byte))) (after_read answer address (λ byte. run memory (next byte)))) [
+    (elim (memory.read address) as (λ answer. memory.read address ≡ answer
+    → Ends memory (ReadOf address ∷ rest_of_read answer (λ byte. accesses memory (next byte))) (after_read answer address (λ byte. run memory (next byte)))) [
       | bytes.Is byte ↦ λ e. after_one memory (ReadOf address) (accesses memory (next byte)) (run memory (next byte)) (ap (λ answer. read_refusal answer address) e) (ends memory (next byte))
       | bytes.Miss ↦ λ e. inr (Miss address false, refl, ([], ReadOf address, refl, tt, ap (λ answer. read_refusal answer address) e))
       | bytes.Below ↦ λ e. inr (Below address, refl, ([], ReadOf address, refl, tt, ap (λ answer. read_refusal answer address) e))
       | bytes.Outside ↦ λ e. inr (Signal sigsegv, refl, ([], ReadOf address, refl, tt, ap (λ answer. read_refusal answer address) e))
     ]) refl
 ends memory (Tests address next) =
-    (elim (memory.may_write address) as (λ answer. memory.may_write address ≡ answer → Ends memory (TestOf address ∷ rest_of_test answer (accesses memory next)) (after_test answer address (run memory next))) [
+    (elim (memory.may_write address) as (λ answer. memory.may_write address ≡ answer
+    → Ends memory (TestOf address ∷ rest_of_test answer (accesses memory next)) (after_test answer address (run memory next))) [
       | tests.May ↦ λ e. after_one memory (TestOf address) (accesses memory next) (run memory next) (ap (λ answer. test_refusal answer address) e) (ends memory next)
       | tests.Miss ↦ λ e. inr (Miss address true, refl, ([], TestOf address, refl, tt, ap (λ answer. test_refusal answer address) e))
       | tests.Below ↦ λ e. inr (Below address, refl, ([], TestOf address, refl, tt, ap (λ answer. test_refusal answer address) e))

@@ -18,7 +18,8 @@ all_bytes_more writes count write within =
 pub sizes_more : (writes : List Write) (count : ℕ) (write : Write) → count < length writes → All (λ w. IsSize w.size) (take count writes)
     → IsSize write.size → All (λ w. IsSize w.size) (take (count + 1) (set writes count write))
 sizes_more writes count write within sizes size =
-    subst (λ (ws : List Write). All (λ w. IsSize w.size) ws) (sym (take_more_set writes count write within)) (All-append (λ w. IsSize w.size) (take count writes) (write ∷ []) sizes (All-from_recursion (λ w. IsSize w.size) (write ∷ []) (size, tt)))
+    subst (λ (ws : List Write). All (λ w. IsSize w.size) ws) (sym (take_more_set writes count write within))
+    (All-append (λ w. IsSize w.size) (take count writes) (write ∷ []) sizes (All-from_recursion (λ w. IsSize w.size) (write ∷ []) (size, tt)))
 
 -- the first number
 pub first_bytes : (writes : List Write) (write : Write) → 0 < length writes → all_bytes (take 1 (set writes 0 write)) ≡ bytes_of write

@@ -8,7 +8,8 @@ use Rattle.user_vax.specs.Frames.{restored, bit}
 use Rattle.user_vax.proofs.Runs.{then, run_bind}
 
 pub restored_more : (memory : Answers) (reg mask : ℕ) (regs : Regs) → reg < 12
-    → run memory (restored (12 - reg) mask regs) ≡ then (run memory (cond (bit mask reg) (pop_into regs reg) (Gives regs))) (λ after. run memory (restored (12 - (reg + 1)) mask after))
+    → run memory (restored (12 - reg) mask regs)
+    ≡ then (run memory (cond (bit mask reg) (pop_into regs reg) (Gives regs))) (λ after. run memory (restored (12 - (reg + 1)) mask after))
 unfolding restored
 restored_more memory reg mask regs below =
     let left : 12 - reg ≡ suc (11 - reg) = omega arith in

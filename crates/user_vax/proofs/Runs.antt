@@ -15,7 +15,8 @@ pub run_bind : {A B : Type 0} (memory : Answers) (p : Program A) (f : A → Prog
 run_bind memory (Gives x) f = refl
 run_bind memory (Refuses signal) f = refl
 run_bind memory (Reads address next) f =
-    elim (memory.read address) as (λ answer. after_read answer address (λ byte. run memory (next byte >>= f)) ≡ then (after_read answer address (λ byte. run memory (next byte))) (λ x. run memory (f x))) [
+    elim (memory.read address) as (λ answer. after_read answer address (λ byte. run memory (next byte >>= f))
+    ≡ then (after_read answer address (λ byte. run memory (next byte))) (λ x. run memory (f x))) [
       | bytes.Is byte ↦ run_bind memory (next byte) f
       | bytes.Miss ↦ refl
       | bytes.Below ↦ refl

@@ -3,7 +3,8 @@ use Rattle.std.proofs.Common.{◌≡◌, ℕ, suc, ◌+◌, ◌-◌, ◌<◌, Li
 use Rattle.user_vax.specs.Frames.{saved, bit}
 
 pub saved_more : (done : ℕ) (registers : List ℕ) (mask : ℕ) → done < 12
-    → saved (12 - done) registers mask ≡ cond (bit mask (11 - done)) (get_or registers (11 - done) 0 ∷ saved (12 - (done + 1)) registers mask) (saved (12 - (done + 1)) registers mask)
+    → saved (12 - done) registers mask
+    ≡ cond (bit mask (11 - done)) (get_or registers (11 - done) 0 ∷ saved (12 - (done + 1)) registers mask) (saved (12 - (done + 1)) registers mask)
 unfolding saved
 saved_more done registers mask below =
     let left : 12 - done ≡ suc (11 - done) = omega arith in

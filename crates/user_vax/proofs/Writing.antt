@@ -29,7 +29,8 @@ run-write_tests-append memory xs ys =
     ap (λ (p : Program (Unit {0})). run memory p) (write_tests-append xs ys) ∙ run_bind memory (write_tests xs) (λ _. write_tests ys)
 
 pub tests_more : (memory : Answers) (writes : List Write) (i : ℕ) → i < length writes
-    → run memory (write_tests (all_bytes (drop i writes))) ≡ then (run memory (write_tests (bytes_of (get_or writes i no_write)))) (λ _. run memory (write_tests (all_bytes (drop (i + 1) writes))))
+    → run memory (write_tests (all_bytes (drop i writes)))
+    ≡ then (run memory (write_tests (bytes_of (get_or writes i no_write)))) (λ _. run memory (write_tests (all_bytes (drop (i + 1) writes))))
 tests_more memory writes i within =
     at_drop_more (λ rest. run memory (write_tests (all_bytes rest))) writes i no_write within
     ∙ run-write_tests-append memory (bytes_of (get_or writes i no_write)) (all_bytes (drop (i + 1) writes))
@@ -71,7 +72,8 @@ each_ready : (memory : Answers) (writes : List Write) → AllByRecursion (λ wri
 unfolding write_tests
 each_ready memory [] sizes h = tt
 each_ready memory (write ∷ writes) sizes h =
-    let parts = then_ok (run memory (write_tests (bytes_of write))) (λ _. run memory (write_tests (all_bytes writes))) tt (sym (run-write_tests-append memory (bytes_of write) (all_bytes writes)) ∙ h) in
+    let parts =
+    then_ok (run memory (write_tests (bytes_of write))) (λ _. run memory (write_tests (all_bytes writes))) tt (sym (run-write_tests-append memory (bytes_of write) (all_bytes writes)) ∙ h) in
     (record { size = sizes.0; may = tested_may memory (bytes_of write) parts.1 }, each_ready memory writes sizes.1 parts.2)
 
 -- numbers that were tested may be written

@@ -61,7 +61,8 @@ chain a b (Some x) f e g = or_none_is a b ∙ ap (λ (t : Bool). t && is_none b)
 -- ---- operands
 
 address_agrees : (size : ℕ) (label : Label) (o : Option Definition)
-    → is_none (address_reason size label o) ≡ is_some ((o >>= λ definition. Some (record { negative = false; magnitude = definition.address })) >>= value_bits size)
+    → is_none (address_reason size label o)
+    ≡ is_some ((o >>= λ definition. Some (record { negative = false; magnitude = definition.address })) >>= value_bits size)
 address_agrees size label None = refl
 address_agrees size label (Some definition) = unless_is (is_some (value_bits size (record { negative = false; magnitude = definition.address }))) reasons.ValueOutOfRange
 
@@ -77,7 +78,8 @@ displaced_agrees : (size reg : ℕ) (by : Number) (deferred : Bool)
     → is_none (unless (is_some (displacement_bits size by)) reasons.ValueOutOfRange) ≡ is_some (displaced_bytes size reg by deferred)
 unfolding displaced_bytes
 displaced_agrees size reg by deferred =
-    unless_is (is_some (displacement_bits size by)) reasons.ValueOutOfRange ∙ sym (bind_some_is (displacement_bits size by) (λ bits. with_number (specifier (displacement_mode size deferred) reg) size bits))
+    unless_is (is_some (displacement_bits size by)) reasons.ValueOutOfRange
+    ∙ sym (bind_some_is (displacement_bits size by) (λ bits. with_number (specifier (displacement_mode size deferred) reg) size bits))
 
 place_agrees : (labels : List Definition) (place : Place) → is_none (place_reason labels place) ≡ is_some (place_bytes labels place)
 unfolding place_reason place_bytes
@@ -87,7 +89,8 @@ place_agrees labels (places.AutoInc reg) = register_agrees 8 reg
 place_agrees labels (places.AutoIncDef reg) = register_agrees 9 reg
 place_agrees labels (places.Absolute address) = value_agrees labels 4 address ∙ sym (bind_some_is (bits_of_value labels 4 address) (λ bits. with_number 159 4 bits))
 place_agrees labels (places.Disp size reg by deferred) =
-    choice (nat_lt reg 16) (unless (is_some (displacement_bits size by)) reasons.ValueOutOfRange) (Some reasons.OperandRefused) (displaced_bytes size reg by deferred) None (displaced_agrees size reg by deferred) refl
+    choice (nat_lt reg 16) (unless (is_some (displacement_bits size by)) reasons.ValueOutOfRange) (Some reasons.OperandRefused) (displaced_bytes size reg by deferred) None
+    (displaced_agrees size reg by deferred) refl
 
 indexed_agrees : (labels : List Definition) (index : ℕ) (base : Place) → is_none (indexed_reason labels index base) ≡ is_some (indexed_bytes labels index base)
 unfolding indexed_reason indexed_bytes
@@ -136,7 +139,8 @@ specifier_agrees : (labels : List Definition) (slot : Slot) (written : Written)
 unfolding specifier_reason specifier_bytes
 specifier_agrees labels slot writtens.Absent = refl
 specifier_agrees labels slot (writtens.Literal number) =
-    choice (is_read slot.access) (unless (is_some (literal_bytes number)) reasons.ValueOutOfRange) (Some reasons.OperandRefused) (literal_bytes number) None (unless_is (is_some (literal_bytes number)) reasons.ValueOutOfRange) refl
+    choice (is_read slot.access) (unless (is_some (literal_bytes number)) reasons.ValueOutOfRange) (Some reasons.OperandRefused) (literal_bytes number) None
+    (unless_is (is_some (literal_bytes number)) reasons.ValueOutOfRange) refl
 specifier_agrees labels slot (writtens.Register reg) =
     choice (is_address slot.access) (Some reasons.OperandRefused) (register_reason reg) None (plain_specifier 5 reg) refl (register_agrees 5 reg)
 specifier_agrees labels slot (writtens.Immediate value) =
@@ -172,7 +176,8 @@ operand_agrees labels from row place written =
 -- ---- statements
 
 third_agrees : (labels : List Definition) (at size next : ℕ) (s : Sentence) (a b : List ℕ) → length a ≡ size → length b ≡ next
-    → is_none (operand_reason labels (at + 1 + size + next) s.row 2 s.c) ≡ is_some (operand_bytes labels (at + 1 + length a + length b) s.row 2 s.c >>= λ c. Some (s.row.op ∷ (a ++ (b ++ c))))
+    → is_none (operand_reason labels (at + 1 + size + next) s.row 2 s.c)
+    ≡ is_some (operand_bytes labels (at + 1 + length a + length b) s.row 2 s.c >>= λ c. Some (s.row.op ∷ (a ++ (b ++ c))))
 third_agrees labels at size next s a b e f =
     ap (λ (n : ℕ). is_none (operand_reason labels (at + 1 + n + next) s.row 2 s.c)) (sym e) ∙
     ap (λ (n : ℕ). is_none (operand_reason labels (at + 1 + length a + n) s.row 2 s.c)) (sym f) ∙
@@ -180,8 +185,10 @@ third_agrees labels at size next s a b e f =
     sym (bind_some_is (operand_bytes labels (at + 1 + length a + length b) s.row 2 s.c) (λ c. s.row.op ∷ (a ++ (b ++ c))))
 
 second_agrees : (labels : List Definition) (at size : ℕ) (s : Sentence) (a : List ℕ) → length a ≡ size
-    → is_none (option_or (operand_reason labels (at + 1 + size) s.row 1 s.b) (operand_reason labels (at + 1 + size + operand_size s.row 1 s.b) s.row 2 s.c)) ≡ is_some
-    (operand_bytes labels (at + 1 + length a) s.row 1 s.b >>= λ b. operand_bytes labels (at + 1 + length a + length b) s.row 2 s.c >>= λ c. Some (s.row.op ∷ (a ++ (b ++ c))))
+    → is_none (option_or (operand_reason labels (at + 1 + size) s.row 1 s.b) (operand_reason labels (at + 1 + size + operand_size s.row 1 s.b) s.row 2 s.c))
+    ≡ is_some
+    (operand_bytes labels (at + 1 + length a) s.row 1 s.b >>= λ b. operand_bytes labels (at + 1 + length a + length b) s.row 2 s.c >>= λ c.
+    Some (s.row.op ∷ (a ++ (b ++ c))))
 second_agrees labels at size s a e =
     chain (operand_reason labels (at + 1 + size) s.row 1 s.b) (operand_reason labels (at + 1 + size + operand_size s.row 1 s.b) s.row 2 s.c) (operand_bytes labels (at + 1 + length a) s.row 1 s.b)
     (λ b. operand_bytes labels (at + 1 + length a + length b) s.row 2 s.c >>= λ c. Some (s.row.op ∷ (a ++ (b ++ c))))
@@ -203,7 +210,8 @@ unfolding value_bytes
 value_bytes_agree labels size value = value_agrees labels size value ∙ sym (bind_some_is (bits_of_value labels size value) (λ bits. to_le_bytes (width_of size) bits))
 
 bss_agrees : (with_bss small : Bool)
-    → is_none (option_or (unless small reasons.ValueOutOfRange) (unless (not with_bss) reasons.SecondBss)) ≡ is_some {T = List ℕ} (if not with_bss && small then Some [] else None)
+    → is_none (option_or (unless small reasons.ValueOutOfRange) (unless (not with_bss) reasons.SecondBss))
+    ≡ is_some {T = List ℕ} (if not with_bss && small then Some [] else None)
 bss_agrees true true = refl
 bss_agrees true false = refl
 bss_agrees false true = refl
@@ -250,6 +258,7 @@ line_agrees labels earlier with_bss at line =
     or_none_is (label_reason earlier line.label) (behind_label labels with_bss at line.statement) ∙
     ap (λ (t : Bool). t && is_none (behind_label labels with_bss at line.statement)) (label_agrees earlier line.label) ∙
     ap (λ (t : Bool). is_new earlier line.label && t)
-    (chain (optional_reason labels with_bss at line.statement) (unless (nat_le (at + optional_size line.statement) 65536) reasons.ProgramTooLong) (optional_bytes labels with_bss at line.statement) (within at)
+    (chain (optional_reason labels with_bss at line.statement) (unless (nat_le (at + optional_size line.statement) 65536) reasons.ProgramTooLong)
+    (optional_bytes labels with_bss at line.statement) (within at)
     (optional_agrees labels with_bss at line.statement) (λ own e. within_agrees at (optional_size line.statement) own (optional_long labels with_bss at line.statement own e))) ∙
     and_if (is_new earlier line.label) (bounded at (optional_bytes labels with_bss at line.statement))

@@ -52,7 +52,8 @@ labels_step labels labels' at (suc left) size rest more item all e sized some ne
 
 address_append : (before : List (Option SourceLine)) (item : Option SourceLine) → address_after (before ++ item ∷ []) ≡ address_after before + item_size item
 address_append [] item = omega arith
-address_append (x ∷ before) item = (let more : address_after (before ++ item ∷ []) ≡ address_after before + item_size item = address_append before item in sums (item_size x) (address_after (before ++ item ∷ [])) (address_after before) (item_size item) more)
+address_append (x ∷ before) item = (let more : address_after (before ++ item ∷ []) ≡ address_after before + item_size item = address_append before item in
+    sums (item_size x) (address_after (before ++ item ∷ [])) (address_after before) (item_size item) more)
   where
     sums : (x a b i : ℕ) → a ≡ b + i → x + a ≡ x + b + i
     sums x a b i e = omega arith
@@ -64,7 +65,8 @@ definitions_append at [] item = append-nil (item_definition at item) ∙ ap (λ 
     zero_more : (n : ℕ) → n ≡ n + 0
     zero_more n = omega arith
 definitions_append at (x ∷ before) item =
-    ap (λ (l : List Definition). item_definition at x ++ l) (definitions_append (at + item_size x) before item ∙ ap (λ (n : ℕ). definitions (at + item_size x) before ++ item_definition n item) (sums at (item_size x) (address_after before))) ∙
+    ap (λ (l : List Definition). item_definition at x ++ l)
+    (definitions_append (at + item_size x) before item ∙ ap (λ (n : ℕ). definitions (at + item_size x) before ++ item_definition n item) (sums at (item_size x) (address_after before))) ∙
     sym (append_assoc (item_definition at x) (definitions (at + item_size x) before) (item_definition (at + (item_size x + address_after before)) item))
   where
     sums : (a x b : ℕ) → a + x + b ≡ a + (x + b)
@@ -134,7 +136,8 @@ behind_is labels earlier before at bss line e f g =
     ap (λ (o : Option ℕ). bytes_behind labels earlier (is_some o) (address_after before) line) f ∙
     ap (λ (n : ℕ). bytes_behind labels earlier (is_some bss) n line) g
 
-pub progress_step : (labels : List Definition) (source rest more : List ℕ) (number : ℕ) (bytes bytes' : List ℕ) (earlier earlier' : List Definition) (bss bss' : Option ℕ) (line : SourceLine)
+pub progress_step : (labels : List Definition) (source rest more : List ℕ) (number : ℕ) (bytes bytes' : List ℕ) (earlier earlier' : List Definition)
+    (bss bss' : Option ℕ) (line : SourceLine)
     → Progress labels source rest number bytes earlier bss → items_in rest ≡ Some line ∷ items_in more
     → Puts true bytes (bytes_behind labels earlier (is_some bss) (length bytes) line) bytes'
     → earlier' ≡ earlier ++ item_definition (length bytes) (Some line) → bss' ≡ first_of bss (bss_in line.statement)
@@ -151,7 +154,8 @@ progress_step labels source rest more number bytes bytes' earlier earlier' bss b
       count = ap (λ (n : ℕ). n + 1) (h.count ∙ sym counted);
       so_far = laid_append labels [] h.before (Some line) bytes p.0 h.so_far own ∙ ap (λ (l : List ℕ). Some l) (sym p.2);
       address = address_append h.before (Some line) ∙ ap (λ (n : ℕ). n + item_size (Some line)) h.address ∙ ap (λ (n : ℕ). length bytes + n) (sym long) ∙ sym whole;
-      defined = definitions_append 0 h.before (Some line) ∙ ap (λ (l : List Definition). l ++ item_definition (0 + address_after h.before) (Some line)) h.defined ∙ ap (λ (n : ℕ). earlier ++ item_definition n (Some line)) (zero_and (address_after h.before) ∙ h.address) ∙ sym defined';
+      defined = definitions_append 0 h.before (Some line) ∙ ap (λ (l : List Definition). l ++ item_definition (0 + address_after h.before) (Some line)) h.defined
+          ∙ ap (λ (n : ℕ). earlier ++ item_definition n (Some line)) (zero_and (address_after h.before) ∙ h.address) ∙ sym defined';
       bss_so_far = bss_append h.before (Some line) ∙ ap (λ (o : Option ℕ). first_of o (bss_in line.statement)) h.bss_so_far ∙ sym found';
     }
   where
@@ -159,9 +163,11 @@ progress_step labels source rest more number bytes bytes' earlier earlier' bss b
     zero_and n = omega arith
 
 -- the next line is bad
-pub progress_bad : (labels : List Definition) (source rest : List ℕ) (others : List (Option SourceLine)) (number : ℕ) (bytes : List ℕ) (earlier : List Definition) (bss : Option ℕ) (item : Option SourceLine)
+pub progress_bad : (labels : List Definition) (source rest : List ℕ) (others : List (Option SourceLine)) (number : ℕ) (bytes : List ℕ)
+    (earlier : List Definition) (bss : Option ℕ) (item : Option SourceLine)
     → labels ≡ labels_of source → Progress labels source rest number bytes earlier bss → items_in rest ≡ item ∷ others → number ≤ 4097
-    → ((before : List (Option SourceLine)) → definitions 0 before ≡ earlier → bss_found before ≡ bss → address_after before ≡ length bytes → number ≤ 4096 → line_bytes labels before item ≡ None)
+    → ((before : List (Option SourceLine)) → definitions 0 before ≡ earlier → bss_found before ≡ bss → address_after before ≡ length bytes → number ≤ 4096
+    → line_bytes labels before item ≡ None)
     → IsFirstBad source number
 progress_bad labels source rest others number bytes earlier bss item is h next few fault = record {
   before = h.before;
@@ -216,7 +222,8 @@ some_item (byte ∷ rest) h =
 
 pub progress_end : (labels : List Definition) (source rest : List ℕ) (number : ℕ) (bytes : List ℕ) (earlier : List Definition) (bss : Option ℕ)
     → labels ≡ labels_of source → Progress labels source rest number bytes earlier bss → length rest ≡ 0 → number ≤ 4097
-    → (length (items_in source) ≤ 4096) × (laid (labels_of source) [] (items_in source) ≡ Some bytes) × (length bytes ≡ address_after (items_in source)) × (or_zero bss ≡ or_zero (bss_found (items_in source)))
+    → (length (items_in source) ≤ 4096) × (laid (labels_of source) [] (items_in source) ≡ Some bytes) × (length bytes ≡ address_after (items_in source))
+    × (or_zero bss ≡ or_zero (bss_found (items_in source)))
 progress_end labels source rest number bytes earlier bss is h none few =
     let all : items_in source ≡ h.before = h.split ∙ ap (λ (l : List (Option SourceLine)). h.before ++ l) (no_items rest none) ∙ append-nil h.before in
     let lengths : length (items_in source) ≡ length h.before = ap length all in

@@ -36,7 +36,8 @@ found_later definition definitions first (Some place) false e = e ∙ sym (later
 found_at : (definitions : List Definition) (label : Label) → found definitions label ≡ (place_in definitions label.bytes >>= slice_get definitions)
 unfolding found
 found_at [] label = refl
-found_at (definition ∷ definitions) label = found_later definition definitions (found definitions label) (place_in definitions label.bytes) (pointwise nat_eq definition.label.bytes label.bytes) (found_at definitions label)
+found_at (definition ∷ definitions) label =
+    found_later definition definitions (found definitions label) (place_in definitions label.bytes) (pointwise nat_eq definition.label.bytes label.bytes) (found_at definitions label)
 
 later_or : (place : Option ℕ) (n : ℕ) (t : Bool)
     → one_later (option_or place (if t then Some n else None)) ≡ option_or (one_later place) (if t then Some (suc n) else None)
@@ -58,7 +59,8 @@ place_first false = refl
 
 -- with one more definition
 place_append : (definitions : List Definition) (definition : Definition) (bytes : List ℕ)
-    → place_in (definitions ++ definition ∷ []) bytes ≡ option_or (place_in definitions bytes) (if pointwise nat_eq definition.label.bytes bytes then Some (length definitions) else None)
+    → place_in (definitions ++ definition ∷ []) bytes
+    ≡ option_or (place_in definitions bytes) (if pointwise nat_eq definition.label.bytes bytes then Some (length definitions) else None)
 place_append [] definition bytes = place_first (pointwise nat_eq definition.label.bytes bytes)
 place_append (d ∷ definitions) definition bytes =
     place_later (place_in (definitions ++ definition ∷ []) bytes) (place_in definitions bytes) (length definitions) (pointwise nat_eq d.label.bytes bytes)
@@ -71,7 +73,8 @@ or_none (Some place) = refl
 -- a label that has no place yet is put at the next one
 pub places_put : (definitions : List Definition) (definition : Definition) (places places' : HashMap (List ℕ) ℕ (BuildHasherDefault FoldHasher)) (place : ℕ)
     → ArePlaces definitions places
-    → get (pointwise nat_eq) places definition.label.bytes ≡ None → place ≡ length definitions → Updates (pointwise nat_eq) places places' definition.label.bytes (Some place) → ArePlaces (definitions ++ definition ∷ []) places'
+    → get (pointwise nat_eq) places definition.label.bytes ≡ None → place ≡ length definitions
+    → Updates (pointwise nat_eq) places places' definition.label.bytes (Some place) → ArePlaces (definitions ++ definition ∷ []) places'
 places_put definitions definition places places' place are none last updates = λ bytes. updates.0 bytes ∙ ap
     (λ (n : ℕ). cond (pointwise nat_eq definition.label.bytes bytes) (Some n) (get (pointwise nat_eq) places bytes)) last ∙ by_test bytes (pointwise nat_eq definition.label.bytes bytes) refl ∙ sym
     (place_append definitions definition bytes)
@@ -93,9 +96,11 @@ places_kept definitions definition places are some = λ bytes. are bytes ∙ by_
     or_some None n e = absurd (cc)
     or_some (Some place) n e = refl
 
-    by_test : (bytes : List ℕ) (t : Bool) → t ≡ pointwise nat_eq definition.label.bytes bytes → place_in definitions bytes ≡ option_or (place_in definitions bytes) (if t then Some (length definitions) else None)
+    by_test : (bytes : List ℕ) (t : Bool) → t ≡ pointwise nat_eq definition.label.bytes bytes
+        → place_in definitions bytes ≡ option_or (place_in definitions bytes) (if t then Some (length definitions) else None)
     by_test bytes true e =
-        let there : is_some (place_in definitions bytes) ≡ true = subst (λ (l : List ℕ). is_some (place_in definitions l) ≡ true) (same_text definition.label.bytes bytes e) (ap is_some (sym (are definition.label.bytes)) ∙ some) in
+        let there : is_some (place_in definitions bytes) ≡ true =
+        subst (λ (l : List ℕ). is_some (place_in definitions l) ≡ true) (same_text definition.label.bytes bytes e) (ap is_some (sym (are definition.label.bytes)) ∙ some) in
         or_some (place_in definitions bytes) (length definitions) there
     by_test bytes false e = sym (or_none (place_in definitions bytes))
 
@@ -109,7 +114,8 @@ some_found definitions label place there = found_at definitions label ∙ ap (λ
 pub same_places : (definitions definitions' : List Definition) (places places' : HashMap (List ℕ) ℕ (BuildHasherDefault FoldHasher))
     → definitions ≡ definitions' → places ≡ places'
     → ArePlaces definitions places → ArePlaces definitions' places'
-same_places definitions definitions' places places' e f h = subst (λ (m : HashMap (List ℕ) ℕ (BuildHasherDefault FoldHasher)). ArePlaces definitions' m) f (subst (λ (l : List Definition). ArePlaces l places) e h)
+same_places definitions definitions' places places' e f h =
+    subst (λ (m : HashMap (List ℕ) ℕ (BuildHasherDefault FoldHasher)). ArePlaces definitions' m) f (subst (λ (l : List Definition). ArePlaces l places) e h)
 
 pub is_none : {A : Type 0} (o : Option A) → false ≡ is_some o → o ≡ None
 is_none None e = refl

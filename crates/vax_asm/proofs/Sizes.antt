@@ -142,7 +142,8 @@ by_branch labels from row place written bytes true e = branch_long labels from r
 by_branch labels from row place written bytes false e = specifier_long labels row place written bytes e
 
 by_place : (labels : List Definition) (from : ℕ) (row : Row) (place : ℕ) (written : Written) (bytes : List ℕ) (here : Bool)
-    → (if here then (if is_branch (slot_in row place).access then branch_bytes labels from (slot_in row place) written else specifier_bytes labels (slot_in row place) written) else absent_bytes written) ≡ Some bytes
+    → (if here then (if is_branch (slot_in row place).access then branch_bytes labels from (slot_in row place) written else specifier_bytes labels
+    (slot_in row place) written) else absent_bytes written) ≡ Some bytes
     → length bytes ≡ operand_size row place written
 by_place labels from row place written bytes true e = by_branch labels from row place written bytes (is_branch (slot_in row place).access) e
 by_place labels from row place written bytes false e = absent_long row place written bytes e
@@ -155,8 +156,10 @@ operand_long labels from row place written bytes e = by_place labels from row pl
 sentence_long : (labels : List Definition) (at : ℕ) (s : Sentence) (bytes : List ℕ) → sentence_bytes labels at s ≡ Some bytes → length bytes ≡ sentence_size s
 unfolding sentence_bytes sentence_size
 sentence_long labels at s bytes e =
-    let a = bind_some (operand_bytes labels (at + 1) s.row 0 s.a) (λ a. operand_bytes labels (at + 1 + length a) s.row 1 s.b >>= λ b. operand_bytes labels (at + 1 + length a + length b) s.row 2 s.c >>= λ c. Some (s.row.op ∷ (a ++ (b ++ c)))) bytes e in
-    let b = bind_some (operand_bytes labels (at + 1 + length a.0) s.row 1 s.b) (λ b. operand_bytes labels (at + 1 + length a.0 + length b) s.row 2 s.c >>= λ c. Some (s.row.op ∷ (a.0 ++ (b ++ c)))) bytes a.2 in
+    let a = bind_some (operand_bytes labels (at + 1) s.row 0 s.a)
+    (λ a. operand_bytes labels (at + 1 + length a) s.row 1 s.b >>= λ b. operand_bytes labels (at + 1 + length a + length b) s.row 2 s.c >>= λ c. Some (s.row.op ∷ (a ++ (b ++ c)))) bytes e in
+    let b = bind_some (operand_bytes labels (at + 1 + length a.0) s.row 1 s.b)
+    (λ b. operand_bytes labels (at + 1 + length a.0 + length b) s.row 2 s.c >>= λ c. Some (s.row.op ∷ (a.0 ++ (b ++ c)))) bytes a.2 in
     let c = bind_some (operand_bytes labels (at + 1 + length a.0 + length b.0) s.row 2 s.c) (λ c. Some (s.row.op ∷ (a.0 ++ (b.0 ++ c)))) bytes b.2 in
     let whole : length bytes ≡ length (s.row.op ∷ (a.0 ++ (b.0 ++ c.0))) = ap length (sym (some_same _ _ c.2)) in
     let one : length a.0 ≡ operand_size s.row 0 s.a = operand_long labels (at + 1) s.row 0 s.a a.0 a.1 in
@@ -164,7 +167,8 @@ sentence_long labels at s bytes e =
     let three : length c.0 ≡ operand_size s.row 2 s.c = operand_long labels (at + 1 + length a.0 + length b.0) s.row 2 s.c c.0 c.1 in
     let outer : length (a.0 ++ (b.0 ++ c.0)) ≡ length a.0 + length (b.0 ++ c.0) = length-append a.0 (b.0 ++ c.0) in
     let inner : length (b.0 ++ c.0) ≡ length b.0 + length c.0 = length-append b.0 c.0 in
-    sums (length bytes) (length a.0) (length b.0) (length c.0) (length (b.0 ++ c.0)) (length (a.0 ++ (b.0 ++ c.0))) (operand_size s.row 0 s.a) (operand_size s.row 1 s.b) (operand_size s.row 2 s.c) (whole ∙ suc_is (length (a.0 ++ (b.0 ++ c.0)))) one two three outer inner
+    sums (length bytes) (length a.0) (length b.0) (length c.0) (length (b.0 ++ c.0)) (length (a.0 ++ (b.0 ++ c.0))) (operand_size s.row 0 s.a) (operand_size s.row 1 s.b) (operand_size s.row 2 s.c)
+    (whole ∙ suc_is (length (a.0 ++ (b.0 ++ c.0)))) one two three outer inner
   where
     suc_is : (n : ℕ) → suc n ≡ 1 + n
     suc_is n = omega arith

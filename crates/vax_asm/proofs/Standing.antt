@@ -142,7 +142,8 @@ from_line (line ∷ lines) (x ∷ before) item others e = from_line lines before
     tails : (x y : Option SourceLine) (xs ys : List (Option SourceLine)) → x ∷ xs ≡ y ∷ ys → xs ≡ ys
     tails x y xs ys e = cc
 
-source_listed : (source : List ℕ) (before : List (Option SourceLine)) (item : Option SourceLine) (others : List (Option SourceLine)) (label : Option Label) (sentence : Sentence)
+source_listed : (source : List ℕ) (before : List (Option SourceLine)) (item : Option SourceLine) (others : List (Option SourceLine))
+    (label : Option Label) (sentence : Sentence)
     → items_in source ≡ before ++ item ∷ others → item ≡ Some (record { label = label; statement = Some (statements.Instruction sentence) })
     → row_for sentence.row.op ≡ Some sentence.row
 unfolding items_in
@@ -217,10 +218,13 @@ stands_at source labels bytes whole before item others e =
       own_bytes = s.own_bytes;
       stands = ap (take (length s.own)) left ∙ take_front s.own s.back;
       sized = line_long labels before item s.own s.own_bytes;
-      decodes = λ label sentence is. decodes_at labels before item label sentence s.own s.back (drop (address_after before) bytes) left s.own_bytes is (source_listed source before item others label sentence e is);
+      decodes = λ label sentence is. decodes_at labels before item label sentence s.own s.back (drop (address_after before) bytes) left s.own_bytes is
+          (source_listed source before item others label sentence e is);
     }
   where
-    decodes_at : (labels : List Definition) (before : List (Option SourceLine)) (item : Option SourceLine) (label : Option Label) (sentence : Sentence) (own back there : List ℕ) → there ≡ own ++ back → line_bytes labels before item ≡ Some own → item ≡ Some (record { label = label; statement = Some (statements.Instruction sentence) }) → row_for sentence.row.op ≡ Some sentence.row → (instr : Instr) × (sentence_instruction labels (address_after before) sentence ≡ Some instr) × (decoded there ≡ decodings.Is instr)
+    decodes_at : (labels : List Definition) (before : List (Option SourceLine)) (item : Option SourceLine) (label : Option Label) (sentence : Sentence) (own back there : List ℕ) → there ≡ own ++ back
+        → line_bytes labels before item ≡ Some own → item ≡ Some (record { label = label; statement = Some (statements.Instruction sentence) }) → row_for sentence.row.op ≡ Some sentence.row
+        → (instr : Instr) × (sentence_instruction labels (address_after before) sentence ≡ Some instr) × (decoded there ≡ decodings.Is instr)
     decodes_at labels before item label sentence own back there split own_bytes is listed =
         let spells : sentence_bytes labels (address_after before) sentence ≡ Some own = instruction_bytes labels before label sentence own (ap (line_bytes labels before) (sym is) ∙ own_bytes) in
         let n = sentence_encodes labels (address_after before) sentence own listed spells in

@@ -196,7 +196,8 @@ pub record StandsAt (labels : List Definition) (before : List (Option SourceLine
   pub sized : length own ≡ item_size item
   pub decodes : (label : Option Label) (sentence : Sentence)
       → item ≡ Some (record { label = label; statement = Some (statements.Instruction sentence) })
-      → (instr : Instr) × (sentence_instruction labels (address_after before) sentence ≡ Some instr) × (decoded (drop (address_after before) bytes) ≡ decodings.Is instr)
+      → (instr : Instr) × (sentence_instruction labels (address_after before) sentence ≡ Some instr)
+      × (decoded (drop (address_after before) bytes) ≡ decodings.Is instr)
 
 -- Each line has no fault; its bytes stand at its address, one after another from 0, and nothing stands after the last.
 pub record IsProgramOf (source : List ℕ) (bytes : List ℕ) (bss : ℕ) : Type 0 where

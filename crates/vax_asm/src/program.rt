@@ -207,7 +207,8 @@ fn put_code(bytes: &mut Vec<u8>, code: Option<Code>) -> Result<bool, NoMemory>
 }
 
 fn put_space(bytes: &mut Vec<u8>, number: Number) -> Result<bool, NoMemory>
-    ensures { IfOk result (λ put. Puts put bytes.old.items (bounded (length bytes.old.items) (if is_up_to 65536 number then Some (replicate number.magnitude 0) else None)) bytes.new.items) }
+    ensures { IfOk result (λ put. Puts put bytes.old.items
+        (bounded (length bytes.old.items) (if is_up_to 65536 number then Some (replicate number.magnitude 0) else None)) bytes.new.items) }
 {
     if !is_up_to(65536, number) {
         return Ok(false);
@@ -216,7 +217,8 @@ fn put_space(bytes: &mut Vec<u8>, number: Number) -> Result<bool, NoMemory>
 }
 
 fn put_bss(bytes: &mut Vec<u8>, with_bss: bool, number: Number) -> Result<bool, NoMemory>
-    ensures put { IfOk result (λ put. Puts put bytes.old.items (bounded (length bytes.old.items) (if not with_bss && is_up_to 4194304 number then Some [] else None)) bytes.new.items) }
+    ensures put { IfOk result (λ put.
+        Puts put bytes.old.items (bounded (length bytes.old.items) (if not with_bss && is_up_to 4194304 number then Some [] else None)) bytes.new.items) }
     ensures small { IfOk result (λ put. put ≡ true → number.magnitude ≤ 4194304) }
 {
     if with_bss || !is_up_to(4194304, number) {
@@ -234,7 +236,8 @@ fn put_statement(
     statement: &Statement,
 ) -> Result<bool, NoMemory>
     requires { length bytes.old.items ≤ 65536 }
-    ensures put { IfOk result (λ put. Puts put bytes.old.items (bounded (length bytes.old.items) (statement_bytes labels.now with_bss (length bytes.old.items) statement.now)) bytes.new.items) }
+    ensures put { IfOk result (λ put. Puts put bytes.old.items
+        (bounded (length bytes.old.items) (statement_bytes labels.now with_bss (length bytes.old.items) statement.now)) bytes.new.items) }
     ensures small { IfOk result (λ put. HasSmallBss put (Some statement.now)) }
 {
     match statement {
@@ -259,7 +262,8 @@ fn put_line(
     line: &SourceLine,
 ) -> Result<bool, NoMemory>
     requires { length bytes.old.items ≤ 65536 }
-    ensures put { IfOk result (λ put. Puts put bytes.old.items (bytes_behind labels.now earlier.now with_bss (length bytes.old.items) line.now) bytes.new.items) }
+    ensures put { IfOk result
+        (λ put. Puts put bytes.old.items (bytes_behind labels.now earlier.now with_bss (length bytes.old.items) line.now) bytes.new.items) }
     ensures small { IfOk result (λ put. HasSmallBss put line.now.statement) }
 {
     if !is_new(earlier, line.label) {

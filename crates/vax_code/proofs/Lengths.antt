@@ -95,7 +95,8 @@ pub whole_length : (bytes : List ℕ) (instr : Instr) → IsInstruction bytes in
 whole_length bytes instr h =
     let made : instr.length ≡ 1 + length h.one + length h.two + length h.three = ap (λ (i : Instr). i.length) h.made in
     let all : length bytes ≡ suc (length (h.one ++ (h.two ++ h.three))) = ap length h.split in
-    let sums : length (h.one ++ (h.two ++ h.three)) ≡ length h.one + (length h.two + length h.three) = length-append h.one (h.two ++ h.three) ∙ ap (λ (n : ℕ). length h.one + n) (length-append h.two h.three) in
+    let sums : length (h.one ++ (h.two ++ h.three)) ≡ length h.one + (length h.two + length h.three) =
+    length-append h.one (h.two ++ h.three) ∙ ap (λ (n : ℕ). length h.one + n) (length-append h.two h.three) in
     let first : length h.one ≤ 6 = place_length (nat_lt 0 h.row.count) h.row 0 h.first h.one h.spells_first in
     let second : length h.two ≤ 6 = place_length (nat_lt 1 h.row.count) h.row 1 h.second h.two h.spells_second in
     let third : length h.three ≤ 6 = place_length (nat_lt 2 h.row.count) h.row 2 h.third h.three h.spells_third in

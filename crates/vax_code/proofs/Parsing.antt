@@ -279,7 +279,8 @@ specifier_read slot operand bytes h =
     rw (s.split, high_half s.mode s.reg s.register, low_half s.mode s.reg s.register) s.reads
 
 either_read : (branch : Bool) (slot : Slot) (operand : Operand) (bytes : List ℕ) → SpellsOperand branch slot operand bytes
-    → cond branch (signed_at slot.size bytes >>= mapping operands.Branch) (byte_at bytes >>= λ first. specifier_at slot (first.0 / 16) (first.0 % 16) first.1) ≡ Ok (operand, [])
+    → cond branch (signed_at slot.size bytes >>= mapping operands.Branch) (byte_at bytes >>= λ first. specifier_at slot (first.0 / 16) (first.0 % 16) first.1)
+    ≡ Ok (operand, [])
 either_read true slot operand bytes h = branch_read slot operand bytes h
 either_read false slot operand bytes h = specifier_read slot operand bytes h
 

@@ -183,7 +183,8 @@ choice true x y = inr (refl, refl)
 choice false x y = inl (refl, refl)
 
 number_cases : (size : ℕ) (bytes : List ℕ)
-    → ((size ≤ length bytes) × (number_at size bytes ≡ Ok (from_le_bytes (width_of size) (take size bytes), drop size bytes))) ⊎ ((length bytes < size) × (number_at size bytes ≡ Err Short))
+    → ((size ≤ length bytes) × (number_at size bytes ≡ Ok (from_le_bytes (width_of size) (take size bytes), drop size bytes)))
+    ⊎ ((length bytes < size) × (number_at size bytes ≡ Err Short))
 unfolding number_at
 number_cases size bytes =
     let found : Read ℕ = Ok (from_le_bytes (width_of size) (take size bytes), drop size bytes) in

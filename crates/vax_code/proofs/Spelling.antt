@@ -139,7 +139,8 @@ absolute_spelled mode reg tail base test h =
     (number_leaf mode number.0 tail reg 9 4 (eqb-true mode 9 both.0) (eqb-true reg 15 both.1) (number_spelled 4 number.0 tail number.1))
 
 plain_spelled : (mode reg : ℕ) (tail : List ℕ) (base : Base) → 5 < mode → mode < 10 → reg < 15
-    → cond (mode == 6) (Ok (bases.Deferred reg, tail)) (cond (mode == 7) (Ok (bases.AutoDec reg, tail)) (cond (mode == 8) (Ok (bases.AutoInc reg, tail)) (Ok (bases.AutoIncDef reg, tail)))) ≡ (let read : Read Base = Ok (base, []) in read)
+    → cond (mode == 6) (Ok (bases.Deferred reg, tail)) (cond (mode == 7) (Ok (bases.AutoDec reg, tail))
+    (cond (mode == 8) (Ok (bases.AutoInc reg, tail)) (Ok (bases.AutoIncDef reg, tail)))) ≡ (let read : Read Base = Ok (base, []) in read)
     → SpellsBase base (specifier mode reg ∷ tail)
 plain_spelled mode reg tail base low high small h =
     by_test (mode == 6) h

@@ -72,7 +72,8 @@ value_by : (k n : ℕ) (t : Bool) → nat_lt n 16 ≡ t → digits_value 16 (hex
 value_by k n true e h = (let worth : digit_value (hexadecimal_digit n) ≡ n = digit_worth n (lt_of n 16 e) in omega (arith, worth))
 value_by k n false e h =
     let last : digit_value (hexadecimal_digit (n % 16)) ≡ n % 16 = digit_worth (n % 16) (omega arith) in
-    digits_value_push 16 (hexadecimal k (n / 16)) (hexadecimal_digit (n % 16)) ∙ ap (λ (v : ℕ). v * 16 + digit_value (hexadecimal_digit (n % 16))) h ∙ ap (λ (v : ℕ). n / 16 * 16 + v) last ∙ (omega arith)
+    digits_value_push 16 (hexadecimal k (n / 16)) (hexadecimal_digit (n % 16)) ∙ ap (λ (v : ℕ). v * 16 + digit_value (hexadecimal_digit (n % 16))) h
+    ∙ ap (λ (v : ℕ). n / 16 * 16 + v) last ∙ (omega arith)
 
 hexadecimal_value : (k n : ℕ) → HasPlaces k n → digits_value 16 (hexadecimal k n) ≡ n
 hexadecimal_value zero n h = sym h
@@ -217,7 +218,8 @@ increment_read reg rest small =
 increment_deferred_read : (reg : ℕ) (rest : List ℕ) → reg < 15 → place_at (42 ∷ (parenthesised_text reg ++ (43 ∷ rest))) ≡ Some (places.AutoIncDef reg, rest)
 unfolding place_at pointer_at increment_deferred_at parenthesised_text after
 increment_deferred_read reg rest small =
-    ap (λ (o : Option (ℕ × List ℕ)). o >>= λ r. after 43 r.1 >>= λ rest. if r.0 == 15 then None else Some (places.AutoIncDef r.0, rest)) (parenthesised_read reg (43 ∷ rest) (omega arith)) ∙ rw (not_pc reg small) refl
+    ap (λ (o : Option (ℕ × List ℕ)). o >>= λ r. after 43 r.1 >>= λ rest. if r.0 == 15 then None else Some (places.AutoIncDef r.0, rest)) (parenthesised_read reg (43 ∷ rest) (omega arith))
+    ∙ rw (not_pc reg small) refl
 
 absolute_read : (value : Value) (rest : List ℕ) → GoodValue value → Stops rest
     → place_at (42 ∷ 36 ∷ (value_text value ++ rest)) ≡ Some (places.Absolute value, rest)
@@ -233,24 +235,36 @@ displacement_read : (size reg : ℕ) (by : Number) (deferred : Bool) (rest : Lis
 unfolding displacement_at after
 displacement_read size reg by deferred rest small good =
     ap (λ (l : List ℕ). number_at l >>= λ by. in_parentheses_at by.1 >>= λ reg. Some (places.Disp size reg.0 by.0 deferred, reg.1)) (append_assoc (number_text by) (parenthesised_text reg) rest) ∙
-    ap (λ (o : Option (Number × List ℕ)). o >>= λ by. in_parentheses_at by.1 >>= λ reg. Some (places.Disp size reg.0 by.0 deferred, reg.1)) (number_read by (parenthesised_text reg ++ rest) good (parenthesis_stops reg rest)) ∙
+    ap (λ (o : Option (Number × List ℕ)). o >>= λ by. in_parentheses_at by.1 >>= λ reg. Some (places.Disp size reg.0 by.0 deferred, reg.1))
+    (number_read by (parenthesised_text reg ++ rest) good (parenthesis_stops reg rest)) ∙
     ap (λ (o : Option (ℕ × List ℕ)). o >>= λ reg. Some (places.Disp size reg.0 by deferred, reg.1)) (parenthesised_read reg rest small)
 
 -- by the mark of the size
 displaced_read : (size reg : ℕ) (by : Number) (deferred : Bool) (rest : List ℕ) → (size ≡ 1) ⊎ (size ≡ 2) ⊎ (size ≡ 4) → reg < 16 → GoodNumber by
     → displaced_at deferred (displacement_text size reg by ++ rest) ≡ Some (places.Disp size reg by deferred, rest)
 unfolding displaced_at displacement_text
-displaced_read size reg by deferred rest (inl e) small good = subst (λ (s : ℕ). displaced_at deferred (displacement_text s reg by ++ rest) ≡ Some (places.Disp s reg by deferred, rest)) (sym e) (displacement_read 1 reg by deferred rest small good)
-displaced_read size reg by deferred rest (inr (inl e)) small good = subst (λ (s : ℕ). displaced_at deferred (displacement_text s reg by ++ rest) ≡ Some (places.Disp s reg by deferred, rest)) (sym e) (displacement_read 2 reg by deferred rest small good)
-displaced_read size reg by deferred rest (inr (inr e)) small good = subst (λ (s : ℕ). displaced_at deferred (displacement_text s reg by ++ rest) ≡ Some (places.Disp s reg by deferred, rest)) (sym e) (displacement_read 4 reg by deferred rest small good)
+displaced_read size reg by deferred rest (inl e) small good =
+    subst (λ (s : ℕ). displaced_at deferred (displacement_text s reg by ++ rest) ≡ Some (places.Disp s reg by deferred, rest)) (sym e) (displacement_read 1 reg by deferred rest small good)
+displaced_read size reg by deferred rest (inr (inl e)) small good =
+    subst (λ (s : ℕ). displaced_at deferred (displacement_text s reg by ++ rest) ≡ Some (places.Disp s reg by deferred, rest)) (sym e) (displacement_read 2 reg by deferred rest small good)
+displaced_read size reg by deferred rest (inr (inr e)) small good =
+    subst (λ (s : ℕ). displaced_at deferred (displacement_text s reg by ++ rest) ≡ Some (places.Disp s reg by deferred, rest)) (sym e) (displacement_read 4 reg by deferred rest small good)
 
 -- a mark stands first
 marked_place : (size reg : ℕ) (by : Number) (rest : List ℕ) → (size ≡ 1) ⊎ (size ≡ 2) ⊎ (size ≡ 4)
-    → (place_at (displacement_text size reg by ++ rest) ≡ displaced_at false (displacement_text size reg by ++ rest)) × (pointer_at (displacement_text size reg by ++ rest) ≡ displaced_at true (displacement_text size reg by ++ rest)) × (specifier_at (displacement_text size reg by ++ rest) ≡ addressed_at (displacement_text size reg by ++ rest))
+    → (place_at (displacement_text size reg by ++ rest) ≡ displaced_at false (displacement_text size reg by ++ rest))
+    × (pointer_at (displacement_text size reg by ++ rest) ≡ displaced_at true (displacement_text size reg by ++ rest))
+    × (specifier_at (displacement_text size reg by ++ rest) ≡ addressed_at (displacement_text size reg by ++ rest))
 unfolding place_at pointer_at specifier_at displacement_text
-marked_place size reg by rest (inl e) = subst (λ (s : ℕ). (place_at (displacement_text s reg by ++ rest) ≡ displaced_at false (displacement_text s reg by ++ rest)) × (pointer_at (displacement_text s reg by ++ rest) ≡ displaced_at true (displacement_text s reg by ++ rest)) × (specifier_at (displacement_text s reg by ++ rest) ≡ addressed_at (displacement_text s reg by ++ rest))) (sym e) (refl, refl, refl)
-marked_place size reg by rest (inr (inl e)) = subst (λ (s : ℕ). (place_at (displacement_text s reg by ++ rest) ≡ displaced_at false (displacement_text s reg by ++ rest)) × (pointer_at (displacement_text s reg by ++ rest) ≡ displaced_at true (displacement_text s reg by ++ rest)) × (specifier_at (displacement_text s reg by ++ rest) ≡ addressed_at (displacement_text s reg by ++ rest))) (sym e) (refl, refl, refl)
-marked_place size reg by rest (inr (inr e)) = subst (λ (s : ℕ). (place_at (displacement_text s reg by ++ rest) ≡ displaced_at false (displacement_text s reg by ++ rest)) × (pointer_at (displacement_text s reg by ++ rest) ≡ displaced_at true (displacement_text s reg by ++ rest)) × (specifier_at (displacement_text s reg by ++ rest) ≡ addressed_at (displacement_text s reg by ++ rest))) (sym e) (refl, refl, refl)
+marked_place size reg by rest (inl e) =
+    subst (λ (s : ℕ). (place_at (displacement_text s reg by ++ rest) ≡ displaced_at false (displacement_text s reg by ++ rest)) × (pointer_at (displacement_text s reg by ++ rest)
+    ≡ displaced_at true (displacement_text s reg by ++ rest)) × (specifier_at (displacement_text s reg by ++ rest) ≡ addressed_at (displacement_text s reg by ++ rest))) (sym e) (refl, refl, refl)
+marked_place size reg by rest (inr (inl e)) =
+    subst (λ (s : ℕ). (place_at (displacement_text s reg by ++ rest) ≡ displaced_at false (displacement_text s reg by ++ rest)) × (pointer_at (displacement_text s reg by ++ rest)
+    ≡ displaced_at true (displacement_text s reg by ++ rest)) × (specifier_at (displacement_text s reg by ++ rest) ≡ addressed_at (displacement_text s reg by ++ rest))) (sym e) (refl, refl, refl)
+marked_place size reg by rest (inr (inr e)) =
+    subst (λ (s : ℕ). (place_at (displacement_text s reg by ++ rest) ≡ displaced_at false (displacement_text s reg by ++ rest)) × (pointer_at (displacement_text s reg by ++ rest)
+    ≡ displaced_at true (displacement_text s reg by ++ rest)) × (specifier_at (displacement_text s reg by ++ rest) ≡ addressed_at (displacement_text s reg by ++ rest))) (sym e) (refl, refl, refl)
 
 starred_read : (size reg : ℕ) (by : Number) (deferred : Bool) (rest : List ℕ) → (size ≡ 1) ⊎ (size ≡ 2) ⊎ (size ≡ 4) → reg < 16 → GoodNumber by
     → place_at ((star_text deferred ++ displacement_text size reg by) ++ rest) ≡ Some (places.Disp size reg by deferred, rest)
@@ -268,7 +282,8 @@ place_read (places.Absolute address) rest good stops = absolute_read address res
 place_read (places.Disp size reg by deferred) rest good stops = starred_read size reg by deferred rest good.0 good.1 good.2
 
 starred_specifier : (size reg : ℕ) (by : Number) (deferred : Bool) (rest : List ℕ) → (size ≡ 1) ⊎ (size ≡ 2) ⊎ (size ≡ 4)
-    → specifier_at ((star_text deferred ++ displacement_text size reg by) ++ rest) ≡ addressed_at ((star_text deferred ++ displacement_text size reg by) ++ rest)
+    → specifier_at ((star_text deferred ++ displacement_text size reg by) ++ rest)
+    ≡ addressed_at ((star_text deferred ++ displacement_text size reg by) ++ rest)
 unfolding specifier_at
 starred_specifier size reg by true rest sized = refl
 starred_specifier size reg by false rest sized = (marked_place size reg by rest sized).2
@@ -294,7 +309,8 @@ unfolding addressed_at
 plain_read place rest good ends =
     place_specifier place rest good ∙ ap (λ (o : Option (Place × List ℕ)). o >>= λ p. indexed p.0 p.1) (place_read place rest good (ends_stops rest ends)) ∙ not_indexed place rest ends
 
-index_read : (index : ℕ) (place : Place) (rest : List ℕ) → index < 15 → index_at place ((register_text index ++ codes "]") ++ rest) ≡ Some (writtens.Indexed index place, rest)
+index_read : (index : ℕ) (place : Place) (rest : List ℕ) → index < 15
+    → index_at place ((register_text index ++ codes "]") ++ rest) ≡ Some (writtens.Indexed index place, rest)
 unfolding index_at after
 index_read index place rest small =
     ap (λ (l : List ℕ). register_at l >>= λ reg. after 93 reg.1 >>= λ rest. Some (writtens.Indexed reg.0 place, rest)) (append_assoc (register_text index) (93 ∷ []) rest) ∙

@@ -83,7 +83,9 @@ itself n = grind (arith, nat_tests)
 
 place_by : (row : Row) (place : ℕ) (here : Bool) (written : Written) (rest : List ℕ)
     → GoodPlaceOfRow here (is_branch (slot_in row place).access) written → Ends rest
-    → (if here then (after (separator place) ((if here then separator place ∷ written_text written else []) ++ rest) >>= λ operand. operand_at (is_branch (slot_in row place).access) operand) else Some (writtens.Absent, (if here then separator place ∷ written_text written else []) ++ rest)) ≡ Some (written, rest)
+    → (if here then (after (separator place) ((if here then separator place ∷ written_text written else []) ++ rest) >>= λ operand. operand_at
+    (is_branch (slot_in row place).access) operand) else Some (writtens.Absent, (if here then separator place ∷ written_text written else []) ++ rest))
+    ≡ Some (written, rest)
 unfolding after
 place_by row place true written rest good ends = rw (itself (separator place)) (operand_read (is_branch (slot_in row place).access) written rest good ends)
 place_by row place false written rest good ends = ap (λ (w : Written). Some (w, rest)) (sym good)
@@ -125,8 +127,10 @@ unfolding operands_at
 operands_read row a b c good_a good_b good_c =
     let ends_c : Ends (row_place_text row 2 c ++ []) = place_ends row 2 c [] refl tt in
     let ends_b : Ends (row_place_text row 1 b ++ (row_place_text row 2 c ++ [])) = place_ends row 1 b (row_place_text row 2 c ++ []) refl ends_c in
-    ap (λ (o : Option (Written × List ℕ)). o >>= λ a. place_of_row_at row 1 a.1 >>= λ b. place_of_row_at row 2 b.1 >>= λ c. ended (record { row = row; a = a.0; b = b.0; c = c.0 }) c.1) (place_read row 0 a (row_place_text row 1 b ++ (row_place_text row 2 c ++ [])) good_a ends_b) ∙
-    ap (λ (o : Option (Written × List ℕ)). o >>= λ b. place_of_row_at row 2 b.1 >>= λ c. ended (record { row = row; a = a; b = b.0; c = c.0 }) c.1) (place_read row 1 b (row_place_text row 2 c ++ []) good_b ends_c) ∙
+    ap (λ (o : Option (Written × List ℕ)). o >>= λ a. place_of_row_at row 1 a.1 >>= λ b. place_of_row_at row 2 b.1 >>= λ c. ended (record { row = row; a = a.0; b = b.0; c = c.0 }) c.1)
+    (place_read row 0 a (row_place_text row 1 b ++ (row_place_text row 2 c ++ [])) good_a ends_b) ∙
+    ap (λ (o : Option (Written × List ℕ)). o >>= λ b. place_of_row_at row 2 b.1 >>= λ c. ended (record { row = row; a = a; b = b.0; c = c.0 }) c.1)
+    (place_read row 1 b (row_place_text row 2 c ++ []) good_b ends_c) ∙
     ap (λ (o : Option (Written × List ℕ)). o >>= λ c. ended (record { row = row; a = a; b = b; c = c.0 }) c.1) (place_read row 2 c [] good_c tt)
 
 pub sentence_read : (sentence : Sentence) → row_for sentence.row.op ≡ Some sentence.row
@@ -142,9 +146,13 @@ sentence_read s listed good_a good_b good_c =
     let tests = both (list_all is_word_byte (mnemonic s.row.name)) (names_op (row_named (mnemonic s.row.name)) s.row.op) (named_of s.row listed) in
     let ends_c : Ends (row_place_text s.row 2 s.c ++ []) = place_ends s.row 2 s.c [] refl tt in
     let ends_b : Ends (row_place_text s.row 1 s.b ++ (row_place_text s.row 2 s.c ++ [])) = place_ends s.row 1 s.b (row_place_text s.row 2 s.c ++ []) refl ends_c in
-    let cut = word_cut (mnemonic s.row.name) (row_place_text s.row 0 s.a ++ (row_place_text s.row 1 s.b ++ (row_place_text s.row 2 s.c ++ []))) tests.0 (first_ends s.row s.a (row_place_text s.row 1 s.b ++ (row_place_text s.row 2 s.c ++ [])) ends_b) in
-    ap (λ (l : List ℕ). row_named (front_of is_word_byte (mnemonic s.row.name ++ (row_place_text s.row 0 s.a ++ (row_place_text s.row 1 s.b ++ l)))) >>= λ row. operands_at row (behind is_word_byte (mnemonic s.row.name ++ (row_place_text s.row 0 s.a ++ (row_place_text s.row 1 s.b ++ l))))) nil ∙
-    ap (λ (l : List ℕ). row_named l >>= λ row. operands_at row (behind is_word_byte (mnemonic s.row.name ++ (row_place_text s.row 0 s.a ++ (row_place_text s.row 1 s.b ++ (row_place_text s.row 2 s.c ++ [])))))) cut.0 ∙
-    ap (λ (o : Option Row). o >>= λ row. operands_at row (behind is_word_byte (mnemonic s.row.name ++ (row_place_text s.row 0 s.a ++ (row_place_text s.row 1 s.b ++ (row_place_text s.row 2 s.c ++ [])))))) (mnemonic_read s.row listed) ∙
+    let cut = word_cut (mnemonic s.row.name) (row_place_text s.row 0 s.a ++ (row_place_text s.row 1 s.b ++ (row_place_text s.row 2 s.c ++ []))) tests.0
+    (first_ends s.row s.a (row_place_text s.row 1 s.b ++ (row_place_text s.row 2 s.c ++ [])) ends_b) in
+    ap (λ (l : List ℕ). row_named (front_of is_word_byte (mnemonic s.row.name ++ (row_place_text s.row 0 s.a ++ (row_place_text s.row 1 s.b ++ l)))) >>= λ row.
+    operands_at row (behind is_word_byte (mnemonic s.row.name ++ (row_place_text s.row 0 s.a ++ (row_place_text s.row 1 s.b ++ l))))) nil ∙
+    ap (λ (l : List ℕ). row_named l >>= λ row.
+    operands_at row (behind is_word_byte (mnemonic s.row.name ++ (row_place_text s.row 0 s.a ++ (row_place_text s.row 1 s.b ++ (row_place_text s.row 2 s.c ++ [])))))) cut.0 ∙
+    ap (λ (o : Option Row). o >>= λ row.
+    operands_at row (behind is_word_byte (mnemonic s.row.name ++ (row_place_text s.row 0 s.a ++ (row_place_text s.row 1 s.b ++ (row_place_text s.row 2 s.c ++ [])))))) (mnemonic_read s.row listed) ∙
     ap (operands_at s.row) cut.1 ∙
     operands_read s.row s.a s.b s.c good_a good_b good_c

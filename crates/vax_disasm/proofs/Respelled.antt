@@ -83,7 +83,8 @@ length_zero x xs e = omega (arith, e)
 
 le_1 : (bs : List ℕ) → length bs ≡ 1 → AreOctets bs → (to_le_bytes w8 (from_le_bytes w8 bs) ≡ bs) × (from_le_bytes w8 bs < 256)
 le_1 [] e h = absurd (omega (arith, e))
-le_1 (a ∷ []) e h = (let small : a < 256 = h.0 in let same : from_le_bytes w8 (a ∷ []) ≡ a = omega arith in (let low : from_le_bytes w8 (a ∷ []) % 256 ≡ a = omega arith in ap (λ (n : ℕ). n ∷ []) low, omega arith))
+le_1 (a ∷ []) e h =
+    (let small : a < 256 = h.0 in let same : from_le_bytes w8 (a ∷ []) ≡ a = omega arith in (let low : from_le_bytes w8 (a ∷ []) % 256 ≡ a = omega arith in ap (λ (n : ℕ). n ∷ []) low, omega arith))
 le_1 (a ∷ b ∷ bs) e h = absurd (omega (arith, e))
 
 le_2 : (bs : List ℕ) → length bs ≡ 2 → AreOctets bs → (to_le_bytes w16 (from_le_bytes w16 bs) ≡ bs) × (from_le_bytes w16 bs < 65536)
@@ -97,7 +98,11 @@ le_4 [] e h = absurd (omega (arith, e))
 le_4 (a ∷ []) e h = absurd (omega (arith, e))
 le_4 (a ∷ b ∷ []) e h = absurd (omega (arith, e))
 le_4 (a ∷ b ∷ c ∷ []) e h = absurd (omega (arith, e))
-le_4 (a ∷ b ∷ c ∷ d ∷ []) e h = (le_bytes_4 (a ∷ b ∷ c ∷ d ∷ []) _ refl (octet (a ∷ b ∷ c ∷ d ∷ []) h) refl, (let p : a < 256 = h.0 in let q : b < 256 = h.1.0 in let r : c < 256 = h.1.1.0 in let s : d < 256 = h.1.1.1.0 in omega arith))
+le_4 (a ∷ b ∷ c ∷ d ∷ []) e h = (
+  le_bytes_4 (a ∷ b ∷ c ∷ d ∷ []) _ refl (octet (a ∷ b ∷ c ∷ d ∷ []) h) refl,
+  (let p : a < 256 = h.0 in
+      let q : b < 256 = h.1.0 in let r : c < 256 = h.1.1.0 in let s : d < 256 = h.1.1.1.0 in omega arith),
+)
 le_4 (a ∷ b ∷ c ∷ d ∷ f ∷ bs) e h = absurd (omega (arith, e))
 
 le_back : (size : ℕ) (bs : List ℕ) → (size ≡ 1) ⊎ (size ≡ 2) ⊎ (size ≡ 4) → length bs ≡ size → AreOctets bs
@@ -128,7 +133,8 @@ begins_number size bytes number rest sized octets e =
     let front : AreOctets (take size bytes) = octets_front (take size bytes) (drop size bytes) (subst (λ (l : List ℕ). AreOctets l) (sym (take-append-drop size bytes)) octets) in
     let back = le_back size (take size bytes) sized (length_take size bytes long) front in
     record {
-      split = sym (take-append-drop size bytes) ∙ ap (λ (l : List ℕ). l ++ drop size bytes) (sym back.0) ∙ ap (λ (n : ℕ). to_le_bytes (width_of size) n ++ drop size bytes) value ∙ ap (λ (l : List ℕ). to_le_bytes (width_of size) number ++ l) left;
+      split = sym (take-append-drop size bytes) ∙ ap (λ (l : List ℕ). l ++ drop size bytes) (sym back.0) ∙ ap (λ (n : ℕ). to_le_bytes (width_of size) n ++ drop size bytes) value
+          ∙ ap (λ (l : List ℕ). to_le_bytes (width_of size) number ++ l) left;
       small = subst (λ (n : ℕ). n < whole_of size) value back.1;
     }
 
@@ -245,14 +251,16 @@ displacement_place : (mode reg : ℕ) (bytes rest : List ℕ) (place : Place) �
 unfolding displacement_shown place_bytes displaced_bytes
 displacement_place mode reg bytes rest place low high small octets e =
     let size : ℕ = size_of_mode mode in
-    let b = bind_some (number_shown (size_of_mode mode) bytes) (λ bits. Some (places.Disp (size_of_mode mode) reg (signed_number (size_of_mode mode) bits.0) (mode % 2 == 1), bits.1)) (place, rest) e in
+    let b =
+    bind_some (number_shown (size_of_mode mode) bytes) (λ bits. Some (places.Disp (size_of_mode mode) reg (signed_number (size_of_mode mode) bits.0) (mode % 2 == 1), bits.1)) (place, rest) e in
     let same : (places.Disp (size_of_mode mode) reg (signed_number (size_of_mode mode) b.0.0) (mode % 2 == 1), b.0.1) ≡ (place, rest) = some_same _ _ b.2 in
     let left : b.0.1 ≡ rest = ap (λ (x : Place × List ℕ). x.1) same in
     let begins = begins_number (size_of_mode mode) bytes b.0.0 b.0.1 (mode_sized mode) octets b.1 in
     place_as mode reg bytes rest (places.Disp (size_of_mode mode) reg (signed_number (size_of_mode mode) b.0.0) (mode % 2 == 1)) place (ap (λ (x : Place × List ℕ). x.0) same) (record {
       front = to_le_bytes (width_of (size_of_mode mode)) b.0.0;
       split = begins.split ∙ ap (λ (l : List ℕ). to_le_bytes (width_of (size_of_mode mode)) b.0.0 ++ l) left;
-      spells = rw (lt_is reg 16 small) (rw (displacement_back (size_of_mode mode) b.0.0 (mode_sized mode) begins.small) (ap (λ (m : ℕ). Some (with_number (specifier m reg) (size_of_mode mode) b.0.0)) (displaced_mode mode low high)));
+      spells = rw (lt_is reg 16 small) (rw (displacement_back (size_of_mode mode) b.0.0 (mode_sized mode) begins.small)
+          (ap (λ (m : ℕ). Some (with_number (specifier m reg) (size_of_mode mode) b.0.0)) (displaced_mode mode low high)));
       good = (mode_sized mode, small, good_signed (size_of_mode mode) b.0.0 (mode_sized mode) begins.small);
     })
 
@@ -278,7 +286,8 @@ is_not : (a b : ℕ) → (a == b) ≡ false → a ≢ b
 is_not a b e = grind (arith, nat_tests)
 
 place_by_8 : (mode reg : ℕ) (bytes rest : List ℕ) (place : Place) → reg < 15 → 5 < mode → mode ≤ 9 → mode ≢ 6 → mode ≢ 7
-    → (((mode == 8) ≡ true) × (got (places.AutoInc reg) bytes ≡ Some (place, rest))) ⊎ (((mode == 8) ≡ false) × (got (places.AutoIncDef reg) bytes ≡ Some (place, rest)))
+    → (((mode == 8) ≡ true) × (got (places.AutoInc reg) bytes ≡ Some (place, rest)))
+    ⊎ (((mode == 8) ≡ false) × (got (places.AutoIncDef reg) bytes ≡ Some (place, rest)))
     → PlaceBack mode reg bytes rest place
 unfolding place_bytes
 place_by_8 mode reg bytes rest place small low high a b (inl p) =
@@ -288,7 +297,8 @@ place_by_8 mode reg bytes rest place small low high a b (inr p) =
     mode_as 9 mode reg reg bytes rest place nine refl (plain_back 9 reg bytes rest (places.AutoIncDef reg) small refl small place p.1)
 
 place_by_7 : (mode reg : ℕ) (bytes rest : List ℕ) (place : Place) → reg < 15 → 5 < mode → mode ≤ 9 → mode ≢ 6
-    → (((mode == 7) ≡ true) × (got (places.AutoDec reg) bytes ≡ Some (place, rest))) ⊎ (((mode == 7) ≡ false) × ((if mode == 8 then got (places.AutoInc reg) bytes else Some (places.AutoIncDef reg, bytes)) ≡ Some (place, rest)))
+    → (((mode == 7) ≡ true) × (got (places.AutoDec reg) bytes ≡ Some (place, rest)))
+    ⊎ (((mode == 7) ≡ false) × ((if mode == 8 then got (places.AutoInc reg) bytes else Some (places.AutoIncDef reg, bytes)) ≡ Some (place, rest)))
     → PlaceBack mode reg bytes rest place
 unfolding place_bytes
 place_by_7 mode reg bytes rest place small low high a (inl p) =
@@ -305,16 +315,19 @@ from_six mode reg bytes =
     else Some (places.AutoIncDef reg, bytes)))
 
 place_by_6 : (mode reg : ℕ) (bytes rest : List ℕ) (place : Place) → reg < 15 → 5 < mode → mode ≤ 9
-    → (((mode == 6) ≡ true) × (got (places.Deferred reg) bytes ≡ Some (place, rest))) ⊎ (((mode == 6) ≡ false) × ((if mode == 7 then got (places.AutoDec reg) bytes else (if mode == 8 then Some (places.AutoInc reg, bytes) else Some (places.AutoIncDef reg, bytes))) ≡ Some (place, rest)))
+    → (((mode == 6) ≡ true) × (got (places.Deferred reg) bytes ≡ Some (place, rest))) ⊎ (((mode == 6) ≡ false) × ((if mode == 7 then got (places.AutoDec reg)
+    bytes else (if mode == 8 then Some (places.AutoInc reg, bytes) else Some (places.AutoIncDef reg, bytes))) ≡ Some (place, rest)))
     → PlaceBack mode reg bytes rest place
 unfolding place_bytes
 place_by_6 mode reg bytes rest place small low high (inl p) =
     mode_as 6 mode reg reg bytes rest place (size_is mode 6 p.0) refl (plain_back 6 reg bytes rest (places.Deferred reg) small refl small place p.1)
 place_by_6 mode reg bytes rest place small low high (inr p) =
-    place_by_7 mode reg bytes rest place small low high (is_not mode 6 p.0) (pick (mode == 7) (Some (places.AutoDec reg, bytes)) (if mode == 8 then Some (places.AutoInc reg, bytes) else Some (places.AutoIncDef reg, bytes)) (place, rest) p.1)
+    place_by_7 mode reg bytes rest place small low high (is_not mode 6 p.0)
+    (pick (mode == 7) (Some (places.AutoDec reg, bytes)) (if mode == 8 then Some (places.AutoInc reg, bytes) else Some (places.AutoIncDef reg, bytes)) (place, rest) p.1)
 
 place_by_9 : (mode reg : ℕ) (bytes rest : List ℕ) (place : Place) → reg < 16 → 5 < mode → mode ≤ 9 → AreOctets bytes
-    → ((((mode == 9) && (reg == 15)) ≡ true) × (absolute_shown bytes ≡ Some (place, rest))) ⊎ ((((mode == 9) && (reg == 15)) ≡ false) × ((if reg == 15 then None else from_six mode reg bytes) ≡ Some (place, rest)))
+    → ((((mode == 9) && (reg == 15)) ≡ true) × (absolute_shown bytes ≡ Some (place, rest)))
+    ⊎ ((((mode == 9) && (reg == 15)) ≡ false) × ((if reg == 15 then None else from_six mode reg bytes) ≡ Some (place, rest)))
     → PlaceBack mode reg bytes rest place
 place_by_9 mode reg bytes rest place small low high octets (inl p) =
     let tests = both (mode == 9) (reg == 15) p.0 in
@@ -322,20 +335,24 @@ place_by_9 mode reg bytes rest place small low high octets (inl p) =
 place_by_9 mode reg bytes rest place small low high octets (inr p) =
     let q = some_unless (reg == 15) (from_six mode reg bytes) (place, rest) p.1 in
     let less : reg < 15 = (let c = is_not reg 15 q.0 in omega (arith, small, c)) in
-    place_by_6 mode reg bytes rest place less low high (pick (mode == 6) (Some (places.Deferred reg, bytes)) (if mode == 7 then Some (places.AutoDec reg, bytes) else (if mode == 8 then Some (places.AutoInc reg, bytes) else Some (places.AutoIncDef reg, bytes))) (place, rest) q.1)
+    place_by_6 mode reg bytes rest place less low high (pick (mode == 6) (Some (places.Deferred reg, bytes))
+    (if mode == 7 then Some (places.AutoDec reg, bytes) else (if mode == 8 then Some (places.AutoInc reg, bytes) else Some (places.AutoIncDef reg, bytes))) (place, rest) q.1)
 
 place_by_high : (mode reg : ℕ) (bytes rest : List ℕ) (place : Place) → mode < 16 → reg < 16 → 5 < mode → AreOctets bytes
-    → ((nat_lt 9 mode ≡ true) × (displacement_shown mode reg bytes ≡ Some (place, rest))) ⊎ ((nat_lt 9 mode ≡ false) × ((if (mode == 9) && (reg == 15) then absolute_shown bytes else (if reg == 15 then None else from_six mode reg bytes)) ≡ Some (place, rest)))
+    → ((nat_lt 9 mode ≡ true) × (displacement_shown mode reg bytes ≡ Some (place, rest))) ⊎ ((nat_lt 9 mode ≡ false)
+    × ((if (mode == 9) && (reg == 15) then absolute_shown bytes else (if reg == 15 then None else from_six mode reg bytes)) ≡ Some (place, rest)))
     → PlaceBack mode reg bytes rest place
 place_by_high mode reg bytes rest place high small low octets (inl p) = displacement_place mode reg bytes rest place (lt_of 9 mode p.0) high small octets p.1
 place_by_high mode reg bytes rest place high small low octets (inr p) =
-    place_by_9 mode reg bytes rest place small low (ge_of 9 mode p.0) octets (pick ((mode == 9) && (reg == 15)) (absolute_shown bytes) (if reg == 15 then None else from_six mode reg bytes) (place, rest) p.1)
+    place_by_9 mode reg bytes rest place small low (ge_of 9 mode p.0) octets
+    (pick ((mode == 9) && (reg == 15)) (absolute_shown bytes) (if reg == 15 then None else from_six mode reg bytes) (place, rest) p.1)
 
 place_back : (mode reg : ℕ) (bytes rest : List ℕ) (place : Place) → mode < 16 → reg < 16 → AreOctets bytes
     → place_shown mode reg bytes ≡ Some (place, rest) → PlaceBack mode reg bytes rest place
 unfolding place_shown
 place_back mode reg bytes rest place high small octets e =
-    let after_low : Option (Place × List ℕ) = if nat_lt 9 mode then displacement_shown mode reg bytes else (if (mode == 9) && (reg == 15) then absolute_shown bytes else (if reg == 15 then None else from_six mode reg bytes)) in
+    let after_low : Option (Place × List ℕ) =
+    if nat_lt 9 mode then displacement_shown mode reg bytes else (if (mode == 9) && (reg == 15) then absolute_shown bytes else (if reg == 15 then None else from_six mode reg bytes)) in
     let p = some_unless (nat_lt mode 6) after_low (place, rest) e in
     place_by_high mode reg bytes rest place high small (ge_of mode 6 p.0) octets
     (pick (nat_lt 9 mode) (displacement_shown mode reg bytes) (if (mode == 9) && (reg == 15) then absolute_shown bytes else (if reg == 15 then None else from_six mode reg bytes)) (place, rest) p.1)
@@ -396,7 +413,8 @@ index_back index (first ∷ bytes) rest written slot small octets e =
     let high : first / 16 < 16 = omega arith in
     let low : first % 16 < 16 = omega arith in
     let inner = λ (base : Place × List ℕ). got (writtens.Indexed index base.0) base.1 in
-    let p = some_unless (nat_lt 6 (first / 16) && nat_lt (first / 16) 10 && (first % 16 == index)) (place_shown (first / 16) (first % 16) bytes >>= λ base. got (writtens.Indexed index base.0) base.1) (written, rest) e in
+    let p = some_unless (nat_lt 6 (first / 16) && nat_lt (first / 16) 10 && (first % 16 == index))
+    (place_shown (first / 16) (first % 16) bytes >>= λ base. got (writtens.Indexed index base.0) base.1) (written, rest) e in
     let b = bind_some (place_shown (first / 16) (first % 16) bytes) (λ base. got (writtens.Indexed index base.0) base.1) (written, rest) p.1 in
     let same : (writtens.Indexed index b.0.0, b.0.1) ≡ (written, rest) = some_same _ _ b.2 in
     let left : b.0.1 ≡ rest = ap (λ (x : Written × List ℕ). x.1) same in
@@ -460,7 +478,8 @@ immediate_back slot bytes rest written sized octets e =
     let left : b.0.1 ≡ rest = ap (λ (x : Written × List ℕ). x.1) same in
     let begins = begins_number slot.size bytes b.0.0 b.0.1 sized octets b.1 in
     let most : whole_of slot.size ≤ 4294967296 = whole_most slot.size sized in
-    written_as (specifier 8 15 ∷ bytes) rest (specifier_bytes [] slot) GoodSpecifier (writtens.Immediate (values.Number (plain_number b.0.0))) written (ap (λ (x : Written × List ℕ). x.0) same) (record {
+    written_as (specifier 8 15 ∷ bytes) rest (specifier_bytes [] slot) GoodSpecifier (writtens.Immediate (values.Number (plain_number b.0.0))) written
+    (ap (λ (x : Written × List ℕ). x.0) same) (record {
       front = with_number 143 slot.size b.0.0;
       split = ap (λ (l : List ℕ). 143 ∷ l) (begins.split ∙ ap (λ (l : List ℕ). to_le_bytes (width_of slot.size) b.0.0 ++ l) left);
       spells = immediate_spells slot (values.Number (plain_number b.0.0)) b.0.0 p.0 (bits_plain slot.size b.0.0 begins.small);
@@ -486,7 +505,8 @@ addressed_back slot mode reg bytes rest written high small octets e =
 -- at a mode and a register that are known
 specifier_as : (mode mode' reg reg' : ℕ) (bytes rest : List ℕ) (spelling : Option (List ℕ)) (good : Type 0) → mode' ≡ mode → reg' ≡ reg
     → WrittenBack (specifier mode reg ∷ bytes) rest spelling good → WrittenBack (specifier mode' reg' ∷ bytes) rest spelling good
-specifier_as mode mode' reg reg' bytes rest spelling good e f h = subst (λ (m : ℕ). WrittenBack (specifier m reg' ∷ bytes) rest spelling good) (sym e) (subst (λ (r : ℕ). WrittenBack (specifier mode r ∷ bytes) rest spelling good) (sym f) h)
+specifier_as mode mode' reg reg' bytes rest spelling good e f h =
+    subst (λ (m : ℕ). WrittenBack (specifier m reg' ∷ bytes) rest spelling good) (sym e) (subst (λ (r : ℕ). WrittenBack (specifier mode r ∷ bytes) rest spelling good) (sym f) h)
 
 abbrev from_mode_8 : Slot → ℕ → ℕ → List ℕ → Option (Written × List ℕ)
 from_mode_8 slot mode reg bytes =
@@ -505,36 +525,43 @@ Backs slot mode reg bytes rest written = WrittenBack (specifier mode reg ∷ byt
 
 back_by_8 : (slot : Slot) (mode reg : ℕ) (bytes rest : List ℕ) (written : Written) → (slot.size ≡ 1) ⊎ (slot.size ≡ 2) ⊎ (slot.size ≡ 4) → mode < 16
     → reg < 16 → AreOctets bytes
-    → ((((mode == 8) && (reg == 15)) ≡ true) × ((if is_read slot.access then immediate_shown slot bytes else None) ≡ Some (written, rest))) ⊎ ((((mode == 8) && (reg == 15)) ≡ false) × ((place_shown mode reg bytes >>= λ place. got (writtens.Plain place.0) place.1) ≡ Some (written, rest)))
+    → ((((mode == 8) && (reg == 15)) ≡ true) × ((if is_read slot.access then immediate_shown slot bytes else None) ≡ Some (written, rest)))
+    ⊎ ((((mode == 8) && (reg == 15)) ≡ false) × ((place_shown mode reg bytes >>= λ place. got (writtens.Plain place.0) place.1) ≡ Some (written, rest)))
     → Backs slot mode reg bytes rest written
 back_by_8 slot mode reg bytes rest written sized high small octets (inl p) =
     let tests = both (mode == 8) (reg == 15) p.0 in
-    specifier_as 8 mode 15 reg bytes rest (specifier_bytes [] slot written) (GoodSpecifier written) (size_is mode 8 tests.0) (size_is reg 15 tests.1) (immediate_back slot bytes rest written sized octets p.1)
+    specifier_as 8 mode 15 reg bytes rest (specifier_bytes [] slot written) (GoodSpecifier written) (size_is mode 8 tests.0) (size_is reg 15 tests.1)
+    (immediate_back slot bytes rest written sized octets p.1)
 back_by_8 slot mode reg bytes rest written sized high small octets (inr p) = addressed_back slot mode reg bytes rest written high small octets p.1
 
 back_by_5 : (slot : Slot) (mode reg : ℕ) (bytes rest : List ℕ) (written : Written) → (slot.size ≡ 1) ⊎ (slot.size ≡ 2) ⊎ (slot.size ≡ 4) → mode < 16
     → reg < 16 → AreOctets bytes
-    → (((mode == 5) ≡ true) × ((if (reg == 15) || is_address slot.access then None else got (writtens.Register reg) bytes) ≡ Some (written, rest))) ⊎ (((mode == 5) ≡ false) × (from_mode_8 slot mode reg bytes ≡ Some (written, rest)))
+    → (((mode == 5) ≡ true) × ((if (reg == 15) || is_address slot.access then None else got (writtens.Register reg) bytes) ≡ Some (written, rest)))
+    ⊎ (((mode == 5) ≡ false) × (from_mode_8 slot mode reg bytes ≡ Some (written, rest)))
     → Backs slot mode reg bytes rest written
 back_by_5 slot mode reg bytes rest written sized high small octets (inl p) =
     specifier_as 5 mode reg reg bytes rest (specifier_bytes [] slot written) (GoodSpecifier written) (size_is mode 5 p.0) refl (register_back slot reg bytes rest written small p.1)
 back_by_5 slot mode reg bytes rest written sized high small octets (inr p) =
-    back_by_8 slot mode reg bytes rest written sized high small octets (pick ((mode == 8) && (reg == 15)) (if is_read slot.access then immediate_shown slot bytes else None) (place_shown mode reg bytes >>= λ place. Some (writtens.Plain place.0, place.1)) (written, rest) p.1)
+    back_by_8 slot mode reg bytes rest written sized high small octets (pick ((mode == 8) && (reg == 15)) (if is_read slot.access then immediate_shown slot bytes else None)
+    (place_shown mode reg bytes >>= λ place. Some (writtens.Plain place.0, place.1)) (written, rest) p.1)
 
 back_by_4 : (slot : Slot) (mode reg : ℕ) (bytes rest : List ℕ) (written : Written) → (slot.size ≡ 1) ⊎ (slot.size ≡ 2) ⊎ (slot.size ≡ 4) → mode < 16
     → reg < 16 → AreOctets bytes
-    → (((mode == 4) ≡ true) × ((if reg == 15 then None else indexed_shown reg bytes) ≡ Some (written, rest))) ⊎ (((mode == 4) ≡ false) × (from_mode_5 slot mode reg bytes ≡ Some (written, rest)))
+    → (((mode == 4) ≡ true) × ((if reg == 15 then None else indexed_shown reg bytes) ≡ Some (written, rest)))
+    ⊎ (((mode == 4) ≡ false) × (from_mode_5 slot mode reg bytes ≡ Some (written, rest)))
     → Backs slot mode reg bytes rest written
 back_by_4 slot mode reg bytes rest written sized high small octets (inl p) =
     let q = some_unless (reg == 15) (indexed_shown reg bytes) (written, rest) p.1 in
     let less : reg < 15 = (let c = is_not reg 15 q.0 in omega (arith, small, c)) in
     specifier_as 4 mode reg reg bytes rest (specifier_bytes [] slot written) (GoodSpecifier written) (size_is mode 4 p.0) refl (index_back reg bytes rest written slot less octets q.1)
 back_by_4 slot mode reg bytes rest written sized high small octets (inr p) =
-    back_by_5 slot mode reg bytes rest written sized high small octets (pick (mode == 5) (if (reg == 15) || is_address slot.access then None else got (writtens.Register reg) bytes) (from_mode_8 slot mode reg bytes) (written, rest) p.1)
+    back_by_5 slot mode reg bytes rest written sized high small octets
+    (pick (mode == 5) (if (reg == 15) || is_address slot.access then None else got (writtens.Register reg) bytes) (from_mode_8 slot mode reg bytes) (written, rest) p.1)
 
 back_by_0 : (slot : Slot) (mode reg : ℕ) (bytes rest : List ℕ) (written : Written) → (slot.size ≡ 1) ⊎ (slot.size ≡ 2) ⊎ (slot.size ≡ 4) → mode < 16
     → reg < 16 → AreOctets bytes
-    → ((nat_lt mode 4 ≡ true) × ((if is_read slot.access then got (writtens.Literal (plain_number (16 * mode + reg))) bytes else None) ≡ Some (written, rest))) ⊎ ((nat_lt mode 4 ≡ false) × (from_mode_4 slot mode reg bytes ≡ Some (written, rest)))
+    → ((nat_lt mode 4 ≡ true) × ((if is_read slot.access then got (writtens.Literal (plain_number (16 * mode + reg))) bytes else None) ≡ Some (written, rest)))
+    ⊎ ((nat_lt mode 4 ≡ false) × (from_mode_4 slot mode reg bytes ≡ Some (written, rest)))
     → Backs slot mode reg bytes rest written
 back_by_0 slot mode reg bytes rest written sized high small octets (inl p) = literal_back slot mode reg bytes rest written (lt_of mode 4 p.0) small p.1
 back_by_0 slot mode reg bytes rest written sized high small octets (inr p) =
@@ -544,7 +571,8 @@ specifier_back : (slot : Slot) (mode reg : ℕ) (bytes rest : List ℕ) (written
     → mode < 16 → reg < 16 → AreOctets bytes → specifier_shown slot mode reg bytes ≡ Some (written, rest) → Backs slot mode reg bytes rest written
 unfolding specifier_shown
 specifier_back slot mode reg bytes rest written sized high small octets e =
-    back_by_0 slot mode reg bytes rest written sized high small octets (pick (nat_lt mode 4) (if is_read slot.access then got (writtens.Literal (plain_number (16 * mode + reg))) bytes else None) (from_mode_4 slot mode reg bytes) (written, rest) e)
+    back_by_0 slot mode reg bytes rest written sized high small octets
+    (pick (nat_lt mode 4) (if is_read slot.access then got (writtens.Literal (plain_number (16 * mode + reg))) bytes else None) (from_mode_4 slot mode reg bytes) (written, rest) e)
 
 -- ---- branches
 
@@ -569,7 +597,8 @@ target_by size bits end false two most small e =
     let by : ℕ = bits + (4294967296 - whole_of size) in
     let sum : end + bits + (4294967296 - whole_of size) ≡ end + (bits + (4294967296 - whole_of size)) = omega arith in
     let fits : bits + (4294967296 - whole_of size) < 4294967296 = omega (arith, most, small) in
-    ap (λ (n : ℕ). branch_bits size (distance (n % 4294967296) end)) sum ∙ ap (branch_bits size) (distance_back (bits + (4294967296 - whole_of size)) end fits) ∙ backwards size bits two most small large
+    ap (λ (n : ℕ). branch_bits size (distance (n % 4294967296) end)) sum ∙ ap (branch_bits size) (distance_back (bits + (4294967296 - whole_of size)) end fits)
+    ∙ backwards size bits two most small large
 
 target_back : (size bits end : ℕ) → (size ≡ 1) ⊎ (size ≡ 2) ⊎ (size ≡ 4) → bits < whole_of size
     → branch_bits size (distance (branch_target size bits end) end) ≡ Some bits
@@ -598,10 +627,12 @@ branch_back slot from bytes rest written sized octets e =
     let same : (writtens.Target (values.Number (plain_number (branch_target slot.size b.0.0 (from + slot.size)))), b.0.1) ≡ (written, rest) = some_same _ _ b.2 in
     let left : b.0.1 ≡ rest = ap (λ (x : Written × List ℕ). x.1) same in
     let begins = begins_number slot.size bytes b.0.0 b.0.1 sized octets b.1 in
-    written_as bytes rest (branch_bytes [] from slot) GoodTarget (writtens.Target (values.Number (plain_number (branch_target slot.size b.0.0 (from + slot.size))))) written (ap (λ (x : Written × List ℕ). x.0) same) (record {
+    written_as bytes rest (branch_bytes [] from slot) GoodTarget (writtens.Target (values.Number (plain_number (branch_target slot.size b.0.0 (from + slot.size))))) written
+    (ap (λ (x : Written × List ℕ). x.0) same) (record {
       front = to_le_bytes (width_of slot.size) b.0.0;
       split = begins.split ∙ ap (λ (l : List ℕ). to_le_bytes (width_of slot.size) b.0.0 ++ l) left;
-      spells = target_spells from slot (branch_target slot.size b.0.0 (from + slot.size)) b.0.0 (target_small slot.size b.0.0 (from + slot.size)) (target_back slot.size b.0.0 (from + slot.size) sized begins.small);
+      spells = target_spells from slot (branch_target slot.size b.0.0 (from + slot.size)) b.0.0 (target_small slot.size b.0.0 (from + slot.size))
+          (target_back slot.size b.0.0 (from + slot.size) sized begins.small);
       is_good = good_plain (branch_target slot.size b.0.0 (from + slot.size)) (target_small slot.size b.0.0 (from + slot.size));
     })
 
@@ -609,7 +640,8 @@ branch_back slot from bytes rest written sized octets e =
 
 operand_by : (slot : Slot) (from : ℕ) (bytes rest : List ℕ) (written : Written) (branch : Bool) → (slot.size ≡ 1) ⊎ (slot.size ≡ 2) ⊎ (slot.size ≡ 4)
     → AreOctets bytes
-    → (if branch then branch_shown slot from bytes else (byte_shown bytes >>= λ first. specifier_shown slot (first.0 / 16) (first.0 % 16) first.1)) ≡ Some (written, rest)
+    → (if branch then branch_shown slot from bytes else (byte_shown bytes >>= λ first. specifier_shown slot (first.0 / 16) (first.0 % 16) first.1))
+    ≡ Some (written, rest)
     → WrittenBack bytes rest (if branch then branch_bytes [] from slot written else specifier_bytes [] slot written) (GoodOperand branch written)
 unfolding byte_shown
 operand_by slot from bytes rest written true sized octets e = branch_back slot from bytes rest written sized octets e
@@ -621,7 +653,8 @@ operand_by slot from (first ∷ bytes) rest written false sized octets e =
 
 row_place_by : (slot : Slot) (from : ℕ) (bytes rest : List ℕ) (written : Written) (here : Bool) → (slot.size ≡ 1) ⊎ (slot.size ≡ 2) ⊎ (slot.size ≡ 4)
     → AreOctets bytes → (if here then operand_shown slot from bytes else got writtens.Absent bytes) ≡ Some (written, rest)
-    → WrittenBack bytes rest (if here then (if is_branch slot.access then branch_bytes [] from slot written else specifier_bytes [] slot written) else absent_bytes written) (GoodPlaceOfRow here (is_branch slot.access) written)
+    → WrittenBack bytes rest (if here then (if is_branch slot.access then branch_bytes [] from slot written else specifier_bytes [] slot written)
+    else absent_bytes written) (GoodPlaceOfRow here (is_branch slot.access) written)
 unfolding operand_shown
 row_place_by slot from bytes rest written true sized octets e = operand_by slot from bytes rest written (is_branch slot.access) sized octets e
 row_place_by slot from bytes rest written false sized octets e =
@@ -682,7 +715,8 @@ three_spell : (at : ℕ) (s : Sentence) (a b c : List ℕ) → operand_bytes [] 
     → sentence_bytes [] at s ≡ Some (s.row.op ∷ (a ++ (b ++ c)))
 unfolding sentence_bytes
 three_spell at s a b c e f g =
-    three_binds (operand_bytes [] (at + 1) s.row 0 s.a) (λ a. operand_bytes [] (at + 1 + length a) s.row 1 s.b) (λ a b. operand_bytes [] (at + 1 + length a + length b) s.row 2 s.c) (λ a b c. s.row.op ∷ (a ++ (b ++ c))) a b c e f g
+    three_binds (operand_bytes [] (at + 1) s.row 0 s.a) (λ a. operand_bytes [] (at + 1 + length a) s.row 1 s.b) (λ a b. operand_bytes [] (at + 1 + length a + length b) s.row 2 s.c)
+    (λ a b c. s.row.op ∷ (a ++ (b ++ c))) a b c e f g
 
 sentence_as : (at : ℕ) (bytes rest rest' : List ℕ) (s s' : Sentence) → s ≡ s' → rest ≡ rest' → SentenceBack at bytes rest s → SentenceBack at bytes rest' s'
 sentence_as at bytes rest rest' s s' e f h = subst (λ (x : Sentence). SentenceBack at bytes rest' x) e (subst (λ (l : List ℕ). SentenceBack at bytes l s) f h)
@@ -694,8 +728,10 @@ operands_back : (at first : ℕ) (bytes rest : List ℕ) (row : Row) (sentence :
     → operands_shown row (at + 1) bytes ≡ Some (sentence, rest) → SentenceBack at (first ∷ bytes) rest sentence
 unfolding operands_shown
 operands_back at first bytes rest row sentence octets listed e =
-    let a = bind_some (row_place_shown row 0 (at + 1) bytes) (λ a. row_place_shown row 1 (at + 1 + (length bytes - length a.1)) a.1 >>= λ b. row_place_shown row 2 (at + 1 + (length bytes - length b.1)) b.1 >>= λ c. got (made row a.0 b.0 c.0) c.1) (sentence, rest) e in
-    let b = bind_some (row_place_shown row 1 (at + 1 + (length bytes - length a.0.1)) a.0.1) (λ b. row_place_shown row 2 (at + 1 + (length bytes - length b.1)) b.1 >>= λ c. got (made row a.0.0 b.0 c.0) c.1) (sentence, rest) a.2 in
+    let a = bind_some (row_place_shown row 0 (at + 1) bytes) (λ a. row_place_shown row 1 (at + 1 + (length bytes - length a.1)) a.1 >>= λ b.
+    row_place_shown row 2 (at + 1 + (length bytes - length b.1)) b.1 >>= λ c. got (made row a.0 b.0 c.0) c.1) (sentence, rest) e in
+    let b = bind_some (row_place_shown row 1 (at + 1 + (length bytes - length a.0.1)) a.0.1)
+    (λ b. row_place_shown row 2 (at + 1 + (length bytes - length b.1)) b.1 >>= λ c. got (made row a.0.0 b.0 c.0) c.1) (sentence, rest) a.2 in
     let c = bind_some (row_place_shown row 2 (at + 1 + (length bytes - length b.0.1)) b.0.1) (λ c. got (made row a.0.0 b.0.0 c.0) c.1) (sentence, rest) b.2 in
     let same : (made row a.0.0 b.0.0 c.0.0, c.0.1) ≡ (sentence, rest) = some_same _ _ c.2 in
     let one = row_place_back row 0 (at + 1) bytes a.0.1 a.0.0 octets a.1 in

@@ -108,7 +108,8 @@ unfolding branch_shown
 same_branch slot from bytes = same_bind (number_shown slot.size bytes) (signed_at slot.size bytes) _ _ (same_signed slot.size bytes) (λ x y rest. refl)
 
 same_with_specifier : (slot : Slot) (bytes : List ℕ)
-    → Same (byte_shown bytes >>= λ first. specifier_shown slot (first.0 / 16) (first.0 % 16) first.1) (Reading.◌>>=◌ (byte_at bytes) (λ first. specifier_at slot (first.0 / 16) (first.0 % 16) first.1))
+    → Same (byte_shown bytes >>= λ first. specifier_shown slot (first.0 / 16) (first.0 % 16) first.1)
+    (Reading.◌>>=◌ (byte_at bytes) (λ first. specifier_at slot (first.0 / 16) (first.0 % 16) first.1))
 unfolding byte_shown byte_at
 same_with_specifier slot [] = tt
 same_with_specifier slot (first ∷ rest) = same_specifier slot (first / 16) (first % 16) rest

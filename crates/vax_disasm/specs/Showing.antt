@@ -206,7 +206,8 @@ row_place_text row place written = if nat_lt place row.count then separator plac
 -- the text of an instruction: its mnemonic, and its operands
 unfoldable pub sentence_text : Sentence → List ℕ
 sentence_text sentence =
-    mnemonic sentence.row.name ++ (row_place_text sentence.row 0 sentence.a ++ (row_place_text sentence.row 1 sentence.b ++ row_place_text sentence.row 2 sentence.c))
+    mnemonic sentence.row.name
+    ++ (row_place_text sentence.row 0 sentence.a ++ (row_place_text sentence.row 1 sentence.b ++ row_place_text sentence.row 2 sentence.c))
 
 -- The text is that of the instruction, of so many bytes, that the bytes at an address begin with, and names these bytes
 -- again.

@@ -37,7 +37,8 @@ impl Memory for Bytes {
 
     ghost wrote_none = { λ m. refl };
 
-    ghost wrote_more = { λ a b c xs ys first second. second ∙ ap (λ m. written m ys) first ∙ sym (written-append (array_answers a.bytes.items (2 ^ 32)) xs ys) };
+    ghost wrote_more = { λ a b c xs ys first second. second ∙ ap (λ m. written m ys) first
+        ∙ sym (written-append (array_answers a.bytes.items (2 ^ 32)) xs ys) };
 
     ghost wrote_answers = { λ a b xs h. h };
 

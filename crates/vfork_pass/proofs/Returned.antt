@@ -105,7 +105,8 @@ module _ (k : Kernel) (ps : List Record) (next child : ℕ) (is : k.processes �
       go false true i j = refl
       go false false i j =
           lends_shown child x.state
-          ∙ other (lends_to child x) (λ e. true_false (x.pid == lender_among k.processes child) (ap (λ (m : ℕ). m == lender_among k.processes child) e ∙ eq_self (lender_among k.processes child)) j) refl
+          ∙ other (lends_to child x)
+          (λ e. true_false (x.pid == lender_among k.processes child) (ap (λ (m : ℕ). m == lender_among k.processes child) e ∙ eq_self (lender_among k.processes child)) j) refl
 
   pub has_returned : HasGivenBack k (pass_step k child (lender_among k.processes child)) child (lender_among k.processes child)
   has_returned =

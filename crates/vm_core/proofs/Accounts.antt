@@ -28,7 +28,8 @@ module _ (A : Inputs) (s t : State) (k l : Kernel) (image : List ℕ) (us : List
   pub leads_swapped : (behind : List ℕ) → j ≡ Some behind → behind ≡ swapped_from A s us image
   leads_swapped behind told = same_Some behind (swapped_from A s us image) (sym told ∙ leads_told A s t k l image us j at leads)
 
-pub stop_accounted : (A : Inputs) (s : State) (k : Kernel) (image : List ℕ) (stop : Stop) (new : Standing) (j : Option (List ℕ)) → At A s k image → length s.point.flat.processes ≤ 64
+pub stop_accounted : (A : Inputs) (s : State) (k : Kernel) (image : List ℕ) (stop : Stop) (new : Standing) (j : Option (List ℕ)) → At A s k image
+    → length s.point.flat.processes ≤ 64
     → StopLeads A s k image stop new j → StopsAccounted A s k image stop new j
 stop_accounted A s k image stop new j at crowd x = record {
   led = x;

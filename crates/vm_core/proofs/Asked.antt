@@ -39,10 +39,12 @@ use Rattle.vm_core.proofs.Steadying.{steady_ready, steady_self, continues_steady
 
 -- The end of a transfer.
 
-some_still : (A : Inputs) (s : State) (m : Standing) (holds : Option (List NamedFile)) (i : Option (List ℕ)) (image : List ℕ) → LineAt A s m holds i image events.Interrupt → m.kernel.place.transfers ≡ s.place.transfers
+some_still : (A : Inputs) (s : State) (m : Standing) (holds : Option (List NamedFile)) (i : Option (List ℕ)) (image : List ℕ)
+    → LineAt A s m holds i image events.Interrupt → m.kernel.place.transfers ≡ s.place.transfers
 some_still A s m holds i image at = ap (λ (p : Placement). p.transfers) at.machine.at.stands.place
 
-idle_makes : (old : Standing) (holds : Option (List NamedFile)) (i j : Option (List ℕ)) → old.kernel.place.transfers ≡ [] → ImageAfter old.kernel i j → MakesLine events.Interrupt old old holds i j
+idle_makes : (old : Standing) (holds : Option (List NamedFile)) (i j : Option (List ℕ)) → old.kernel.place.transfers ≡ [] → ImageAfter old.kernel i j
+    → MakesLine events.Interrupt old old holds i j
 idle_makes old holds i j none after A s image at =
     let told : j ≡ Some image =
     subst (λ (o : Option (List ℕ)). ImageAfter old.kernel o j) at.told after
@@ -58,19 +60,24 @@ idle_makes old holds i j none after A s image at =
       unturned = ap last_turned (at.mark ∙ ap interrupt_mark (sym (some_still A s old holds i image at) ∙ none));
     }
 
-done_makes : (old new : Standing) (holds : Option (List NamedFile)) (i j : Option (List ℕ)) → IsDone (sources old holds) i old.kernel new.kernel → ImageAfter old.kernel i j → MakesLine events.Interrupt old new holds i j
+done_makes : (old new : Standing) (holds : Option (List NamedFile)) (i j : Option (List ℕ)) → IsDone (sources old holds) i old.kernel new.kernel
+    → ImageAfter old.kernel i j → MakesLine events.Interrupt old new holds i j
 done_makes old new holds i j d after A s image at =
     interrupt_made A s old new.kernel holds image j at.machine at.clear at.mark (subst (λ (ts : List Transfer). 0 < length ts) (some_still A s old holds i image at) d.some)
     (subst (λ (o : Option (List ℕ)). IsDone (sources old holds) o old.kernel new.kernel) at.told d) (subst (λ (o : Option (List ℕ)). ImageAfter old.kernel o j) at.told after)
 
-pub interrupt_makes : (old new : Standing) (holds : Option (List NamedFile)) (i j : Option (List ℕ)) (r : Result Bool Stop) (b : Bool) → r ≡ Ok b → ((r ≡ Ok false) ↔ (old.kernel.place.transfers ≡ []))
-    → (r ≡ Ok false → new ≡ old) → (r ≡ Ok true → IsDone (sources old holds) i old.kernel new.kernel) → ImageAfter old.kernel i j → MakesLine events.Interrupt old new holds i j
+pub interrupt_makes : (old new : Standing) (holds : Option (List NamedFile)) (i j : Option (List ℕ)) (r : Result Bool Stop) (b : Bool) → r ≡ Ok b
+    → ((r ≡ Ok false) ↔ (old.kernel.place.transfers ≡ []))
+    → (r ≡ Ok false → new ≡ old) → (r ≡ Ok true → IsDone (sources old holds) i old.kernel new.kernel) → ImageAfter old.kernel i j
+    → MakesLine events.Interrupt old new holds i j
 interrupt_makes old new holds i j r false e idle still step after =
     subst (λ (m : Standing). MakesLine events.Interrupt old m holds i j) (sym (still e)) (idle_makes old holds i j (idle.0 e) after)
 interrupt_makes old new holds i j r true e idle still step after = done_makes old new holds i j (step e) after
 
-pub interrupt_steady : (old new : Standing) (holds : Option (List NamedFile)) (i : Option (List ℕ)) (r : Result Bool Stop) (b : Bool) → IsSteady old → r ≡ Ok b → (r ≡ Ok false → new ≡ old)
-    → (r ≡ Ok true → IsDone (sources old holds) i old.kernel new.kernel) → (r ≡ Ok true → new ≡ record old { kernel = new.kernel; room = None }) → StaysSteady old new 0
+pub interrupt_steady : (old new : Standing) (holds : Option (List NamedFile)) (i : Option (List ℕ)) (r : Result Bool Stop) (b : Bool) → IsSteady old → r ≡ Ok b
+    → (r ≡ Ok false → new ≡ old)
+    → (r ≡ Ok true → IsDone (sources old holds) i old.kernel new.kernel)
+    → (r ≡ Ok true → new ≡ record old { kernel = new.kernel; room = None }) → StaysSteady old new 0
 interrupt_steady old new holds i r false s e still step rest = subst (λ (m : Standing). StaysSteady old m 0) (sym (still e)) (steady_self old s)
 interrupt_steady old new holds i r true s e still step rest =
     continues_steady old new 0 s (done_continues old new (sources old holds) i (steady_ready old s) (step e) (rest e))
@@ -84,57 +91,76 @@ some_flight stops.FileFault [] h = absurd h
 some_flight stops.SwapReadFault [] h = absurd h
 some_flight stops.SwapWriteFault [] h = absurd h
 
-interrupt_ends : (old new : Standing) (holds : Option (List NamedFile)) (i j : Option (List ℕ)) (stop : Stop) → 0 < length old.kernel.place.transfers → StopsEnding old new i j stop
+interrupt_ends : (old new : Standing) (holds : Option (List NamedFile)) (i j : Option (List ℕ)) (stop : Stop) → 0 < length old.kernel.place.transfers
+    → StopsEnding old new i j stop
     → StopsLine events.Interrupt old new holds i j stop
 interrupt_ends old new holds i j stop some x A s image at =
     interrupt_stops A s old new holds image j stop at.machine at.clear at.mark (subst (λ (ts : List Transfer). 0 < length ts) (some_still A s old holds i image at) some)
     (subst (λ (o : Option (List ℕ)). StopsEnding old new o j stop) at.told x)
 
-pub interrupt_halts : (old new : Standing) (holds : Option (List NamedFile)) (i j : Option (List ℕ)) (stop : Stop) → old.before ≡ old.kernel.holdings → HasStopped old new → (let r : Result Bool Stop = Err stop in StopsFor r old.kernel.place.transfers)
-    → (let r : Result Bool Stop = Err stop in (r ≡ Err stops.JournalFull) ↔ ((0 < length old.kernel.place.transfers) × (old.params.journal ≤ length old.kernel.journal)))
-    → (let r : Result Bool Stop = Err stop in LosesFor r old new) → (let r : Result Bool Stop = Err stop in SwapAfter r old.kernel i j) → StopsLine events.Interrupt old new holds i j stop
+pub interrupt_halts : (old new : Standing) (holds : Option (List NamedFile)) (i j : Option (List ℕ)) (stop : Stop) → old.before ≡ old.kernel.holdings
+    → HasStopped old new → (let r : Result Bool Stop = Err stop in StopsFor r old.kernel.place.transfers)
+    → (let r : Result Bool Stop = Err stop in
+    (r ≡ Err stops.JournalFull) ↔ ((0 < length old.kernel.place.transfers) × (old.params.journal ≤ length old.kernel.journal)))
+    → (let r : Result Bool Stop = Err stop in LosesFor r old new) → (let r : Result Bool Stop = Err stop in SwapAfter r old.kernel i j)
+    → StopsLine events.Interrupt old new holds i j stop
 interrupt_halts old new holds i j stop w h c f lost x =
     interrupt_ends old new holds i j stop (some_flight stop old.kernel.place.transfers c)
-    (record { stopped = h; whole = w; full = (λ e. f.0 (ap (λ (s : Stop). let r : Result Bool Stop = Err s in r) e), λ e. same_error {T = Bool} stop stops.JournalFull (f.1 e)); cause = c; lost = lost; image = x })
+    (record {
+      stopped = h;
+      whole = w;
+      full = (λ e. f.0 (ap (λ (s : Stop). let r : Result Bool Stop = Err s in r) e), λ e. same_error {T = Bool} stop stops.JournalFull (f.1 e));
+      cause = c;
+      lost = lost;
+      image = x;
+    })
 
 -- Moves of the hands.
 
-pub hands_make : (old new : Standing) (holds : Option (List NamedFile)) (i j : Option (List ℕ)) (n made : ℕ) → Moved n old new made holds i j → MakesLine (events.Hands n) old new holds i j
+pub hands_make : (old new : Standing) (holds : Option (List NamedFile)) (i j : Option (List ℕ)) (n made : ℕ) → Moved n old new made holds i j
+    → MakesLine (events.Hands n) old new holds i j
 hands_make old new holds i j n made m A s image at =
     hands_made A s old new holds image j n made at.machine at.clear at.mark (subst (λ (o : Option (List ℕ)). Moved n old new made holds o j) at.told m)
 
-pub hands_steady : (old new : Standing) (holds : Option (List NamedFile)) (i j : Option (List ℕ)) (n made : ℕ) → IsSteady old → last_moves old.kernel.journal ≡ 0 → n ≤ 1000000 → Moved n old new made holds i j
+pub hands_steady : (old new : Standing) (holds : Option (List NamedFile)) (i j : Option (List ℕ)) (n made : ℕ) → IsSteady old
+    → last_moves old.kernel.journal ≡ 0 → n ≤ 1000000 → Moved n old new made holds i j
     → StaysSteady old new 0
 hands_steady old new holds i j n made s first few m =
     moved_steady old new made s (moves_continue old new n made holds i j (steady_ready old s) m) first (let most = m.most in omega arith)
     (moved_keeps n old new made holds i j m s.holders)
 
-pub hands_halt : (old new : Standing) (holds : Option (List NamedFile)) (i j : Option (List ℕ)) (n : ℕ) (stop : Stop) → StopsMoving n old stop new holds i j → StopsLine (events.Hands n) old new holds i j stop
+pub hands_halt : (old new : Standing) (holds : Option (List NamedFile)) (i j : Option (List ℕ)) (n : ℕ) (stop : Stop) → StopsMoving n old stop new holds i j
+    → StopsLine (events.Hands n) old new holds i j stop
 hands_halt old new holds i j n stop x A s image at =
     hands_stop A s old new holds image j n stop at.machine at.clear at.mark (subst (λ (o : Option (List ℕ)). StopsMoving n old stop new holds o j) at.told x)
 
 -- A turn of the swapper.
 
-pub swapper_makes : (old new : Standing) (holds : Option (List NamedFile)) (i j : Option (List ℕ)) (t : Turned) → choice_of t ≡ swap_choice old.kernel.place (runners_of old.kernel) → Turns t old new holds i j
+pub swapper_makes : (old new : Standing) (holds : Option (List NamedFile)) (i j : Option (List ℕ)) (t : Turned)
+    → choice_of t ≡ swap_choice old.kernel.place (runners_of old.kernel) → Turns t old new holds i j
     → MakesLine events.Swapper old new holds i j
 swapper_makes old new holds i j t c x A s image at =
     swapper_made A s old new holds image j t at.machine at.clear at.fit at.mark c (subst (λ (o : Option (List ℕ)). Turns t old new holds o j) at.told x)
 
-pub swapper_steady : (old new : Standing) (holds : Option (List NamedFile)) (i j : Option (List ℕ)) (t : Turned) → IsSteady old → Turns t old new holds i j → StaysSteady old new 0
+pub swapper_steady : (old new : Standing) (holds : Option (List NamedFile)) (i j : Option (List ℕ)) (t : Turned) → IsSteady old
+    → Turns t old new holds i j → StaysSteady old new 0
 swapper_steady old new holds i j t s x =
     continues_steady old new 0 s (turn_continues t old new holds i j (steady_ready old s) x) (turn_keeps t old new holds i j x s.holders)
 
 pub swapper_halts : (old new : Standing) (holds : Option (List NamedFile)) (i j : Option (List ℕ)) (stop : Stop)
-    → ((t : Turned) × (choice_of t ≡ swap_choice old.kernel.place (runners_of old.kernel)) × StopsTurning t old stop new holds i j) → StopsLine events.Swapper old new holds i j stop
+    → ((t : Turned) × (choice_of t ≡ swap_choice old.kernel.place (runners_of old.kernel)) × StopsTurning t old stop new holds i j)
+    → StopsLine events.Swapper old new holds i j stop
 swapper_halts old new holds i j stop x A s image at =
     swapper_stops A s old new holds image j x.0 stop at.machine at.clear at.mark x.1 (subst (λ (o : Option (List ℕ)). StopsTurning x.0 old stop new holds o j) at.told x.2)
 
 -- Numbers of frames and blocks.
 
-pub audit_makes : (old new : Standing) (holds : Option (List NamedFile)) (i : Option (List ℕ)) → new.kernel ≡ note_step old.kernel (owners_of old.kernel.place old.kernel.holdings) → MakesLine events.Audit old new holds i i
+pub audit_makes : (old new : Standing) (holds : Option (List NamedFile)) (i : Option (List ℕ))
+    → new.kernel ≡ note_step old.kernel (owners_of old.kernel.place old.kernel.holdings) → MakesLine events.Audit old new holds i i
 audit_makes old new holds i k A s image at =
     subst (λ (o : Option (List ℕ)). LineLeads A s old.kernel image new.kernel o) (sym at.told) (audit_made A s old new.kernel holds image at.machine at.clear at.mark k)
 
-pub audit_halts : (old new : Standing) (holds : Option (List NamedFile)) (i : Option (List ℕ)) (stop : Stop) → StopsNoting old new stop → StopsLine events.Audit old new holds i i stop
+pub audit_halts : (old new : Standing) (holds : Option (List NamedFile)) (i : Option (List ℕ)) (stop : Stop) → StopsNoting old new stop
+    → StopsLine events.Audit old new holds i i stop
 audit_halts old new holds i stop x A s image at =
     subst (λ (o : Option (List ℕ)). StopLeads A s old.kernel image stop new o) (sym at.told) (audit_stops A s old new holds image stop at.machine at.clear at.mark x)

@@ -66,7 +66,8 @@ turns_on (u ∷ us) vs = let more = turns_on us vs in omega arith
 
 -- The phase begins.
 
-idle_none : (A : Inputs) (s : State) (m : Standing) (holds : Option (List NamedFile)) (i : Option (List ℕ)) (image : List ℕ) (count : ℕ) → StandsIn A s m holds i image count → length A.lines ≡ s.lines → IdleSince A s 0
+idle_none : (A : Inputs) (s : State) (m : Standing) (holds : Option (List NamedFile)) (i : Option (List ℕ)) (image : List ℕ) (count : ℕ)
+    → StandsIn A s m holds i image count → length A.lines ≡ s.lines → IdleSince A s 0
 idle_none A s m holds i image count st lines = record {
   from = s;
   run = st.machine.at.run;
@@ -93,7 +94,8 @@ closing_starts m counted holds i A s image at = record {
 
 -- It goes on by a turn.
 
-turn_due : (A : Inputs) (t : State) (m : Standing) (holds : Option (List NamedFile)) (i : Option (List ℕ)) (image : List ℕ) (count last pid : ℕ) → StandsIn A t m holds i image count → IsOver A t
+turn_due : (A : Inputs) (t : State) (m : Standing) (holds : Option (List NamedFile)) (i : Option (List ℕ)) (image : List ℕ) (count last pid : ℕ)
+    → StandsIn A t m holds i image count → IsOver A t
     → length A.lines ≡ t.lines → last_turned t.mark ≡ last → chosen_next m.kernel last ≡ Some pid → count < m.params.limit → TurnDue A t pid
 turn_due A t m holds i image count last pid st over lines turned next below = record {
   over = over;
@@ -102,7 +104,8 @@ turn_due A t m holds i image count last pid st over lines turned next below = re
   turned = ap (next_turned t.point.flat) turned ∙ sym (turned_same m.kernel t.point.flat last st.machine.at.stands.keeps.coupled.tables) ∙ next;
 }
 
-idle_on : (A : Inputs) (t r : State) (m : Standing) (holds : Option (List NamedFile)) (i : Option (List ℕ)) (image : List ℕ) (count idle now : ℕ) (pid : ℕ) (us : List Entry) → StandsIn A r m holds i image count
+idle_on : (A : Inputs) (t r : State) (m : Standing) (holds : Option (List NamedFile)) (i : Option (List ℕ)) (image : List ℕ) (count idle now : ℕ) (pid : ℕ)
+    (us : List Entry) → StandsIn A r m holds i image count
     → length A.lines ≡ r.lines → IdleSince A t idle → Follows A t (entries.Turn pid ∷ us) r → CountsTurn t.count r.count idle now → IdleSince A r now
 idle_on A t r m holds i image count idle now pid us st lines since f (inl e) = subst (λ (n : ℕ). IdleSince A r n) (sym e) (idle_none A r m holds i image count st lines)
 idle_on A t r m holds i image count idle now pid us st lines since f (inr e) =
@@ -121,12 +124,16 @@ idle_on A t r m holds i image count idle now pid us st lines since f (inr e) =
       many = omega arith;
     }
 
-pub closing_on : (old mid new : Standing) (holds : Option (List NamedFile)) (i h j : Option (List ℕ)) (counted count last idle pid more now : ℕ) → ClosesTo old mid counted count last idle holds i h
-    → chosen_next mid.kernel last ≡ Some pid → count < mid.params.limit → HasTurn mid new pid count more holds h j → CountsTurn count more idle now → ClosesTo old new counted more pid now holds i j
+pub closing_on : (old mid new : Standing) (holds : Option (List NamedFile)) (i h j : Option (List ℕ)) (counted count last idle pid more now : ℕ)
+    → ClosesTo old mid counted count last idle holds i h
+    → chosen_next mid.kernel last ≡ Some pid → count < mid.params.limit → HasTurn mid new pid count more holds h j → CountsTurn count more idle now
+    → ClosesTo old new counted more pid now holds i j
 closing_on old mid new holds i h j counted count last idle pid more now f next below had kind A s image at =
     let c = f A s image at in
-    let d : TurnHad A c.state mid new holds c.behind j pid more = had A c.state c.behind c.stands (turn_due A c.state mid holds h c.behind count last pid c.stands c.over c.lines c.turned next below) in
-    let first : Leads A s old.kernel image c.units c.state mid.kernel (Some c.behind) = subst (λ (o : Option (List ℕ)). Leads A s old.kernel image c.units c.state mid.kernel o) c.stands.told c.leads in
+    let d : TurnHad A c.state mid new holds c.behind j pid more =
+    had A c.state c.behind c.stands (turn_due A c.state mid holds h c.behind count last pid c.stands c.over c.lines c.turned next below) in
+    let first : Leads A s old.kernel image c.units c.state mid.kernel (Some c.behind) =
+    subst (λ (o : Option (List ℕ)). Leads A s old.kernel image c.units c.state mid.kernel o) c.stands.told c.leads in
     let lines : length A.lines ≡ d.state.lines = c.lines ∙ sym d.lines in
     let follows : Follows A c.state (entries.Turn pid ∷ d.more) d.state = makes_follows A (entries.Turn pid ∷ d.more) c.state d.state mid.kernel new.kernel c.behind d.leads.behind d.leads.makes in
     record {
@@ -143,8 +150,10 @@ closing_on old mid new holds i h j counted count last idle pid more now f next b
           (subst (λ (n : ℕ). CountsTurn n d.state.count idle now) (sym c.stands.count) (subst (λ (n : ℕ). CountsTurn count n idle now) (sym d.stands.count) kind));
     }
 
-pub closing_stops : (old mid new : Standing) (holds : Option (List NamedFile)) (i h j : Option (List ℕ)) (counted count last idle pid : ℕ) (stop : Stop) → ClosesTo old mid counted count last idle holds i h
-    → chosen_next mid.kernel last ≡ Some pid → count < mid.params.limit → StopsTurn mid new pid count holds h j stop → StopsClosing old new counted holds i j stop
+pub closing_stops : (old mid new : Standing) (holds : Option (List NamedFile)) (i h j : Option (List ℕ)) (counted count last idle pid : ℕ) (stop : Stop)
+    → ClosesTo old mid counted count last idle holds i h
+    → chosen_next mid.kernel last ≡ Some pid → count < mid.params.limit → StopsTurn mid new pid count holds h j stop
+    → StopsClosing old new counted holds i j stop
 closing_stops old mid new holds i h j counted count last idle pid stop f next below x A s image at =
     let c = f A s image at in
     leads_to_stop A s c.state old.kernel mid.kernel image c.behind c.units stop new j (subst (λ (o : Option (List ℕ)). Leads A s old.kernel image c.units c.state mid.kernel o) c.stands.told c.leads)
@@ -152,7 +161,8 @@ closing_stops old mid new holds i h j counted count last idle pid stop f next be
 
 -- It ends.
 
-none_comes : (A : Inputs) (t : State) → IsOver A t → length A.lines ≡ t.lines → (A.limit ≤ t.count) ⊎ (next_turned t.point.flat (last_turned t.mark) ≡ None) → next_unit A t ≡ None
+none_comes : (A : Inputs) (t : State) → IsOver A t → length A.lines ≡ t.lines
+    → (A.limit ≤ t.count) ⊎ (next_turned t.point.flat (last_turned t.mark) ≡ None) → next_unit A t ≡ None
 unfolding next_unit
 none_comes A t o lines h =
     ap (λ (ds : List Due). or_else (due_unit t.place ds) (or_else (under A t t.mark) (next_mark A t))) o.clear
@@ -173,7 +183,8 @@ none_comes A t o lines h =
     mark (inr e) = ap (λ (b : Bool). when (nat_lt t.count A.limit) (line_or_turn t b)) behind ∙ by (nat_lt t.count A.limit) e
 
 -- no more than 64 turns in a row count nothing
-few_idle : (A : Inputs) (t : State) (m : Standing) (holds : Option (List NamedFile)) (i : Option (List ℕ)) (image : List ℕ) (count idle : ℕ) → StandsIn A t m holds i image count → IdleSince A t idle → idle ≤ 64
+few_idle : (A : Inputs) (t : State) (m : Standing) (holds : Option (List NamedFile)) (i : Option (List ℕ)) (image : List ℕ) (count idle : ℕ)
+    → StandsIn A t m holds i image count → IdleSince A t idle → idle ≤ 64
 few_idle A t m holds i image count idle st since =
     let few = few_turns A since.from t since.units st.machine.at.fit since.run since.lines since.follows since.none in
     let most = count_most since.from.point.flat.processes in
@@ -181,7 +192,8 @@ few_idle A t m holds i image count idle st since =
     let crowd = since.crowd in
     omega arith
 
-pub closing_ends : (old new : Standing) (holds : Option (List NamedFile)) (i j : Option (List ℕ)) (counted count last idle : ℕ) → ClosesTo old new counted count last idle holds i j → EndsPhase new count last idle
+pub closing_ends : (old new : Standing) (holds : Option (List NamedFile)) (i j : Option (List ℕ)) (counted count last idle : ℕ)
+    → ClosesTo old new counted count last idle holds i j → EndsPhase new count last idle
     → Closes old new counted count holds i j
 closing_ends old new holds i j counted count last idle f e A s image at =
     let c = f A s image at in
@@ -204,13 +216,16 @@ closing_ends old new holds i j counted count last idle f e A s image at =
 
 -- Of a run.
 
-lines_are : (A : Inputs) (s : State) (c : Underway) (holds : Option (List NamedFile)) (i : Option (List ℕ)) (image : List ℕ) → CoreAt A s c holds i image → length A.lines ≡ s.lines
+lines_are : (A : Inputs) (s : State) (c : Underway) (holds : Option (List NamedFile)) (i : Option (List ℕ)) (image : List ℕ) → CoreAt A s c holds i image
+    → length A.lines ≡ s.lines
     → LinesAre A s c.machine holds i image c.counted
 lines_are A s c holds i image at lines = record { stands = at.stands; over = at.over; lines = lines; unturned = at.unturned }
 
-pub run_closes : (old new : Underway) (holds : Option (List NamedFile)) (i j : Option (List ℕ)) → Closes old.machine new.machine old.counted new.counted holds i j → ClosesRun old new holds i j
+pub run_closes : (old new : Underway) (holds : Option (List NamedFile)) (i j : Option (List ℕ))
+    → Closes old.machine new.machine old.counted new.counted holds i j → ClosesRun old new holds i j
 run_closes old new holds i j f A s image at lines = f A s image (lines_are A s old holds i image at lines)
 
-pub run_stops : (old new : Underway) (holds : Option (List NamedFile)) (i j : Option (List ℕ)) (stop : Stop) → StopsClosing old.machine new.machine old.counted holds i j stop → StopsClosingRun old new holds i j stop
+pub run_stops : (old new : Underway) (holds : Option (List NamedFile)) (i j : Option (List ℕ)) (stop : Stop)
+    → StopsClosing old.machine new.machine old.counted holds i j stop → StopsClosingRun old new holds i j stop
 run_stops old new holds i j stop f A s image at lines =
     stop_accounted A s old.machine.kernel image stop new.machine j at.stands.machine.at at.stands.crowd (f A s image (lines_are A s old holds i image at lines))

@@ -13,7 +13,8 @@ use Rattle.proc_run.specs.Running.{UnderMark, Runs, StopsRunning}
 use Rattle.vm_core.specs.Cores.{AskedAt, CarriesOut, StopsCarrying}
 use Rattle.vm_core.specs.Closing.{TurnAt, FinishesTurn, StopsFinishing}
 
-dispatched : (A : Inputs) (s : State) (m : Standing) (holds : Option (List NamedFile)) (i : Option (List ℕ)) (image : List ℕ) (pid n counted until : ℕ) → until ≡ min (counted + n) m.params.limit
+dispatched : (A : Inputs) (s : State) (m : Standing) (holds : Option (List NamedFile)) (i : Option (List ℕ)) (image : List ℕ) (pid n counted until : ℕ)
+    → until ≡ min (counted + n) m.params.limit
     → AskedAt A s m holds i image counted (events.Dispatch pid n) → UnderMark A s m holds i image pid false counted until
 dispatched A s m holds i image pid n counted until u at = record {
   machine = at.stands.machine;
@@ -24,17 +25,28 @@ dispatched A s m holds i image pid n counted until u at = record {
   asks = (n, s.count, at.mark, u ∙ ap (min (counted + n)) (sym at.stands.inputs.limit) ∙ ap (λ (c : ℕ). min (c + n) A.limit) (sym at.stands.count));
 }
 
-pub dispatch_done : (old new : Standing) (holds : Option (List NamedFile)) (i j : Option (List ℕ)) (pid n counted until count : ℕ) → until ≡ min (counted + n) old.params.limit
+pub dispatch_done : (old new : Standing) (holds : Option (List NamedFile)) (i j : Option (List ℕ)) (pid n counted until count : ℕ)
+    → until ≡ min (counted + n) old.params.limit
     → Runs old new pid false counted until holds i j count → CarriesOut old new counted count (events.Dispatch pid n) holds i j
 dispatch_done old new holds i j pid n counted until count u f A s image at =
     let l = f A s image (dispatched A s old holds i image pid n counted until u at) in
-    record { units = l.units; state = l.state; leads = l.leads; over = record { clear = l.clear.clear; between = l.clear.between; over = l.over (λ e. absurd cc) }; unturned = ap last_turned (l.mark ∙ at.mark); counts = l.counts; lines = l.lines }
+    record {
+      units = l.units;
+      state = l.state;
+      leads = l.leads;
+      over = record { clear = l.clear.clear; between = l.clear.between; over = l.over (λ e. absurd cc) };
+      unturned = ap last_turned (l.mark ∙ at.mark);
+      counts = l.counts;
+      lines = l.lines;
+    }
 
-pub dispatch_stops : (old new : Standing) (holds : Option (List NamedFile)) (i j : Option (List ℕ)) (pid n counted until : ℕ) (stop : Stop) → until ≡ min (counted + n) old.params.limit
+pub dispatch_stops : (old new : Standing) (holds : Option (List NamedFile)) (i j : Option (List ℕ)) (pid n counted until : ℕ) (stop : Stop)
+    → until ≡ min (counted + n) old.params.limit
     → StopsRunning old new pid false counted until holds i j stop → StopsCarrying old new counted (events.Dispatch pid n) holds i j stop
 dispatch_stops old new holds i j pid n counted until stop u f A s image at = f A s image (dispatched A s old holds i image pid n counted until u at)
 
-turning : (A : Inputs) (s : State) (m : Standing) (holds : Option (List NamedFile)) (i : Option (List ℕ)) (image : List ℕ) (pid counted since until : ℕ) → until ≡ min (since + turn_instructions) m.params.limit
+turning : (A : Inputs) (s : State) (m : Standing) (holds : Option (List NamedFile)) (i : Option (List ℕ)) (image : List ℕ) (pid counted since until : ℕ)
+    → until ≡ min (since + turn_instructions) m.params.limit
     → TurnAt A s m holds i image counted since pid → UnderMark A s m holds i image pid true counted until
 turning A s m holds i image pid counted since until u at = record {
   machine = at.stands.machine;
@@ -45,12 +57,26 @@ turning A s m holds i image pid counted since until u at = record {
   asks = (since, at.mark, u ∙ ap (min (since + turn_instructions)) (sym at.stands.inputs.limit));
 }
 
-pub finish_done : (old new : Standing) (holds : Option (List NamedFile)) (i j : Option (List ℕ)) (pid counted since until count : ℕ) → until ≡ min (since + turn_instructions) old.params.limit
+pub finish_done : (old new : Standing) (holds : Option (List NamedFile)) (i j : Option (List ℕ)) (pid counted since until count : ℕ)
+    → until ≡ min (since + turn_instructions) old.params.limit
     → Runs old new pid true counted until holds i j count → FinishesTurn old new pid counted since count holds i j
 finish_done old new holds i j pid counted since until count u f A s image at in_ =
     let l = f A s image (turning A s old holds i image pid counted since until u at) in
-    record { units = l.units; state = l.state; leads = l.leads; over = record { clear = l.clear.clear; between = l.clear.between; over = l.over (λ e. closing_stays_in A s l.state old.kernel new.kernel image j l.units pid pid (record { since = since; mark = at.mark; lines = at.lines }) l.leads in_) }; counts = l.counts; lines = l.lines; turned = ap last_turned (l.mark ∙ at.mark) }
+    record {
+      units = l.units;
+      state = l.state;
+      leads = l.leads;
+      over = record {
+        clear = l.clear.clear;
+        between = l.clear.between;
+        over = l.over (λ e. closing_stays_in A s l.state old.kernel new.kernel image j l.units pid pid (record { since = since; mark = at.mark; lines = at.lines }) l.leads in_);
+      };
+      counts = l.counts;
+      lines = l.lines;
+      turned = ap last_turned (l.mark ∙ at.mark);
+    }
 
-pub finish_stops : (old new : Standing) (holds : Option (List NamedFile)) (i j : Option (List ℕ)) (pid counted since until : ℕ) (stop : Stop) → until ≡ min (since + turn_instructions) old.params.limit
+pub finish_stops : (old new : Standing) (holds : Option (List NamedFile)) (i j : Option (List ℕ)) (pid counted since until : ℕ) (stop : Stop)
+    → until ≡ min (since + turn_instructions) old.params.limit
     → StopsRunning old new pid true counted until holds i j stop → StopsFinishing old new pid counted since holds i j stop
 finish_stops old new holds i j pid counted since until stop u f A s image at in_ = f A s image (turning A s old holds i image pid counted since until u at)

@@ -35,7 +35,8 @@ use Rattle.vm_core.proofs.Standing.{leads_to_stop}
 use Rattle.vm_core.proofs.Journals.{finished_run, over_run, halted_run, full_run, left_run, starved_run}
 
 -- what is so of an answer that is this stop
-pub stopped_so : (r : Result (Unit {0}) Unfinished) (stop : Stop) (Q : Result (Unit {0}) Unfinished → Type 0) → IsErrAnd r (λ (e : Unfinished). e ≡ Stopped stop) → Q (Err (Stopped stop)) → Q r
+pub stopped_so : (r : Result (Unit {0}) Unfinished) (stop : Stop) (Q : Result (Unit {0}) Unfinished → Type 0)
+    → IsErrAnd r (λ (e : Unfinished). e ≡ Stopped stop) → Q (Err (Stopped stop)) → Q r
 stopped_so r stop Q h q =
     let p = err_from_is_err_and r h in
     subst Q (sym (p.1 ∙ ap (λ (e : Unfinished). let s : Result (Unit {0}) Unfinished = Err e in s) p.2)) q
@@ -44,7 +45,8 @@ pub same_stop : (a b : Stop) → (let r : Result (Unit {0}) Unfinished = Err (St
 same_stop a b e = cc
 
 -- where the journal is full it is at its bound
-pub kept_bound : (r : Result (Unit {0}) Unfinished) (stop : Stop) (old new : Standing) → IsErrAnd r (λ (e : Unfinished). e ≡ Stopped stop) → KeptAtStop old new stop
+pub kept_bound : (r : Result (Unit {0}) Unfinished) (stop : Stop) (old new : Standing) → IsErrAnd r (λ (e : Unfinished). e ≡ Stopped stop)
+    → KeptAtStop old new stop
     → (let s : Result (Unit {0}) Unfinished = Err (Stopped stops.JournalFull) in r ≡ s) → old.params.journal ≤ length new.kernel.journal
 kept_bound r stop old new h kept e =
     let p = err_from_is_err_and r h in
@@ -63,7 +65,8 @@ no_place A pid is = go (start_held A) refl is
     go (Ok hs) at e = absurd cc
     go (Err n) at e = at ∙ (let same_pid : n ≡ pid = cc in ap (λ (p : ℕ). let r : Result Holdings ℕ = Err p in r) same_pid)
 
-module _ (A : Inputs) (old : Underway) (numbers : List ℕ) (lines : List Event) (holds : Option (List NamedFile)) (image : List ℕ) (few : length numbers ≤ 16) (is : IsAskedOf A old.machine numbers lines holds image) where
+module _ (A : Inputs) (old : Underway) (numbers : List ℕ) (lines : List Event) (holds : Option (List NamedFile)) (image : List ℕ) (few : length numbers ≤ 16)
+    (is : IsAskedOf A old.machine numbers lines holds image) where
   starts_from : StartsFrom A old.machine numbers
   starts_from = record { named = is.named; first = is.first; frames = is.frames; blocks = is.blocks }
 
@@ -78,7 +81,8 @@ module _ (A : Inputs) (old : Underway) (numbers : List ℕ) (lines : List Event)
 
   -- No place.
 
-  pub no_space : (new : Underway) (pid : ℕ) (i j : Option (List ℕ)) → ((B : Inputs) → StartsFrom B old.machine numbers → starteds.NoSpace pid ≡ started_by (start_held B)) → new.machine.kernel.journal ≡ [] → j ≡ i → i ≡ Some image
+  pub no_space : (new : Underway) (pid : ℕ) (i j : Option (List ℕ)) → ((B : Inputs) → StartsFrom B old.machine numbers → starteds.NoSpace pid ≡ started_by (start_held B))
+      → new.machine.kernel.journal ≡ [] → j ≡ i → i ≡ Some image
       → RunEnds A new.machine.kernel.journal image (Err (NoSpace pid)) j
   no_space new pid i j space journal same told = ((journal, same ∙ told), no_place A pid (space A starts_from))
 
@@ -92,7 +96,8 @@ module _ (A : Inputs) (old : Underway) (numbers : List ℕ) (lines : List Event)
   stops_at new stops.SwapReadFault j hs can x = halted_run A hs can first_few image is.room new j stops.SwapReadFault x x.by
   stops_at new stops.SwapWriteFault j hs can x = halted_run A hs can first_few image is.room new j stops.SwapWriteFault x x.by
 
-  pub start_stops : (new : Underway) (stop : Stop) (j : Option (List ℕ)) → ((B : Inputs) (b : List ℕ) → IsTold B old.machine numbers holds b → Some image ≡ Some b → StopsStartingRun B new.machine b stop j)
+  pub start_stops : (new : Underway) (stop : Stop) (j : Option (List ℕ))
+      → ((B : Inputs) (b : List ℕ) → IsTold B old.machine numbers holds b → Some image ≡ Some b → StopsStartingRun B new.machine b stop j)
       → RunEnds A new.machine.kernel.journal image (Err (Stopped stop)) j
   start_stops new stop j f = go (f A image is_told refl)
     where
@@ -118,7 +123,8 @@ module _ (A : Inputs) (old : Underway) (numbers : List ℕ) (lines : List Event)
       go (inr (hs, can, x)) = full_at new.machine stop j hs can e x.led
 
   -- where the machine is left
-  left_at : (new : Standing) (stop : Stop) (j : Option (List ℕ)) (hs : Holdings) (can : CanRun A hs) → (x : StopLeads A (start A hs) (machine_at_start A hs) image stop new j) → RunStopsAt A stop new image
+  left_at : (new : Standing) (stop : Stop) (j : Option (List ℕ)) (hs : Holdings) (can : CanRun A hs) → (x : StopLeads A (start A hs) (machine_at_start A hs) image stop new j)
+      → RunStopsAt A stop new image
   left_at new stops.NoMemory j hs can x = λ runs. left_run A hs can first_few image is.room new j stops.NoMemory x x.held (λ e. runs)
   left_at new stops.JournalFull j hs can x = left_run A hs can first_few image is.room new j stops.JournalFull x x.held (λ e. absurd cc)
   left_at new stops.FileFault j hs can x = left_run A hs can first_few image is.room new j stops.FileFault x x.held (λ e. absurd cc)
@@ -129,7 +135,8 @@ module _ (A : Inputs) (old : Underway) (numbers : List ℕ) (lines : List Event)
   never_runs : (new : Standing) (stop : Stop) → stop ≡ stops.NoMemory → new.kernel.stopped ≡ true → RunStopsAt A stop new image
   never_runs new stop e stopped = subst (λ (c : Stop). RunStopsAt A c new image) (sym e) (λ runs. absurd (let z : true ≡ false = sym stopped ∙ runs in cc))
 
-  pub start_left : (new : Underway) (stop : Stop) (j : Option (List ℕ)) → ((B : Inputs) (b : List ℕ) → IsTold B old.machine numbers holds b → Some image ≡ Some b → StopsStartingRun B new.machine b stop j)
+  pub start_left : (new : Underway) (stop : Stop) (j : Option (List ℕ))
+      → ((B : Inputs) (b : List ℕ) → IsTold B old.machine numbers holds b → Some image ≡ Some b → StopsStartingRun B new.machine b stop j)
       → RunStopsAt A stop new.machine image
   start_left new stop j f = go (f A image is_told refl)
     where
@@ -147,7 +154,8 @@ module _ (A : Inputs) (old : Underway) (numbers : List ℕ) (lines : List Event)
     before_lines = record { at = started.at; none = started.same.lines; are = is.lines_are }
 
     start_told : Leads A (start A started.holdings) (machine_at_start A started.holdings) image started.units started.state mid.machine.kernel (Some started.behind)
-    start_told = subst (λ (o : Option (List ℕ)). Leads A (start A started.holdings) (machine_at_start A started.holdings) image started.units started.state mid.machine.kernel o) started.at.stands.told started.leads
+    start_told = subst (λ (o : Option (List ℕ)). Leads A (start A started.holdings) (machine_at_start A started.holdings) image started.units started.state mid.machine.kernel o)
+        started.at.stands.told started.leads
 
     pub lines_stop : (new : Underway) (stop : Stop) (j : Option (List ℕ)) → StopsLines mid new lines holds h j stop → RunEnds A new.machine.kernel.journal image (Err (Stopped stop)) j
     lines_stop new stop j f =
@@ -171,7 +179,8 @@ module _ (A : Inputs) (old : Underway) (numbers : List ℕ) (lines : List Event)
     lines_finish new j f =
         let d = f A started.state started.behind before_lines in
         finished_run A started.holdings started.can first_few image is.room new j (started.units ++ d.units) d.state
-        (both_lead A (start A started.holdings) started.state d.state (machine_at_start A started.holdings) mid.machine.kernel new.machine.kernel image (Some started.behind) j started.units d.units start_told
+        (both_lead A (start A started.holdings) started.state d.state (machine_at_start A started.holdings) mid.machine.kernel new.machine.kernel image
+        (Some started.behind) j started.units d.units start_told
         (λ between same. subst (λ (y : List ℕ). Leads A started.state mid.machine.kernel y d.units d.state new.machine.kernel j) (same_Some started.behind between same) d.leads))
         d.none
 
@@ -180,6 +189,7 @@ module _ (A : Inputs) (old : Underway) (numbers : List ℕ) (lines : List Event)
     lines_over new j f on =
         let d = f A started.state started.behind before_lines in
         over_run A started.holdings started.can first_few image is.room new j (started.units ++ d.units) d.state
-        (both_lead A (start A started.holdings) started.state d.state (machine_at_start A started.holdings) mid.machine.kernel new.machine.kernel image (Some started.behind) j started.units d.units start_told
+        (both_lead A (start A started.holdings) started.state d.state (machine_at_start A started.holdings) mid.machine.kernel new.machine.kernel image
+        (Some started.behind) j started.units d.units start_told
         (λ between same. subst (λ (y : List ℕ). Leads A started.state mid.machine.kernel y d.units d.state new.machine.kernel j) (same_Some started.behind between same) d.leads))
         d.none on

@@ -52,11 +52,13 @@ none_taken old lines holds i A s image b = record {
 }
 
 -- their units, with the swap image that is told
-told_leads : (A : Inputs) (s : State) (old mid : Underway) (holds : Option (List NamedFile)) (h : Option (List ℕ)) (image : List ℕ) (taken : ℕ) (c : LinesTaken A s old mid holds image h taken)
+told_leads : (A : Inputs) (s : State) (old mid : Underway) (holds : Option (List NamedFile)) (h : Option (List ℕ)) (image : List ℕ) (taken : ℕ)
+    (c : LinesTaken A s old mid holds image h taken)
     → Leads A s old.machine.kernel image c.units c.state mid.machine.kernel (Some c.behind)
 told_leads A s old mid holds h image taken c = subst (λ (o : Option (List ℕ)). Leads A s old.machine.kernel image c.units c.state mid.machine.kernel o) c.at.stands.told c.leads
 
-module _ (A : Inputs) (s : State) (old mid : Underway) (lines : List Event) (holds : Option (List NamedFile)) (i h : Option (List ℕ)) (image : List ℕ) (taken : ℕ) (e : Event) (b : IsBeforeLines A s old lines holds i image)
+module _ (A : Inputs) (s : State) (old mid : Underway) (lines : List Event) (holds : Option (List NamedFile)) (i h : Option (List ℕ)) (image : List ℕ) (taken : ℕ) (e : Event)
+    (b : IsBeforeLines A s old lines holds i image)
     (c : LinesTaken A s old mid holds image h taken) where
   due : slice_get lines taken ≡ Some e → mid.counted < mid.machine.params.limit → LineDue A c.state (taken + 1) e
   due at below = record {
@@ -78,21 +80,25 @@ module _ (A : Inputs) (s : State) (old mid : Underway) (lines : List Event) (hol
 
 -- One line more is taken, or the run stops at it.
 
-pub line_taken : (old mid new : Underway) (taken : ℕ) (e : Event) (lines : List Event) (holds : Option (List NamedFile)) (i h j : Option (List ℕ)) → HasTaken old mid taken lines holds i h → slice_get lines taken ≡ Some e
+pub line_taken : (old mid new : Underway) (taken : ℕ) (e : Event) (lines : List Event) (holds : Option (List NamedFile)) (i h j : Option (List ℕ))
+    → HasTaken old mid taken lines holds i h → slice_get lines taken ≡ Some e
     → mid.counted < mid.machine.params.limit → TakesLine mid new (taken + 1) e holds h j → HasTaken old new (taken + 1) lines holds i j
 line_taken old mid new taken e lines holds i h j f at below t A s image b =
     let c = f A s image b in
     on A s old mid lines holds i h image taken e b c new j (t A c.state c.behind c.at (due A s old mid lines holds i h image taken e b c at below))
 
-pub line_stops : (old mid new : Underway) (taken : ℕ) (e : Event) (lines : List Event) (holds : Option (List NamedFile)) (i h j : Option (List ℕ)) (stop : Stop) → HasTaken old mid taken lines holds i h
-    → slice_get lines taken ≡ Some e → mid.counted < mid.machine.params.limit → StopsTaking mid new (taken + 1) e holds h j stop → StopsLines old new lines holds i j stop
+pub line_stops : (old mid new : Underway) (taken : ℕ) (e : Event) (lines : List Event) (holds : Option (List NamedFile)) (i h j : Option (List ℕ)) (stop : Stop)
+    → HasTaken old mid taken lines holds i h
+    → slice_get lines taken ≡ Some e → mid.counted < mid.machine.params.limit → StopsTaking mid new (taken + 1) e holds h j stop
+    → StopsLines old new lines holds i j stop
 line_stops old mid new taken e lines holds i h j stop f at below x A s image b =
     let c = f A s image b in
     leads_to_stop A s c.state old.machine.kernel mid.machine.kernel image c.behind c.units stop new.machine j (told_leads A s old mid holds h image taken c)
     (x A c.state c.behind c.at (due A s old mid lines holds i h image taken e b c at below)).led
 
 -- after a line as many instructions are counted as may
-pub limit_taken : (old new : Underway) (taken : ℕ) (lines : List Event) (holds : Option (List NamedFile)) (i j : Option (List ℕ)) → HasTaken old new taken lines holds i j → new.machine.params.limit ≤ new.counted
+pub limit_taken : (old new : Underway) (taken : ℕ) (lines : List Event) (holds : Option (List NamedFile)) (i j : Option (List ℕ))
+    → HasTaken old new taken lines holds i j → new.machine.params.limit ≤ new.counted
     → TakesLines old new wents.LimitReached lines holds i j
 limit_taken old new taken lines holds i j f over A s image b =
     let c = f A s image b in
@@ -111,13 +117,15 @@ limit_ends A t o l =
     full : nat_lt t.count A.limit ≡ false
     full = grind (arith, nat_tests)
 
-pub limit_finishes : (old new : Underway) (lines : List Event) (holds : Option (List NamedFile)) (i j : Option (List ℕ)) → TakesLines old new wents.LimitReached lines holds i j → FinishesLines old new lines holds i j
+pub limit_finishes : (old new : Underway) (lines : List Event) (holds : Option (List NamedFile)) (i j : Option (List ℕ))
+    → TakesLines old new wents.LimitReached lines holds i j → FinishesLines old new lines holds i j
 limit_finishes old new lines holds i j f A s image b =
     let w = f A s image b in
     let c = w.1 in
     record { units = c.units; state = c.state; leads = c.leads; none = limit_ends A c.state c.at.over (let same = c.at.stands.count in let full = w.2 in omega arith) }
 
-pub closing_finishes : (old mid new : Underway) (lines : List Event) (holds : Option (List NamedFile)) (i h j : Option (List ℕ)) → TakesLines old mid wents.Next lines holds i h → ClosesRun mid new holds h j
+pub closing_finishes : (old mid new : Underway) (lines : List Event) (holds : Option (List NamedFile)) (i h j : Option (List ℕ))
+    → TakesLines old mid wents.Next lines holds i h → ClosesRun mid new holds h j
     → FinishesLines old new lines holds i j
 closing_finishes old mid new lines holds i h j f close A s image b =
     let c : LinesTaken A s old mid holds image h (length lines) = f A s image b in
@@ -130,8 +138,10 @@ closing_finishes old mid new lines holds i h j f close A s image b =
       none = d.none;
     }
 
-pub closing_stops : (old mid new : Underway) (lines : List Event) (holds : Option (List NamedFile)) (i h j : Option (List ℕ)) (stop : Stop) → TakesLines old mid wents.Next lines holds i h → StopsClosingRun mid new holds h j stop
+pub closing_stops : (old mid new : Underway) (lines : List Event) (holds : Option (List NamedFile)) (i h j : Option (List ℕ)) (stop : Stop)
+    → TakesLines old mid wents.Next lines holds i h → StopsClosingRun mid new holds h j stop
     → StopsLines old new lines holds i j stop
 closing_stops old mid new lines holds i h j stop f x A s image b =
     let c : LinesTaken A s old mid holds image h (length lines) = f A s image b in
-    leads_to_stop A s c.state old.machine.kernel mid.machine.kernel image c.behind c.units stop new.machine j (told_leads A s old mid holds h image (length lines) c) (x A c.state c.behind c.at (ap length b.are ∙ sym c.lines)).led
+    leads_to_stop A s c.state old.machine.kernel mid.machine.kernel image c.behind c.units stop new.machine j (told_leads A s old mid holds h image (length lines) c)
+    (x A c.state c.behind c.at (ap length b.are ∙ sym c.lines)).led

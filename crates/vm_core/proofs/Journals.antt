@@ -81,7 +81,8 @@ makes_run A (u ∷ us) s t k l image behind m =
 
 -- Where it ends.
 
-pub finished_run : (A : Inputs) (hs : Holdings) (can : CanRun A hs) (few : length A.first ≤ 64) (image : List ℕ) (room : 512 * A.swap_blocks ≤ length image) (new : Underway) (j : Option (List ℕ)) (us : List Entry) (t : State)
+pub finished_run : (A : Inputs) (hs : Holdings) (can : CanRun A hs) (few : length A.first ≤ 64) (image : List ℕ) (room : 512 * A.swap_blocks ≤ length image)
+    (new : Underway) (j : Option (List ℕ)) (us : List Entry) (t : State)
     → Leads A (start A hs) (machine_at_start A hs) image us t new.machine.kernel j → next_unit A t ≡ None → RunFinished A new.machine.kernel.journal image j
 finished_run A hs can few image room new j us t a none =
     let m = made A hs can few image room us t new.machine.kernel j a in
@@ -94,7 +95,8 @@ finished_run A hs can few image room new j us t a none =
     }
 
 -- where it is over the machine stands there
-pub over_run : (A : Inputs) (hs : Holdings) (can : CanRun A hs) (few : length A.first ≤ 64) (image : List ℕ) (room : 512 * A.swap_blocks ≤ length image) (new : Underway) (j : Option (List ℕ)) (us : List Entry) (t : State)
+pub over_run : (A : Inputs) (hs : Holdings) (can : CanRun A hs) (few : length A.first ≤ 64) (image : List ℕ) (room : 512 * A.swap_blocks ≤ length image)
+    (new : Underway) (j : Option (List ℕ)) (us : List Entry) (t : State)
     → Leads A (start A hs) (machine_at_start A hs) image us t new.machine.kernel j → next_unit A t ≡ None → GoesOn new → RunOver A new.machine image
 over_run A hs can few image room new j us t a none on = record {
   state = t;
@@ -129,7 +131,8 @@ fails_writing (entries.SwapOut pid) s c = inr (pid, refl)
 fails_writing (entries.SwapIn pid) s c = elim c [ inl e ↦ absurd cc | inr r ↦ elim r [ inl e ↦ absurd cc | inr e ↦ absurd cc ] ]
 fails_writing _ s c = elim c [ inl e ↦ absurd cc | inr e ↦ absurd cc ]
 
-halts_for : (stop : Stop) (u : Entry) (s : State) → CauseBy u stop s.place.transfers → (stop ≡ stops.JournalFull → HaltsFor stops.JournalFull u s) → HaltsFor stop u s
+halts_for : (stop : Stop) (u : Entry) (s : State) → CauseBy u stop s.place.transfers
+    → (stop ≡ stops.JournalFull → HaltsFor stops.JournalFull u s) → HaltsFor stop u s
 halts_for stops.NoMemory u s c full = tt
 halts_for stops.JournalFull u s c full = full refl
 halts_for stops.FileFault u s c full = fails_file u s c
@@ -138,17 +141,20 @@ halts_for stops.SwapWriteFault u s c full = fails_writing u s c
 
 -- The swap image that it leaves.
 
-parts_spoiled : (A : Inputs) (s : State) (k : Kernel) (xs : List Part) (image after : List ℕ) → k.holdings ≡ s.holdings → AreFlat A s k xs → SpoilsAll k image xs after → SpoilsParts A s xs image after
+parts_spoiled : (A : Inputs) (s : State) (k : Kernel) (xs : List Part) (image after : List ℕ) → k.holdings ≡ s.holdings → AreFlat A s k xs
+    → SpoilsAll k image xs after → SpoilsParts A s xs image after
 parts_spoiled A s k [] image after same flat x = x
 parts_spoiled A s k (p ∷ ps) image after same flat x =
     elim x [
       | inl y ↦ inl (y.0, y.1, y.2 ∙ ap (λ (hs : Holdings). store_at image (block_of hs p.page) y.0) same)
       | inr y ↦ inr (parts_spoiled A s k ps (store_at image (block_of s.holdings p.page) (memory_of A.images s.point.flat p.page)) after same flat.1
           (subst (λ (i : List ℕ). SpoilsAll k i ps after)
-          (ap (λ (bytes : List ℕ). store_at image (block_of k.holdings p.page) bytes) flat.0 ∙ ap (λ (hs : Holdings). store_at image (block_of hs p.page) (memory_of A.images s.point.flat p.page)) same) y))
+          (ap (λ (bytes : List ℕ). store_at image (block_of k.holdings p.page) bytes) flat.0
+          ∙ ap (λ (hs : Holdings). store_at image (block_of hs p.page) (memory_of A.images s.point.flat p.page)) same) y))
     ]
 
-oldest_spoiled : (A : Inputs) (s : State) (k : Kernel) (ts : List Transfer) (image after : List ℕ) → k.holdings ≡ s.holdings → InFlightFlat A s k ts → SpoilsTransfers k image ts after → SpoilsOldest A s ts image after
+oldest_spoiled : (A : Inputs) (s : State) (k : Kernel) (ts : List Transfer) (image after : List ℕ) → k.holdings ≡ s.holdings → InFlightFlat A s k ts
+    → SpoilsTransfers k image ts after → SpoilsOldest A s ts image after
 oldest_spoiled A s k [] image after same flat x = x
 oldest_spoiled A s k (t ∷ ts) image after same flat x = (x.0, parts_spoiled A s k t.parts image after same (subst (λ (e : Errand). WritesFlat A s k e t.parts) x.0 flat.0) x.1)
 
@@ -159,7 +165,8 @@ record ImageLeft (stop : Stop) (A : Inputs) (s : State) (u : Entry) (image : Lis
   is : LeavesImage stop A s u image left
 
 module _ (A : Inputs) (s : State) (k : Kernel) (image : List ℕ) (at : StandsAt A s k image) where
-  spoils_writing : (u : Entry) (j : Option (List ℕ)) → CauseBy u stops.SwapWriteFault k.place.transfers → SpoilsBy u stops.SwapWriteFault k (Some image) j → ImageLeft stops.SwapWriteFault A s u image j
+  spoils_writing : (u : Entry) (j : Option (List ℕ)) → CauseBy u stops.SwapWriteFault k.place.transfers → SpoilsBy u stops.SwapWriteFault k (Some image) j
+      → ImageLeft stops.SwapWriteFault A s u image j
   spoils_writing entries.Done j c x = record {
     left = x.0;
     told = x.1;
@@ -185,7 +192,8 @@ same_left (entries.SwapOut pid) stops.SwapWriteFault k i j n x = absurd n
 same_left (entries.SwapOut pid) _ k i j n x = x
 same_left _ stop k i j n x = x
 
-image_left : (stop : Stop) (u : Entry) (A : Inputs) (s : State) (k : Kernel) (image : List ℕ) (j : Option (List ℕ)) → StandsAt A s k image → CauseBy u stop k.place.transfers → SpoilsBy u stop k (Some image) j → ImageLeft stop A s u image j
+image_left : (stop : Stop) (u : Entry) (A : Inputs) (s : State) (k : Kernel) (image : List ℕ) (j : Option (List ℕ)) → StandsAt A s k image
+    → CauseBy u stop k.place.transfers → SpoilsBy u stop k (Some image) j → ImageLeft stop A s u image j
 image_left stops.SwapWriteFault u A s k image j at c x = spoils_writing A s k image at u j c x
 image_left stops.NoMemory u A s k image j at c x = record { left = image; told = same_left u stops.NoMemory k (Some image) j tt x; is = refl }
 image_left stops.JournalFull u A s k image j at c x = record { left = image; told = same_left u stops.JournalFull k (Some image) j tt x; is = refl }

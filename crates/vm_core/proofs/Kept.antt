@@ -20,13 +20,16 @@ kept_noting old new stop h = kept_here old new stop h.stopped h.full
 
 -- the end of the oldest transfer
 pub kept_ending : (old new : Standing) (stop : Stop) → HasStopped old new
-    → (let r : Result Bool Stop = Err stop in (r ≡ Err stops.JournalFull) ↔ ((0 < length old.kernel.place.transfers) × (old.params.journal ≤ length old.kernel.journal))) → KeptAtStop old new stop
+    → (let r : Result Bool Stop = Err stop in
+    (r ≡ Err stops.JournalFull) ↔ ((0 < length old.kernel.place.transfers) × (old.params.journal ≤ length old.kernel.journal))) → KeptAtStop old new stop
 kept_ending old new stop h f = kept_here old new stop h (λ e. (f.0 (ap (λ (s : Stop). let r : Result Bool Stop = Err s in r) e)).1)
 
-pub kept_moving : (old new : Standing) (holds : Option (List NamedFile)) (i j : Option (List ℕ)) (n : ℕ) (stop : Stop) → StopsMoving n old stop new holds i j → KeptAtStop old new stop
+pub kept_moving : (old new : Standing) (holds : Option (List NamedFile)) (i j : Option (List ℕ)) (n : ℕ) (stop : Stop) → StopsMoving n old stop new holds i j
+    → KeptAtStop old new stop
 kept_moving old new holds i j n stop h = kept_at _ h.at h.image j old new stop h.params h.images h.stops
 
-pub kept_turning : (old new : Standing) (holds : Option (List NamedFile)) (i j : Option (List ℕ)) (t : Turned) (stop : Stop) → new.params ≡ old.params → new.images ≡ old.images
+pub kept_turning : (old new : Standing) (holds : Option (List NamedFile)) (i j : Option (List ℕ)) (t : Turned) (stop : Stop) → new.params ≡ old.params
+    → new.images ≡ old.images
     → StopsTurning t old stop new holds i j → KeptAtStop old new stop
 kept_turning old new holds i j turns.Nothing stop params images h = absurd h
 kept_turning old new holds i j (turns.In pid) stop params images h = kept_at (entries.SwapIn pid) old.kernel i j old new stop params images h

@@ -16,7 +16,8 @@ stops_on r stop Q h q = let p = err_from_is_err_and r h in rw p.1 (subst Q (sym 
 pub same_error : {T : Type 0} (a b : Stop) → (let r : Result T Stop = Err a in r) ≡ Err b → a ≡ b
 same_error a b e = cc
 
-pub stops_noting : {T : Type 0} (r : Result T Stop) (old new : Standing) → old.before ≡ old.kernel.holdings → OnErr r (HasStopped old new) → OnErr r ((r ≡ Err stops.JournalFull) ⊎ (r ≡ Err stops.NoMemory))
+pub stops_noting : {T : Type 0} (r : Result T Stop) (old new : Standing) → old.before ≡ old.kernel.holdings → OnErr r (HasStopped old new)
+    → OnErr r ((r ≡ Err stops.JournalFull) ⊎ (r ≡ Err stops.NoMemory))
     → ((r ≡ Err stops.JournalFull) ↔ (old.params.journal ≤ length old.kernel.journal)) → IfErr r (λ stop. StopsNoting old new stop)
 stops_noting (Ok x) old new w h c f = tt
 stops_noting {T = T} (Err stop) old new w h c f = record {
@@ -43,7 +44,8 @@ pub ok_both : {T : Type 0} (r : Result T Stop) (P Q R : Type 0) → (P → Q →
 ok_both (Ok x) P Q R f p q = f p q
 ok_both (Err stop) P Q R f p q = tt
 
-pub noted_stop : (stop : Stop) (old new : Standing) → old.before ≡ old.kernel.holdings → HasStopped old new → (let r : Result (Unit {0}) Stop = Err stop in (r ≡ Err stops.JournalFull) ⊎ (r ≡ Err stops.NoMemory))
+pub noted_stop : (stop : Stop) (old new : Standing) → old.before ≡ old.kernel.holdings → HasStopped old new
+    → (let r : Result (Unit {0}) Stop = Err stop in (r ≡ Err stops.JournalFull) ⊎ (r ≡ Err stops.NoMemory))
     → (let r : Result (Unit {0}) Stop = Err stop in (r ≡ Err stops.JournalFull) ↔ (old.params.journal ≤ length old.kernel.journal)) → StopsNoting old new stop
 noted_stop stop old new w h c f = let r : Result (Unit {0}) Stop = Err stop in stops_noting r old new w h c f
 

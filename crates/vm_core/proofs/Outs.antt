@@ -26,7 +26,8 @@ use Rattle.run_model.specs.Next.{turn_instructions}
 use Rattle.run_start.proofs.Numbers.{placed}
 use Rattle.vm_core.specs.Closing.{TurnAt}
 
-module _ (k : Kernel) (ps : List Record) (pid : ℕ) (procs : k.processes ≡ processes_of ps k.next_pid) (residents : k.place.residents ≡ residents_of ps k.next_pid) (known : AreRecords ps k.next_pid) where
+module _ (k : Kernel) (ps : List Record) (pid : ℕ) (procs : k.processes ≡ processes_of ps k.next_pid) (residents : k.place.residents ≡ residents_of ps k.next_pid)
+    (known : AreRecords ps k.next_pid) where
   life_by : life_in k pid ≡ life_of_proc (shown_of (find pid ps))
   life_by = ap (λ (qs : List Proc). life_of_proc (numbered (λ (p : Proc). p.pid) pid qs)) procs ∙ ap life_of_proc (process_is ps k.next_pid pid known)
 
@@ -58,7 +59,8 @@ steps_hold k flat pid tables c =
     let outline = outline_at k.processes flat.processes tables.processes pid kept.0 w.process kept.1 found.1 in
     (w.space.sid, ap life_of_proc kept.1 ∙ ap (λ (o : Outline). o.life) outline ∙ ap life_of w.holds)
 
-pub held_in : (m : Standing) (pid counted since : ℕ) (holds : Option (List NamedFile)) (i : Option (List ℕ)) → ((sid : ℕ) → life_in m.kernel pid ≡ HoldsSpace sid → is_out m.kernel.place pid ≡ false)
+pub held_in : (m : Standing) (pid counted since : ℕ) (holds : Option (List NamedFile)) (i : Option (List ℕ))
+    → ((sid : ℕ) → life_in m.kernel pid ≡ HoldsSpace sid → is_out m.kernel.place pid ≡ false)
     → (A : Inputs) (s : State) (image : List ℕ) → TurnAt A s m holds i image counted since pid → is_out s.place pid ≡ false
 held_in m pid counted since holds i f A s image at =
     let steps = (and_parts (can_step s.point.flat pid) (nat_lt s.count A.limit && nat_lt s.count (since + turn_instructions)) at.on).0 in

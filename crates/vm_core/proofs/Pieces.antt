@@ -25,7 +25,8 @@ are_apart [] h = tt
 are_apart (x ∷ xs) h = (λ i d l. h 0 (suc i) d (omega arith) (omega (arith, l)), are_apart xs (λ i j d a b. h (suc i) (suc j) d (omega (arith, a)) (omega (arith, b))))
 
 -- a block that lies in one piece lies in none that is apart from it
-none_more : (n : ℕ) (h : Held) (hs : List Held) → h.start ≤ n → n < h.start + h.length → ((i : ℕ) (d : Held) → i < length hs → IsApart h (slice_index_or hs i d)) → below_all (suc n) hs ≡ below_all n hs
+none_more : (n : ℕ) (h : Held) (hs : List Held) → h.start ≤ n → n < h.start + h.length
+    → ((i : ℕ) (d : Held) → i < length hs → IsApart h (slice_index_or hs i d)) → below_all (suc n) hs ≡ below_all n hs
 none_more n h [] a b f = refl
 none_more n h (g ∷ gs) a b f =
     let more = none_more n h gs a b (λ i d l. f (suc i) d (omega (arith, l))) in

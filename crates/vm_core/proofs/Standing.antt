@@ -28,8 +28,10 @@ inputs_on A old new is params images = record {
   few = is.few;
 }
 
-pub stands_on : (A : Inputs) (s t : State) (old new : Standing) (holds : Option (List NamedFile)) (i j : Option (List ℕ)) (image : List ℕ) (us : List Entry) (counted count : ℕ)
-    → StandsIn A s old holds i image counted → (l : Leads A s old.kernel image us t new.kernel j) → new.params ≡ old.params → new.images ≡ old.images → t.count ≡ count → count ≤ A.limit
+pub stands_on : (A : Inputs) (s t : State) (old new : Standing) (holds : Option (List NamedFile)) (i j : Option (List ℕ)) (image : List ℕ)
+    (us : List Entry) (counted count : ℕ)
+    → StandsIn A s old holds i image counted → (l : Leads A s old.kernel image us t new.kernel j) → new.params ≡ old.params → new.images ≡ old.images
+    → t.count ≡ count → count ≤ A.limit
     → StandsIn A t new holds j l.behind count
 stands_on A s t old new holds i j image us counted count st l params images same most = record {
   machine = record {
@@ -45,7 +47,8 @@ stands_on A s t old new holds i j image us counted count st l params images same
 }
 
 -- a stop after next units
-pub leads_to_stop : (A : Inputs) (s t : State) (k l : Kernel) (image behind : List ℕ) (us : List Entry) (stop : Stop) (new : Standing) (j : Option (List ℕ)) → Leads A s k image us t l (Some behind)
+pub leads_to_stop : (A : Inputs) (s t : State) (k l : Kernel) (image behind : List ℕ) (us : List Entry) (stop : Stop) (new : Standing) (j : Option (List ℕ))
+    → Leads A s k image us t l (Some behind)
     → StopLeads A t l behind stop new j → StopLeads A s k image stop new j
 leads_to_stop A s t k l image behind us stop new j a x = record {
   units = us ++ x.units;

@@ -31,7 +31,8 @@ start_crowd A hs numbers e few =
     let less : length A.first ≤ 16 = subst (λ (ns : List ℕ). length ns ≤ 16) (sym e) few in
     omega (arith, most, less)
 
-module _ (A : Inputs) (old new : Underway) (numbers : List ℕ) (holds : Option (List NamedFile)) (image : List ℕ) (j : Option (List ℕ)) (few : length numbers ≤ 16) (told : IsTold A old.machine numbers holds image)
+module _ (A : Inputs) (old new : Underway) (numbers : List ℕ) (holds : Option (List NamedFile)) (image : List ℕ) (j : Option (List ℕ)) (few : length numbers ≤ 16)
+    (told : IsTold A old.machine numbers holds image)
     (inputs : InputsOf A old.machine) (on : HasStarted old.machine new.machine) (none : new.counted ≡ 0) (l : StartLeads A new.machine holds image j) where
   crowd : length (start A l.holdings).point.flat.processes ≤ 64
   crowd = start_crowd A l.holdings numbers told.starts.first few
@@ -75,13 +76,16 @@ module _ (A : Inputs) (old new : Underway) (numbers : List ℕ) (holds : Option 
     swapped = leads_swapped A (start A l.holdings) l.state (machine_at_start A l.holdings) new.machine.kernel image l.units j at_start l.leads l.leads.behind l.leads.told;
   }
 
-pub starts_run : (old new : Underway) (numbers : List ℕ) (holds : Option (List NamedFile)) (i j : Option (List ℕ)) → length numbers ≤ 16 → new.counted ≡ 0 → HasStarted old.machine new.machine
-    → ((A : Inputs) (image : List ℕ) → IsTold A old.machine numbers holds image → i ≡ Some image → StartLeads A new.machine holds image j) → StartsRun old new numbers holds i j
+pub starts_run : (old new : Underway) (numbers : List ℕ) (holds : Option (List NamedFile)) (i j : Option (List ℕ)) → length numbers ≤ 16 → new.counted ≡ 0
+    → HasStarted old.machine new.machine
+    → ((A : Inputs) (image : List ℕ) → IsTold A old.machine numbers holds image → i ≡ Some image → StartLeads A new.machine holds image j)
+    → StartsRun old new numbers holds i j
 starts_run old new numbers holds i j few none on f A image told inputs e = core_started A old new numbers holds image j few told inputs on none (f A image told e)
 
 -- Where it stops.
 
-start_accounted : (A : Inputs) (old new : Standing) (numbers : List ℕ) (holds : Option (List NamedFile)) (image : List ℕ) (j : Option (List ℕ)) → length numbers ≤ 16 → IsTold A old numbers holds image
+start_accounted : (A : Inputs) (old new : Standing) (numbers : List ℕ) (holds : Option (List NamedFile)) (image : List ℕ) (j : Option (List ℕ))
+    → length numbers ≤ 16 → IsTold A old numbers holds image
     → (stop : Stop) → StartStops A new image stop j → StopsStartingRun A new image stop j
 start_accounted A old new numbers holds image j few told stop h = elim h [
   | inl x ↦ inl x
@@ -92,8 +96,10 @@ start_accounted A old new numbers holds image j few told stop h = elim h [
 abbrev pub Stopping : Result Started Stop → Standing → List ℕ → Option (List NamedFile) → Option (List ℕ) → (Inputs → List ℕ → Stop → Type 0) → Type 0
 Stopping r old numbers holds i P = (A : Inputs) (image : List ℕ) → IsTold A old numbers holds image → i ≡ Some image → IfErr r (P A image)
 
-pub stops_starting : (r : Result Started Stop) (old new : Standing) (numbers : List ℕ) (holds : Option (List NamedFile)) (i j : Option (List ℕ)) → length numbers ≤ 16
-    → Stopping r old numbers holds i (λ A image stop. StartStops A new image stop j) → Stopping r old numbers holds i (λ A image stop. StopsStartingRun A new image stop j)
+pub stops_starting : (r : Result Started Stop) (old new : Standing) (numbers : List ℕ) (holds : Option (List NamedFile)) (i j : Option (List ℕ))
+    → length numbers ≤ 16
+    → Stopping r old numbers holds i (λ A image stop. StartStops A new image stop j)
+    → Stopping r old numbers holds i (λ A image stop. StopsStartingRun A new image stop j)
 stops_starting r old new numbers holds i j few f A image told e =
     stops_weaker r (λ stop. StartStops A new image stop j) (λ stop. StopsStartingRun A new image stop j) (start_accounted A old new numbers holds image j few told) (f A image told e)
 

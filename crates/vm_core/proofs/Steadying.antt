@@ -50,7 +50,8 @@ continues_steady old new n s c h = record {
 }
 
 -- after moves of the hands, where the last entry counted none
-pub moved_steady : (old new : Standing) (moves : ℕ) → IsSteady old → RunsMoved old new moves → last_moves old.kernel.journal ≡ 0 → moves ≤ 1000000 → HoldersStand new.kernel → StaysSteady old new 0
+pub moved_steady : (old new : Standing) (moves : ℕ) → IsSteady old → RunsMoved old new moves → last_moves old.kernel.journal ≡ 0 → moves ≤ 1000000
+    → HoldersStand new.kernel → StaysSteady old new 0
 moved_steady old new moves s r first few h = record {
   steady = record {
     running = r.on.running;
@@ -71,7 +72,8 @@ noted_as : (old new : Standing) (e : Entry) → new.kernel ≡ note_step old.ker
     → new ≡ record old { kernel = note_step old.kernel e; room = None }
 noted_as old new e k r = r ∙ ap (λ (x : Kernel). let m : Standing = record old { kernel = x; room = None } in m) k
 
-pub noted_steady : (old new : Standing) (e : Entry) → IsSteady old → IsPlain e → new.kernel ≡ note_step old.kernel e → new ≡ record old { kernel = new.kernel; room = None }
+pub noted_steady : (old new : Standing) (e : Entry) → IsSteady old → IsPlain e → new.kernel ≡ note_step old.kernel e
+    → new ≡ record old { kernel = new.kernel; room = None }
     → StaysSteady old new (counted e)
 noted_steady old new e s p k r =
     continues_steady old new (counted e) s (note_continues old new e (steady_ready old s) p (noted_as old new e k r))
@@ -82,6 +84,7 @@ noted_first old new e p k = ap (λ (x : Kernel). last_moves x.journal) k ∙ las
 
 -- A process that came in.
 
-pub in_steady : (old new : Standing) (pid : ℕ) (i : Option (List ℕ)) → IsSteady old → IsIn old.kernel new.kernel pid i → IsSameBeside old new → StaysSteady old new 0
+pub in_steady : (old new : Standing) (pid : ℕ) (i : Option (List ℕ)) → IsSteady old → IsIn old.kernel new.kernel pid i
+    → IsSameBeside old new → StaysSteady old new 0
 in_steady old new pid i s h b =
     continues_steady old new 0 s (turn_continues (turns.In pid) old new None i i (steady_ready old s) (h, b, refl)) (is_in_keeps old.kernel new.kernel pid i h s.holders)

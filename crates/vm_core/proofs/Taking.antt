@@ -35,7 +35,8 @@ use Rattle.vm_core.proofs.Standing.{stands_on, leads_to_stop}
 
 -- What a line asks for.
 
-line_at : (A : Inputs) (s : State) (m : Standing) (holds : Option (List NamedFile)) (i : Option (List ℕ)) (image : List ℕ) (counted : ℕ) (e : Event) → AskedAt A s m holds i image counted e
+line_at : (A : Inputs) (s : State) (m : Standing) (holds : Option (List NamedFile)) (i : Option (List ℕ)) (image : List ℕ) (counted : ℕ) (e : Event)
+    → AskedAt A s m holds i image counted e
     → LineAt A s m holds i image e
 line_at A s m holds i image counted e at = record {
   machine = at.stands.machine;
@@ -45,12 +46,14 @@ line_at A s m holds i image counted e at = record {
   fit = at.stands.longwords.fit;
 }
 
-pub makes_carries : (old new : Standing) (holds : Option (List NamedFile)) (i j : Option (List ℕ)) (counted : ℕ) (e : Event) → MakesLine e old new holds i j → CarriesOut old new counted counted e holds i j
+pub makes_carries : (old new : Standing) (holds : Option (List NamedFile)) (i j : Option (List ℕ)) (counted : ℕ) (e : Event) → MakesLine e old new holds i j
+    → CarriesOut old new counted counted e holds i j
 makes_carries old new holds i j counted e f A s image at =
     let l = f A s image (line_at A s old holds i image counted e at) in
     record { units = l.units; state = l.state; leads = l.leads; over = l.over; unturned = l.unturned; counts = l.count ∙ at.stands.count; lines = l.lines }
 
-pub halts_carrying : (old new : Standing) (holds : Option (List NamedFile)) (i j : Option (List ℕ)) (counted : ℕ) (e : Event) (stop : Stop) → StopsLine e old new holds i j stop
+pub halts_carrying : (old new : Standing) (holds : Option (List NamedFile)) (i j : Option (List ℕ)) (counted : ℕ) (e : Event) (stop : Stop)
+    → StopsLine e old new holds i j stop
     → StopsCarrying old new counted e holds i j stop
 halts_carrying old new holds i j counted e stop f A s image at = f A s image (line_at A s old holds i image counted e at)
 
@@ -65,7 +68,8 @@ counts_same old new counted is s = record {
 
 -- After the entry of a line.
 
-record Begun (A : Inputs) (s : State) (old : Underway) (mid : Standing) (holds : Option (List NamedFile)) (i : Option (List ℕ)) (image : List ℕ) (e : Event) : Type 0 where
+record Begun (A : Inputs) (s : State) (old : Underway) (mid : Standing) (holds : Option (List NamedFile)) (i : Option (List ℕ)) (image : List ℕ)
+    (e : Event) : Type 0 where
   units : List Entry
   state : State
   leads : Leads A s old.machine.kernel image units state mid.kernel (Some image)
@@ -80,12 +84,14 @@ mark_still s t events.Swapper place point count =
     ap (λ (p : Placement). swap_mark (swap_choice p (runners s.point.flat))) (sym place) ∙ ap (λ (x : Point). swap_mark (swap_choice t.place (runners x.flat))) (sym point)
 mark_still s t events.Audit place point count = refl
 
-module _ (A : Inputs) (s : State) (old : Underway) (holds : Option (List NamedFile)) (i : Option (List ℕ)) (image : List ℕ) (line : ℕ) (e : Event) (at : CoreAt A s old holds i image) (due : LineDue A s line e) where
+module _ (A : Inputs) (s : State) (old : Underway) (holds : Option (List NamedFile)) (i : Option (List ℕ)) (image : List ℕ) (line : ℕ) (e : Event) (at : CoreAt A s old holds i image)
+    (due : LineDue A s line e) where
   begun : (mid : Standing) → StaysSteady old.machine mid 0 → mid.kernel ≡ note_step old.machine.kernel (entries.Event line) → Begun A s old mid holds i image e
   begun mid stays k =
       let b : LineBegun A s old.machine.kernel image e mid.kernel =
       line_begins A s old.machine mid.kernel holds image e at.stands.machine at.over due.below due.event (k ∙ ap (λ (n : ℕ). note_step old.machine.kernel (entries.Event n)) (sym due.number)) in
-      let stands = stands_on A s b.state old.machine mid holds i (Some image) image (entries.Event (s.lines + 1) ∷ []) old.counted old.counted at.stands b.leads stays.params stays.images (b.count ∙ at.stands.count)
+      let stands = stands_on A s b.state old.machine mid holds i (Some image) image (entries.Event (s.lines + 1) ∷ []) old.counted old.counted at.stands b.leads stays.params stays.images
+      (b.count ∙ at.stands.count)
       (let below = due.below in let same = at.stands.count in omega arith) in
       let same : b.leads.behind ≡ image = sym (same_Some image b.leads.behind b.leads.told) in
       record {
@@ -93,14 +99,16 @@ module _ (A : Inputs) (s : State) (old : Underway) (holds : Option (List NamedFi
         state = b.state;
         leads = b.leads;
         at = record {
-          stands = subst (λ (o : Option (List ℕ)). StandsIn A b.state mid holds o image old.counted) (sym at.stands.told) (subst (λ (y : List ℕ). StandsIn A b.state mid holds (Some image) y old.counted) same stands);
+          stands = subst (λ (o : Option (List ℕ)). StandsIn A b.state mid holds o image old.counted) (sym at.stands.told)
+              (subst (λ (y : List ℕ). StandsIn A b.state mid holds (Some image) y old.counted) same stands);
           clear = b.clear;
           mark = b.mark ∙ mark_still s b.state e b.place b.point b.count;
         };
         lines = b.lines;
       }
 
-  taken : (mid new : Standing) (j : Option (List ℕ)) (count : ℕ) → StaysSteady old.machine mid 0 → mid.kernel ≡ note_step old.machine.kernel (entries.Event line) → CarriesOut mid new old.counted count e holds i j
+  taken : (mid new : Standing) (j : Option (List ℕ)) (count : ℕ) → StaysSteady old.machine mid 0 → mid.kernel ≡ note_step old.machine.kernel (entries.Event line)
+      → CarriesOut mid new old.counted count e holds i j
       → CountsTo mid new old.counted count → LineTaken A s old (let u : Underway = record { machine = new; counted = count } in u) holds image j
   taken mid new j count stays k f to =
       let b = begun mid stays k in
@@ -108,7 +116,8 @@ module _ (A : Inputs) (s : State) (old : Underway) (holds : Option (List NamedFi
       let leads = both_lead A s b.state d.state old.machine.kernel mid.kernel new.kernel image (Some image) j b.units d.units b.leads
       (λ between same. subst (λ (y : List ℕ). Leads A b.state mid.kernel y d.units d.state new.kernel j) (same_Some image between same) d.leads) in
       let below : d.state.count ≤ A.limit =
-      units_below A (b.units ++ d.units) s d.state (makes_follows A (b.units ++ d.units) s d.state old.machine.kernel new.kernel image leads.behind leads.makes) (let less = due.below in omega arith) in
+      units_below A (b.units ++ d.units) s d.state (makes_follows A (b.units ++ d.units) s d.state old.machine.kernel new.kernel image leads.behind leads.makes)
+      (let less = due.below in omega arith) in
       let most : count ≤ A.limit = let same = d.counts in omega arith in
       record {
         units = b.units ++ d.units;
@@ -126,7 +135,8 @@ module _ (A : Inputs) (s : State) (old : Underway) (holds : Option (List NamedFi
         swapped = leads_swapped A s d.state old.machine.kernel new.kernel image (b.units ++ d.units) j at.stands.machine.at leads d.leads.behind d.leads.told;
       }
 
-  carrying_stops : (mid new : Standing) (j : Option (List ℕ)) (stop : Stop) → StaysSteady old.machine mid 0 → mid.kernel ≡ note_step old.machine.kernel (entries.Event line) → StopsCarrying mid new old.counted e holds i j stop
+  carrying_stops : (mid new : Standing) (j : Option (List ℕ)) (stop : Stop) → StaysSteady old.machine mid 0 → mid.kernel ≡ note_step old.machine.kernel (entries.Event line)
+      → StopsCarrying mid new old.counted e holds i j stop
       → StopsAccounted A s old.machine.kernel image stop new j
   carrying_stops mid new j stop stays k f =
       let b = begun mid stays k in
@@ -141,25 +151,31 @@ module _ (A : Inputs) (s : State) (old : Underway) (holds : Option (List NamedFi
 
 -- The whole line.
 
-pub takes_line : (old : Underway) (mid new : Standing) (holds : Option (List NamedFile)) (i j : Option (List ℕ)) (line count : ℕ) (e : Event) → StaysSteady old.machine mid 0
+pub takes_line : (old : Underway) (mid new : Standing) (holds : Option (List NamedFile)) (i j : Option (List ℕ)) (line count : ℕ) (e : Event)
+    → StaysSteady old.machine mid 0
     → mid.kernel ≡ note_step old.machine.kernel (entries.Event line) → CarriesOut mid new old.counted count e holds i j → CountsTo mid new old.counted count
     → TakesLine old (let u : Underway = record { machine = new; counted = count } in u) line e holds i j
 takes_line old mid new holds i j line count e stays k f to A s image at due = taken A s old holds i image line e at due mid new j count stays k f to
 
-pub stops_carrying : (old after : Underway) (mid : Standing) (holds : Option (List NamedFile)) (i j : Option (List ℕ)) (line : ℕ) (e : Event) (stop : Stop) → StaysSteady old.machine mid 0
-    → mid.kernel ≡ note_step old.machine.kernel (entries.Event line) → StopsCarrying mid after.machine old.counted e holds i j stop → StopsTaking old after line e holds i j stop
+pub stops_carrying : (old after : Underway) (mid : Standing) (holds : Option (List NamedFile)) (i j : Option (List ℕ)) (line : ℕ) (e : Event) (stop : Stop)
+    → StaysSteady old.machine mid 0
+    → mid.kernel ≡ note_step old.machine.kernel (entries.Event line) → StopsCarrying mid after.machine old.counted e holds i j stop
+    → StopsTaking old after line e holds i j stop
 stops_carrying old after mid holds i j line e stop stays k f A s image at due = carrying_stops A s old holds i image line e at due mid after.machine j stop stays k f
 
-pub stops_noted : (old after : Underway) (holds : Option (List NamedFile)) (i : Option (List ℕ)) (line : ℕ) (e : Event) (stop : Stop) → StopsNoting old.machine after.machine stop
+pub stops_noted : (old after : Underway) (holds : Option (List NamedFile)) (i : Option (List ℕ)) (line : ℕ) (e : Event) (stop : Stop)
+    → StopsNoting old.machine after.machine stop
     → StopsTaking old after line e holds i i stop
 stops_noted old after holds i line e stop x A s image at due = noting_stops A s old holds i image line e at due after.machine stop x
 
-pub goes_on_so : (mid new : Standing) (counted count : ℕ) → CountsTo mid new counted count → GoesOn (let u : Underway = record { machine = new; counted = count } in u)
+pub goes_on_so : (mid new : Standing) (counted count : ℕ) → CountsTo mid new counted count
+    → GoesOn (let u : Underway = record { machine = new; counted = count } in u)
 goes_on_so mid new counted count to = record { steady = to.steady; counted = to.counts }
 
 -- The entry of a line is noted.
 
-pub noted_line : (old : Underway) (mid : Standing) (line : ℕ) → GoesOn old → mid.kernel ≡ note_step old.machine.kernel (entries.Event line) → mid ≡ record old.machine { kernel = mid.kernel; room = None }
+pub noted_line : (old : Underway) (mid : Standing) (line : ℕ) → GoesOn old → mid.kernel ≡ note_step old.machine.kernel (entries.Event line)
+    → mid ≡ record old.machine { kernel = mid.kernel; room = None }
     → StaysSteady old.machine mid 0
 noted_line old mid line g k r = noted_steady old.machine mid (entries.Event line) g.steady tt k r
 

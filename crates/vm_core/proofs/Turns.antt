@@ -31,7 +31,8 @@ use Rattle.vm_core.specs.Closing.{TurnAt, ComesIn, StopsComingIn, FinishesTurn, 
 use Rattle.vm_core.proofs.Standing.{stands_on, leads_to_stop}
 
 -- next units count no more than may be
-few_counted : (A : Inputs) (s t : State) (old : Standing) (holds : Option (List NamedFile)) (i : Option (List ℕ)) (image : List ℕ) (us : List Entry) (l : Kernel) (j : Option (List ℕ)) → s.count ≤ A.limit
+few_counted : (A : Inputs) (s t : State) (old : Standing) (holds : Option (List NamedFile)) (i : Option (List ℕ)) (image : List ℕ) (us : List Entry)
+    (l : Kernel) (j : Option (List ℕ)) → s.count ≤ A.limit
     → Leads A s old.kernel image us t l j → t.count ≤ A.limit
 few_counted A s t old holds i image us l j below a = units_below A us s t (makes_follows A us s t old.kernel l image a.behind a.makes) below
 
@@ -39,7 +40,8 @@ few_counted A s t old holds i image us l j below a = units_below A us s t (makes
 
 -- one that is in has its turn at once
 pub in_already : (m : Standing) (pid counted since : ℕ) (holds : Option (List NamedFile)) (i : Option (List ℕ))
-    → ((A : Inputs) (s : State) (image : List ℕ) → TurnAt A s m holds i image counted since pid → is_out s.place pid ≡ false) → ComesIn m m pid counted since holds i i
+    → ((A : Inputs) (s : State) (image : List ℕ) → TurnAt A s m holds i image counted since pid → is_out s.place pid ≡ false)
+    → ComesIn m m pid counted since holds i i
 in_already m pid counted since holds i f A s image at = record {
   units = [];
   state = s;
@@ -50,11 +52,13 @@ in_already m pid counted since holds i f A s image at = record {
   lines = refl;
 }
 
-out_there : (A : Inputs) (s : State) (m : Standing) (holds : Option (List NamedFile)) (i : Option (List ℕ)) (image : List ℕ) (counted since pid : ℕ) → TurnAt A s m holds i image counted since pid → is_out m.kernel.place pid ≡ true
+out_there : (A : Inputs) (s : State) (m : Standing) (holds : Option (List NamedFile)) (i : Option (List ℕ)) (image : List ℕ) (counted since pid : ℕ)
+    → TurnAt A s m holds i image counted since pid → is_out m.kernel.place pid ≡ true
     → is_out s.place pid ≡ true
 out_there A s m holds i image counted since pid at o = ap (λ (p : Placement). is_out p pid) (sym at.stands.machine.at.stands.place) ∙ o
 
-pub in_comes : (old new : Standing) (pid counted since : ℕ) (holds : Option (List NamedFile)) (i j : Option (List ℕ)) → is_out old.kernel.place pid ≡ true → IsIn old.kernel new.kernel pid i → new.params ≡ old.params
+pub in_comes : (old new : Standing) (pid counted since : ℕ) (holds : Option (List NamedFile)) (i j : Option (List ℕ)) → is_out old.kernel.place pid ≡ true
+    → IsIn old.kernel new.kernel pid i → new.params ≡ old.params
     → new.images ≡ old.images → j ≡ i → ComesIn old new pid counted since holds i j
 in_comes old new pid counted since holds i j o is params images same A s image at =
     let c : CameIn A s old.kernel image pid since new.kernel =
@@ -68,7 +72,8 @@ in_comes old new pid counted since holds i j o is params images same A s image a
       behind = leads.behind;
       leads = leads;
       at = record {
-        stands = stands_on A s c.state old new holds i j image (entries.SwapIn pid ∷ []) counted counted at.stands leads params images (c.count ∙ at.stands.count) (below A s old holds i image counted since pid at);
+        stands = stands_on A s c.state old new holds i j image (entries.SwapIn pid ∷ []) counted counted at.stands leads params images (c.count ∙ at.stands.count)
+            (below A s old holds i image counted since pid at);
         clear = c.clear;
         mark = c.mark;
         on = c.on;
@@ -78,14 +83,16 @@ in_comes old new pid counted since holds i j o is params images same A s image a
       lines = c.lines;
     }
   where
-    below : (A : Inputs) (s : State) (old : Standing) (holds : Option (List NamedFile)) (i : Option (List ℕ)) (image : List ℕ) (counted since pid : ℕ) → TurnAt A s old holds i image counted since pid → counted ≤ A.limit
+    below : (A : Inputs) (s : State) (old : Standing) (holds : Option (List NamedFile)) (i : Option (List ℕ)) (image : List ℕ) (counted since pid : ℕ)
+        → TurnAt A s old holds i image counted since pid → counted ≤ A.limit
     below A s old holds i image counted since pid at =
         let two = and_parts (can_step s.point.flat pid) (nat_lt s.count A.limit && nat_lt s.count (since + turn_instructions)) at.on in
         let l : s.count < A.limit = ltb-true s.count A.limit (and_parts (nat_lt s.count A.limit) (nat_lt s.count (since + turn_instructions)) two.1).0 in
         let same = at.stands.count in
         omega arith
 
-pub in_stops : (old new : Standing) (pid counted since : ℕ) (holds : Option (List NamedFile)) (i j : Option (List ℕ)) (stop : Stop) → is_out old.kernel.place pid ≡ true → StopsAt (entries.SwapIn pid) old.kernel i stop new j
+pub in_stops : (old new : Standing) (pid counted since : ℕ) (holds : Option (List NamedFile)) (i j : Option (List ℕ)) (stop : Stop)
+    → is_out old.kernel.place pid ≡ true → StopsAt (entries.SwapIn pid) old.kernel i stop new j
     → StopsComingIn old new pid counted since holds i j stop
 in_stops old new pid counted since holds i j stop o x A s image at =
     coming_in_stops A s old new holds image j pid since stop at.stands.machine at.clear at.mark at.on (out_there A s old holds i image counted since pid at o)
@@ -93,13 +100,15 @@ in_stops old new pid counted since holds i j stop o x A s image at =
 
 -- The entry of a turn.
 
-record TurnStarts (A : Inputs) (s : State) (old mid : Standing) (holds : Option (List NamedFile)) (i : Option (List ℕ)) (image : List ℕ) (counted pid : ℕ) : Type 0 where
+record TurnStarts (A : Inputs) (s : State) (old mid : Standing) (holds : Option (List NamedFile)) (i : Option (List ℕ)) (image : List ℕ)
+    (counted pid : ℕ) : Type 0 where
   state : State
   leads : Leads A s old.kernel image (entries.Turn pid ∷ []) state mid.kernel (Some image)
   at : TurnAt A state mid holds i image counted counted pid
   lines : state.lines ≡ s.lines
 
-turn_starts : (A : Inputs) (s : State) (old mid : Standing) (holds : Option (List NamedFile)) (i : Option (List ℕ)) (image : List ℕ) (counted pid : ℕ) → StandsIn A s old holds i image counted → TurnDue A s pid
+turn_starts : (A : Inputs) (s : State) (old mid : Standing) (holds : Option (List NamedFile)) (i : Option (List ℕ)) (image : List ℕ) (counted pid : ℕ)
+    → StandsIn A s old holds i image counted → TurnDue A s pid
     → StaysSteady old mid 0 → mid.kernel ≡ note_step old.kernel (entries.Turn pid) → TurnStarts A s old mid holds i image counted pid
 turn_starts A s old mid holds i image counted pid st due stays k =
     let b : TurnBegun A s old.kernel image pid mid.kernel = turn_begins A s old mid.kernel holds image pid st.machine due k in
@@ -121,8 +130,10 @@ turn_starts A s old mid holds i image counted pid st due stays k =
 
 -- The whole turn.
 
-pub has_turn : (old mid in_ new : Standing) (pid counted count : ℕ) (holds : Option (List NamedFile)) (i h j : Option (List ℕ)) → StaysSteady old mid 0 → mid.kernel ≡ note_step old.kernel (entries.Turn pid)
-    → ComesIn mid in_ pid counted counted holds i h → FinishesTurn in_ new pid counted counted count holds h j → CountsTo in_ new counted count → HasTurn old new pid counted count holds i j
+pub has_turn : (old mid in_ new : Standing) (pid counted count : ℕ) (holds : Option (List NamedFile)) (i h j : Option (List ℕ)) → StaysSteady old mid 0
+    → mid.kernel ≡ note_step old.kernel (entries.Turn pid)
+    → ComesIn mid in_ pid counted counted holds i h → FinishesTurn in_ new pid counted counted count holds h j → CountsTo in_ new counted count
+    → HasTurn old new pid counted count holds i j
 has_turn old mid in_ new pid counted count holds i h j stays k came finishes to A s image st due =
     let b = turn_starts A s old mid holds i image counted pid st due stays k in
     let c = came A b.state image b.at in
@@ -145,17 +156,20 @@ has_turn old mid in_ new pid counted count holds i h j stays k came finishes to 
       turned = d.turned;
     }
 
-pub turn_noting_stops : (old new : Standing) (pid counted : ℕ) (holds : Option (List NamedFile)) (i : Option (List ℕ)) (stop : Stop) → StopsNoting old new stop → StopsTurn old new pid counted holds i i stop
+pub turn_noting_stops : (old new : Standing) (pid counted : ℕ) (holds : Option (List NamedFile)) (i : Option (List ℕ)) (stop : Stop) → StopsNoting old new stop
+    → StopsTurn old new pid counted holds i i stop
 turn_noting_stops old new pid counted holds i stop x A s image st due =
     subst (λ (o : Option (List ℕ)). StopLeads A s old.kernel image stop new o) (sym st.told) (turn_stops A s old new holds image pid stop st.machine due x)
 
-pub turn_coming_stops : (old mid new : Standing) (pid counted : ℕ) (holds : Option (List NamedFile)) (i j : Option (List ℕ)) (stop : Stop) → StaysSteady old mid 0 → mid.kernel ≡ note_step old.kernel (entries.Turn pid)
+pub turn_coming_stops : (old mid new : Standing) (pid counted : ℕ) (holds : Option (List NamedFile)) (i j : Option (List ℕ)) (stop : Stop)
+    → StaysSteady old mid 0 → mid.kernel ≡ note_step old.kernel (entries.Turn pid)
     → StopsComingIn mid new pid counted counted holds i j stop → StopsTurn old new pid counted holds i j stop
 turn_coming_stops old mid new pid counted holds i j stop stays k f A s image st due =
     let b = turn_starts A s old mid holds i image counted pid st due stays k in
     leads_to_stop A s b.state old.kernel mid.kernel image image (entries.Turn pid ∷ []) stop new j b.leads (f A b.state image b.at)
 
-pub turn_finish_stops : (old mid in_ new : Standing) (pid counted : ℕ) (holds : Option (List NamedFile)) (i h j : Option (List ℕ)) (stop : Stop) → StaysSteady old mid 0 → mid.kernel ≡ note_step old.kernel (entries.Turn pid)
+pub turn_finish_stops : (old mid in_ new : Standing) (pid counted : ℕ) (holds : Option (List NamedFile)) (i h j : Option (List ℕ)) (stop : Stop)
+    → StaysSteady old mid 0 → mid.kernel ≡ note_step old.kernel (entries.Turn pid)
     → ComesIn mid in_ pid counted counted holds i h → StopsFinishing in_ new pid counted counted holds h j stop → StopsTurn old new pid counted holds i j stop
 turn_finish_stops old mid in_ new pid counted holds i h j stop stays k came f A s image st due =
     let b = turn_starts A s old mid holds i image counted pid st due stays k in

@@ -75,10 +75,12 @@ FinishesTurn old new pid counted since count holds i j =
 -- or next units lead to where the run stopped in the turn
 abbrev pub StopsFinishing : Standing → Standing → ℕ → ℕ → ℕ → Option (List NamedFile) → Option (List ℕ) → Option (List ℕ) → Stop → Type 0
 StopsFinishing old new pid counted since holds i j stop =
-    (A : Inputs) (s : State) (image : List ℕ) → TurnAt A s old holds i image counted since pid → is_out s.place pid ≡ false → StopLeads A s old.kernel image stop new j
+    (A : Inputs) (s : State) (image : List ℕ) → TurnAt A s old holds i image counted since pid → is_out s.place pid ≡ false
+    → StopLeads A s old.kernel image stop new j
 
 -- the whole turn, from its entry on
-pub record TurnHad (A : Inputs) (s : State) (old new : Standing) (holds : Option (List NamedFile)) (image : List ℕ) (j : Option (List ℕ)) (pid count : ℕ) : Type 0 where
+pub record TurnHad (A : Inputs) (s : State) (old new : Standing) (holds : Option (List NamedFile)) (image : List ℕ) (j : Option (List ℕ))
+    (pid count : ℕ) : Type 0 where
   pub more : List Entry
   pub state : State
   pub behind : List ℕ
@@ -112,7 +114,8 @@ pub record IdleSince (A : Inputs) (t : State) (idle : ℕ) : Type 0 where
   pub many : idle ≤ turns_of units
 
 -- Next units led from a state at the begin of the phase to one between two turns, of which this process had the last.
-pub record Closing (A : Inputs) (s : State) (old new : Standing) (holds : Option (List NamedFile)) (image : List ℕ) (j : Option (List ℕ)) (count last idle : ℕ) : Type 0 where
+pub record Closing (A : Inputs) (s : State) (old new : Standing) (holds : Option (List NamedFile)) (image : List ℕ) (j : Option (List ℕ))
+    (count last idle : ℕ) : Type 0 where
   pub units : List Entry
   pub state : State
   pub behind : List ℕ
@@ -124,7 +127,8 @@ pub record Closing (A : Inputs) (s : State) (old new : Standing) (holds : Option
   pub since : IdleSince A state idle
 
 -- The machine stands after the last line.
-pub record LinesAre (A : Inputs) (s : State) (m : Standing) (holds : Option (List NamedFile)) (i : Option (List ℕ)) (image : List ℕ) (counted : ℕ) : Type 0 where
+pub record LinesAre (A : Inputs) (s : State) (m : Standing) (holds : Option (List NamedFile)) (i : Option (List ℕ)) (image : List ℕ)
+    (counted : ℕ) : Type 0 where
   pub stands : StandsIn A s m holds i image counted
   pub over : IsOver A s
   pub lines : length A.lines ≡ s.lines
@@ -137,7 +141,8 @@ ClosesTo old new counted count last idle holds i j =
 
 -- Next units lead to a state that has none, at which the machine stands. They are accounted for, and few, and the swap image is the
 -- one that they say.
-pub record Closed (A : Inputs) (s : State) (old new : Standing) (holds : Option (List NamedFile)) (image : List ℕ) (j : Option (List ℕ)) (count : ℕ) : Type 0 where
+pub record Closed (A : Inputs) (s : State) (old new : Standing) (holds : Option (List NamedFile)) (image : List ℕ) (j : Option (List ℕ))
+    (count : ℕ) : Type 0 where
   pub units : List Entry
   pub state : State
   pub behind : List ℕ
@@ -161,12 +166,14 @@ StopsClosing old new counted holds i j stop =
 -- Of a run between two lines, all of which were taken.
 abbrev pub ClosesRun : Underway → Underway → Option (List NamedFile) → Option (List ℕ) → Option (List ℕ) → Type 0
 ClosesRun old new holds i j =
-    (A : Inputs) (s : State) (image : List ℕ) → CoreAt A s old holds i image → length A.lines ≡ s.lines → Closed A s old.machine new.machine holds image j new.counted
+    (A : Inputs) (s : State) (image : List ℕ) → CoreAt A s old holds i image → length A.lines ≡ s.lines
+    → Closed A s old.machine new.machine holds image j new.counted
 
 -- or next units that are accounted for lead to where the run stopped in the phase
 abbrev pub StopsClosingRun : Underway → Underway → Option (List NamedFile) → Option (List ℕ) → Option (List ℕ) → Stop → Type 0
 StopsClosingRun old new holds i j stop =
-    (A : Inputs) (s : State) (image : List ℕ) → CoreAt A s old holds i image → length A.lines ≡ s.lines → StopsAccounted A s old.machine.kernel image stop new.machine j
+    (A : Inputs) (s : State) (image : List ℕ) → CoreAt A s old holds i image → length A.lines ≡ s.lines
+    → StopsAccounted A s old.machine.kernel image stop new.machine j
 
 -- Turns in a row.
 

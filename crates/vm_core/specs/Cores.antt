@@ -43,7 +43,8 @@ pub record InputsOf (A : Inputs) (m : Standing) : Type 0 where
 
 -- The machine stands at a state of a run, with a swap image that is told: so many instructions are counted, registers are
 -- longwords, there are 64 processes at most, and no turn of the closing phase was had.
-pub record StandsIn (A : Inputs) (s : State) (m : Standing) (holds : Option (List NamedFile)) (i : Option (List ℕ)) (image : List ℕ) (counted : ℕ) : Type 0 where
+pub record StandsIn (A : Inputs) (s : State) (m : Standing) (holds : Option (List NamedFile)) (i : Option (List ℕ)) (image : List ℕ)
+    (counted : ℕ) : Type 0 where
   pub machine : MachineAt A s m holds image
   pub told : i ≡ Some image
   pub inputs : InputsOf A m
@@ -86,12 +87,14 @@ TakesLine old new line e holds i j =
 -- or next units that are accounted for lead to where the run stopped in the line
 abbrev pub StopsTaking : Underway → Underway → ℕ → Event → Option (List NamedFile) → Option (List ℕ) → Option (List ℕ) → Stop → Type 0
 StopsTaking old new line e holds i j stop =
-    (A : Inputs) (s : State) (image : List ℕ) → CoreAt A s old holds i image → LineDue A s line e → StopsAccounted A s old.machine.kernel image stop new.machine j
+    (A : Inputs) (s : State) (image : List ℕ) → CoreAt A s old holds i image → LineDue A s line e
+    → StopsAccounted A s old.machine.kernel image stop new.machine j
 
 -- Under the mark of a line.
 
 -- The machine stands after the entry of a line, so many instructions being counted.
-pub record AskedAt (A : Inputs) (s : State) (m : Standing) (holds : Option (List NamedFile)) (i : Option (List ℕ)) (image : List ℕ) (counted : ℕ) (e : Event) : Type 0 where
+pub record AskedAt (A : Inputs) (s : State) (m : Standing) (holds : Option (List NamedFile)) (i : Option (List ℕ)) (image : List ℕ) (counted : ℕ)
+    (e : Event) : Type 0 where
   pub stands : StandsIn A s m holds i image counted
   pub clear : IsClear s
   pub mark : s.mark ≡ mark_of_event s e

@@ -40,7 +40,8 @@ SpoilsOldest A s (t ∷ ts) image after = (t.errand ≡ Writes) × SpoilsParts A
 -- a write that fails leaves the swap image as it was but for the blocks of its own pages, or of the u page
 abbrev pub SpoilsImage : Inputs → State → Entry → List ℕ → List ℕ → Type 0
 SpoilsImage A s entries.Done image after = SpoilsOldest A s s.place.transfers image after
-SpoilsImage A s (entries.SwapOut pid) image after = (bytes : List ℕ) × (length bytes ≡ 1024) × (after ≡ store_at image (block_in s.holdings (owners.U pid) 0) bytes)
+SpoilsImage A s (entries.SwapOut pid) image after =
+    (bytes : List ℕ) × (length bytes ≡ 1024) × (after ≡ store_at image (block_in s.holdings (owners.U pid) 0) bytes)
 SpoilsImage A s _ image after = ⊥
 
 -- any other halt leaves it as it was

@@ -20,13 +20,15 @@ HaveFewMoves [] = Unit {0}
 HaveFewMoves (e ∷ es) = HasFewMoves e × HaveFewMoves es
 
 -- The core stands at a state at which no line of these was taken, and they are the lines of the run.
-pub record IsBeforeLines (A : Inputs) (s : State) (c : Underway) (lines : List Event) (holds : Option (List NamedFile)) (i : Option (List ℕ)) (image : List ℕ) : Type 0 where
+pub record IsBeforeLines (A : Inputs) (s : State) (c : Underway) (lines : List Event) (holds : Option (List NamedFile)) (i : Option (List ℕ))
+    (image : List ℕ) : Type 0 where
   pub at : CoreAt A s c holds i image
   pub none : s.lines ≡ 0
   pub are : A.lines ≡ lines
 
 -- Next units lead to where the core stands after so many lines.
-pub record LinesTaken (A : Inputs) (s : State) (old new : Underway) (holds : Option (List NamedFile)) (image : List ℕ) (j : Option (List ℕ)) (taken : ℕ) : Type 0 where
+pub record LinesTaken (A : Inputs) (s : State) (old new : Underway) (holds : Option (List NamedFile)) (image : List ℕ) (j : Option (List ℕ))
+    (taken : ℕ) : Type 0 where
   pub units : List Entry
   pub state : State
   pub behind : List ℕ

@@ -53,7 +53,8 @@ pub fn come_in<F: Files, D: SwapDev>(
     requires area { m.old.params.swap_blocks ≤ D.blocks swap.old }
     requires files { AreFiles m.old.images (F.holds files.old) }
     ensures comes { OnOk result ((counted since : ℕ) → ComesIn m.old m.new pid counted since (F.holds files.old) (D.image swap.old) (D.image swap.new)) }
-    ensures stops { IfErr result (λ stop. (counted since : ℕ) → StopsComingIn m.old m.new pid counted since (F.holds files.old) (D.image swap.old) (D.image swap.new) stop) }
+    ensures stops { IfErr result
+        (λ stop. (counted since : ℕ) → StopsComingIn m.old m.new pid counted since (F.holds files.old) (D.image swap.old) (D.image swap.new) stop) }
     ensures steady { OnOk result (StaysSteady m.old m.new 0) }
     ensures kept { IfErr result (KeptAtStop m.old m.new) }
     ensures outside { TransfersPages F.Files D.SwapDev (stop_of result) files.old files.new swap.old swap.new }

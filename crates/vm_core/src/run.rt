@@ -36,7 +36,13 @@ impl Core {
         requires images { length images.items ≤ 16 }
         requires sound { AreSound (map (λ image. image.facts) images.items) }
         requires names { AreNames (map image_shown images.items) }
-        ensures machine { IfOk result (λ c. c.machine ≡ record { kernel = fresh_kernel (map (λ image. image.facts) images.items) params.frames; params = params; images = map image_shown images.items; before = []; room = None }) }
+        ensures machine { IfOk result (λ c. c.machine ≡ record {
+          kernel = fresh_kernel (map (λ image. image.facts) images.items) params.frames;
+          params = params;
+          images = map image_shown images.items;
+          before = [];
+          room = None;
+        }) }
         ensures counted { IfOk result (λ c. c.counted ≡ 0) }
     {
         Ok(Core {

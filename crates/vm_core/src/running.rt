@@ -39,7 +39,8 @@ pub(crate) fn dispatch<F: Files, D: SwapDev>(
     requires area { m.old.params.swap_blocks ≤ D.blocks swap.old }
     requires files { AreFiles m.old.images (F.holds files.old) }
     requires counted { instructions_of m.old.kernel.journal ≡ counted }
-    ensures done { IfOk result (λ more. CarriesOut m.old m.new counted more (Event.Dispatch pid count) (F.holds files.old) (D.image swap.old) (D.image swap.new)) }
+    ensures done { IfOk result
+        (λ more. CarriesOut m.old m.new counted more (Event.Dispatch pid count) (F.holds files.old) (D.image swap.old) (D.image swap.new)) }
     ensures stops { IfErr result (StopsCarrying m.old m.new counted (Event.Dispatch pid count) (F.holds files.old) (D.image swap.old) (D.image swap.new)) }
     ensures counts { IfOk result (λ more. CountsTo m.old m.new counted more) }
     ensures kept { IfErr result (KeptAtStop m.old m.new) }

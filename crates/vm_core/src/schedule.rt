@@ -120,7 +120,8 @@ fn run_through<F: Files, D: SwapDev>(
         → result ≡ Err (Unfinished.Stopped Stop.JournalFull) → RunFull A core.new.machine image }
     ensures left { (A : Inputs) (image : List ℕ) → IsAskedOf A core.old.machine first.now lines.now (F.holds files.old) image → D.image swap.old ≡ Some image
         → (stop : Halt) → result ≡ Err (Unfinished.Stopped stop) → RunStopsAt A stop core.new.machine image }
-    ensures over { OnOk result ((A : Inputs) (image : List ℕ) → IsAskedOf A core.old.machine first.now lines.now (F.holds files.old) image → D.image swap.old ≡ Some image
+    ensures over { OnOk result
+        ((A : Inputs) (image : List ℕ) → IsAskedOf A core.old.machine first.now lines.now (F.holds files.old) image → D.image swap.old ≡ Some image
         → RunOver A core.new.machine image) }
     ensures goes_on { OnOk result (GoesOn core.new) }
     ensures sound { OnOk result (RunsSound core.new.machine) }
@@ -171,7 +172,8 @@ pub fn run_schedule<F: Files, D: SwapDev>(
         → result ≡ Err (Unfinished.Stopped Stop.JournalFull) → RunFull A core.new.machine image }
     ensures left { (A : Inputs) (image : List ℕ) → IsAskedOf A core.old.machine first.now lines.now (F.holds files.old) image → D.image swap.old ≡ Some image
         → (stop : Halt) → result ≡ Err (Unfinished.Stopped stop) → RunStopsAt A stop core.new.machine image }
-    ensures over { OnOk result ((A : Inputs) (image : List ℕ) → IsAskedOf A core.old.machine first.now lines.now (F.holds files.old) image → D.image swap.old ≡ Some image
+    ensures over { OnOk result
+        ((A : Inputs) (image : List ℕ) → IsAskedOf A core.old.machine first.now lines.now (F.holds files.old) image → D.image swap.old ≡ Some image
         → RunOver A core.new.machine image) }
     ensures goes_on { OnOk result (GoesOn core.new) }
     ensures sound { OnOk result (RunsSound core.new.machine) }

@@ -21,12 +21,14 @@ use Rattle.reference_commands.specs.Loads.{load_numbers, IsLoadCaused}
 use Rattle.vm_run.specs.Complete.{IsSound, NoneRose, RunsComplete, LoadsComplete, ToldLoadsComplete}
 
 -- what was written whole has the status of its ending
-whole_status : (before after : Option (List ℕ)) (old new : ℕ) (text : List ℕ) (whole status : ℕ) → Writes before after old new text whole status → (Rose old new → ⊥) → status ≡ whole
+whole_status : (before after : Option (List ℕ)) (old new : ℕ) (text : List ℕ) (whole status : ℕ) → Writes before after old new text whole status
+    → (Rose old new → ⊥) → status ≡ whole
 whole_status before after old new text whole status (All same appends faults) never = same
 whole_status before after old new text whole status (Prefix is appends rose) never = absurd (never rose)
 
 -- each line of items is that of one of them
-line_among : {E : Type 0} (IsLine : E → List ℕ → Type 0) (items : List E) (before : List (List ℕ)) (line : List ℕ) (after : List (List ℕ)) → AreLines IsLine items (before ++ line ∷ after)
+line_among : {E : Type 0} (IsLine : E → List ℕ → Type 0) (items : List E) (before : List (List ℕ)) (line : List ℕ) (after : List (List ℕ))
+    → AreLines IsLine items (before ++ line ∷ after)
     → (e : E) × IsLine e line × (length before + 1 ≤ length items)
 line_among IsLine [] [] line after h = absurd h
 line_among IsLine (e ∷ es) [] line after h = (e, h.0, omega arith)

@@ -10,15 +10,18 @@ use Rattle.reference_commands.specs.Paired.{image_together}
 use Rattle.vm_run.specs.Obeying.{Obeys}
 use Rattle.vm_run.specs.InMemory.{blank_pair, seen_of, CompletesTold, ObeysTold}
 
-completes_told : {R : Type 0} (Ends : R → Faults → CommandEnding → Type 0) (told : List NamedFile → R) (seen : Seen) (files : List NamedFile) (status : ℕ) → seen.files ≡ Some files
-    → Completes Ends told seen.files seen.faults seen.written_before seen.written_after seen.sink_faults_before seen.sink_faults_after status → CompletesTold Ends (told files) seen status
+completes_told : {R : Type 0} (Ends : R → Faults → CommandEnding → Type 0) (told : List NamedFile → R) (seen : Seen) (files : List NamedFile) (status : ℕ)
+    → seen.files ≡ Some files
+    → Completes Ends told seen.files seen.faults seen.written_before seen.written_after seen.sink_faults_before seen.sink_faults_after status
+    → CompletesTold Ends (told files) seen status
 completes_told {R} Ends told seen files status is x = record {
   ending = x.ending;
   ends = subst (λ (read : R). Ends read seen.faults x.ending) (x.made.is_told files is) x.made.ends;
   writes = x.writes;
 }
 
-pub obeys_told : (asked : Option Asked) (seen : Seen) (files : List NamedFile) (image : List ℕ) (status : ℕ) → seen.files ≡ Some files → AreOctetFiles files → seen.swap_before ≡ Some image
+pub obeys_told : (asked : Option Asked) (seen : Seen) (files : List NamedFile) (image : List ℕ) (status : ℕ) → seen.files ≡ Some files → AreOctetFiles files
+    → seen.swap_before ≡ Some image
     → Obeys asked seen status → ObeysTold asked seen files image status
 obeys_told None seen files image status is octets swap x = x
 obeys_told (Some (Run traced numbers schedule images)) seen files image status is octets swap x =
@@ -37,7 +40,8 @@ obeys_told (Some (References numbers schedule images)) seen files image status i
 obeys_told (Some (Policies size references)) seen files image status is octets swap x = completes_told _ _ seen files status is x
 
 -- What is seen where files and devices are in memory.
-pub same_seen : (files : Option (List NamedFile)) (list : List NamedFile) (zb ob zero_blocks one_blocks : ℕ) (before after swap : Option (List ℕ)) (empty written : Option (List ℕ)) (none faults : ℕ) → files ≡ Some list
+pub same_seen : (files : Option (List NamedFile)) (list : List NamedFile) (zb ob zero_blocks one_blocks : ℕ) (before after swap : Option (List ℕ))
+    (empty written : Option (List ℕ)) (none faults : ℕ) → files ≡ Some list
     → zb ≡ zero_blocks → ob ≡ one_blocks → before ≡ Some (blank_pair zero_blocks one_blocks) → after ≡ swap → empty ≡ Some [] → none ≡ 0
     → (
     let seen : Seen = record {

@@ -44,10 +44,12 @@ IsCompleteLoad number seen status loads = (status ≡ 0) ⊎ ((status ≡ 9) ⊎
 -- so is a load on such devices
 abbrev pub LoadsComplete : Type 0
 LoadsComplete =
-    (number : ℕ) (seen : Seen) (status : ℕ) (loads : Loads number seen status) → DevicesSuffice load_numbers.swap seen → NoneRose seen → IsCompleteLoad number seen status loads
+    (number : ℕ) (seen : Seen) (status : ℕ) (loads : Loads number seen status) → DevicesSuffice load_numbers.swap seen → NoneRose seen
+    → IsCompleteLoad number seen status loads
 
 -- Where the devices are told too, its journal is far from all entries that it may have: it is finished, or it found no memory.
 abbrev pub ToldLoadsComplete : Type 0
 ToldLoadsComplete =
-    (number : ℕ) (seen : Seen) (status : ℕ) (image : List ℕ) → Loads number seen status → seen.swap_before ≡ Some image → DevicesSuffice load_numbers.swap seen → NoneRose seen
+    (number : ℕ) (seen : Seen) (status : ℕ) (image : List ℕ) → Loads number seen status → seen.swap_before ≡ Some image
+    → DevicesSuffice load_numbers.swap seen → NoneRose seen
     → (status ≡ 0) ⊎ (status ≡ 9)

@@ -64,7 +64,8 @@ pub record RunsTold (request : Request) (seen : Seen) (files : List NamedFile) (
 pub record LoadsTold (number : ℕ) (seen : Seen) (image : List ℕ) (status : ℕ) : Type 0 where
   pub ending : Ending
   pub journal : List Entry
-  pub writes : Writes seen.written_before seen.written_after seen.sink_faults_before seen.sink_faults_after (load_written number journal ending) (status_of ending) status
+  pub writes : Writes seen.written_before seen.written_after seen.sink_faults_before seen.sink_faults_after (load_written number journal ending)
+      (status_of ending) status
   pub within : length journal ≤ journal_entries
   pub caused : IsLoadCaused seen journal ending
   pub told : LoadEnded number seen journal image ending
@@ -86,7 +87,8 @@ ObeysTold None seen files image status = Obeys None seen status
 ObeysTold (Some (Run traced numbers schedule images)) seen files image status =
     RunsTold (record { traced = traced; numbers = numbers; schedule = schedule; words = images }) seen files image status
 ObeysTold (Some (Load number)) seen files image status = LoadsTold number seen image status
-ObeysTold (Some (Replay transcript images)) seen files image status = CompletesTold (EndsReplay transcript images) (replay_told transcript images files) seen status
+ObeysTold (Some (Replay transcript images)) seen files image status =
+    CompletesTold (EndsReplay transcript images) (replay_told transcript images files) seen status
 ObeysTold (Some (Assemble source)) seen files image status = CompletesTold (EndsAssembly source) (bytes_told files source source_bytes) seen status
 ObeysTold (Some (Show image_name)) seen files image status = CompletesTold (EndsListing image_name) (image_told files image_name) seen status
 ObeysTold (Some (Optimum size numbers schedule images)) seen files image status =
@@ -101,9 +103,11 @@ ObeysTold (Some (Stats numbers schedule images)) seen files image status =
     AnswersTold questions.Stats (record { numbers = numbers; schedule = schedule; words = images }) seen files status
 ObeysTold (Some (References numbers schedule images)) seen files image status =
     AnswersTold questions.References (record { numbers = numbers; schedule = schedule; words = images }) seen files status
-ObeysTold (Some (Policies size references)) seen files image status = CompletesTold (EndsPolicies size references) (references_told references files) seen status
+ObeysTold (Some (Policies size references)) seen files image status =
+    CompletesTold (EndsPolicies size references) (references_told references files) seen status
 
 -- words over these files and two blank devices leave this on the devices and the output, with this status
 abbrev pub DoesInMemory : Option Asked → List NamedFile → ℕ → ℕ → Option (List ℕ) → Option (List ℕ) → Option (List ℕ) → ℕ → ℕ → Type 0
 DoesInMemory asked files zero_blocks one_blocks zero one written faults status =
-    ObeysTold asked (seen_of files zero_blocks one_blocks (image_together zero_blocks one_blocks zero one) written faults) files (blank_pair zero_blocks one_blocks) status
+    ObeysTold asked (seen_of files zero_blocks one_blocks (image_together zero_blocks one_blocks zero one) written faults) files
+    (blank_pair zero_blocks one_blocks) status

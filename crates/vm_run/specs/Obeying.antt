@@ -15,12 +15,15 @@ use Rattle.policy_command.specs.Command.{Compares}
 -- The words are none of a command, and the line that says so was written; or they ask for a command, and it did what it is for.
 abbrev pub Obeys : Option Asked → Seen → ℕ → Type 0
 Obeys None seen status = WritesEnding seen.written_before seen.written_after seen.sink_faults_before seen.sink_faults_after (Err BadWords) status
-Obeys (Some (Run traced numbers schedule images)) seen status = Runs (record { traced = traced; numbers = numbers; schedule = schedule; words = images }) seen status
+Obeys (Some (Run traced numbers schedule images)) seen status =
+    Runs (record { traced = traced; numbers = numbers; schedule = schedule; words = images }) seen status
 Obeys (Some (Load number)) seen status = Loads number seen status
 Obeys (Some (Replay transcript images)) seen status =
     Replays transcript images seen.files seen.faults seen.written_before seen.written_after seen.sink_faults_before seen.sink_faults_after status
-Obeys (Some (Assemble source)) seen status = Assembles source seen.files seen.faults seen.written_before seen.written_after seen.sink_faults_before seen.sink_faults_after status
-Obeys (Some (Show image)) seen status = Lists image seen.files seen.faults seen.written_before seen.written_after seen.sink_faults_before seen.sink_faults_after status
+Obeys (Some (Assemble source)) seen status =
+    Assembles source seen.files seen.faults seen.written_before seen.written_after seen.sink_faults_before seen.sink_faults_after status
+Obeys (Some (Show image)) seen status =
+    Lists image seen.files seen.faults seen.written_before seen.written_after seen.sink_faults_before seen.sink_faults_after status
 Obeys (Some (Optimum size numbers schedule images)) seen status =
     Answers (questions.Optimum size) (record { numbers = numbers; schedule = schedule; words = images })
     seen.files seen.faults seen.written_before seen.written_after seen.sink_faults_before seen.sink_faults_after status

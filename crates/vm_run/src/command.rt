@@ -18,7 +18,8 @@ use std::alloc::Global;
 /// output, and answers the exit status: 0 where it was done; 1 bad words; 2 an absent file; 3 no image; 4 a bad schedule;
 /// 5 a file fault; 6 a fault of a swap device that is read, 7 of one that is written; 8 a fault of the output; 9 want of
 /// memory; 10 a full journal; 11 no swap for a first process; 12 a swap device that is too short; 14 a transcript that is no run;
-/// 15 a bad transcript; 16 one that is too long, or a file of references; 17 a bad source; 18 a bad line of references. The first thing met decides, but an output that fails gives 8
+/// 15 a bad transcript; 16 one that is too long, or a file of references; 17 a bad source; 18 a bad line of references. The first
+/// thing met decides, but an output that fails gives 8
 /// whatever came before (this project's profile).
 ///
 /// A run reads its pages from the files, and a load from files of its own in memory; both write to the swap devices and read from
@@ -33,13 +34,28 @@ pub fn vmrun<F: Files, D: SwapDev, E: SwapDev, S: Sink>(
 ) -> u8
     ensures obeys { Obeys (asked_of (map (λ word. word.now) words.now)) (record {
       files = F.holds files.old;
-      faults = record { open_before = F.open_faults files.old; open_after = F.open_faults files.new; page_before = F.page_faults files.old; page_after = F.page_faults files.new };
+      faults = record {
+        open_before = F.open_faults files.old;
+        open_after = F.open_faults files.new;
+        page_before = F.page_faults files.old;
+        page_after = F.page_faults files.new;
+      };
       zero_blocks = D.blocks zero.old;
       one_blocks = E.blocks one.old;
       swap_before = image_together (D.blocks zero.old) (E.blocks one.old) (D.image zero.old) (E.image one.old);
       swap_after = image_together (D.blocks zero.new) (E.blocks one.new) (D.image zero.new) (E.image one.new);
-      reads = record { zero_before = D.read_faults zero.old; zero_after = D.read_faults zero.new; one_before = E.read_faults one.old; one_after = E.read_faults one.new };
-      writes = record { zero_before = D.write_faults zero.old; zero_after = D.write_faults zero.new; one_before = E.write_faults one.old; one_after = E.write_faults one.new };
+      reads = record {
+        zero_before = D.read_faults zero.old;
+        zero_after = D.read_faults zero.new;
+        one_before = E.read_faults one.old;
+        one_after = E.read_faults one.new;
+      };
+      writes = record {
+        zero_before = D.write_faults zero.old;
+        zero_after = D.write_faults zero.new;
+        one_before = E.write_faults one.old;
+        one_after = E.write_faults one.new;
+      };
       written_before = S.written sink.old;
       written_after = S.written sink.new;
       sink_faults_before = S.faults sink.old;

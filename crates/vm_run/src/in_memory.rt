@@ -37,7 +37,8 @@ pub fn vmrun_in_memory(
 ) -> Result<InMemory, NoMemory>
     requires { vec_len files < 2 ^ 32 }
     ensures { IfOk result (λ done. DoesInMemory (asked_of (map (λ word. word.now) words.now)) (map named_file files.items) zero_blocks one_blocks
-        (⟦<SureSwap as SwapDev>⟧.image done.zero) (⟦<SureSwap as SwapDev>⟧.image done.one) (⟦<MemSink as Sink>⟧.written done.output) (⟦<MemSink as Sink>⟧.faults done.output) done.status) }
+        (⟦<SureSwap as SwapDev>⟧.image done.zero) (⟦<SureSwap as SwapDev>⟧.image done.one) (⟦<MemSink as Sink>⟧.written done.output)
+        (⟦<MemSink as Sink>⟧.faults done.output) done.status) }
 {
     are_octet_files(files.as_slice());
     let mut files = SureFiles::new(files);

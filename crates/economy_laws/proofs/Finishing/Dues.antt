@@ -130,8 +130,10 @@ bring_ends (suc n) A P q parent ds m s g l on p k mk lt =
     there : IsThere s.place parent
     there = state_there s.place parent (due.source).1
 
-    go : ((t : State) → P t → t.place.due ≡ CopyOf q parent ∷ ds → t.mark ≡ m → rank t.place (parent ∷ []) parent < n → Finishes A t) → (v : Bool) → is_valid (state_of s.place parent) ≡ v → Finishes A s
-    go more true v = fill_ends (1 + far s.place (parent ∷ [])) A P (CopyOf q parent) ds (parent ∷ []) (entries.Copy q) (λ (y : Placement). is_valid (state_of y parent) ≡ true) m s (copy_filling A q parent ds) g l on p k mk v (omega arith)
+    go : ((t : State) → P t → t.place.due ≡ CopyOf q parent ∷ ds → t.mark ≡ m → rank t.place (parent ∷ []) parent < n → Finishes A t) → (v : Bool)
+        → is_valid (state_of s.place parent) ≡ v → Finishes A s
+    go more true v = fill_ends (1 + far s.place (parent ∷ [])) A P (CopyOf q parent) ds (parent ∷ []) (entries.Copy q) (λ (y : Placement). is_valid (state_of y parent) ≡ true) m s
+        (copy_filling A q parent ds) g l on p k mk v (omega arith)
     go more false v =
         let u : Entry = serve_entry s.place parent in
         finish_known A P s u g p (due_next A s (CopyOf q parent) ds k ∙ ap (λ (o : Option Entry). Some (copy_unit_by s.place q o)) (now_unit s.place parent v)) (λ b p2.
@@ -139,7 +141,8 @@ bring_ends (suc n) A P q parent ds m s g l on p k mk lt =
         let pl = after_served A s u (parent ∷ []) parent (ap (locked_by A s) k) (not_due s.place parent st.dues (due.source).1) (now_unit s.place parent v) in
         let a = ap (λ (y : Placement). rank y (parent ∷ []) parent) pl in
         let c = serve_falls s.place (parent ∷ []) parent (owns A s r.placed) (stands A s r) room there v in
-        more (after A s u) p2 (ap (λ (y : Placement). y.due) pl ∙ serve_due_same s.place (parent ∷ []) parent (owns A s r.placed) ∙ k) (mark_lasts A s u (subst IsLasting (sym mk) l) b ∙ mk) (omega arith))
+        more (after A s u) p2 (ap (λ (y : Placement). y.due) pl ∙ serve_due_same s.place (parent ∷ []) parent (owns A s r.placed) ∙ k)
+        (mark_lasts A s u (subst IsLasting (sym mk) l) b ∙ mk) (omega arith))
 
 -- All that is due.
 pub due_ends : (n : ℕ) (A : Inputs) (P : State → Type 0) (m : Mark) (s : State) → Stage A P → IsLasting m → Then A P [] m → P s

@@ -116,11 +116,13 @@ put_ends zero A P pid sid s g p mk i lt = absurd (omega arith)
 put_ends (suc n) A P pid sid s g p mk i lt =
     let r : IsRun A s = g.run s p in
     let d : s.place.due ≡ [] =
-    let m : (s.place.due ≡ []) × (Rattle.kernel_model.specs.Stands.holds_some (process_of s.point.flat pid) ≡ true) × (Rattle.page_model.specs.Swapper.is_out s.place pid ≡ false) = subst (MarkStands s) mk r.mark in m.0 in
+    let m : (s.place.due ≡ []) × (Rattle.kernel_model.specs.Stands.holds_some (process_of s.point.flat pid) ≡ true) × (Rattle.page_model.specs.Swapper.is_out s.place pid ≡ false) =
+    subst (MarkStands s) mk r.mark in m.0 in
     let same : (a b : Entry) → Some a ≡ Some b → a ≡ b = λ a b e. cc in
     let go : ((t : State) → P t → t.mark ≡ marks.PutOut pid → space_of_process (process_of t.point.flat pid) ≡ sid → put_rank t.place pid sid < n → Finishes A t)
     → (u : Entry) → next_unit A s ≡ Some u → is_boundary u ≡ false → P (after A s u) → Finishes A (after A s u) = λ more u h b p2.
-    let is : u ≡ put_out_unit s.place pid (space_of_process (process_of s.point.flat pid)) = same u (put_out_unit s.place pid (space_of_process (process_of s.point.flat pid))) (sym h ∙ put_unit A s pid d mk) in
+    let is : u ≡ put_out_unit s.place pid (space_of_process (process_of s.point.flat pid)) =
+    same u (put_out_unit s.place pid (space_of_process (process_of s.point.flat pid))) (sym h ∙ put_unit A s pid d mk) in
     let point = plain_point A s u (ap process_of_entry is ∙ put_flat s.place pid (space_of_process (process_of s.point.flat pid))) in
     let falls = put_falls A s u pid r mk h in
     elim (out_mark A s u pid mk b) [
@@ -147,7 +149,8 @@ still_ends A P s g runs p = go s.mark refl
         once_ends A P s entries.Done g p m.0 (ap (under A s) e) (done_mark A s ∙ ap completed e)
     go (marks.Hands count) e = hands_end count A P count s g p e (omega arith)
     go (marks.BringIn pid) e =
-        let m : (s.place.due ≡ []) × (Rattle.kernel_model.specs.Stands.holds_some (process_of s.point.flat pid) ≡ true) × (Rattle.page_model.specs.Swapper.is_out s.place pid ≡ true) = subst (MarkStands s) e r.mark in
+        let m : (s.place.due ≡ []) × (Rattle.kernel_model.specs.Stands.holds_some (process_of s.point.flat pid) ≡ true) × (Rattle.page_model.specs.Swapper.is_out s.place pid ≡ true) =
+        subst (MarkStands s) e r.mark in
         once_ends A P s (entries.SwapIn pid) g p m.0 (ap (under A s) e) (in_mark A s pid ∙ ap brought_in e)
     go (marks.PutOut pid) e = put_ends (1 + put_rank s.place pid (space_of_process (process_of s.point.flat pid))) A P pid (space_of_process (process_of s.point.flat pid)) s g p e refl (omega arith)
     go marks.Audit e = once_ends A P s (owners_entry s) g p (subst (MarkStands s) e r.mark) (ap (under A s) e) (notes_mark A s ∙ ap audited e)

@@ -56,7 +56,8 @@ pub record Inside (A : Inputs) (s : State) (pid : ℕ) : Type 0 where
 
 -- its units between two boundaries
 pub data Works (A : Inputs) (s : State) (pid : ℕ) (u : Entry) : Type 0 where
-  Serving : (now : Bool) (q : Page) → Runs A s pid now → wanted A s ≡ Some q → is_valid (state_of s.place q) ≡ false → u ≡ serve_entry s.place q → Works A s pid u
+  Serving : (now : Bool) (q : Page) → Runs A s pid now → wanted A s ≡ Some q → is_valid (state_of s.place q) ≡ false
+      → u ≡ serve_entry s.place q → Works A s pid u
   Acting : (now : Bool) → Runs A s pid now → wanted A s ≡ None → act A s pid ≡ Some u → Works A s pid u
   Entering : is_out s.place pid ≡ true → u ≡ entries.SwapIn pid → Works A s pid u
 
@@ -118,7 +119,8 @@ idle_ends A P s pid g p i c = finish_on A P s g p (λ u h n p2. absurd (go u (wo
 
 serve_ends : (n : ℕ) (A : Inputs) (P : State → Type 0) (pid : ℕ) (q : Page) (pages front : List Page) (s : State) → Stage A P
     → ((t : State) → P t → Inside A t pid → touched A t.point.flat pid ≡ pages → length front + 1 ≤ length (before_absent t.place pages) → Finishes A t)
-    → P s → Inside A s pid → touched A s.point.flat pid ≡ pages → before_absent s.place pages ≡ front → wanted A s ≡ Some q → rank s.place front q < n → Finishes A s
+    → P s → Inside A s pid → touched A s.point.flat pid ≡ pages → before_absent s.place pages ≡ front → wanted A s ≡ Some q
+    → rank s.place front q < n → Finishes A s
 serve_ends zero A P pid q pages front s g on p i ts fs w lt = absurd (omega arith)
 serve_ends (suc n) A P pid q pages front s g on p i ts fs w lt = finish_on A P s g p (λ u h b p2. go (λ t. serve_ends n A P pid q pages front t g on) u b p2 (works A s pid u i.on i.clear h b))
   where
@@ -141,7 +143,8 @@ serve_ends (suc n) A P pid q pages front s g on p i ts fs w lt = finish_on A P s
     kept = let x : Splits s.place pages front q = splits in spared s.place (serve_step s.place front q) front x.valid (serve_spares s.place front q (owns A s r.placed) there) front (λ y e. e)
 
     served : (u : Entry) → is_valid (state_of s.place q) ≡ false → u ≡ serve_entry s.place q → is_boundary u ≡ false → P (after A s u)
-        → ((t : State) → P t → Inside A t pid → touched A t.point.flat pid ≡ pages → before_absent t.place pages ≡ front → wanted A t ≡ Some q → rank t.place front q < n → Finishes A t) → Finishes A (after A s u)
+        → ((t : State) → P t → Inside A t pid → touched A t.point.flat pid ≡ pages → before_absent t.place pages ≡ front → wanted A t ≡ Some q → rank t.place front q < n → Finishes A t)
+        → Finishes A (after A s u)
     served u nv is b p2 more = by (is_valid (state_of (serve_step s.place front q) q)) refl
       where
         plain : process_of_entry u ≡ None
@@ -177,7 +180,8 @@ serve_ends (suc n) A P pid q pages front s g on p i ts fs w lt = finish_on A P s
               valid = subst (λ (z : Placement). AllValid z front) (sym pl) kept;
               absent = subst (λ (z : Placement). is_valid (state_of z q) ≡ false) (sym pl) v;
             } in
-            let wants : wanted A (after A s u) ≡ Some q = wanted_on A (after A s u) pid here.on here.clear ∙ ap (first_absent (after A s u).place) same ∙ split_first (after A s u).place pages front q y in
+            let wants : wanted A (after A s u) ≡ Some q =
+            wanted_on A (after A s u) pid here.on here.clear ∙ ap (first_absent (after A s u).place) same ∙ split_first (after A s u).place pages front q y in
             let a = ap (λ (z : Placement). rank z front q) pl in
             let c = serve_falls s.place front q (owns A s r.placed) (stands A s r) room there nv in
             more (after A s u) p2 here same (split_before (after A s u).place pages front q y) wants (omega arith)
@@ -208,7 +212,8 @@ settled A s pid u r i w a is b =
     let pl : (after A s u).place ≡ done s.place = plain_place A s u plain ∙ ap (place_entry (locked A s) (place_at s u) s.place) is in
     let point : (after A s u).point ≡ s.point = plain_point A s u plain in
     let fewer : length (after A s u).place.transfers + 1 ≡ length s.place.transfers =
-    let some = settles A s pid (a ∙ ap (λ (x : Entry). Some x) is) in let l = done_less s.place (λ z. absurd (let y = ap length z in omega arith)) in let t = ap (λ (x : Placement). length x.transfers) pl in omega arith in
+    let some = settles A s pid (a ∙ ap (λ (x : Entry). Some x) is) in
+    let l = done_less s.place (λ z. absurd (let y = ap length z in omega arith)) in let t = ap (λ (x : Placement). length x.transfers) pl in omega arith in
     let due : (after A s u).place.due ≡ [] =
     let st : Steady s.place (done s.place) = done_steady s.place (owns A s r.placed) in ap (λ (x : Placement). x.due) pl ∙ st.due ∙ i.clear in
     let here : Inside A (after A s u) pid = record { on = still_on A s pid u i.on b; clear = due; inside = out (is_out (after A s u).place pid) refl } in
@@ -285,10 +290,12 @@ act_ends (suc n) A P pid most s g on p i w m lt = finish_on A P s g p (λ u h b 
         let x : Slept A s (after A s u) pid = subst (λ (y : Entry). Slept A s (after A s y) pid) (sym is) (sleep_stops A s pid r (h ∙ ap (λ (y : Entry). Some y) is)) in
         idle_ends A P (after A s u) pid g p2 (record { on = still_on A s pid u i.on b; clear = x.clear; inside = x.resident i.inside }) x.idle
 
-    stepped : (u x : Entry) → u ≡ x → next_unit A s ≡ Some u → is_boundary u ≡ false → P (after A s u) → next_of_step A s.point pid ≡ Some u → process_of_entry x ≡ Some pid → is_boundary x ≡ false → Finishes A (after A s u)
+    stepped : (u x : Entry) → u ≡ x → next_unit A s ≡ Some u → is_boundary u ≡ false → P (after A s u) → next_of_step A s.point pid ≡ Some u → process_of_entry x ≡ Some pid → is_boundary x ≡ false
+        → Finishes A (after A s u)
     stepped u (entries.Out q bytes) is h b p2 f e z = noted_ends A P pid s u g p2 i w (ap (λ (y : Entry). is_closed (Some y)) is)
         (subst (λ (y : Entry). after A s y ≡ noted s y) (sym is) (out_after A s pid q bytes (out_of A s.point pid q bytes (f ∙ ap (λ (y : Entry). Some y) is))))
-    stepped u (entries.Refused q) is h b p2 f e z = noted_ends A P pid s u g p2 i w (ap (λ (y : Entry). is_closed (Some y)) is) (subst (λ (y : Entry). after A s y ≡ noted s y) (sym is) (refused_after A s q))
+    stepped u (entries.Refused q) is h b p2 f e z =
+        noted_ends A P pid s u g p2 i w (ap (λ (y : Entry). is_closed (Some y)) is) (subst (λ (y : Entry). after A s y ≡ noted s y) (sym is) (refused_after A s q))
     stepped u (entries.Grew q pages) is h b p2 f e z = grown u pages h b p2 (is ∙ ap (λ (y : ℕ). entries.Grew y pages) (own_pid q pid e))
     stepped u (entries.Sleeps q) is h b p2 f e z = slept u h b p2 (is ∙ ap (λ (y : ℕ). entries.Sleeps y) (own_pid q pid e))
     stepped u _ is h b p2 f e z = absurd cc
@@ -315,7 +322,8 @@ pages_end : (y : ℕ) (A : Inputs) (P : State → Type 0) (pid most : ℕ) (s : 
 pages_end zero A P pid most s g on p i m l = absurd (let a = before_few s.place (touched A s.point.flat pid) in let b = run_few A s pid (g.run s p) in omega arith)
 pages_end (suc y) A P pid most s g on p i m l = go (λ t. pages_end y A P pid most t g on) (wanted A s) refl
   where
-    go : ((t : State) → P t → Inside A t pid → most ≤ length (touched A t.point.flat pid) → 32 ≤ length (before_absent t.place (touched A t.point.flat pid)) + y → Finishes A t) → (o : Option Page) → wanted A s ≡ o → Finishes A s
+    go : ((t : State) → P t → Inside A t pid → most ≤ length (touched A t.point.flat pid) → 32 ≤ length (before_absent t.place (touched A t.point.flat pid)) + y → Finishes A t) → (o : Option Page)
+        → wanted A s ≡ o → Finishes A s
     go more None w = act_ends (1 + length s.place.transfers) A P pid most s g on p i w m (omega arith)
     go more (Some q) w =
         let pages : List Page = touched A s.point.flat pid in
@@ -344,7 +352,8 @@ process_ends A P s g p pid m = due_ends (length s.place.due) A P s.mark s g (run
         enters u b p2 o (Acting now r w a) = absurd (let z : true ≡ false = sym o ∙ r.resident in cc)
         enters u b p2 o (Entering z is) =
             let pl : (after A t u).place ≡ moved t.place pid false (place_at t u) = plain_place A t u (ap process_of_entry is) ∙ ap (place_entry (locked A t) (place_at t u) t.place) is in
-            let out : is_out (after A t u).place pid ≡ false = ap (λ (x : Placement). is_out x pid) pl ∙ ap (λ (x : Residence). x.out) (moved_own t.place pid false (place_at t u) (resident_out t.place.residents pid o)) in
+            let out : is_out (after A t u).place pid ≡ false =
+            ap (λ (x : Placement). is_out x pid) pl ∙ ap (λ (x : Residence). x.out) (moved_own t.place pid false (place_at t u) (resident_out t.place.residents pid o)) in
             inside_ends 32 A P pid (after A t u) g p2 (record { on = still_on A t pid u on b; clear = ap (λ (x : Placement). x.due) pl ∙ d; inside = out }) (omega arith)
 
         go : (o : Bool) → is_out t.place pid ≡ o → Finishes A t

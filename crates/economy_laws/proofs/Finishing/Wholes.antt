@@ -215,7 +215,8 @@ line_within A n l s images r c m = record {
 
 lines_end : (l : ℕ) (A : Inputs) (n : ℕ) (s : State) → ImagesFit A.images → 64 ≤ A.frames → Fewer A n → IsRun A s → A.limit ≤ s.count + n
     → length A.lines ≤ s.lines + l → Finishes A s
-lines_end zero A n s images frames fewer r c m = turns_end (ready_count s.point.flat.processes) A n zero s images frames fewer (λ t rt ct low high. absurd (omega arith)) (line_within A n zero s images r c m)
+lines_end zero A n s images frames fewer r c m =
+    turns_end (ready_count s.point.flat.processes) A n zero s images frames fewer (λ t rt ct low high. absurd (omega arith)) (line_within A n zero s images r c m)
 lines_end (suc l) A n s images frames fewer r c m = turns_end (ready_count s.point.flat.processes) A n (suc l) s images frames fewer
     (λ t rt ct low high. lines_end l A n t images frames fewer rt ct (omega arith)) (line_within A n (suc l) s images r c m)
 
@@ -266,5 +267,6 @@ finished_once A journal other s t f g =
     let m : IsLawful A other t = g.lawful in
     let x : Reaches A journal s = l.reaches in
     let y : Reaches A other t = m.reaches in
-    let k = followed_same A (start A x.holdings) s t x.units y.units x.follows f.none (subst (λ (hs : Holdings). Follows A (start A hs) y.units t) (ok_same y.holdings x.holdings (sym y.found ∙ x.found)) y.follows) g.none in
+    let k = followed_same A (start A x.holdings) s t x.units y.units x.follows f.none
+    (subst (λ (hs : Holdings). Follows A (start A hs) y.units t) (ok_same y.holdings x.holdings (sym y.found ∙ x.found)) y.follows) g.none in
     (sym x.joined ∙ ap (appended []) k.0 ∙ y.joined, k.1)

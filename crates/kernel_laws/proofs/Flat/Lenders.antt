@@ -108,7 +108,8 @@ lends_lent ps q p c s e h k new hc l =
     -- nobody had lent to the new process
     let old_child : (x : Process) (sid child : ℕ) → numbered pid_of x.pid ps ≡ Some x → x.holding ≡ Lends sid child → c.pid ≢ child = λ x sid child f g i.
     subst (IsWith sid) new (subst (λ (n : ℕ). IsWith sid (numbered pid_of n ps)) (sym i) (l.right x sid child f g)) in
-    let one : (x y : Process) (a b child : ℕ) → numbered pid_of x.pid qs ≡ Some x → numbered pid_of y.pid qs ≡ Some y → x.holding ≡ Lends a child → y.holding ≡ Lends b child → x.pid ≡ y.pid = λ x y a b child f g hx hy.
+    let one : (x y : Process) (a b child : ℕ) → numbered pid_of x.pid qs ≡ Some x → numbered pid_of y.pid qs ≡ Some y → x.holding ≡ Lends a child → y.holding ≡ Lends b child → x.pid ≡ y.pid =
+    λ x y a b child f g hx hy.
     elim (either x a child f hx) [
       | inl i ↦ elim (either y b child g hy) [
         | inl j ↦ i.0 ∙ sym j.0
@@ -134,7 +135,8 @@ lends_lent ps q p c s e h k new hc l =
     at_parent = pushed_found pid_of p.pid (replaced ps p) c p (replaced_at ps q p e)
 
     -- the lenders: the parent, and those of before
-    either : (x : Process) (sid child : ℕ) → numbered pid_of x.pid qs ≡ Some x → x.holding ≡ Lends sid child → ((x.pid ≡ p.pid) × (s.sid ≡ sid) × (c.pid ≡ child)) ⊎ ((x.pid ≢ p.pid) × (numbered pid_of x.pid ps ≡ Some x))
+    either : (x : Process) (sid child : ℕ) → numbered pid_of x.pid qs ≡ Some x → x.holding ≡ Lends sid child
+        → ((x.pid ≡ p.pid) × (s.sid ≡ sid) × (c.pid ≡ child)) ⊎ ((x.pid ≢ p.pid) × (numbered pid_of x.pid ps ≡ Some x))
     either x sid child f g = elim (cases_eq x.pid p.pid) [
       | inl i ↦ (let same : p ≡ x = same_Some p x (sym at_parent ∙ ap (λ (n : ℕ). numbered pid_of n qs) (sym i) ∙ f) in
           let y : Lends s.sid c.pid ≡ Lends sid child = sym k ∙ ap (λ (z : Process). z.holding) same ∙ g in
@@ -175,7 +177,8 @@ lends_true pid sid h e = ap (lends_to pid) e ∙ eq_self pid
 -- nobody lent, or the first lender has the space
 returned_cases : (ps : List Process) (pid : ℕ) (s : Space) → AllDistinct (map pid_of ps)
     → ((returned pid s ps ≡ ps) × ((x : Process) → numbered pid_of x.pid ps ≡ Some x → lends_to pid x.holding ≡ false))
-    ⊎ ((x : Process) × (numbered pid_of x.pid ps ≡ Some x) × (lends_to pid x.holding ≡ true) × (returned pid s ps ≡ replaced ps (record x { holding = Holds s })))
+    ⊎ ((x : Process) × (numbered pid_of x.pid ps ≡ Some x) × (lends_to pid x.holding ≡ true)
+    × (returned pid s ps ≡ replaced ps (record x { holding = Holds s })))
 unfolding returned replaced
 returned_cases [] pid s d = inl (refl, λ x e. none_some x e)
 returned_cases (q ∷ ps) pid s d = elim (cases_Bool (lends_to pid q.holding)) [
@@ -183,7 +186,8 @@ returned_cases (q ∷ ps) pid s d = elim (cases_Bool (lends_to pid q.holding)) [
     q,
     numbered_hit pid_of q.pid q ps refl,
     t,
-    ap (λ (b : Bool). returned_by b s q ps (returned pid s ps)) t ∙ sym (ap (λ (b : Bool). replaced_by b (record q { holding = Holds s }) q ps (replaced ps (record q { holding = Holds s }))) (eq_self q.pid)),
+    ap (λ (b : Bool). returned_by b s q ps (returned pid s ps)) t
+        ∙ sym (ap (λ (b : Bool). replaced_by b (record q { holding = Holds s }) q ps (replaced ps (record q { holding = Holds s }))) (eq_self q.pid)),
   )
   | inr t ↦ elim (returned_cases ps pid s d.1) [
     | inl e ↦ inl (
@@ -232,9 +236,11 @@ back_lent ps q p s d e h none l =
     own : (x : Process) (sid child : ℕ) → numbered pid_of x.pid r0 ≡ Some x → x.holding ≡ Lends sid child → x.pid ≢ p.pid
     own x sid child f g i = none sid child (ap (λ (y : Process). y.holding) (same_Some p x (sym (replaced_at ps q p e) ∙ ap (λ (n : ℕ). numbered pid_of n r0) (sym i) ∙ f)) ∙ g)
 
-    behind : (m : Process) (t : ℕ) → m.holding ≡ Lends t p.pid → numbered pid_of m.pid r0 ≡ Some m → numbered pid_of m.pid ps ≡ Some m → s.sid ≡ t → (x : Process) (sid child : ℕ) → numbered pid_of x.pid (replaced r0 (record m { holding = Holds s })) ≡ Some x → x.holding ≡ Lends sid child
+    behind : (m : Process) (t : ℕ) → m.holding ≡ Lends t p.pid → numbered pid_of m.pid r0 ≡ Some m → numbered pid_of m.pid ps ≡ Some m → s.sid ≡ t → (x : Process) (sid child : ℕ)
+        → numbered pid_of x.pid (replaced r0 (record m { holding = Holds s })) ≡ Some x → x.holding ≡ Lends sid child
         → (x.pid ≡ m.pid) ⊎ (x.pid ≢ m.pid) → WasLender ps (replaced r0 (record m { holding = Holds s })) x.pid sid child
-    behind m t hm m0 m1 right x sid child f g (inl i) = not_holds s sid child (ap (λ (y : Process). y.holding) (same_Some (record m { holding = Holds s }) x (sym (replaced_at r0 m (record m { holding = Holds s }) m0)
+    behind m t hm m0 m1 right x sid child f g (inl i) =
+        not_holds s sid child (ap (λ (y : Process). y.holding) (same_Some (record m { holding = Holds s }) x (sym (replaced_at r0 m (record m { holding = Holds s }) m0)
         ∙ ap (λ (n : ℕ). numbered pid_of n (replaced r0 (record m { holding = Holds s }))) (sym i) ∙ f)) ∙ g)
     behind m t hm m0 m1 right x sid child f g (inr n) =
         let in_r0 : numbered pid_of x.pid r0 ≡ Some x = sym (replaced_not r0 (record m { holding = Holds s }) x.pid n) ∙ f in
@@ -245,7 +251,8 @@ back_lent ps q p s d e h none l =
           found = was;
           holding = g;
           stays = λ y. elim (cases_eq child m.pid) [
-            | inl i ↦ subst (λ (k : ℕ). IsWith sid (numbered pid_of k (replaced r0 (record m { holding = Holds s })))) (sym i) (subst (IsWith sid) (sym (replaced_at r0 m (record m { holding = Holds s }) m0))
+            | inl i ↦ subst (λ (k : ℕ). IsWith sid (numbered pid_of k (replaced r0 (record m { holding = Holds s })))) (sym i)
+                (subst (IsWith sid) (sym (replaced_at r0 m (record m { holding = Holds s }) m0))
                 (right ∙ subst (HasOrLent sid) hm (subst (IsWith sid) m1 (subst (λ (k : ℕ). IsWith sid (numbered pid_of k ps)) i y))))
             | inr k ↦ subst (IsWith sid) (sym (replaced_not r0 (record m { holding = Holds s }) child k ∙ replaced_not ps p child (λ i. n (l.one x m sid t p.pid was m1 (g ∙ ap (Lends sid) i) hm)))) y
           ];
@@ -329,11 +336,13 @@ changes_lent images flat pid regs change q s e h m n st = subst LendsStand (sym 
     go : (change : Change) → NamesChild flat change → LendsStand (changed images flat p s change)
     go Keep m = of_lent (with_process flat p) (same_lent flat.processes q p s s found h h refl l)
     go Sleep m = of_lent (with_process flat (record p { asleep = true })) (same_lent flat.processes q (record p { asleep = true }) s s found h h refl l)
-    go (Resize d t) m = of_lent (with_process flat (record p { holding = Holds (resized s d t) })) (same_lent flat.processes q (record p { holding = Holds (resized s d t) }) s (resized s d t) found h refl refl l)
+    go (Resize d t) m =
+        of_lent (with_process flat (record p { holding = Holds (resized s d t) })) (same_lent flat.processes q (record p { holding = Holds (resized s d t) }) s (resized s d t) found h refl refl l)
     go (Fork child) m =
         let new : flat.next_pid ≢ q.pid = λ i. none_some q (sym (next_pid_none flat n) ∙ ap (λ (x : ℕ). numbered pid_of x flat.processes) i ∙ found) in
         subst (λ (x : ℕ). LendsStand (forked flat p s x)) (sym m) (of_lent (forked flat p s flat.next_pid)
-        (pushed_lent (replaced flat.processes p) (child_of p flat.next_pid (record s { sid = flat.next_sid })) (record s { sid = flat.next_sid }) (replaced_not flat.processes p flat.next_pid new ∙ next_pid_none flat n) refl
+        (pushed_lent (replaced flat.processes p) (child_of p flat.next_pid (record s { sid = flat.next_sid })) (record s { sid = flat.next_sid })
+        (replaced_not flat.processes p flat.next_pid new ∙ next_pid_none flat n) refl
         (same_lent flat.processes q p s s found h h refl l)))
     go (Lend child) m = subst (λ (x : ℕ). LendsStand (lent flat p s x)) (sym m) (of_lent (lent flat p s flat.next_pid)
         (lends_lent flat.processes q (record p { holding = Lends s.sid flat.next_pid }) (child_of p flat.next_pid s) s found h refl (next_pid_none flat n) refl l))
@@ -356,7 +365,8 @@ changes_lent images flat pid regs change q s e h m n st = subst LendsStand (sym 
         let tidy : Rattle.kernel_laws.proofs.Flat.Numbers.Tidy rs flat.next_pid flat.next_sid = Rattle.kernel_laws.proofs.Flat.Numbers.back_tidy flat pid q fp s n e h found refl refl refl in
         let distinct : AllDistinct (map pid_of rs) = tidy.pids in
         let at : numbered pid_of q.pid rs ≡ Some fp =
-        Rattle.kernel_laws.proofs.Flat.Numbers.returned_own (replaced flat.processes fp) q.pid s fp (subst AllDistinct (sym (replaced_pids flat.processes q fp found)) n.pids) (replaced_at flat.processes q fp found) refl in
+        Rattle.kernel_laws.proofs.Flat.Numbers.returned_own (replaced flat.processes fp) q.pid s fp (subst AllDistinct (sym (replaced_pids flat.processes q fp found)) n.pids)
+        (replaced_at flat.processes q fp found) refl in
         subst LendsStand (sym (left_is (q.parent == 0) (orphaned (given_back (with_process flat fp) q.pid s) q.pid) q.pid q.parent))
         (of_lent (record flat { processes = left_flat (q.parent == 0) (orphans q.pid rs) q.pid q.parent })
         (left_lent (q.parent == 0) rs fp q.pid q.parent distinct at refl (back_lent flat.processes q fp s n.pids found h (λ sid child i. cc) l)))
@@ -365,7 +375,8 @@ pub writes_lent : (flat : FlatState) (pid : ℕ) (ws : List ByteWrite) (q : Proc
     → LendsStand flat → LendsStand (apply_writes flat pid ws)
 unfolding apply_writes
 writes_lent flat pid ws q s e h st = subst LendsStand (sym (ap (wrote_if flat ws) e ∙ ap (wrote_by flat q ws) h))
-    (of_lent (with_process flat (record q { holding = Holds (puts s ws) })) (same_lent flat.processes q (record q { holding = Holds (puts s ws) }) s (puts s ws) (found_self flat pid q e) h refl (puts_sid ws s) (lent_of flat st)))
+    (of_lent (with_process flat (record q { holding = Holds (puts s ws) }))
+    (same_lent flat.processes q (record q { holding = Holds (puts s ws) }) s (puts s ws) (found_self flat pid q e) h refl (puts_sid ws s) (lent_of flat st)))
 
 -- The lender of a borrower.
 

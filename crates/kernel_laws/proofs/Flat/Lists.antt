@@ -122,21 +122,24 @@ three n xs ys zs = numbered_append sid_of n xs (ys ++ zs) ∙ ap (or_else (numbe
 
 -- the space is found by its number
 pub held_own : (ps : List Process) (p : Process) (s : Space) → HeldAt ps p s → numbered sid_of s.sid (held ps) ≡ Some s
-held_own ps p s a = ap (numbered sid_of s.sid) a.old ∙ three s.sid a.front (s ∷ []) a.back ∙ ap (λ (o : Option Space). or_else o (or_else (numbered sid_of s.sid (s ∷ [])) (numbered sid_of s.sid a.back))) a.in_front
+held_own ps p s a =
+    ap (numbered sid_of s.sid) a.old ∙ three s.sid a.front (s ∷ []) a.back ∙ ap (λ (o : Option Space). or_else o (or_else (numbered sid_of s.sid (s ∷ [])) (numbered sid_of s.sid a.back))) a.in_front
     ∙ ap (λ (o : Option Space). or_else o (numbered sid_of s.sid a.back)) (numbered_hit sid_of s.sid s [] refl)
 
 -- another space is as it was
 pub held_other : (ps : List Process) (p : Process) (s : Space) (n : ℕ) → HeldAt ps p s → n ≢ s.sid → numbered sid_of n (space_held p.holding) ≡ None
     → numbered sid_of n (held (replaced ps p)) ≡ numbered sid_of n (held ps)
 held_other ps p s n a d e =
-    ap (numbered sid_of n) a.new ∙ three n a.front (space_held p.holding) a.back ∙ ap (λ (o : Option Space). or_else (numbered sid_of n a.front) (or_else o (numbered sid_of n a.back))) (e ∙ sym (numbered_miss sid_of n s [] (λ h. d (sym h))))
+    ap (numbered sid_of n) a.new ∙ three n a.front (space_held p.holding) a.back
+    ∙ ap (λ (o : Option Space). or_else (numbered sid_of n a.front) (or_else o (numbered sid_of n a.back))) (e ∙ sym (numbered_miss sid_of n s [] (λ h. d (sym h))))
     ∙ sym (three n a.front (s ∷ []) a.back) ∙ sym (ap (numbered sid_of n) a.old)
 
 -- the number has what the process holds now
 pub held_now : (ps : List Process) (p : Process) (s : Space) → HeldAt ps p s
     → numbered sid_of s.sid (held (replaced ps p)) ≡ numbered sid_of s.sid (space_held p.holding)
 held_now ps p s a =
-    ap (numbered sid_of s.sid) a.new ∙ three s.sid a.front (space_held p.holding) a.back ∙ ap (λ (o : Option Space). or_else o (or_else (numbered sid_of s.sid (space_held p.holding)) (numbered sid_of s.sid a.back))) a.in_front
+    ap (numbered sid_of s.sid) a.new ∙ three s.sid a.front (space_held p.holding) a.back
+    ∙ ap (λ (o : Option Space). or_else o (or_else (numbered sid_of s.sid (space_held p.holding)) (numbered sid_of s.sid a.back))) a.in_front
     ∙ ap (or_else (numbered sid_of s.sid (space_held p.holding))) a.in_back ∙ or_none (numbered sid_of s.sid (space_held p.holding))
   where
     or_none : (o : Option Space) → or_else o None ≡ o
@@ -147,11 +150,14 @@ held_now ps p s a =
 pub held_new : (ps : List Process) (p : Process) (s : Space) (n : ℕ) → HeldAt ps p s → numbered sid_of n (held ps) ≡ None
     → numbered sid_of n (held (replaced ps p)) ≡ numbered sid_of n (space_held p.holding)
 held_new ps p s n a e =
-    let f : or_else (numbered sid_of n a.front) (or_else (numbered sid_of n (s ∷ [])) (numbered sid_of n a.back)) ≡ None = sym (three n a.front (s ∷ []) a.back) ∙ sym (ap (numbered sid_of n) a.old) ∙ e in
+    let f : or_else (numbered sid_of n a.front) (or_else (numbered sid_of n (s ∷ [])) (numbered sid_of n a.back)) ≡ None =
+    sym (three n a.front (s ∷ []) a.back) ∙ sym (ap (numbered sid_of n) a.old) ∙ e in
     let x : numbered sid_of n a.front ≡ None = first_none (numbered sid_of n a.front) (or_else (numbered sid_of n (s ∷ [])) (numbered sid_of n a.back)) f in
-    let y : or_else (numbered sid_of n (s ∷ [])) (numbered sid_of n a.back) ≡ None = sym (ap (λ (o : Option Space). or_else o (or_else (numbered sid_of n (s ∷ [])) (numbered sid_of n a.back))) x) ∙ f in
+    let y : or_else (numbered sid_of n (s ∷ [])) (numbered sid_of n a.back) ≡ None =
+    sym (ap (λ (o : Option Space). or_else o (or_else (numbered sid_of n (s ∷ [])) (numbered sid_of n a.back))) x) ∙ f in
     let z : numbered sid_of n a.back ≡ None = sym (ap (λ (o : Option Space). or_else o (numbered sid_of n a.back)) (first_none (numbered sid_of n (s ∷ [])) (numbered sid_of n a.back) y)) ∙ y in
-    ap (numbered sid_of n) a.new ∙ three n a.front (space_held p.holding) a.back ∙ ap (λ (o : Option Space). or_else o (or_else (numbered sid_of n (space_held p.holding)) (numbered sid_of n a.back))) x
+    ap (numbered sid_of n) a.new ∙ three n a.front (space_held p.holding) a.back
+    ∙ ap (λ (o : Option Space). or_else o (or_else (numbered sid_of n (space_held p.holding)) (numbered sid_of n a.back))) x
     ∙ ap (or_else (numbered sid_of n (space_held p.holding))) z ∙ or_none (numbered sid_of n (space_held p.holding))
   where
     first_none : (o r : Option Space) → or_else o r ≡ None → o ≡ None
@@ -177,7 +183,8 @@ held_gain ps m p s e h i z =
     (first_none (numbered sid_of s.sid front) (numbered sid_of s.sid back) (sym (numbered_append sid_of s.sid front back) ∙ sym (ap (numbered sid_of s.sid) old) ∙ z))
     ∙ ap (λ (o : Option Space). or_else o (numbered sid_of s.sid back)) (numbered_hit sid_of s.sid s [] refl) in
     let other : (n : ℕ) → n ≢ s.sid → numbered sid_of n (held (replaced ps p)) ≡ numbered sid_of n (held ps) = λ n d.
-    ap (numbered sid_of n) new ∙ three n front (s ∷ []) back ∙ ap (λ (o : Option Space). or_else (numbered sid_of n front) (or_else o (numbered sid_of n back))) (numbered_miss sid_of n s [] (λ x. d (sym x)))
+    ap (numbered sid_of n) new ∙ three n front (s ∷ []) back
+    ∙ ap (λ (o : Option Space). or_else (numbered sid_of n front) (or_else o (numbered sid_of n back))) (numbered_miss sid_of n s [] (λ x. d (sym x)))
     ∙ sym (numbered_append sid_of n front back) ∙ sym (ap (numbered sid_of n) old) in
     (own, other)
   where

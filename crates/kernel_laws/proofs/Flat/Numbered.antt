@@ -36,7 +36,8 @@ pub numbered_append : {A : Type 0} (number : A → ℕ) (n : ℕ) (xs ys : List 
 numbered_append number n [] ys = refl
 numbered_append number n (x ∷ xs) ys = go (number x == n) (numbered_append number n xs ys)
   where
-    go : (b : Bool) → numbered number n (xs ++ ys) ≡ or_else (numbered number n xs) (numbered number n ys) → cond b (Some x) (numbered number n (xs ++ ys)) ≡ or_else (cond b (Some x) (numbered number n xs)) (numbered number n ys)
+    go : (b : Bool) → numbered number n (xs ++ ys) ≡ or_else (numbered number n xs) (numbered number n ys)
+        → cond b (Some x) (numbered number n (xs ++ ys)) ≡ or_else (cond b (Some x) (numbered number n xs)) (numbered number n ys)
     go true ih = refl
     go false ih = ih
 
@@ -130,7 +131,8 @@ pub numbered_image : {A : Type 0} {B : Type 0} (f : A → B) (number : A → ℕ
 numbered_image f number number_now k n [] = refl
 numbered_image f number number_now k n (x ∷ xs) = ap (λ (m : ℕ). cond (m == n) (Some (f x)) (numbered number_now n (map f xs))) (k x) ∙ go (number x == n) (numbered_image f number number_now k n xs)
   where
-    go : (b : Bool) → numbered number_now n (map f xs) ≡ image_by f (numbered number n xs) → cond b (Some (f x)) (numbered number_now n (map f xs)) ≡ image_by f (cond b (Some x) (numbered number n xs))
+    go : (b : Bool) → numbered number_now n (map f xs) ≡ image_by f (numbered number n xs)
+        → cond b (Some (f x)) (numbered number_now n (map f xs)) ≡ image_by f (cond b (Some x) (numbered number n xs))
     go true ih = refl
     go false ih = ih
 

@@ -111,14 +111,17 @@ pub record Exchange (ps : List Process) (q p : Process) (ns ms : ℕ) : Type 0 w
 
 held_sids : (xs : List Process) (p : Process) (ys : List Process)
     → map sid_of (held (xs ++ p ∷ ys)) ≡ map sid_of (held xs) ++ (map sid_of (space_held p.holding) ++ map sid_of (held ys))
-held_sids xs p ys = ap (map sid_of) (held_parts xs p ys) ∙ sids-append (held xs) (space_held p.holding ++ held ys) ∙ ap (λ (l : List ℕ). map sid_of (held xs) ++ l) (sids-append (space_held p.holding) (held ys))
+held_sids xs p ys =
+    ap (map sid_of) (held_parts xs p ys) ∙ sids-append (held xs) (space_held p.holding ++ held ys) ∙ ap (λ (l : List ℕ). map sid_of (held xs) ++ l) (sids-append (space_held p.holding) (held ys))
 
 pub exchange : (ps : List Process) (q p : Process) (next ns ms : ℕ) → Tidy ps next ns → numbered pid_of p.pid ps ≡ Some q → p.parent ≡ q.parent
     → Exchange ps q p ns ms → Tidy (replaced ps p) next ms
 exchange ps q p next ns ms t e par x =
     let r : Parts ps q p = parts_at ps q p e in
-    let old : map sid_of (held ps) ≡ map sid_of (held r.front) ++ (map sid_of (space_held q.holding) ++ map sid_of (held r.back)) = ap (λ (l : List Process). map sid_of (held l)) r.old ∙ held_sids r.front q r.back in
-    let new : map sid_of (held (replaced ps p)) ≡ map sid_of (held r.front) ++ (map sid_of (space_held p.holding) ++ map sid_of (held r.back)) = ap (λ (l : List Process). map sid_of (held l)) r.new ∙ held_sids r.front p r.back in
+    let old : map sid_of (held ps) ≡ map sid_of (held r.front) ++ (map sid_of (space_held q.holding) ++ map sid_of (held r.back)) =
+    ap (λ (l : List Process). map sid_of (held l)) r.old ∙ held_sids r.front q r.back in
+    let new : map sid_of (held (replaced ps p)) ≡ map sid_of (held r.front) ++ (map sid_of (space_held p.holding) ++ map sid_of (held r.back)) =
+    ap (λ (l : List Process). map sid_of (held l)) r.new ∙ held_sids r.front p r.back in
     let h = x.made (map sid_of (held r.front)) (map sid_of (held r.back)) old (subst AllDistinct old t.sids) (subst (AllBelow ns) old t.sids_below) in
     record {
       pids = subst AllDistinct (sym (replaced_pids ps q p e)) t.pids;
@@ -155,7 +158,8 @@ renewal ps q p s z ns h k i = record {
       let parts = below_parts ns front (s.sid ∷ back) below in
       let left : AllDistinct (front ++ back) = (distinct_remove front s.sid back was).0 in
       let under : AllBelow ns (front ++ back) = below_both ns front back parts.0 parts.1.1 in (
-        subst (λ (x : Holding). AllDistinct (front ++ (map sid_of (space_held x) ++ back))) (sym k) (subst (λ (n : ℕ). AllDistinct (front ++ n ∷ back)) (sym i) (distinct_insert front ns back left (below_absent ns (front ++ back) under))),
+        subst (λ (x : Holding). AllDistinct (front ++ (map sid_of (space_held x) ++ back))) (sym k)
+            (subst (λ (n : ℕ). AllDistinct (front ++ n ∷ back)) (sym i) (distinct_insert front ns back left (below_absent ns (front ++ back) under))),
         subst (λ (x : Holding). AllBelow (ns + 1) (front ++ (map sid_of (space_held x) ++ back))) (sym k)
             (below_both (ns + 1) front (z.sid ∷ back) (below_more ns front parts.0) ((let y = i in omega arith), below_more ns back parts.1.1)),
       );
@@ -193,9 +197,11 @@ pub one_more : (ps : List Process) (p : Process) (s : Space) (next ns ms : ℕ) 
     → p.holding ≡ Holds s → IsAbsent s.sid (map sid_of (held ps))
     → s.sid < ms → AllBelow ms (map sid_of (held ps)) → Tidy (ps ++ p ∷ []) (next + 1) ms
 one_more ps p s next ns ms t i l h a m b = record {
-  pids = subst AllDistinct (sym (map_pushed pid_of ps p)) (pushed_distinct (map pid_of ps) p.pid t.pids (subst (λ (n : ℕ). IsAbsent n (map pid_of ps)) (sym i) (below_absent next (map pid_of ps) t.pids_below)));
+  pids = subst AllDistinct (sym (map_pushed pid_of ps p))
+      (pushed_distinct (map pid_of ps) p.pid t.pids (subst (λ (n : ℕ). IsAbsent n (map pid_of ps)) (sym i) (below_absent next (map pid_of ps) t.pids_below)));
   sids = subst AllDistinct (sym list) (pushed_distinct (map sid_of (held ps)) s.sid t.sids a);
-  pids_below = subst (AllBelow (next + 1)) (sym (map_pushed pid_of ps p)) (below_both (next + 1) (map pid_of ps) (p.pid ∷ []) (below_more next (map pid_of ps) t.pids_below) ((let y = i in omega arith), tt));
+  pids_below =
+      subst (AllBelow (next + 1)) (sym (map_pushed pid_of ps p)) (below_both (next + 1) (map pid_of ps) (p.pid ∷ []) (below_more next (map pid_of ps) t.pids_below) ((let y = i in omega arith), tt));
   sids_below = subst (AllBelow ms) (sym list) (below_both ms (map sid_of (held ps)) (s.sid ∷ []) b (m, tt));
   lower = lower_pushed ps p t.lower l;
 }
@@ -207,7 +213,8 @@ one_more ps p s next ns ms t i l h a m b = record {
 
 -- nobody lent, or the first lender has the space
 returned_either : (ps : List Process) (pid : ℕ) (s : Space) → AllDistinct (map pid_of ps)
-    → (returned pid s ps ≡ ps) ⊎ ((x : Process) × (numbered pid_of x.pid ps ≡ Some x) × (lends_to pid x.holding ≡ true) × (returned pid s ps ≡ replaced ps (record x { holding = Holds s })))
+    → (returned pid s ps ≡ ps) ⊎ ((x : Process) × (numbered pid_of x.pid ps ≡ Some x) × (lends_to pid x.holding ≡ true)
+    × (returned pid s ps ≡ replaced ps (record x { holding = Holds s })))
 unfolding returned replaced
 returned_either [] pid s d = inl refl
 returned_either (q ∷ ps) pid s d = elim (cases_Bool (lends_to pid q.holding)) [
@@ -215,7 +222,8 @@ returned_either (q ∷ ps) pid s d = elim (cases_Bool (lends_to pid q.holding)) 
     q,
     numbered_hit pid_of q.pid q ps refl,
     t,
-    ap (λ (b : Bool). returned_by b s q ps (returned pid s ps)) t ∙ sym (ap (λ (b : Bool). replaced_by b (record q { holding = Holds s }) q ps (replaced ps (record q { holding = Holds s }))) (Rattle.vm_facts.proofs.Tests.eq_self q.pid)),
+    ap (λ (b : Bool). returned_by b s q ps (returned pid s ps)) t
+        ∙ sym (ap (λ (b : Bool). replaced_by b (record q { holding = Holds s }) q ps (replaced ps (record q { holding = Holds s }))) (Rattle.vm_facts.proofs.Tests.eq_self q.pid)),
   )
   | inr t ↦ elim (returned_either ps pid s d.1) [
     | inl e ↦ inl (ap (λ (b : Bool). returned_by b s q ps (returned pid s ps)) t ∙ ap (λ (l : List Process). q ∷ l) e)
@@ -238,7 +246,8 @@ pub returned_tidy : (ps : List Process) (pid : ℕ) (s : Space) (next ns : ℕ) 
     → Tidy (returned pid s ps) next ns
 returned_tidy ps pid s next ns t a l = elim (returned_either ps pid s t.pids) [
   | inl e ↦ subst (λ (x : List Process). Tidy x next ns) (sym e) t
-  | inr e ↦ subst (λ (x : List Process). Tidy x next ns) (sym e.3) (exchange ps e.0 (record e.0 { holding = Holds s }) next ns ns t e.1 refl (gain ps e.0 (record e.0 { holding = Holds s }) s ns (lender_holds pid e.0.holding e.2) refl a l))
+  | inr e ↦ subst (λ (x : List Process). Tidy x next ns) (sym e.3)
+      (exchange ps e.0 (record e.0 { holding = Holds s }) next ns ns t e.1 refl (gain ps e.0 (record e.0 { holding = Holds s }) s ns (lender_holds pid e.0.holding e.2) refl a l))
 ]
 
 -- who isn't a lender is as it was
@@ -247,7 +256,8 @@ pub returned_own : (ps : List Process) (pid : ℕ) (s : Space) (q : Process) →
 returned_own ps pid s q d e h = elim (returned_either ps pid s d) [
   | inl i ↦ ap (numbered pid_of q.pid) i ∙ e
   | inr i ↦ ap (numbered pid_of q.pid) i.3 ∙ replaced_not ps (record i.0 { holding = Holds s }) q.pid
-      (λ j. (let same : q ≡ i.0 = same_Some q i.0 (sym e ∙ ap (λ (n : ℕ). numbered pid_of n ps) j ∙ i.1) in let z : false ≡ true = sym h ∙ ap (λ (x : Process). lends_to pid x.holding) same ∙ i.2 in cc)) ∙ e
+      (λ j.
+      (let same : q ≡ i.0 = same_Some q i.0 (sym e ∙ ap (λ (n : ℕ). numbered pid_of n ps) j ∙ i.1) in let z : false ≡ true = sym h ∙ ap (λ (x : Process). lends_to pid x.holding) same ∙ i.2 in cc)) ∙ e
 ]
 
 -- The end.
@@ -260,9 +270,11 @@ orphans_tidy : (ps : List Process) (pid next ns : ℕ) → Tidy ps next ns → T
 orphans_tidy ps pid next ns t = record {
   pids = orphans_distinct ps pid t.pids;
   sids = subst (λ (l : List Space). AllDistinct (map sid_of l)) (sym (orphans_held ps pid t.pids)) t.sids;
-  pids_below = subst (AllBelow next) (sym (pids_map (without_parent pid) (λ x. refl) (filter (λ (q : Process). not (is_zombie_child pid q)) ps))) (below_filter pid_of next (λ (q : Process). not (is_zombie_child pid q)) ps t.pids_below);
+  pids_below = subst (AllBelow next) (sym (pids_map (without_parent pid) (λ x. refl) (filter (λ (q : Process). not (is_zombie_child pid q)) ps)))
+      (below_filter pid_of next (λ (q : Process). not (is_zombie_child pid q)) ps t.pids_below);
   sids_below = subst (λ (l : List Space). AllBelow ns (map sid_of l)) (sym (orphans_held ps pid t.pids)) t.sids_below;
-  lower = lower_map (without_parent pid) (λ x l. go (x.parent == pid) x.parent x.pid l) (filter (λ (q : Process). not (is_zombie_child pid q)) ps) (lower_filter (λ (q : Process). not (is_zombie_child pid q)) ps t.lower);
+  lower = lower_map (without_parent pid) (λ x l. go (x.parent == pid) x.parent x.pid l) (filter (λ (q : Process). not (is_zombie_child pid q)) ps)
+      (lower_filter (λ (q : Process). not (is_zombie_child pid q)) ps t.lower);
 }
   where
     go : (b : Bool) (m n : ℕ) → m < n → if◌then◌else◌ b 0 m < n
@@ -308,20 +320,23 @@ pub back_tidy : (flat : FlatState) (pid : ℕ) (q fp : Process) (s : Space) → 
     → Tidy (returned q.pid s (replaced flat.processes fp)) flat.next_pid flat.next_sid
 back_tidy flat pid q fp s n e h f par i z = returned_tidy (replaced flat.processes fp) q.pid s flat.next_pid flat.next_sid
     (exchange flat.processes q fp flat.next_pid flat.next_sid flat.next_sid (tidy_of flat n) f par (loss flat.processes q fp s flat.next_sid h z))
-    (none_absent sid_of s.sid (held (replaced flat.processes fp)) (held_now flat.processes fp s (held_at flat.processes q fp s f h n.sids) ∙ ap (numbered sid_of s.sid) z)) (own_below flat pid q s n e h)
+    (none_absent sid_of s.sid (held (replaced flat.processes fp)) (held_now flat.processes fp s (held_at flat.processes q fp s f h n.sids) ∙ ap (numbered sid_of s.sid) z))
+    (own_below flat pid q s n e h)
 
 pub writes_numbered : (flat : FlatState) (pid : ℕ) (ws : List ByteWrite) (q : Process) (s : Space) → process_of flat pid ≡ Some q
     → q.holding ≡ Holds s → IsNumbered flat → IsNumbered (apply_writes flat pid ws)
 unfolding apply_writes
 writes_numbered flat pid ws q s e h n = subst IsNumbered (sym (ap (wrote_if flat ws) e ∙ ap (wrote_by flat q ws) h))
-    (of_tidy (with_process flat (record q { holding = Holds (puts s ws) })) (exchange flat.processes q (record q { holding = Holds (puts s ws) }) flat.next_pid flat.next_sid flat.next_sid (tidy_of flat n) (found_self flat pid q e) refl
+    (of_tidy (with_process flat (record q { holding = Holds (puts s ws) }))
+    (exchange flat.processes q (record q { holding = Holds (puts s ws) }) flat.next_pid flat.next_sid flat.next_sid (tidy_of flat n) (found_self flat pid q e) refl
     (same_exchange flat.processes q (record q { holding = Holds (puts s ws) }) flat.next_sid (ap (λ (m : ℕ). m ∷ []) (puts_sid ws s) ∙ sym (ap (λ (x : Holding). map sid_of (space_held x)) h)))))
 
 -- a process with the same spaces
 same_numbered : (flat : FlatState) (q p : Process) → numbered pid_of p.pid flat.processes ≡ Some q → p.parent ≡ q.parent
     → map sid_of (space_held p.holding) ≡ map sid_of (space_held q.holding)
     → IsNumbered flat → IsNumbered (with_process flat p)
-same_numbered flat q p e par h n = of_tidy (with_process flat p) (exchange flat.processes q p flat.next_pid flat.next_sid flat.next_sid (tidy_of flat n) e par (same_exchange flat.processes q p flat.next_sid h))
+same_numbered flat q p e par h n =
+    of_tidy (with_process flat p) (exchange flat.processes q p flat.next_pid flat.next_sid flat.next_sid (tidy_of flat n) e par (same_exchange flat.processes q p flat.next_sid h))
 
 -- a zombie goes
 reaped : (flat : FlatState) (child status : ℕ) (z : Process) → process_of flat child ≡ Some z → z.holding ≡ Zombie status → IsNumbered flat
@@ -371,14 +386,17 @@ changes_numbered images flat pid regs change q s e h m n = subst IsNumbered (sym
     gone_at fp i z = let f : numbered pid_of fp.pid flat.processes ≡ Some q = ap (λ (x : ℕ). numbered pid_of x flat.processes) i ∙ found in
         none_absent sid_of s.sid (held (replaced flat.processes fp)) (held_now flat.processes fp s (held_at flat.processes q fp s f h n.sids) ∙ ap (numbered sid_of s.sid) z)
 
-    renewed : (z : Space) → z.sid ≡ flat.next_sid → IsNumbered (record (Rattle.flat_state.specs.Change.given_back (with_process flat (record p { holding = Holds z })) q.pid s) { next_sid = flat.next_sid + 1 })
+    renewed : (z : Space) → z.sid ≡ flat.next_sid
+        → IsNumbered (record (Rattle.flat_state.specs.Change.given_back (with_process flat (record p { holding = Holds z })) q.pid s) { next_sid = flat.next_sid + 1 })
     renewed z i =
         let fp : Process = record p { holding = Holds z } in
-        let t : Tidy (replaced flat.processes fp) flat.next_pid (flat.next_sid + 1) = exchange flat.processes q fp flat.next_pid flat.next_sid (flat.next_sid + 1) tidy found refl (renewal flat.processes q fp s z flat.next_sid h refl i) in
+        let t : Tidy (replaced flat.processes fp) flat.next_pid (flat.next_sid + 1) =
+        exchange flat.processes q fp flat.next_pid flat.next_sid (flat.next_sid + 1) tidy found refl (renewal flat.processes q fp s z flat.next_sid h refl i) in
         let l : s.sid < flat.next_sid = own_below flat pid q s n e h in
         of_tidy (record (Rattle.flat_state.specs.Change.given_back (with_process flat fp) q.pid s) { next_sid = flat.next_sid + 1 })
         (returned_tidy (replaced flat.processes fp) q.pid s flat.next_pid (flat.next_sid + 1) t
-        (none_absent sid_of s.sid (held (replaced flat.processes fp)) (held_now flat.processes fp s (held_at flat.processes q fp s found h n.sids) ∙ numbered_miss sid_of s.sid z [] (λ j. absurd (let y = i in omega arith)))) (omega arith))
+        (none_absent sid_of s.sid (held (replaced flat.processes fp))
+        (held_now flat.processes fp s (held_at flat.processes q fp s found h n.sids) ∙ numbered_miss sid_of s.sid z [] (λ j. absurd (let y = i in omega arith)))) (omega arith))
 
     go : (change : Change) → NamesChild flat change → IsNumbered (changed images flat p s change)
     go Keep m = same_numbered flat q p found refl refl n
@@ -388,27 +406,36 @@ changes_numbered images flat pid regs change q s e h m n = subst IsNumbered (sym
         let t : IsNumbered (with_process flat p) = same_numbered flat q p found refl refl n in
         let k : Tidy (replaced flat.processes p) flat.next_pid flat.next_sid = tidy_of (with_process flat p) t in
         subst (λ (x : ℕ). IsNumbered (forked flat p s x)) (sym m) (of_tidy (forked flat p s flat.next_pid)
-        (one_more (replaced flat.processes p) (child_of p flat.next_pid (record s { sid = flat.next_sid })) (record s { sid = flat.next_sid }) flat.next_pid flat.next_sid (flat.next_sid + 1) k refl below refl
-        (below_absent flat.next_sid (map sid_of (held (replaced flat.processes p))) k.sids_below) (omega arith) (below_more flat.next_sid (map sid_of (held (replaced flat.processes p))) k.sids_below)))
+        (one_more (replaced flat.processes p) (child_of p flat.next_pid (record s { sid = flat.next_sid })) (record s { sid = flat.next_sid }) flat.next_pid flat.next_sid
+        (flat.next_sid + 1) k refl below refl
+        (below_absent flat.next_sid (map sid_of (held (replaced flat.processes p))) k.sids_below) (omega arith)
+        (below_more flat.next_sid (map sid_of (held (replaced flat.processes p))) k.sids_below)))
     go (Lend child) m =
         let fp : Process = record p { holding = Lends s.sid flat.next_pid } in
-        let k : Tidy (replaced flat.processes fp) flat.next_pid flat.next_sid = exchange flat.processes q fp flat.next_pid flat.next_sid flat.next_sid tidy found refl (loss flat.processes q fp s flat.next_sid h refl) in
+        let k : Tidy (replaced flat.processes fp) flat.next_pid flat.next_sid =
+        exchange flat.processes q fp flat.next_pid flat.next_sid flat.next_sid tidy found refl (loss flat.processes q fp s flat.next_sid h refl) in
         subst (λ (x : ℕ). IsNumbered (lent flat p s x)) (sym m) (of_tidy (lent flat p s flat.next_pid)
-        (one_more (replaced flat.processes fp) (child_of p flat.next_pid s) s flat.next_pid flat.next_sid flat.next_sid k refl below refl (gone_at fp refl refl) (own_below flat pid q s n e h) k.sids_below))
+        (one_more (replaced flat.processes fp) (child_of p flat.next_pid s) s flat.next_pid flat.next_sid flat.next_sid k refl below refl (gone_at fp refl refl)
+        (own_below flat pid q s n e h) k.sids_below))
     go (Exec number top) m = by (image_numbered images number)
       where
         by : (o : Option NamedImage) → IsNumbered (entered flat p s number o top)
         by None = n
         by (Some named) = renewed (space_with flat.next_sid number named.image top) refl
-    go (Reap child) m = same_numbered (without_process flat child) q p (Rattle.kernel_laws.proofs.Flat.Numbered.removed_not pid_of q.pid child flat.processes other ∙ found) refl refl (reaped flat child m.1 m.0 m.2 m.3 n)
+    go (Reap child) m =
+        same_numbered (without_process flat child) q p (Rattle.kernel_laws.proofs.Flat.Numbered.removed_not pid_of q.pid child flat.processes other ∙ found) refl refl
+        (reaped flat child m.1 m.0 m.2 m.3 n)
       where
         other : q.pid ≢ child
         other i = let same : q ≡ m.0 = same_Some q m.0 (sym found ∙ ap (λ (x : ℕ). numbered pid_of x flat.processes) i ∙ sym (found_is flat.processes child) ∙ m.2) in
             let z : Holds s ≡ Zombie m.1 = sym h ∙ ap (λ (x : Process). x.holding) same ∙ m.3 in cc
     go (End status) m =
         let fp : Process = record p { holding = Zombie status } in
-        let t : Tidy (replaced flat.processes fp) flat.next_pid flat.next_sid = exchange flat.processes q fp flat.next_pid flat.next_sid flat.next_sid tidy found refl (loss flat.processes q fp s flat.next_sid h refl) in
-        let r : Tidy (returned q.pid s (replaced flat.processes fp)) flat.next_pid flat.next_sid = returned_tidy (replaced flat.processes fp) q.pid s flat.next_pid flat.next_sid t (gone_at fp refl refl) (own_below flat pid q s n e h) in
+        let t : Tidy (replaced flat.processes fp) flat.next_pid flat.next_sid =
+        exchange flat.processes q fp flat.next_pid flat.next_sid flat.next_sid tidy found refl (loss flat.processes q fp s flat.next_sid h refl) in
+        let r : Tidy (returned q.pid s (replaced flat.processes fp)) flat.next_pid flat.next_sid =
+        returned_tidy (replaced flat.processes fp) q.pid s flat.next_pid flat.next_sid t (gone_at fp refl refl) (own_below flat pid q s n e h) in
         subst IsNumbered (sym (left_is (q.parent == 0) (orphaned (Rattle.flat_state.specs.Change.given_back (with_process flat fp) q.pid s) q.pid) q.pid q.parent))
         (of_tidy (record flat { processes = left_flat (q.parent == 0) (orphans q.pid (returned q.pid s (replaced flat.processes fp))) q.pid q.parent })
-        (left_tidy (q.parent == 0) (returned q.pid s (replaced flat.processes fp)) fp q.pid q.parent flat.next_pid flat.next_sid r (returned_own (replaced flat.processes fp) q.pid s fp t.pids (replaced_at flat.processes q fp found) refl) refl))
+        (left_tidy (q.parent == 0) (returned q.pid s (replaced flat.processes fp)) fp q.pid q.parent flat.next_pid flat.next_sid r
+        (returned_own (replaced flat.processes fp) q.pid s fp t.pids (replaced_at flat.processes q fp found) refl) refl))

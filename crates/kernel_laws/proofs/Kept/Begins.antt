@@ -37,12 +37,14 @@ one_on n m = omega arith
 spaces_last : (n : ℕ) (first : List Starting) (a : Starting)
     → spaces_from n (first ++ a ∷ []) ≡ spaces_from n first ++ new_pages (n + length first) a.image a.facts ∷ []
 spaces_last n [] a = ap (λ (m : ℕ). new_pages m a.image a.facts ∷ []) (omega arith)
-spaces_last n (x ∷ first) a = ap (λ (l : List SpacePages). new_pages n x.image x.facts ∷ l) (spaces_last (n + 1) first a ∙ ap (λ (m : ℕ). spaces_from (n + 1) first ++ new_pages m a.image a.facts ∷ []) (one_on n (length first)))
+spaces_last n (x ∷ first) a = ap (λ (l : List SpacePages). new_pages n x.image x.facts ∷ l)
+    (spaces_last (n + 1) first a ∙ ap (λ (m : ℕ). spaces_from (n + 1) first ++ new_pages m a.image a.facts ∷ []) (one_on n (length first)))
 
 residents_last : (n : ℕ) (first : List Starting) (a : Starting)
     → residents_from n (first ++ a ∷ []) ≡ residents_from n first ++ record { pid = n + length first; out = false; since = 0 } ∷ []
 residents_last n [] a = ap (λ (m : ℕ). record { pid = m; out = false; since = 0 } ∷ []) (omega arith)
-residents_last n (x ∷ first) a = ap (λ (l : List Residence). record { pid = n; out = false; since = 0 } ∷ l) (residents_last (n + 1) first a ∙ ap (λ (m : ℕ). residents_from (n + 1) first ++ record { pid = m; out = false; since = 0 } ∷ []) (one_on n (length first)))
+residents_last n (x ∷ first) a = ap (λ (l : List Residence). record { pid = n; out = false; since = 0 } ∷ l)
+    (residents_last (n + 1) first a ∙ ap (λ (m : ℕ). residents_from (n + 1) first ++ record { pid = m; out = false; since = 0 } ∷ []) (one_on n (length first)))
 
 due_last : (n : ℕ) (first : List Starting) (a : Starting) → due_from n (first ++ a ∷ []) ≡ due_from n first ++ Start (Stack (n + length first) 0) ∷ []
 due_last n [] a = ap (λ (m : ℕ). Start (Stack m 0) ∷ []) (omega arith)
@@ -52,7 +54,8 @@ processes_last : (images : List NamedImage) (n : ℕ) (numbers : List ℕ) (numb
     → start_processes images n (numbers ++ number ∷ []) ≡ start_processes images n numbers ++ start_process (n + length numbers) number named ∷ []
 processes_last images n [] number named e = ap (λ (o : Option NamedImage). start_if n number o ++ []) e ∙ ap (λ (m : ℕ). start_process m number named ∷ []) (omega arith)
 processes_last images n (x ∷ numbers) number named e =
-    ap (λ (l : List Process). start_if n x (image_numbered images x) ++ l) (processes_last images (n + 1) numbers number named e ∙ ap (λ (m : ℕ). start_processes images (n + 1) numbers ++ start_process m number named ∷ []) (one_on n (length numbers)))
+    ap (λ (l : List Process). start_if n x (image_numbered images x) ++ l)
+    (processes_last images (n + 1) numbers number named e ∙ ap (λ (m : ℕ). start_processes images (n + 1) numbers ++ start_process m number named ∷ []) (one_on n (length numbers)))
     ∙ sym (append_assoc (start_if n x (image_numbered images x)) (start_processes images (n + 1) numbers) (start_process (n + length (x ∷ numbers)) number named ∷ []))
 
 -- The machine with one first process more.
@@ -69,7 +72,8 @@ at_start hs frames p ps next starts = record { place = p; holdings = hs; process
 
 pub start_begins : (A : Inputs) (first : List Starting) (hs found : Holdings) (frames : List (List ℕ)) (number : ℕ) (named : NamedImage)
     → AreStarting A.images A.first first → image_numbered A.images number ≡ Some named
-    → start_kernel (with_first A number) (first ++ starting_in number named ∷ []) found frames ≡ begin_step (start_kernel A first hs frames) found number named.name named.image.facts
+    → start_kernel (with_first A number) (first ++ starting_in number named ∷ []) found frames
+    ≡ begin_step (start_kernel A first hs frames) found number named.name named.image.facts
 start_begins A first hs found frames number named a e =
     let before : Kernel = start_kernel A first hs frames in
     let facts : List Image = facts_of A.images in
@@ -80,22 +84,38 @@ start_begins A first hs found frames number named a e =
     let same : 1 + length first ≡ length A.first + 1 =
     let c = starting_count A.images A.first first a in omega arith in
     let place : start_placement facts (first ++ starting_in number named ∷ []) A.frames ≡ begin_place before.place (length A.first + 1) number named.image.facts =
-    ap (λ (ss : List SpacePages). let q : Placement = record (start_placement facts first A.frames) { spaces = ss; residents = residents_from 1 (first ++ starting_in number named ∷ []); due = due_from 1 (first ++ starting_in number named ∷ []) } in q) (spaces_last 1 first (starting_in number named))
-    ∙ ap (λ (rs : List Residence). let q : Placement = record (start_placement facts first A.frames) { spaces = spaces_from 1 first ++ new_pages (1 + length first) number named.image.facts ∷ []; residents = rs; due = due_from 1 (first ++ starting_in number named ∷ []) } in q) (residents_last 1 first (starting_in number named))
-    ∙ ap (λ (ds : List Due). let q : Placement = record (start_placement facts first A.frames) { spaces = spaces_from 1 first ++ new_pages (1 + length first) number named.image.facts ∷ []; residents = residents_from 1 first ++ record { pid = 1 + length first; out = false; since = 0 } ∷ []; due = ds } in q) (due_last 1 first (starting_in number named))
+    ap (λ (ss : List SpacePages). let q : Placement = record (start_placement facts first A.frames) {
+      spaces = ss;
+      residents = residents_from 1 (first ++ starting_in number named ∷ []);
+      due = due_from 1 (first ++ starting_in number named ∷ []);
+    } in q) (spaces_last 1 first (starting_in number named))
+    ∙ ap (λ (rs : List Residence). let q : Placement = record (start_placement facts first A.frames) {
+      spaces = spaces_from 1 first ++ new_pages (1 + length first) number named.image.facts ∷ [];
+      residents = rs;
+      due = due_from 1 (first ++ starting_in number named ∷ []);
+    } in q) (residents_last 1 first (starting_in number named))
+    ∙ ap (λ (ds : List Due). let q : Placement = record (start_placement facts first A.frames) {
+      spaces = spaces_from 1 first ++ new_pages (1 + length first) number named.image.facts ∷ [];
+      residents = residents_from 1 first ++ record { pid = 1 + length first; out = false; since = 0 } ∷ [];
+      due = ds;
+    } in q) (due_last 1 first (starting_in number named))
     ∙ ap (λ (n : ℕ). begin_place before.place n number named.image.facts) same in
     let all : after ≡ start_processes A.images 1 A.first ++ p ∷ [] =
-    processes_last A.images 1 A.first number named e ∙ ap (λ (n : ℕ). start_processes A.images 1 A.first ++ start_process n number named ∷ []) (let c : 1 + length A.first ≡ length A.first + 1 = omega arith in c) in
+    processes_last A.images 1 A.first number named e
+    ∙ ap (λ (n : ℕ). start_processes A.images 1 A.first ++ start_process n number named ∷ []) (let c : 1 + length A.first ≡ length A.first + 1 = omega arith in c) in
     let processes : map kept_of after ≡ before.processes ++ kept_of p ∷ [] = ap (map kept_of) all ∙ map-append kept_of (start_processes A.images 1 A.first) (p ∷ []) in
     let starts : map start_of (held after) ≡ before.starts ++ record { page = Stack (length A.first + 1) 0; bytes = Rattle.flat_state.specs.Flat.start_page (named.name ∷ []) } ∷ [] =
-    ap (λ (ps : List Process). map start_of (held ps)) all ∙ ap (map start_of) (held-append (start_processes A.images 1 A.first) (p ∷ [])) ∙ map-append start_of (held (start_processes A.images 1 A.first)) (held (p ∷ [])) in
+    ap (λ (ps : List Process). map start_of (held ps)) all ∙ ap (map start_of) (held-append (start_processes A.images 1 A.first) (p ∷ []))
+    ∙ map-append start_of (held (start_processes A.images 1 A.first)) (held (p ∷ [])) in
     ap (λ (p : Placement). at_start found frames p (map kept_of after) next (map start_of (held after))) place
     ∙ ap (λ (ps : List Proc). at_start found frames (begin_place before.place (length A.first + 1) number named.image.facts) ps next (map start_of (held after))) processes
     ∙ ap (λ (n : ℕ). at_start found frames (begin_place before.place (length A.first + 1) number named.image.facts) (before.processes ++ kept_of p ∷ []) n (map start_of (held after))) count
-    ∙ ap (λ (ss : List StartBytes). at_start found frames (begin_place before.place (length A.first + 1) number named.image.facts) (before.processes ++ kept_of p ∷ []) (length A.first + 1 + 1) ss) starts
+    ∙ ap (λ (ss : List StartBytes). at_start found frames (begin_place before.place (length A.first + 1) number named.image.facts) (before.processes ++ kept_of p ∷ []) (length A.first + 1 + 1) ss)
+    starts
 
 pub start_none : (A : Inputs) (frames : List (List ℕ)) → A.first ≡ [] → start_kernel A [] [] frames ≡ new_kernel (facts_of A.images) A.frames frames
-start_none A frames e = ap (λ (ns : List ℕ). at_start [] frames (start_placement (facts_of A.images) [] A.frames) (map kept_of (start_processes A.images 1 ns)) (length ns + 1) (map start_of (held (start_processes A.images 1 ns)))) e
+start_none A frames e = ap (λ (ns : List ℕ). at_start [] frames (start_placement (facts_of A.images) [] A.frames) (map kept_of (start_processes A.images 1 ns)) (length ns + 1)
+    (map start_of (held (start_processes A.images 1 ns)))) e
 
 pub starting_more : (A : Inputs) (first : List Starting) (number : ℕ) (named : NamedImage) → AreStarting A.images A.first first
     → image_numbered A.images number ≡ Some named
@@ -113,7 +133,8 @@ starting_more A first number named a e = go A.first first a
 -- by how many share its text before
 abbrev last_asks : Placement → ℕ → ℕ → Starting → List Wanted
 last_asks p n pid a =
-    text_asked n a.image (2 * length (slots_of p (Text a.image 0))) ++ (wanted (owners.Data pid) (pieces (2 * data_pages_of a.facts)) ++ (wanted (owners.Stack pid) (pieces 2) ++ wanted (owners.U pid) (u_pieces 2)))
+    text_asked n a.image (2 * length (slots_of p (Text a.image 0)))
+    ++ (wanted (owners.Data pid) (pieces (2 * data_pages_of a.facts)) ++ (wanted (owners.Stack pid) (pieces 2) ++ wanted (owners.U pid) (u_pieces 2)))
 
 in_order : (t d s u r z : List Wanted) → (t ++ (d ++ (s ++ (u ++ r)))) ++ z ≡ t ++ (d ++ (s ++ (u ++ (r ++ z))))
 in_order t d s u r z = append_assoc t (d ++ (s ++ (u ++ r))) z
@@ -123,7 +144,8 @@ asks_last : (p : Placement) (earlier : List ℕ) (pid : ℕ) (first : List Start
     → n ≡ times a.image earlier + sharers_in a.image (spaces_from pid first)
     → start_asks p earlier pid (first ++ a ∷ []) ≡ start_asks p earlier pid first ++ last_asks p n (pid + length first) a
 asks_last p earlier pid [] a n e =
-    ap (λ (l : List Wanted). text_asked (times a.image earlier) a.image (2 * length (slots_of p (Text a.image 0))) ++ (wanted (owners.Data pid) (pieces (2 * data_pages_of a.facts)) ++ (wanted (owners.Stack pid) (pieces 2) ++ l))) (append-nil (wanted (owners.U pid) (u_pieces 2)))
+    ap (λ (l : List Wanted). text_asked (times a.image earlier) a.image (2 * length (slots_of p (Text a.image 0)))
+    ++ (wanted (owners.Data pid) (pieces (2 * data_pages_of a.facts)) ++ (wanted (owners.Stack pid) (pieces 2) ++ l))) (append-nil (wanted (owners.U pid) (u_pieces 2)))
     ∙ ap (λ (m : ℕ). last_asks p m pid a) (let z : times a.image earlier ≡ n = omega arith in z)
     ∙ ap (λ (m : ℕ). last_asks p n m a) (let z : pid ≡ pid + 0 = omega arith in z)
 asks_last p earlier pid (x ∷ first) a n e =
@@ -133,7 +155,8 @@ asks_last p earlier pid (x ∷ first) a n e =
     let u : List Wanted = wanted (owners.U pid) (u_pieces 2) in
     let r : List Wanted = start_asks p (x.image ∷ earlier) (pid + 1) first in
     ap (λ (l : List Wanted). t ++ (d ++ (s ++ (u ++ l))))
-    (asks_last p (x.image ∷ earlier) (pid + 1) first a n (count (x.image == a.image) (times a.image earlier) (sharers_in a.image (spaces_from (pid + 1) first)) e) ∙ ap (λ (m : ℕ). r ++ last_asks p n m a) (one_on pid (length first)))
+    (asks_last p (x.image ∷ earlier) (pid + 1) first a n (count (x.image == a.image) (times a.image earlier) (sharers_in a.image (spaces_from (pid + 1) first)) e)
+    ∙ ap (λ (m : ℕ). r ++ last_asks p n m a) (one_on pid (length first)))
     ∙ sym (in_order t d s u r (last_asks p n (pid + length (x ∷ first)) a))
   where
     count : (b : Bool) (i j : ℕ) → n ≡ i + (cond b 1 0 + j) → n ≡ (cond b 1 0 + i) + j
@@ -148,13 +171,15 @@ asks_same p q e earlier pid (a ∷ more) =
     let d : List Wanted = wanted (owners.Data pid) (pieces (2 * data_pages_of a.facts)) in
     let s : List Wanted = wanted (owners.Stack pid) (pieces 2) in
     let u : List Wanted = wanted (owners.U pid) (u_pieces 2) in
-    ap (λ (ts : List TextPages). text_asked (times a.image earlier) a.image (2 * length (text_in (numbered image_number a.image ts))) ++ (d ++ (s ++ (u ++ start_asks q (a.image ∷ earlier) (pid + 1) more)))) e
+    ap (λ (ts : List TextPages).
+    text_asked (times a.image earlier) a.image (2 * length (text_in (numbered image_number a.image ts))) ++ (d ++ (s ++ (u ++ start_asks q (a.image ∷ earlier) (pid + 1) more)))) e
     ∙ ap (λ (l : List Wanted). text_asked (times a.image earlier) a.image (2 * length (slots_of p (Text a.image 0))) ++ (d ++ (s ++ (u ++ l)))) (asks_same p q e (a.image ∷ earlier) (pid + 1) more)
 
 -- they are found after those of the first processes before it
 pub start_finds : (size : ℕ) (images : List Image) (first : List Starting) (a : Starting) (frames : ℕ) (hs : Holdings)
     → place_all size [] (start_asks (start_placement images first frames) [] 1 first) ≡ Ok hs
-    → place_all size [] (start_asks (start_placement images (first ++ a ∷ []) frames) [] 1 (first ++ a ∷ [])) ≡ place_all size hs (begin_asks (start_placement images first frames) (1 + length first) a.image a.facts)
+    → place_all size [] (start_asks (start_placement images (first ++ a ∷ []) frames) [] 1 (first ++ a ∷ []))
+    ≡ place_all size hs (begin_asks (start_placement images first frames) (1 + length first) a.image a.facts)
 start_finds size images first a frames hs e =
     let p : Placement = start_placement images first frames in
     let q : Placement = start_placement images (first ++ a ∷ []) frames in
@@ -162,7 +187,8 @@ start_finds size images first a frames hs e =
     ap (place_all size []) (asks_same p q refl [] 1 (first ++ a ∷ []) ∙ asks_last p [] 1 first a (sharers p a.image) (omega arith))
     ∙ place_all-append size [] (start_asks p [] 1 first) (last_asks p (sharers p a.image) (1 + length first) a)
     ∙ ap (λ (r : Result (List Held) ℕ). and_then r (λ now. place_all size now (last_asks p (sharers p a.image) (1 + length first) a))) e
-    ∙ ap (place_all size hs) (whole (text_asked (sharers p a.image) a.image (2 * length (slots_of p (Text a.image 0)))) (wanted (owners.Data (1 + length first)) (pieces (2 * data_pages_of a.facts))) (wanted (owners.Stack (1 + length first)) (pieces 2)) (wanted (owners.U (1 + length first)) (u_pieces 2)))
+    ∙ ap (place_all size hs) (whole (text_asked (sharers p a.image) a.image (2 * length (slots_of p (Text a.image 0)))) (wanted (owners.Data (1 + length first)) (pieces (2 * data_pages_of a.facts)))
+    (wanted (owners.Stack (1 + length first)) (pieces 2)) (wanted (owners.U (1 + length first)) (u_pieces 2)))
 
 -- What is due.
 
@@ -183,7 +209,8 @@ begin_due : (p : Placement) (pid image : ℕ) (facts : Image) → IsNew p pid �
 begin_due p pid image facts new st w d e =
     let old : IsDue p w d → IsDue q w d = λ i.
     let same_filling : (v : Page) → slots_of q v ≡ slots_of p v → filling_of q v ≡ filling_of p v = λ v s.
-    ap (λ (xs : List Rattle.page_model.specs.Pages.Slot). Rattle.page_model.specs.Placement.filling_by v (Rattle.std.specs.Prelude.get_or xs (Rattle.flat_state.specs.PageNames.number_of v) Rattle.page_model.specs.Pages.no_slot).filling) s in
+    ap (λ (xs : List Rattle.page_model.specs.Pages.Slot). Rattle.page_model.specs.Placement.filling_by v
+    (Rattle.std.specs.Prelude.get_or xs (Rattle.flat_state.specs.PageNames.number_of v) Rattle.page_model.specs.Pages.no_slot).filling) s in
     let slots : slots_of q w ≡ slots_of p w = there_same p (new_pages pid image facts) q.due w i.there in
     record {
       writable = i.writable;
@@ -194,7 +221,8 @@ begin_due p pid image facts new st w d e =
     } in
     elim (due_either p.due (Start (Stack pid 0) ∷ []) w d e) [
       | inl k ↦ old (st w d k)
-      | inr k ↦ (let i : IsDue (enter_space p pid image facts) w d = enter_due p pid image facts new w d k in record { writable = i.writable; there = i.there; unfilled = i.unfilled; zeros = i.zeros; source = source d i.source })
+      | inr k ↦ (let i : IsDue (enter_space p pid image facts) w d = enter_due p pid image facts new w d k in
+          record { writable = i.writable; there = i.there; unfilled = i.unfilled; zeros = i.zeros; source = source d i.source })
     ]
   where
     q : Placement

@@ -51,7 +51,8 @@ lender_flat : (ps : List Process) (pid : ℕ) (m : Process) → AllDistinct (map
 lender_flat [] pid m d e t only = none_some m e
 lender_flat (p ∷ ps) pid m d e t only = ap (λ (b : Bool). cond b p.pid (lender_in (map outline_of ps) pid)) (lends_is pid p.holding) ∙ go (lender_flat ps pid m d.1) (lends_to pid p.holding) refl
   where
-    go : (numbered pid_of m.pid ps ≡ Some m → lends_to pid m.holding ≡ true → ((x : Process) → numbered pid_of x.pid ps ≡ Some x → lends_to pid x.holding ≡ true → x.pid ≡ m.pid) → lender_in (map outline_of ps) pid ≡ m.pid)
+    go : (numbered pid_of m.pid ps ≡ Some m → lends_to pid m.holding ≡ true → ((x : Process) → numbered pid_of x.pid ps ≡ Some x → lends_to pid x.holding ≡ true → x.pid ≡ m.pid)
+        → lender_in (map outline_of ps) pid ≡ m.pid)
         → (b : Bool) → lends_to pid p.holding ≡ b → cond b p.pid (lender_in (map outline_of ps) pid) ≡ m.pid
     go later true y = only p (numbered_hit pid_of p.pid p ps refl) y
     go later false y = later (sym (numbered_miss pid_of m.pid p ps other) ∙ e) t

@@ -140,7 +140,8 @@ rests : (images : List NamedImage) (k l : Kernel) (pid sid : ℕ) (b : Bool) (e 
     → k.place.due ≡ [] → HaveParts k.place.transfers
     → CanChange k.place sid b k.next_sid change → ApartFrom sid b k.next_sid change → Rests l.place
 rests images k l pid sid b e change at clear parts can apart = subst Rests (sym at.place) (
-    let u : Unhanded k.place (place_change (facts_of images) k.place pid sid b k.next_sid (length (append k.journal e)) change) = change_unhanded (facts_of images) k.place pid sid b k.next_sid (length (append k.journal e)) change in
+    let u : Unhanded k.place (place_change (facts_of images) k.place pid sid b k.next_sid (length (append k.journal e)) change) =
+    change_unhanded (facts_of images) k.place pid sid b k.next_sid (length (append k.journal e)) change in
     record {
       dues = change_due (facts_of images) k.place pid sid b k.next_sid (length (append k.journal e)) change clear can apart;
       parts = subst HaveParts (sym u.transfers) parts;
@@ -155,17 +156,21 @@ own_stands : (images : List NamedImage) (k : Kernel) (flat : FlatState) (pid : �
 own_stands images k flat pid regs e q s Keep a due m x t st = keep_stands images k flat pid regs e q s t a.here a.holds a.resident st
 own_stands images k flat pid regs e q s (Resize d r) a due m x t st = resize_stands images k flat pid regs e d r q s t a.here a.holds a.resident st
 own_stands images k flat pid regs e q s (Fork child) a due m x t st =
-    subst (λ (c : ℕ). Stands images (keeps_step (facts_of images) k pid regs e (Fork c)) (apply_change images flat pid regs (Fork c))) (sym m) (fork_stands images k flat pid regs e q s t due a.here a.holds a.resident st)
+    subst (λ (c : ℕ). Stands images (keeps_step (facts_of images) k pid regs e (Fork c)) (apply_change images flat pid regs (Fork c))) (sym m)
+    (fork_stands images k flat pid regs e q s t due a.here a.holds a.resident st)
 own_stands images k flat pid regs e q s (Lend child) a due m x t st =
-    subst (λ (c : ℕ). Stands images (keeps_step (facts_of images) k pid regs e (Lend c)) (apply_change images flat pid regs (Lend c))) (sym m) (lend_stands images k flat pid regs e q s t a.here a.holds a.resident st)
+    subst (λ (c : ℕ). Stands images (keeps_step (facts_of images) k pid regs e (Lend c)) (apply_change images flat pid regs (Lend c))) (sym m)
+    (lend_stands images k flat pid regs e q s t a.here a.holds a.resident st)
 own_stands images k flat pid regs e q s (Exec number top) a due m (named, im, whole) t st = exec_stands images k flat pid regs e number top named q s t due a.here a.holds a.resident im st
 own_stands images k flat pid regs e q s (Reap child) a due (z, status, fz, hz) x t st = reap_stands images k flat pid regs e child status q z s t a.here a.holds a.resident fz hz st
 own_stands images k flat pid regs e q s Sleep a due m x t st = sleep_stands images k flat pid regs e q s t a.here a.holds a.resident st
 own_stands images k flat pid regs e q s (End status) a due m x t st = end_stands images k flat pid regs e status q s t a.here a.holds st
 
-own_coupled : (size : ℕ) (images : List NamedImage) (k : Kernel) (before : Holdings) (image : List ℕ) (flat : FlatState) (pid : ℕ) (regs : Regs) (e : Entry) (q : Process) (s : Space) (b : Bool) (change : Change)
+own_coupled : (size : ℕ) (images : List NamedImage) (k : Kernel) (before : Holdings) (image : List ℕ) (flat : FlatState) (pid : ℕ) (regs : Regs) (e : Entry)
+    (q : Process) (s : Space) (b : Bool) (change : Change)
     → is_borrower flat.processes pid ≡ b → KeepsSpace b change
-    → Prepared size images k before image flat → Names size images k before flat pid change → Acts k flat pid q s → SettlesFor k.place s.sid change → MayForget (facts_of images) k.place s.sid false k.next_sid change
+    → Prepared size images k before image flat → Names size images k before flat pid change → Acts k flat pid q s → SettlesFor k.place s.sid change
+    → MayForget (facts_of images) k.place s.sid false k.next_sid change
     → Coupled (keeps_step (facts_of images) k pid regs e change) images image (apply_change images flat pid regs change)
 own_coupled size images k before image flat pid regs e q s b Keep w o x n a z y = keep_coupled k images image flat pid regs e q s x.numbers a.here a.holds a.resident x.coupled
 own_coupled size images k before image flat pid regs e q s b (Resize d r) w o x n a z y = let st : Stands images k flat = x.stands in
@@ -181,7 +186,8 @@ own_coupled size images k before image flat pid regs e q s b (Exec number top) w
     let so : Sound size (record k { holdings = before }) = x.sound in
     let ow : OneOwner size (lives k.processes) k.place before = so.owner in
     let i : ImageFits n.enters.0 = x.fits number n.enters.0 n.enters.1 in
-    exec_coupled_step size before k images image flat pid regs e number top n.enters.0 q s so x.numbers st.out x.clear st.starts a.here a.holds (w ∙ enters_own b number top o) a.resident (settled_rests k.place s.sid ow.frames z) y n.enters.1 i.«data» n.enters.2 x.coupled
+    exec_coupled_step size before k images image flat pid regs e number top n.enters.0 q s so x.numbers st.out x.clear st.starts a.here a.holds (w ∙ enters_own b number top o) a.resident
+    (settled_rests k.place s.sid ow.frames z) y n.enters.1 i.«data» n.enters.2 x.coupled
 own_coupled size images k before image flat pid regs e q s b (Reap child) w o x n a z y =
     reap_coupled k images image flat pid regs e child n.child.1 q n.child.0 s x.numbers a.here a.holds a.resident n.child.2 n.child.3 x.coupled
 own_coupled size images k before image flat pid regs e q s b Sleep w o x n a z y = sleep_coupled k images image flat pid regs e q s x.numbers a.here a.holds a.resident x.coupled
@@ -194,7 +200,8 @@ own_coupled size images k before image flat pid regs e q s b (End status) w o x 
 -- parent and child live before the space passes
 pub lend_lives : (images : List NamedImage) (k : Kernel) (flat : FlatState) (pid : ℕ) (regs : Regs) (e : Entry) (q : Process) (s : Space)
     → IsNumbered flat → process_of flat pid ≡ Some q → q.holding ≡ Holds s → SameTables k flat
-    → (lives (change_step (facts_of images) k pid regs e (Lend flat.next_pid)).processes pid ≡ true) × (lives (change_step (facts_of images) k pid regs e (Lend flat.next_pid)).processes flat.next_pid ≡ true)
+    → (lives (change_step (facts_of images) k pid regs e (Lend flat.next_pid)).processes pid ≡ true)
+    × (lives (change_step (facts_of images) k pid regs e (Lend flat.next_pid)).processes flat.next_pid ≡ true)
 lend_lives images k flat pid regs e q s nums f h t =
     let g : Stepping k flat pid q s = stepping k flat pid q s t f h in
     let kp : Proc = record g.proc { regs = regs } in
@@ -205,7 +212,8 @@ lend_lives images k flat pid regs e q s nums f h t =
     pushed_found kept_pid pid (with_proc k.processes kp) kn kp (ap (λ (m : ℕ). numbered kept_pid m (with_proc k.processes kp)) (sym g.pid_is) ∙ with_at k.processes kp g.proc kept_found) in
     let child_kept : numbered kept_pid flat.next_pid (with_proc k.processes kp ++ kn ∷ []) ≡ Some kn =
     pushed_new kept_pid flat.next_pid (with_proc k.processes kp) kn (with_not k.processes kp flat.next_pid child_other ∙ kept_none k flat flat.next_pid t.processes (next_pid_none flat nums)) refl in
-    subst (λ (x : Kernel). (lives x.processes pid ≡ true) × (lives x.processes flat.next_pid ≡ true)) (sym (step_is (facts_of images) k pid regs e (Lend flat.next_pid) g.proc (HoldsSpace s.sid) g.kept g.life))
+    subst (λ (x : Kernel). (lives x.processes pid ≡ true) × (lives x.processes flat.next_pid ≡ true))
+    (sym (step_is (facts_of images) k pid regs e (Lend flat.next_pid) g.proc (HoldsSpace s.sid) g.kept g.life))
     (ap lives_in parent_kept ∙ ap has_life g.life, ap lives_in child_kept)
 
 -- sound and numbered after the change, with the space that passes
@@ -214,12 +222,15 @@ record Passed (size : ℕ) (images : List NamedImage) (k : Kernel) (pid sid : �
   pub numbered : Numbered l
   pub lands : LandsAt images k pid sid b e change l
 
-own_passed : (size : ℕ) (images : List NamedImage) (k : Kernel) (flat : FlatState) (pid : ℕ) (regs : Regs) (e : Entry) (q : Process) (s : Space) (change : Change)
+own_passed : (size : ℕ) (images : List NamedImage) (k : Kernel) (flat : FlatState) (pid : ℕ) (regs : Regs) (e : Entry) (q : Process)
+    (s : Space) (change : Change)
     → IsNumbered flat
     → process_of flat pid ≡ Some q → q.holding ≡ Holds s → SameTables k flat → NamesChild flat change
-    → Passed size images k pid s.sid false e change (change_step (facts_of images) k pid regs e change) → Passed size images k pid s.sid false e change (keeps_step (facts_of images) k pid regs e change)
+    → Passed size images k pid s.sid false e change (change_step (facts_of images) k pid regs e change)
+    → Passed size images k pid s.sid false e change (keeps_step (facts_of images) k pid regs e change)
 own_passed size images k flat pid regs e q s (Lend child) nums f h t m x =
-    let l = subst (λ (c : ℕ). (lives (change_step (facts_of images) k pid regs e (Lend c)).processes pid ≡ true) × (lives (change_step (facts_of images) k pid regs e (Lend c)).processes c ≡ true)) (sym m) (lend_lives images k flat pid regs e q s nums f h t) in
+    let l = subst (λ (c : ℕ). (lives (change_step (facts_of images) k pid regs e (Lend c)).processes pid ≡ true) × (lives (change_step (facts_of images) k pid regs e (Lend c)).processes c ≡ true))
+    (sym m) (lend_lives images k flat pid regs e q s nums f h t) in
     let at : LandsAt images k pid s.sid false e (Lend child) (change_step (facts_of images) k pid regs e (Lend child)) = x.lands in
     record {
       sound = pass_sound size (change_step (facts_of images) k pid regs e (Lend child)) pid child l.0 l.1 x.sound;
@@ -249,9 +260,11 @@ record OwnAllows (images : List NamedImage) (k : Kernel) (sid : ℕ) (change : C
   pub forgets : MayForget (facts_of images) k.place sid false k.next_sid change
   pub apart : ApartFrom sid false k.next_sid change
 
-own_stood : (size : ℕ) (images : List NamedImage) (k : Kernel) (before : Holdings) (image : List ℕ) (flat : FlatState) (pid : ℕ) (regs : Regs) (e : Entry) (q : Process) (s : Space) (b : Bool) (change : Change)
+own_stood : (size : ℕ) (images : List NamedImage) (k : Kernel) (before : Holdings) (image : List ℕ) (flat : FlatState) (pid : ℕ) (regs : Regs) (e : Entry)
+    (q : Process) (s : Space) (b : Bool) (change : Change)
     → is_borrower flat.processes pid ≡ b → KeepsSpace b change
-    → Prepared size images k before image flat → Names size images k before flat pid change → Acts k flat pid q s → ReadySpace k.place s.sid b change → HaveParts k.place.transfers
+    → Prepared size images k before image flat → Names size images k before flat pid change → Acts k flat pid q s → ReadySpace k.place s.sid b change
+    → HaveParts k.place.transfers
     → Stood size images image (apply_change images flat pid regs change) (keeps_step (facts_of images) k pid regs e change)
 own_stood size images k before image flat pid regs e q s b change w o x n a ready parts =
     let c : Coupled k images image flat = x.coupled in
@@ -317,11 +330,13 @@ back_stands : (images : List NamedImage) (k : Kernel) (flat : FlatState) (pid : 
     → GivesBack change → Acts k flat pid q s
     → IsLender flat pid s.sid m → k.place.due ≡ [] → EntersImage images change → SameTables k flat → Stands images k flat
     → Stands images (change_step (facts_of images) (pass_step k pid m.pid) pid regs e change) (apply_change images flat pid regs change)
-back_stands images k flat pid regs e q m s (Exec number top) gb a is due (named, im, whole) t st = exec_back_stands images k flat pid regs e number top named q m s t due a.here a.holds is a.resident im st
+back_stands images k flat pid regs e q m s (Exec number top) gb a is due (named, im, whole) t st =
+    exec_back_stands images k flat pid regs e number top named q m s t due a.here a.holds is a.resident im st
 back_stands images k flat pid regs e q m s (End status) gb a is due x t st = end_back_stands images k flat pid regs e status q m s t a.here a.holds is st
 back_stands images k flat pid regs e q m s _ gb a is due x t st = absurd gb
 
-back_coupled : (size : ℕ) (images : List NamedImage) (k : Kernel) (before : Holdings) (image : List ℕ) (flat : FlatState) (pid : ℕ) (regs : Regs) (e : Entry) (q m : Process) (s : Space) (change : Change)
+back_coupled : (size : ℕ) (images : List NamedImage) (k : Kernel) (before : Holdings) (image : List ℕ) (flat : FlatState) (pid : ℕ) (regs : Regs) (e : Entry)
+    (q m : Process) (s : Space) (change : Change)
     → GivesBack change → IsLender flat pid s.sid m
     → Prepared size images k before image flat → Names size images k before flat pid change → Acts k flat pid q s
     → Coupled (change_step (facts_of images) (pass_step k pid m.pid) pid regs e change) images image (apply_change images flat pid regs change)
@@ -348,7 +363,8 @@ lands_any images k pid sid e (Exec image top) l gb x = record { place = x.place 
 lands_any images k pid sid e (End status) l gb x = record { place = x.place }
 lands_any images k pid sid e _ l gb x = absurd gb
 
-back_lands : (images : List NamedImage) (k : Kernel) (flat : FlatState) (pid : ℕ) (regs : Regs) (e : Entry) (q m : Process) (s : Space) (change : Change) (a : Borrowing k flat pid q m s)
+back_lands : (images : List NamedImage) (k : Kernel) (flat : FlatState) (pid : ℕ) (regs : Regs) (e : Entry) (q m : Process) (s : Space) (change : Change)
+    (a : Borrowing k flat pid q m s)
     → GivesBack change → LandsAt images k pid s.sid true e change (change_step (facts_of images) (pass_step k pid m.pid) pid regs e change)
 back_lands images k flat pid regs e q m s change a gb =
     let g : Stepping k flat pid q s = a.step in
@@ -358,7 +374,8 @@ back_lands images k flat pid regs e q m s change a gb =
     (subst (LandsAt images k pid 0 true e change) (sym (step_is (facts_of images) k1 pid regs e change (record g.proc { life = New }) New (back_proc k flat pid q m s a) refl))
     (subst (λ (n : ℕ). LandsAt images k n 0 true e change (by_life (facts_of images) k1 (record g.proc { regs = regs; life = New }) New e change)) g.pid_is (record { place = refl }))))
 
-back_stood : (size : ℕ) (images : List NamedImage) (k : Kernel) (before : Holdings) (image : List ℕ) (flat : FlatState) (pid : ℕ) (regs : Regs) (e : Entry) (q m : Process) (s : Space) (change : Change)
+back_stood : (size : ℕ) (images : List NamedImage) (k : Kernel) (before : Holdings) (image : List ℕ) (flat : FlatState) (pid : ℕ) (regs : Regs) (e : Entry)
+    (q m : Process) (s : Space) (change : Change)
     → GivesBack change → IsLender flat pid s.sid m
     → Prepared size images k before image flat → Names size images k before flat pid change → Acts k flat pid q s → HaveParts k.place.transfers
     → Stood size images image (apply_change images flat pid regs change) (back_step (facts_of images) k pid regs e change)
@@ -384,7 +401,8 @@ back_stood size images k before image flat pid regs e q m s change gb is x n a p
       numbered = flat_numbered (facts_of images) k1 pid regs e change (takes_none k1 change gb) ready.alive n1;
       coupled = back_coupled size images k before image flat pid regs e q m s change gb is x n a;
       stands = back_stands images k flat pid regs e q m s change gb a is x.clear n.enters t x.stands;
-      rests = rests images k (change_step (facts_of images) k1 pid regs e change) pid s.sid true e change (back_lands images k flat pid regs e q m s change b gb) x.clear parts (can change gb can0) (apart change gb);
+      rests = rests images k (change_step (facts_of images) k1 pid regs e change) pid s.sid true e change (back_lands images k flat pid regs e q m s change b gb) x.clear parts
+          (can change gb can0) (apart change gb);
     })
   where
     can : (y : Change) → GivesBack y → CanChange k.place 0 true k.next_sid y → CanChange k.place s.sid true k.next_sid y
@@ -399,11 +417,14 @@ back_stood size images k before image flat pid regs e q m s change gb is x n a p
 
 -- Either.
 
-either_stood : (size : ℕ) (images : List NamedImage) (k : Kernel) (before : Holdings) (image : List ℕ) (flat : FlatState) (pid : ℕ) (regs : Regs) (e : Entry) (q : Process) (s : Space) (b : Bool) (change : Change)
+either_stood : (size : ℕ) (images : List NamedImage) (k : Kernel) (before : Holdings) (image : List ℕ) (flat : FlatState) (pid : ℕ) (regs : Regs) (e : Entry)
+    (q : Process) (s : Space) (b : Bool) (change : Change)
     → is_borrower flat.processes pid ≡ b → (b ≡ true → (m : Process) × IsLender flat pid s.sid m)
-    → Prepared size images k before image flat → Names size images k before flat pid change → Acts k flat pid q s → ReadySpace k.place s.sid b change → HaveParts k.place.transfers
+    → Prepared size images k before image flat → Names size images k before flat pid change → Acts k flat pid q s → ReadySpace k.place s.sid b change
+    → HaveParts k.place.transfers
     → Stood size images image (apply_change images flat pid regs change) (passing_change b (facts_of images) k pid regs e change)
-either_stood size images k before image flat pid regs e q s false change w lend x n a ready parts = own_stood size images k before image flat pid regs e q s false change w (own change) x n a ready parts
+either_stood size images k before image flat pid regs e q s false change w lend x n a ready parts =
+    own_stood size images k before image flat pid regs e q s false change w (own change) x n a ready parts
   where
     own : (y : Change) → KeepsSpace false y
     own Keep = tt
@@ -414,13 +435,19 @@ either_stood size images k before image flat pid regs e q s false change w lend 
     own (Reap child) = tt
     own Sleep = tt
     own (End status) = tt
-either_stood size images k before image flat pid regs e q s true (Exec number top) w lend x n a ready parts = back_stood size images k before image flat pid regs e q (lend refl).0 s (Exec number top) tt (lend refl).1 x n a parts
-either_stood size images k before image flat pid regs e q s true (End status) w lend x n a ready parts = back_stood size images k before image flat pid regs e q (lend refl).0 s (End status) tt (lend refl).1 x n a parts
+either_stood size images k before image flat pid regs e q s true (Exec number top) w lend x n a ready parts =
+    back_stood size images k before image flat pid regs e q (lend refl).0 s (Exec number top) tt (lend refl).1 x n a parts
+either_stood size images k before image flat pid regs e q s true (End status) w lend x n a ready parts =
+    back_stood size images k before image flat pid regs e q (lend refl).0 s (End status) tt (lend refl).1 x n a parts
 either_stood size images k before image flat pid regs e q s true Keep w lend x n a ready parts = own_stood size images k before image flat pid regs e q s true Keep w tt x n a ready parts
-either_stood size images k before image flat pid regs e q s true (Resize d r) w lend x n a ready parts = own_stood size images k before image flat pid regs e q s true (Resize d r) w tt x n a ready parts
-either_stood size images k before image flat pid regs e q s true (Fork child) w lend x n a ready parts = own_stood size images k before image flat pid regs e q s true (Fork child) w tt x n a ready parts
-either_stood size images k before image flat pid regs e q s true (Lend child) w lend x n a ready parts = own_stood size images k before image flat pid regs e q s true (Lend child) w tt x n a ready parts
-either_stood size images k before image flat pid regs e q s true (Reap child) w lend x n a ready parts = own_stood size images k before image flat pid regs e q s true (Reap child) w tt x n a ready parts
+either_stood size images k before image flat pid regs e q s true (Resize d r) w lend x n a ready parts =
+    own_stood size images k before image flat pid regs e q s true (Resize d r) w tt x n a ready parts
+either_stood size images k before image flat pid regs e q s true (Fork child) w lend x n a ready parts =
+    own_stood size images k before image flat pid regs e q s true (Fork child) w tt x n a ready parts
+either_stood size images k before image flat pid regs e q s true (Lend child) w lend x n a ready parts =
+    own_stood size images k before image flat pid regs e q s true (Lend child) w tt x n a ready parts
+either_stood size images k before image flat pid regs e q s true (Reap child) w lend x n a ready parts =
+    own_stood size images k before image flat pid regs e q s true (Reap child) w tt x n a ready parts
 either_stood size images k before image flat pid regs e q s true Sleep w lend x n a ready parts = own_stood size images k before image flat pid regs e q s true Sleep w tt x n a ready parts
 
 pub no_pieces : (size : ℕ) (hs : Holdings) → WereFound size hs hs

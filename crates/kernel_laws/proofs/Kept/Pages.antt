@@ -247,19 +247,22 @@ out_kept size images m pid i may =
     let life : has_life g.proc.life ≡ true = ap has_life g.life in
     let resides : IsResident k.place pid = n.residents pid (ap lives_in g.kept ∙ life) in
     let own_regs : g.proc.regs ≡ may.process.regs =
-    subst (λ (z : Rattle.std.proofs.Common.Bool). KeepsRegs k m.image z may.process g.proc.regs (space_of_holding may.process.holding)) acts.resident (regs_at k images m.image m.flat c pid may.process g.proc g.found g.kept) in
+    subst (λ (z : Rattle.std.proofs.Common.Bool). KeepsRegs k m.image z may.process g.proc.regs (space_of_holding may.process.holding)) acts.resident
+    (regs_at k images m.image m.flat c pid may.process g.proc g.found g.kept) in
     let are : AreRegs g.proc.regs = subst AreRegs (sym own_regs) may.regs in
     record {
       sound = out_sound size k pid i.sound;
       numbered = out_numbered k pid i.numbered;
-      coupled = subst (λ (o : Option Proc). Coupled (out_step k pid) images (store_at m.image at (u_bytes k o)) m.flat) (sym g.kept) (out_coupled size k images m.image m.flat pid g.proc i.sound i.room g.kept life are resides acts.resident i.coupled);
+      coupled = subst (λ (o : Option Proc). Coupled (out_step k pid) images (store_at m.image at (u_bytes k o)) m.flat) (sym g.kept)
+          (out_coupled size k images m.image m.flat pid g.proc i.sound i.room g.kept life are resides acts.resident i.coupled);
       stands = out_stands images k m.flat pid may.process may.space acts.here acts.holds i.stands;
       dues = dues_kept size images m [] (length (append k.journal (entries.SwapOut pid))) (entries.SwapOut pid) i tt tt;
       parts = parts_kept size images m [] (length (append k.journal (entries.SwapOut pid))) (entries.SwapOut pid) i tt tt;
       numbers = i.numbers;
       lenders = i.lenders;
       room = subst (λ (o : Option Proc). 512 * size ≤ length (store_at m.image at (u_bytes k o))) (sym g.kept)
-          (subst (λ (n : ℕ). 512 * size ≤ n) (sym (out_length size k m.image pid g.proc (length (slots_of k.place (Data sid 0))) (length (slots_of k.place (Stack sid 0))) i.sound i.room g.kept life are)) i.room);
+          (subst (λ (n : ℕ). 512 * size ≤ n)
+          (sym (out_length size k m.image pid g.proc (length (slots_of k.place (Data sid 0))) (length (slots_of k.place (Stack sid 0))) i.sound i.room g.kept life are)) i.room);
       found = i.found;
     }
 

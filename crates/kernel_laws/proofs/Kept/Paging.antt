@@ -74,7 +74,8 @@ not_again (d ∷ ds) q n = go (same_page (due_page d) q) refl n
 
 -- with no transfer in flight the hands may move
 pub force_allowed : (size : ℕ) (images : List NamedImage) (m : KernelState) (locked : List Page) (read : List (List ℕ))
-    → AreRead (beside_kernel m.kernel images m.image m.flat) m.kernel.place.transfers read → May size images m (unit_for locked read (force_entry m.kernel.place.transfers))
+    → AreRead (beside_kernel m.kernel images m.image m.flat) m.kernel.place.transfers read
+    → May size images m (unit_for locked read (force_entry m.kernel.place.transfers))
 force_allowed size images m locked read are = go m.kernel.place.transfers refl
   where
     p : Placement
@@ -87,7 +88,8 @@ force_allowed size images m locked read are = go m.kernel.place.transfers refl
 pub serve_allowed : (size : ℕ) (images : List NamedImage) (m : KernelState) (locked : List Page) (read : List (List ℕ)) (q : Page) (now : Bool) (e : Entry)
     → Invariant size images m
     → IsThere m.kernel.place q → IsShared m.kernel.place q → NotDue m.kernel.place.due q
-    → AreRead (beside_kernel m.kernel images m.image m.flat) m.kernel.place.transfers read → serve_unit m.kernel.place q now ≡ Some e → May size images m (unit_for locked read e)
+    → AreRead (beside_kernel m.kernel images m.image m.flat) m.kernel.place.transfers read → serve_unit m.kernel.place q now ≡ Some e
+    → May size images m (unit_for locked read e)
 serve_allowed size images m locked read q now e i there shared due are h =
     let x : (is_valid (state_of p q) ≡ false) × (e ≡ serve_entry p q) = unit_is p q now e h in
     subst P (sym x.1) (by (state_of p q) refl x.0)

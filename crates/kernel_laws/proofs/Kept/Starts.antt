@@ -33,7 +33,8 @@ starts_live images (m ∷ ns) (x ∷ first) pid n (named, e, i, f, more) =
     ap (λ (o : Option NamedImage). lives (map kept_of (start_if pid m o ++ start_processes images (pid + 1) ns)) n) e ∙ go (pid == n) (starts_live images ns first (pid + 1) n more)
   where
     go : (b : Bool) → lives (map kept_of (start_processes images (pid + 1) ns)) n ≡ is_started (pid + 1) first n
-        → lives_in (cond b (Some (kept_of (start_process pid m named))) (numbered (λ (x : Proc). x.pid) n (map kept_of (start_processes images (pid + 1) ns)))) ≡ cond b true (is_started (pid + 1) first n)
+        → lives_in (cond b (Some (kept_of (start_process pid m named))) (numbered (λ (x : Proc). x.pid) n (map kept_of (start_processes images (pid + 1) ns))))
+        ≡ cond b true (is_started (pid + 1) first n)
     go true ih = refl
     go false ih = ih
 
@@ -50,14 +51,16 @@ start_kept A first hs frames image c =
     let n : IsNumbered (start_state A) = start_numbered A in
     record {
       sound = record {
-        owner = alive_owner A.swap_blocks (is_started 1 first) (lives k.processes) p hs (λ n. starts_live A.images A.first first 1 n c.starting) (start_found A.swap_blocks facts first A.frames hs c.pieces);
+        owner = alive_owner A.swap_blocks (is_started 1 first) (lives k.processes) p hs (λ n. starts_live A.images A.first first 1 n c.starting)
+            (start_found A.swap_blocks facts first A.frames hs c.pieces);
         tokens = c.tokens ∙ sym (length-replicate A.frames None);
         hands = start_hands facts first A.frames c.some;
         few_transfers = omega arith;
       };
       numbered = record {
         spaces_differ = (start_numbers facts first A.frames).0;
-        spaces_below = subst (λ (m : ℕ). AllBelow m (map space_number p.spaces)) (let e = starting_count A.images A.first first c.starting in let z : 1 + length first ≡ length A.first + 1 = omega arith in z) (start_numbers facts first A.frames).1;
+        spaces_below = subst (λ (m : ℕ). AllBelow m (map space_number p.spaces))
+            (let e = starting_count A.images A.first first c.starting in let z : 1 + length first ≡ length A.first + 1 = omega arith in z) (start_numbers facts first A.frames).1;
         pids_differ = subst AllDistinct (sym (kept_pids (start_state A).processes)) n.pids;
         pids_below = subst (AllBelow (start_state A).next_pid) (sym (kept_pids (start_state A).processes)) n.pids_below;
         residents = λ m a. started_in 1 m first (sym (starts_live A.images A.first first 1 m c.starting) ∙ a);

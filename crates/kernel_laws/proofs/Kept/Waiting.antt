@@ -43,7 +43,8 @@ store_same : (size : ℕ) (k : Kernel) (new : Holdings) (ws : List Wanted) (xs :
 store_same size k new ws [] image e a = refl
 store_same size k new ws (x ∷ xs) image e a =
     let c : CanStore k x = a.0 in
-    ap (λ (o : Option ℕ). store_all (record k { holdings = new }) (store_at image o (frame_bytes k x.frame)) xs) (still_found size k.holdings new ws (owner_of x.page) (number_of x.page) c.block e c.found ∙ sym c.found)
+    ap (λ (o : Option ℕ). store_all (record k { holdings = new }) (store_at image o (frame_bytes k x.frame)) xs)
+    (still_found size k.holdings new ws (owner_of x.page) (number_of x.page) c.block e c.found ∙ sym c.found)
     ∙ store_same size k new ws xs (store_at image (block_of k.holdings x.page) (frame_bytes k x.frame)) e a.1
 
 -- the end of a write stores the same, whether pieces wait or not
@@ -74,12 +75,15 @@ asks_steady : (images : List Image) (p q : Placement) (sid next : ℕ) (change :
     → change_asks images q sid next change ≡ change_asks images p sid next change
 asks_steady images p q sid next (Resize d t) s = ap₂ (λ (a b : ℕ). further (owners.Data sid) a d ++ further (owners.Stack sid) b t) (s.sizes (Data sid 0)) (s.sizes (Stack sid 0))
 asks_steady images p q sid next (Fork child) s =
-    ap₂ (λ (a b : ℕ). wanted (owners.Data next) (pieces (2 * a)) ++ (wanted (owners.Stack next) (pieces (2 * b)) ++ wanted (owners.U child) (u_pieces 2))) (s.sizes (Data sid 0)) (s.sizes (Stack sid 0))
+    ap₂ (λ (a b : ℕ). wanted (owners.Data next) (pieces (2 * a)) ++ (wanted (owners.Stack next) (pieces (2 * b)) ++ wanted (owners.U child) (u_pieces 2)))
+    (s.sizes (Data sid 0)) (s.sizes (Stack sid 0))
 asks_steady images p q sid next (Exec image top) s = by (facts_numbered images image)
   where
     by : (o : Option Image) → image_asked q next image o ≡ image_asked p next image o
     by None = refl
-    by (Some facts) = ap₂ (λ (a b : ℕ). text_asked a image (2 * b) ++ (wanted (owners.Data next) (pieces (2 * data_pages_of facts)) ++ wanted (owners.Stack next) (pieces 2))) (s.sharing image) (s.sizes (Text image 0))
+    by (Some facts) =
+        ap₂ (λ (a b : ℕ). text_asked a image (2 * b) ++ (wanted (owners.Data next) (pieces (2 * data_pages_of facts)) ++ wanted (owners.Stack next) (pieces 2))) (s.sharing image)
+        (s.sizes (Text image 0))
 asks_steady images p q sid next _ s = refl
 
 -- the end of a transfer changes nothing of what a change asks
@@ -90,7 +94,8 @@ done_asks size images k read pid change so =
     asks_steady (facts_of images) k.place (done k.place) _ k.next_sid change (done_steady k.place o.frames)
 
 pub finds_wait : (size : ℕ) (images : List NamedImage) (m : KernelState) (found : Holdings) (pid : ℕ) (change : Change) → Invariant size images m
-    → place_all size m.kernel.holdings (asked (facts_of images) m.kernel pid change) ≡ Ok found → Waits size images (state_after images m (FindUnit found)) pid change
+    → place_all size m.kernel.holdings (asked (facts_of images) m.kernel pid change) ≡ Ok found
+    → Waits size images (state_after images m (FindUnit found)) pid change
 finds_wait size images m found pid change i e = record { invariant = find_kept size images m found i (record { pieces = asked (facts_of images) m.kernel pid change; placed = e }); pieces = e }
 
 pub dones_wait : (size : ℕ) (images : List NamedImage) (reads : List (List (List ℕ))) (m : KernelState) (pid : ℕ) (change : Change)

@@ -109,7 +109,8 @@ resized_file images p sid d t _ = refl
 
 -- a space of another number has as many pages
 resized_sizes : (p : Placement) (sid d t n : ℕ) → n ≢ sid
-    → (length (slots_of (resize p sid d t) (Data n 0)) ≡ length (slots_of p (Data n 0))) × (length (slots_of (resize p sid d t) (Stack n 0)) ≡ length (slots_of p (Stack n 0)))
+    → (length (slots_of (resize p sid d t) (Data n 0)) ≡ length (slots_of p (Data n 0)))
+    × (length (slots_of (resize p sid d t) (Stack n 0)) ≡ length (slots_of p (Stack n 0)))
 resized_sizes p sid d t n e = (
   ap (λ (o : Option SpacePages). length (data_in o)) (resized_other p sid d t n e) ∙ sizes_kept p (drop_all p (dropped_pages p sid d t)) (drop_all_shaped (dropped_pages p sid d t) p) (Data n 0),
   ap (λ (o : Option SpacePages). length (stack_in o)) (resized_other p sid d t n e) ∙ sizes_kept p (drop_all p (dropped_pages p sid d t)) (drop_all_shaped (dropped_pages p sid d t) p) (Stack n 0),
@@ -124,7 +125,8 @@ fit_cut s (Some x) d t f = record {
 }
 
 -- Growth and break.
-pub resize_coupled_step : (k : Kernel) (images : List NamedImage) (image : List ℕ) (flat : FlatState) (pid : ℕ) (regs : Regs) (e : Entry) (d t : ℕ) (q : Process) (s : Space)
+pub resize_coupled_step : (k : Kernel) (images : List NamedImage) (image : List ℕ) (flat : FlatState) (pid : ℕ) (regs : Regs) (e : Entry) (d t : ℕ)
+    (q : Process) (s : Space)
     → IsNumbered flat → OutHold k.place flat → k.place.due ≡ []
     → process_of flat pid ≡ Some q → q.holding ≡ Holds s → is_out k.place pid ≡ false → Coupled k images image flat
     → Coupled (change_step (facts_of images) k pid regs e (Resize d t)) images image (apply_change images flat pid regs (Resize d t))
@@ -230,7 +232,8 @@ resize_coupled_step k images image flat pid regs e d t q s nums outs due f h out
     -- the blocks of what stays
     block : (w : Page) → IsThere l.place w → block_of l.holdings w ≡ block_of k.holdings w
     block (Data n v) there = block_kept (owners.Stack s.sid) (owners.Data n) (length (pieces (2 * t))) v (kept (owners.Data s.sid) (length (pieces (2 * d))) k.holdings) (λ i. absurd cc)
-        ∙ block_kept (owners.Data s.sid) (owners.Data n) (length (pieces (2 * d))) v k.holdings (λ i. let m : n ≡ s.sid = sym (data_owner s.sid n i) in let w = in_data v (subst (λ (x : ℕ). IsThere l.place (Data x v)) m there) in spot_chunk v (2 * d) false (omega arith))
+        ∙ block_kept (owners.Data s.sid) (owners.Data n) (length (pieces (2 * d))) v k.holdings
+        (λ i. let m : n ≡ s.sid = sym (data_owner s.sid n i) in let w = in_data v (subst (λ (x : ℕ). IsThere l.place (Data x v)) m there) in spot_chunk v (2 * d) false (omega arith))
     block (Stack n v) there = block_kept (owners.Stack s.sid) (owners.Stack n) (length (pieces (2 * t))) v (kept (owners.Data s.sid) (length (pieces (2 * d))) k.holdings)
         (λ i. let m : n ≡ s.sid = sym (stack_owner s.sid n i) in let w = in_stack v (subst (λ (x : ℕ). IsThere l.place (Stack x v)) m there) in spot_chunk v (2 * t) true (omega arith))
         ∙ block_kept (owners.Data s.sid) (owners.Stack n) (length (pieces (2 * d))) v k.holdings (λ i. absurd cc)
@@ -240,13 +243,15 @@ resize_coupled_step k images image flat pid regs e d t q s nums outs due f h out
     memory : (w : Page) → IsThere l.place w → IsThere k.place w → memory_of images after w ≡ memory_of images flat w
     memory (Data n v) there then' = elim (cases_eq n s.sid) [
       | inl i ↦ ap (λ (m : ℕ). memory_of images after (Data m v)) i ∙ ap (λ (x : Option Space). page_at v (data_bytes_in x)) own
-          ∙ resized_old v d (length (slots_of k.place (Data s.sid 0))) s.data_bytes data_length (subst (λ (m : ℕ). IsThere k.place (Data m v)) i then') (in_data v (subst (λ (m : ℕ). IsThere l.place (Data m v)) i there))
+          ∙ resized_old v d (length (slots_of k.place (Data s.sid 0))) s.data_bytes data_length (subst (λ (m : ℕ). IsThere k.place (Data m v)) i then')
+          (in_data v (subst (λ (m : ℕ). IsThere l.place (Data m v)) i there))
           ∙ sym (ap (λ (x : Option Space). page_at v (data_bytes_in x)) was) ∙ ap (λ (m : ℕ). memory_of images flat (Data m v)) (sym i)
       | inr m ↦ ap (λ (x : Option Space). page_at v (data_bytes_in x)) (other n m)
     ]
     memory (Stack n v) there then' = elim (cases_eq n s.sid) [
       | inl i ↦ ap (λ (m : ℕ). memory_of images after (Stack m v)) i ∙ ap (λ (x : Option Space). page_at v (stack_bytes_in x)) own
-          ∙ resized_old v t (length (slots_of k.place (Stack s.sid 0))) s.stack_bytes stack_length (subst (λ (m : ℕ). IsThere k.place (Stack m v)) i then') (in_stack v (subst (λ (m : ℕ). IsThere l.place (Stack m v)) i there))
+          ∙ resized_old v t (length (slots_of k.place (Stack s.sid 0))) s.stack_bytes stack_length (subst (λ (m : ℕ). IsThere k.place (Stack m v)) i then')
+          (in_stack v (subst (λ (m : ℕ). IsThere l.place (Stack m v)) i there))
           ∙ sym (ap (λ (x : Option Space). page_at v (stack_bytes_in x)) was) ∙ ap (λ (m : ℕ). memory_of images flat (Stack m v)) (sym i)
       | inr m ↦ ap (λ (x : Option Space). page_at v (stack_bytes_in x)) (other n m)
     ]
@@ -255,13 +260,19 @@ resize_coupled_step k images image flat pid regs e d t q s nums outs due f h out
     new : (w : Page) → IsThere l.place w → length (slots_of k.place w) ≤ number_of w → zeros ≡ memory_of images after w
     new (Data n v) there past = elim (cases_eq n s.sid) [
       | inl i ↦ sym (ap (λ (m : ℕ). memory_of images after (Data m v)) i ∙ ap (λ (x : Option Space). page_at v (data_bytes_in x)) own
-          ∙ resized_new v d (length (slots_of k.place (Data s.sid 0))) s.data_bytes data_length (subst (λ (m : ℕ). length (slots_of k.place (Data m 0)) ≤ v) i past) (in_data v (subst (λ (m : ℕ). IsThere l.place (Data m v)) i there)))
-      | inr m ↦ absurd (let w : v < length (slots_of l.place (Data n 0)) = there in let z = (resized_sizes k.place s.sid d t n m).0 in let p : length (slots_of k.place (Data n 0)) ≤ v = past in omega arith)
+          ∙ resized_new v d (length (slots_of k.place (Data s.sid 0))) s.data_bytes data_length (subst (λ (m : ℕ). length (slots_of k.place (Data m 0)) ≤ v) i past)
+          (in_data v (subst (λ (m : ℕ). IsThere l.place (Data m v)) i there)))
+      | inr m ↦ absurd
+          (let w : v < length (slots_of l.place (Data n 0)) = there in let z = (resized_sizes k.place s.sid d t n m).0 in let p : length (slots_of k.place (Data n 0)) ≤ v = past in omega arith)
     ]
     new (Stack n v) there past = elim (cases_eq n s.sid) [
       | inl i ↦ sym (ap (λ (m : ℕ). memory_of images after (Stack m v)) i ∙ ap (λ (x : Option Space). page_at v (stack_bytes_in x)) own
-          ∙ resized_new v t (length (slots_of k.place (Stack s.sid 0))) s.stack_bytes stack_length (subst (λ (m : ℕ). length (slots_of k.place (Stack m 0)) ≤ v) i past) (in_stack v (subst (λ (m : ℕ). IsThere l.place (Stack m v)) i there)))
-      | inr m ↦ absurd (let w : v < length (slots_of l.place (Stack n 0)) = there in let z = (resized_sizes k.place s.sid d t n m).1 in let p : length (slots_of k.place (Stack n 0)) ≤ v = past in omega arith)
+          ∙ resized_new v t (length (slots_of k.place (Stack s.sid 0))) s.stack_bytes stack_length (subst (λ (m : ℕ). length (slots_of k.place (Stack m 0)) ≤ v) i past)
+          (in_stack v (subst (λ (m : ℕ). IsThere l.place (Stack m v)) i there)))
+      | inr m ↦ absurd
+          (let w : v < length (slots_of l.place (Stack n 0)) = there in let z = (resized_sizes k.place s.sid d t n m).1 in let p : length (slots_of k.place (Stack n 0)) ≤ v = past in omega arith)
     ]
-    new (Text n v) there past = absurd (let w : v < length (slots_of l.place (Text n v)) = there in let z : length (slots_of dropped (Text n v)) ≡ length (slots_of k.place (Text n v)) = sizes_kept k.place dropped shaped (Text n v) in
+    new (Text n v) there past = absurd
+        (let w : v < length (slots_of l.place (Text n v)) = there in
+        let z : length (slots_of dropped (Text n v)) ≡ length (slots_of k.place (Text n v)) = sizes_kept k.place dropped shaped (Text n v) in
         let y : length (slots_of l.place (Text n v)) ≡ length (slots_of dropped (Text n v)) = refl in omega arith)

@@ -76,7 +76,8 @@ can_store : (size : ℕ) (k : Kernel) (images : List NamedImage) (image : List �
     → Coupled k images image flat → state_of k.place x.page ≡ Going x.frame → CanStore k x
 can_store size k images image flat x so fits c e =
     let o : OneOwner size (lives k.processes) k.place k.holdings = so.owner in
-    let needs : needs_blocks k.place x.page ≡ true = ap (λ (s : Rattle.vm_facts.specs.declared.page.PageState.PageState). needs_blocks_by x.page s (mark_of k.place x.page)) e ∙ going_needs x.page x.frame (mark_of k.place x.page) in
+    let needs : needs_blocks k.place x.page ≡ true =
+    ap (λ (s : Rattle.vm_facts.specs.declared.page.PageState.PageState). needs_blocks_by x.page s (mark_of k.place x.page)) e ∙ going_needs x.page x.frame (mark_of k.place x.page) in
     let block : (b : ℕ) × (block_of k.holdings x.page ≡ Some b) = some_of (block_of k.holdings x.page) (places_found size (lives k.processes) k.place k.holdings x.page o needs) in
     let there : IsThere k.place x.page = page_in k.place x.page x.frame (ap frame_of e) in
     let here : (bytes_in (beside_kernel k images image flat) x.frame ≡ memory_of images flat x.page) × IfSaved (beside_kernel k images image flat) x.page (mark_of k.place x.page) =
@@ -127,9 +128,12 @@ all_written [] size k image book l a = record { whole = refl; u_pages = λ pid. 
 all_written (x ∷ xs) size k image book l a =
     let c : CanStore k x = a.0 in
     let w = page_within size k.holdings x.page c.block book c.found in
-    let put : store_at image (block_of k.holdings x.page) (frame_bytes k x.frame) ≡ put_blocks image c.block (frame_bytes k x.frame) = ap (λ (o : Option ℕ). store_at image o (frame_bytes k x.frame)) c.found in
-    let same : length (store_at image (block_of k.holdings x.page) (frame_bytes k x.frame)) ≡ length image = ap length put ∙ length-put_blocks image (frame_bytes k x.frame) c.block (omega arith) c.whole in
-    let more : Writing k (store_at image (block_of k.holdings x.page) (frame_bytes k x.frame)) (store_all k image (x ∷ xs)) = all_written xs size k (store_at image (block_of k.holdings x.page) (frame_bytes k x.frame)) book (omega arith) a.1 in
+    let put : store_at image (block_of k.holdings x.page) (frame_bytes k x.frame) ≡ put_blocks image c.block (frame_bytes k x.frame) =
+    ap (λ (o : Option ℕ). store_at image o (frame_bytes k x.frame)) c.found in
+    let same : length (store_at image (block_of k.holdings x.page) (frame_bytes k x.frame)) ≡ length image =
+    ap length put ∙ length-put_blocks image (frame_bytes k x.frame) c.block (omega arith) c.whole in
+    let more : Writing k (store_at image (block_of k.holdings x.page) (frame_bytes k x.frame)) (store_all k image (x ∷ xs)) =
+    all_written xs size k (store_at image (block_of k.holdings x.page) (frame_bytes k x.frame)) book (omega arith) a.1 in
     record {
       whole = more.whole ∙ same;
       u_pages = λ pid. more.u_pages pid ∙ ap (λ (i : List ℕ). u_stored k i pid) put
@@ -159,7 +163,8 @@ ending size k images image flat read so fits l c r (t ∷ ts) h = by t.errand re
     book = let w : OwnsBlocks size (lives k.processes) k.place k.holdings = o.blocks in w.book
 
     moves : Each (IsMoving k.place) (map (moving t.errand) t.parts)
-    moves = let f : OwnsFrames k.place = o.frames in each_front (IsMoving k.place) (map (moving t.errand) t.parts) (parts_of ts) (subst (λ (us : List Transfer). Each (IsMoving k.place) (parts_of us)) h f.moves)
+    moves = let f : OwnsFrames k.place =
+        o.frames in each_front (IsMoving k.place) (map (moving t.errand) t.parts) (parts_of ts) (subst (λ (us : List Transfer). Each (IsMoving k.place) (parts_of us)) h f.moves)
 
     by : (e : Errand) → t.errand ≡ e
         → BytesBy b e t.parts (record b { frames = landed_by e t.parts read k.frames; swap = stored k.holdings (image_after_by k image t e) }) × Writing k image (image_after_by k image t e)
@@ -167,12 +172,17 @@ ending size k images image flat read so fits l c r (t ∷ ts) h = by t.errand re
         let a : AllStore k t.parts = all_store size k images image flat t.parts so fits c (subst (λ (x : Errand). Each (IsMoving k.place) (map (moving x) t.parts)) e moves) in
         (written_bytes t.parts size k images flat image book l a, all_written t.parts size k image book l a)
     by (Reads source demanded) e =
-        let is : read ≡ map (λ (x : Part). source_bytes b source x.page) t.parts = subst (λ (x : Errand). AreReadBy b x t.parts read) e (subst (λ (us : List Transfer). AreRead b us read) h r) in
-        (read_bytes source t.parts b ∙ ap (λ (x : List (List ℕ)). record b { frames = Rattle.kernel_model.specs.Kernel.read_into t.parts x k.frames }) (sym is), record { whole = refl; u_pages = λ pid. refl })
+        let is : read ≡ map (λ (x : Part). source_bytes b source x.page) t.parts = subst (λ (x : Errand). AreReadBy b x t.parts read) e (subst (λ (us : List Transfer). AreRead b us read) h r) in (
+          read_bytes source t.parts b ∙ ap (λ (x : List (List ℕ)). record b {
+            frames = Rattle.kernel_model.specs.Kernel.read_into t.parts x k.frames;
+          }) (sym is),
+          record { whole = refl; u_pages = λ pid. refl },
+        )
 
 pub done_coupled_step : (size : ℕ) (k : Kernel) (images : List NamedImage) (image : List ℕ) (flat : FlatState) (read : List (List ℕ)) → Sound size k
     → TextFits images k.place → 512 * size ≤ length image
-    → AreRead (beside_kernel k images image flat) k.place.transfers read → Coupled k images image flat → Coupled (done_step k read) images (image_after k image) flat
+    → AreRead (beside_kernel k images image flat) k.place.transfers read → Coupled k images image flat
+    → Coupled (done_step k read) images (image_after k image) flat
 done_coupled_step size k images image flat read so fits l r c =
     let o : OneOwner size (lives k.processes) k.place k.holdings = so.owner in
     let a = ending size k images image flat read so fits l c r k.place.transfers refl in
@@ -199,7 +209,8 @@ image_length size k images image flat so fits l c = go k.place.transfers refl
     go (t ∷ ts) h = by t.errand refl
       where
         moves : Each (IsMoving k.place) (map (moving t.errand) t.parts)
-        moves = let f : OwnsFrames k.place = o.frames in each_front (IsMoving k.place) (map (moving t.errand) t.parts) (parts_of ts) (subst (λ (us : List Transfer). Each (IsMoving k.place) (parts_of us)) h f.moves)
+        moves = let f : OwnsFrames k.place =
+            o.frames in each_front (IsMoving k.place) (map (moving t.errand) t.parts) (parts_of ts) (subst (λ (us : List Transfer). Each (IsMoving k.place) (parts_of us)) h f.moves)
 
         by : (e : Errand) → t.errand ≡ e → length (image_after_by k image t e) ≡ length image
         by Writes e =

@@ -60,13 +60,15 @@ ended_same _ = refl
 
 -- in both tables the same children go, and the others have no parent
 pub orphaned_outlines : (ks : List Proc) (fs : List Process) (pid : ℕ) → map outline_kept ks ≡ map outline_of fs
-    → map outline_kept (map (orphan pid) (filter (stays pid) ks)) ≡ map outline_of (map (without_parent pid) (filter (λ (q : Process). not (is_zombie_child pid q)) fs))
+    → map outline_kept (map (orphan pid) (filter (stays pid) ks))
+    ≡ map outline_of (map (without_parent pid) (filter (λ (q : Process). not (is_zombie_child pid q)) fs))
 orphaned_outlines [] [] pid e = refl
 orphaned_outlines [] (f ∷ fs) pid e = absurd cc
 orphaned_outlines (k ∷ ks) [] pid e = absurd cc
 orphaned_outlines (k ∷ ks) (f ∷ fs) pid e =
     let a = first_same (outline_kept k) (outline_of f) (map outline_kept ks) (map outline_of fs) e in
-    let same : stays pid k ≡ not (is_zombie_child pid f) = ap (λ (o : Outline). not ((o.parent == pid) && is_ended o.life)) a.0 ∙ ap (λ (b : Bool). not ((f.parent == pid) && b)) (ended_same f.holding) in
+    let same : stays pid k ≡ not (is_zombie_child pid f) =
+    ap (λ (o : Outline). not ((o.parent == pid) && is_ended o.life)) a.0 ∙ ap (λ (b : Bool). not ((f.parent == pid) && b)) (ended_same f.holding) in
     ap (λ (b : Bool). map outline_kept (map (orphan pid) (cond b (k ∷ filter (stays pid) ks) (filter (stays pid) ks)))) same ∙ go (not (is_zombie_child pid f)) a.0 (orphaned_outlines ks fs pid a.1)
   where
     one : (b : Bool) (n : ℕ) → (let o : Outline = record { pid = f.pid; parent = cond b 0 n; life = life_of f.holding; asleep = f.asleep } in o)
@@ -74,7 +76,8 @@ orphaned_outlines (k ∷ ks) (f ∷ fs) pid e =
     one true n = refl
     one false n = refl
 
-    go : (b : Bool) → outline_kept k ≡ outline_of f → map outline_kept (map (orphan pid) (filter (stays pid) ks)) ≡ map outline_of (map (without_parent pid) (filter (λ (q : Process). not (is_zombie_child pid q)) fs))
+    go : (b : Bool) → outline_kept k ≡ outline_of f
+        → map outline_kept (map (orphan pid) (filter (stays pid) ks)) ≡ map outline_of (map (without_parent pid) (filter (λ (q : Process). not (is_zombie_child pid q)) fs))
         → map outline_kept (map (orphan pid) (cond b (k ∷ filter (stays pid) ks) (filter (stays pid) ks)))
         ≡ map outline_of (map (without_parent pid) (cond b (f ∷ filter (λ (q : Process). not (is_zombie_child pid q)) fs) (filter (λ (q : Process). not (is_zombie_child pid q)) fs)))
     go true h ih = ap (λ (o : Outline). (let x : Outline = record o { parent = cond (o.parent == pid) 0 o.parent } in x) ∷ map outline_kept (map (orphan pid) (filter (stays pid) ks))) h
@@ -136,7 +139,8 @@ orphan_with (x ∷ ks) p pid n d = elim (cases_eq x.pid p.pid) [
 ]
   where
     by : (b : Bool) → (x.pid == p.pid) ≡ false → map (orphan pid) (filter (stays pid) (with_proc ks p)) ≡ with_proc (map (orphan pid) (filter (stays pid) ks)) p
-        → map (orphan pid) (cond b (x ∷ filter (stays pid) (with_proc ks p)) (filter (stays pid) (with_proc ks p))) ≡ with_proc (map (orphan pid) (cond b (x ∷ filter (stays pid) ks) (filter (stays pid) ks))) p
+        → map (orphan pid) (cond b (x ∷ filter (stays pid) (with_proc ks p)) (filter (stays pid) (with_proc ks p)))
+        ≡ with_proc (map (orphan pid) (cond b (x ∷ filter (stays pid) ks) (filter (stays pid) ks))) p
     by true t ih = ap (λ (l : List Proc). orphan pid x ∷ l) ih ∙ sym (ap (λ (b : Bool). cond b p (orphan pid x) ∷ with_proc (map (orphan pid) (filter (stays pid) ks)) p) t)
     by false t ih = ih
 
@@ -146,7 +150,8 @@ removed_with [] p = refl
 removed_with (x ∷ ks) p = go (x.pid == p.pid) refl (removed_with ks p)
   where
     go : (b : Bool) → (x.pid == p.pid) ≡ b → without_proc (with_proc ks p) p.pid ≡ without_proc ks p.pid
-        → cond (not ((cond b p x).pid == p.pid)) (cond b p x ∷ without_proc (with_proc ks p) p.pid) (without_proc (with_proc ks p) p.pid) ≡ cond (not b) (x ∷ without_proc ks p.pid) (without_proc ks p.pid)
+        → cond (not ((cond b p x).pid == p.pid)) (cond b p x ∷ without_proc (with_proc ks p) p.pid) (without_proc (with_proc ks p) p.pid)
+        ≡ cond (not b) (x ∷ without_proc ks p.pid) (without_proc ks p.pid)
     go true e ih = ap (λ (b : Bool). cond (not b) (p ∷ without_proc (with_proc ks p) p.pid) (without_proc (with_proc ks p) p.pid)) (eq_self p.pid) ∙ ih
     go false e ih = ap (λ (b : Bool). cond (not b) (x ∷ without_proc (with_proc ks p) p.pid) (without_proc (with_proc ks p) p.pid)) e ∙ ap (λ (l : List Proc). x ∷ l) ih
 
@@ -169,7 +174,8 @@ left_outlines false ks fs p status e = woken_outlines (with_proc ks (record p { 
 pub ended_outlines : (ks : List Proc) (fs : List Process) (p old : Proc) (status : ℕ) → AllDistinct (map kept_pid ks)
     → numbered kept_pid p.pid ks ≡ Some old → old.parent ≢ p.pid → p.parent ≢ p.pid
     → map outline_kept (with_proc ks (record p { life = Ended status })) ≡ map outline_of fs
-    → map outline_kept (left_procs (p.parent == 0) (orphaned_procs ks p.pid) p status) ≡ map outline_of (left_flat (p.parent == 0) (orphans p.pid fs) p.pid p.parent)
+    → map outline_kept (left_procs (p.parent == 0) (orphaned_procs ks p.pid) p status)
+    ≡ map outline_of (left_flat (p.parent == 0) (orphans p.pid fs) p.pid p.parent)
 ended_outlines ks fs p old status d f a b o =
     left_outlines (p.parent == 0) (orphaned_procs ks p.pid) (orphans p.pid fs) p status
     (ap (map outline_kept) (sym (orphan_with ks (record p { life = Ended status }) p.pid (not_own ks old p.pid p.pid d f a) b))
@@ -210,7 +216,8 @@ left_was true ps pid parent n a e = elim (cases_eq n pid) [
   | inr d ↦ record { before = a; found = sym (removed_not pid_of n pid ps d) ∙ e; regs = refl; holding = refl }
 ]
 left_was false ps pid parent n a e =
-    let m : (y : Process) × (numbered pid_of n ps ≡ Some y) × (awake parent y ≡ a) = mapped_some (awake parent) (numbered pid_of n ps) a (sym (numbered_map pid_of (awake parent) (λ x. refl) n ps) ∙ e) in
+    let m : (y : Process) × (numbered pid_of n ps ≡ Some y) × (awake parent y ≡ a) =
+    mapped_some (awake parent) (numbered pid_of n ps) a (sym (numbered_map pid_of (awake parent) (λ x. refl) n ps) ∙ e) in
     record { before = m.0; found = m.1; regs = ap (λ (x : Process). x.regs) (sym m.2); holding = ap (λ (x : Process). x.holding) (sym m.2) }
 
 pub end_was : (b : Bool) (ps : List Process) (pid parent n : ℕ) (a : Process) → AllDistinct (map pid_of ps)
@@ -252,11 +259,13 @@ end_kept false ks p status n b d e =
     mapped_some (λ (q : Proc). cond (q.pid == z.pid) z q) (numbered kept_pid n (orphaned_procs ks p.pid)) w.0
     (sym (numbered_map kept_pid (λ (q : Proc). cond (q.pid == z.pid) z q) (with_number z) n (orphaned_procs ks p.pid)) ∙ w.1) in
     record {
-      own = λ i. ap (λ (x : Proc). x.regs) (sym w.2) ∙ ap (λ (x : Proc). x.regs) (sym v.2) ∙ ap (λ (t : Bool). (cond t z v.0).regs) (ap (λ (m : ℕ). m == p.pid) (has_number kept_pid n (orphaned_procs ks p.pid) v.0 v.1 ∙ i) ∙ eq_self p.pid);
+      own = λ i. ap (λ (x : Proc). x.regs) (sym w.2) ∙ ap (λ (x : Proc). x.regs) (sym v.2)
+          ∙ ap (λ (t : Bool). (cond t z v.0).regs) (ap (λ (m : ℕ). m == p.pid) (has_number kept_pid n (orphaned_procs ks p.pid) v.0 v.1 ∙ i) ∙ eq_self p.pid);
       other = λ m. let y = orphan_kept ks p.pid n v.0 d v.1 in (
         y.0,
         y.1,
-        ap (λ (x : Proc). x.regs) (sym w.2) ∙ ap (λ (x : Proc). x.regs) (sym v.2) ∙ ap (λ (t : Bool). (cond t z v.0).regs) (ne_eqb v.0.pid p.pid (λ i. m (sym (has_number kept_pid n (orphaned_procs ks p.pid) v.0 v.1) ∙ i))) ∙ y.2,
+        ap (λ (x : Proc). x.regs) (sym w.2) ∙ ap (λ (x : Proc). x.regs) (sym v.2)
+            ∙ ap (λ (t : Bool). (cond t z v.0).regs) (ne_eqb v.0.pid p.pid (λ i. m (sym (has_number kept_pid n (orphaned_procs ks p.pid) v.0 v.1) ∙ i))) ∙ y.2,
       );
     }
 
@@ -287,7 +296,8 @@ pids_map g h [] = refl
 pids_map g h (p ∷ ps) = ap (λ (n : ℕ). n ∷ map pid_of (map g ps)) (h p) ∙ ap (λ (l : List ℕ). p.pid ∷ l) (pids_map g h ps)
 
 pub orphans_distinct : (ps : List Process) (pid : ℕ) → AllDistinct (map pid_of ps) → AllDistinct (map pid_of (orphans pid ps))
-orphans_distinct ps pid d = subst AllDistinct (sym (pids_map (without_parent pid) (λ x. refl) (filter (λ (q : Process). not (is_zombie_child pid q)) ps))) (distinct_filter pid_of (λ (q : Process). not (is_zombie_child pid q)) ps d)
+orphans_distinct ps pid d = subst AllDistinct (sym (pids_map (without_parent pid) (λ x. refl) (filter (λ (q : Process). not (is_zombie_child pid q)) ps)))
+    (distinct_filter pid_of (λ (q : Process). not (is_zombie_child pid q)) ps d)
 
 -- the end leaves the spaces of all others, where the process itself holds none any more
 pub end_held : (b : Bool) (ps : List Process) (q : Process) (pid parent : ℕ) → AllDistinct (map pid_of ps) → numbered pid_of pid ps ≡ Some q
@@ -346,10 +356,12 @@ pub record Leaving (k : Kernel) (flat after : FlatState) (pid sid : ℕ) (borrow
   pub other : (m : ℕ) → (borrowed ≡ false → m ≢ sid) → numbered sid_of m (spaces_of after) ≡ numbered sid_of m (spaces_of flat)
   pub gone : borrowed ≡ false → numbered sid_of sid (spaces_of after) ≡ None
 
-pub end_core : (k : Kernel) (images : List NamedImage) (image : List ℕ) (flat after : FlatState) (pid sid : ℕ) (borrowed : Bool) (ps : List Proc) (journal : List Entry)
+pub end_core : (k : Kernel) (images : List NamedImage) (image : List ℕ) (flat after : FlatState) (pid sid : ℕ) (borrowed : Bool)
+    (ps : List Proc) (journal : List Entry)
     → Leaving k flat after pid sid borrowed → AllFit flat k.place
     → CouplesPages k.place (beside_kernel k images image flat)
-    → AllFit after (end_kernel k pid sid borrowed ps journal).place × CouplesPages (end_kernel k pid sid borrowed ps journal).place (beside_kernel (end_kernel k pid sid borrowed ps journal) images image after)
+    → AllFit after (end_kernel k pid sid borrowed ps journal).place
+    × CouplesPages (end_kernel k pid sid borrowed ps journal).place (beside_kernel (end_kernel k pid sid borrowed ps journal) images image after)
 end_core k images image flat after pid sid borrowed ps journal a all pages =
     let no_copy : (w : Page) → NoCopy (due_at p1.due w) = λ w. subst (λ (ds : List Due). NoCopy (due_at ds w)) (sym (g.due ∙ a.due)) tt in
     let coupled : CouplesPages l.place (beside_kernel l images image after) = still_coupled p1 l.place (beside_kernel l images image after) (λ w. refl) refl refl
@@ -387,18 +399,25 @@ end_core k images image flat after pid sid borrowed ps journal a all pages =
 
     swap_of : (w : Page) → IsThere p1 w → (stored l.holdings image w ≡ stored k.holdings image w) ⊎ AsideText p1 w
     swap_of w there = elim (unless_blocks borrowed k.holdings k.place p1 sid (image_of k.place sid) w g aside there) [
-      | inl e ↦ inl (ap (stored_at image) (block_kept (owners.U pid) (owner_of w) 0 (Rattle.flat_state.specs.PageNames.number_of w) (given_back_unless borrowed k.holdings sid (image_of k.place sid) (sharers p1 (image_of k.place sid))) (λ i. absurd (not_u w i)) ∙ e))
+      | inl e ↦ inl (ap (stored_at image) (block_kept (owners.U pid) (owner_of w) 0 (Rattle.flat_state.specs.PageNames.number_of w)
+          (given_back_unless borrowed k.holdings sid (image_of k.place sid) (sharers p1 (image_of k.place sid))) (λ i. absurd (not_u w i)) ∙ e))
       | inr e ↦ inr e
     ]
 
     others : (w : Page) → IsThere p1 w → OtherBytes p1 (beside_kernel k images image flat) (beside_kernel l images image after) w
     others (Data m v) there = record {
-      file = ap (λ (i : ℕ). page_at v (data_of (image_numbered images i))) (image_by_shape (numbered space_number m k.place.spaces) (numbered space_number m p1.spaces) (g.other m (gone_data k.place p1 borrowed sid m v g there)));
+      file = ap (λ (i : ℕ). page_at v (data_of (image_numbered images i)))
+          (image_by_shape (numbered space_number m k.place.spaces) (numbered space_number m p1.spaces) (g.other m (gone_data k.place p1 borrowed sid m v g there)));
       start = refl;
       memory = ap (λ (o : Option Space). page_at v (data_bytes_in o)) (a.other m (gone_data k.place p1 borrowed sid m v g there));
       swap = swap_of (Data m v) there;
     }
-    others (Stack m v) there = record { file = refl; start = refl; memory = ap (λ (o : Option Space). page_at v (stack_bytes_in o)) (a.other m (gone_stack k.place p1 borrowed sid m v g there)); swap = swap_of (Stack m v) there }
+    others (Stack m v) there = record {
+      file = refl;
+      start = refl;
+      memory = ap (λ (o : Option Space). page_at v (stack_bytes_in o)) (a.other m (gone_stack k.place p1 borrowed sid m v g there));
+      swap = swap_of (Stack m v) there;
+    }
     others (Text m v) there = record { file = refl; start = refl; memory = refl; swap = swap_of (Text m v) there }
 
 pub left_is : (b : Bool) (F : FlatState) (pid parent : ℕ)
@@ -407,10 +426,12 @@ left_is true F pid parent = refl
 left_is false F pid parent = refl
 
 -- A process that holds its own space ends.
-pub end_coupled_step : (size : ℕ) (k : Kernel) (images : List NamedImage) (image : List ℕ) (flat : FlatState) (pid : ℕ) (regs : Regs) (e : Entry) (status : ℕ) (q : Process) (s : Space)
+pub end_coupled_step : (size : ℕ) (k : Kernel) (images : List NamedImage) (image : List ℕ) (flat : FlatState) (pid : ℕ) (regs : Regs) (e : Entry) (status : ℕ)
+    (q : Process) (s : Space)
     → Sound size k
     → IsNumbered flat → OutHold k.place flat → k.place.due ≡ []
-    → process_of flat pid ≡ Some q → q.holding ≡ Holds s → is_borrower flat.processes pid ≡ false → IsSettled k.place s.sid → MayForget (facts_of images) k.place s.sid false k.next_sid (End status) → Coupled k images image flat
+    → process_of flat pid ≡ Some q → q.holding ≡ Holds s → is_borrower flat.processes pid ≡ false → IsSettled k.place s.sid
+    → MayForget (facts_of images) k.place s.sid false k.next_sid (End status) → Coupled k images image flat
     → Coupled (change_step (facts_of images) k pid regs e (End status)) images image (apply_change images flat pid regs (End status))
 end_coupled_step size k images image flat pid regs e status q s so nums outs due f h own_space settled forget c =
     let g : Stepping k flat pid q s = stepping k flat pid q s c.tables f h in
@@ -431,7 +452,8 @@ end_coupled_step size k images image flat pid regs e status q s so nums outs due
     ∙ ap (λ (m : ℕ). map outline_of (left_flat (kp.parent == 0) (orphans m rs) m kp.parent)) pids ∙ ap (λ (m : ℕ). map outline_of (left_flat (m == 0) (orphans q.pid rs) q.pid m)) g.parent in
     -- the spaces of the others
     let pids_of_both : map pid_of rs ≡ map pid_of flat.processes =
-    sym (pids_same (with_proc k.processes (record kp { life = Ended status })) rs both) ∙ with_pids k.processes (record kp { life = Ended status }) ∙ pids_same k.processes flat.processes c.tables.processes in
+    sym (pids_same (with_proc k.processes (record kp { life = Ended status })) rs both) ∙ with_pids k.processes (record kp { life = Ended status })
+    ∙ pids_same k.processes flat.processes c.tables.processes in
     let distinct : AllDistinct (map pid_of rs) = subst AllDistinct (sym pids_of_both) nums.pids in
     let spaces : spaces_of after ≡ held rs = end_held (q.parent == 0) rs fp q.pid q.parent distinct (replaced_at flat.processes q fp found) refl in
     let held_here : HeldAt flat.processes fp s = held_at flat.processes q fp s found h nums.sids in
@@ -454,7 +476,8 @@ end_coupled_step size k images image flat pid regs e status q s so nums outs due
           let w : WasFlat rs m a = end_was (q.parent == 0) rs q.pid q.parent m a distinct ea in
           let x : WasKept k.processes kp m b = end_kept (kp.parent == 0) k.processes kp status m b distinct_kept eb in
           let same : w.before ≡ fp = same_Some w.before fp (sym w.found ∙ ap (λ (n : ℕ). numbered pid_of n rs) (i ∙ pids) ∙ replaced_at flat.processes q fp found) in
-          subst (λ (z : Bool). Rattle.kernel_model.specs.Coupled.KeepsRegs l image z a b.regs (space_of_holding a.holding)) (sym (ap (is_out l.place) i ∙ out_gone (give_up_unless false k.place s.sid).residents kp.pid))
+          subst (λ (z : Bool). Rattle.kernel_model.specs.Coupled.KeepsRegs l image z a b.regs (space_of_holding a.holding))
+          (sym (ap (is_out l.place) i ∙ out_gone (give_up_unless false k.place s.sid).residents kp.pid))
           (x.own i ∙ ap (λ (y : Process). y.regs) (sym same) ∙ sym w.regs)
       | inr d ↦ regs_carried k l images image image flat after m c outs (record {
         flat_was = λ a ea. let w : WasFlat rs m a = end_was (q.parent == 0) rs q.pid q.parent m a distinct ea in
@@ -464,7 +487,8 @@ end_coupled_step size k images image flat pid regs e status q s so nums outs due
         held_by = λ a t ea ht.
             let not_s : t.sid ≢ s.sid = other_space flat q.pid m q a s t nums (λ y. d (sym y ∙ sym pids)) found ea h ht in
             let sizes = sizes_by_shape (numbered space_number t.sid k.place.spaces) (numbered space_number t.sid l.place.spaces) (gone.other t.sid (λ y. not_s)) in (
-              ap (stored_at image) (block_kept (owners.U kp.pid) (owners.U m) 0 0 (given_back_unless false k.holdings s.sid (image_of k.place s.sid) (sharers l.place (image_of k.place s.sid))) (λ i. absurd (d (u_number m kp.pid (sym i))))
+              ap (stored_at image) (block_kept (owners.U kp.pid) (owners.U m) 0 0 (given_back_unless false k.holdings s.sid (image_of k.place s.sid) (sharers l.place (image_of k.place s.sid)))
+                  (λ i. absurd (d (u_number m kp.pid (sym i))))
                   ∙ unless_u false k.holdings s.sid (image_of k.place s.sid) (sharers l.place (image_of k.place s.sid)) m),
               sizes.0,
               sizes.1,

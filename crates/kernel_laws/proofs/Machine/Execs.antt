@@ -77,7 +77,8 @@ exec_kernel k next sid borrowed number o top ps journal =
     }
 
 -- what is asked of the new image and of the flat state after it
-pub record Entering (k : Kernel) (images : List NamedImage) (flat after : FlatState) (next sid number : ℕ) (borrowed : Bool) (named : NamedImage) (top : List ℕ) : Type 0 where
+pub record Entering (k : Kernel) (images : List NamedImage) (flat after : FlatState) (next sid number : ℕ) (borrowed : Bool) (named : NamedImage)
+    (top : List ℕ) : Type 0 where
   pub frames : OwnsFrames k.place
   pub due : k.place.due ≡ []
   pub starts : KeepsStarts k
@@ -93,16 +94,19 @@ pub record Entering (k : Kernel) (images : List NamedImage) (flat after : FlatSt
   pub other : (m : ℕ) → m ≢ next → (borrowed ≡ false → m ≢ sid) → numbered sid_of m (spaces_of after) ≡ numbered sid_of m (spaces_of flat)
   pub gone : borrowed ≡ false → numbered sid_of sid (spaces_of after) ≡ None
 
-pub exec_core : (k : Kernel) (images : List NamedImage) (image : List ℕ) (flat after : FlatState) (next sid number : ℕ) (borrowed : Bool) (named : NamedImage) (top : List ℕ) (ps : List Proc) (journal : List Entry)
+pub exec_core : (k : Kernel) (images : List NamedImage) (image : List ℕ) (flat after : FlatState) (next sid number : ℕ) (borrowed : Bool) (named : NamedImage)
+    (top : List ℕ) (ps : List Proc) (journal : List Entry)
     → Entering k images flat after next sid number borrowed named top
     → AllFit flat k.place → CouplesPages k.place (beside_kernel k images image flat)
     → AllFit after (exec_kernel k next sid borrowed number (Some named.image.facts) top ps journal).place
-    × CouplesPages (exec_kernel k next sid borrowed number (Some named.image.facts) top ps journal).place (beside_kernel (exec_kernel k next sid borrowed number (Some named.image.facts) top ps journal) images image after)
+    × CouplesPages (exec_kernel k next sid borrowed number (Some named.image.facts) top ps journal).place
+    (beside_kernel (exec_kernel k next sid borrowed number (Some named.image.facts) top ps journal) images image after)
 exec_core k images image flat after next sid number borrowed named top ps journal a all pages =
     let entered_pages : CouplesPages p1 c1 = enter_coupled k.place next number facts b c1 pages a.new a.due same datas start (λ i v. refl) in
     -- without the old space
     let left_pages : CouplesPages l.place c1 =
-    unless_coupled borrowed p1 sid c1 (enter_image_owner k.place next number (Some named.image.facts) a.frames a.new) (λ e. enter_settled k.place next number sid (Some named.image.facts) a.frames a.new (a.settled e)) entered_pages in
+    unless_coupled borrowed p1 sid c1 (enter_image_owner k.place next number (Some named.image.facts) a.frames a.new)
+    (λ e. enter_settled k.place next number sid (Some named.image.facts) a.frames a.new (a.settled e)) entered_pages in
     let coupled : CouplesPages l.place (beside_kernel l images image after) = other_coupled l.place c1 (beside_kernel l images image after) left_pages no_copy refl others (λ i v. refl) in
     -- tables
     let sized : IsSized z x = record {
@@ -175,10 +179,12 @@ exec_core k images image flat after next sid number borrowed named top ps journa
     b = beside_kernel k images image flat
 
     old_data : (m v : ℕ) → IsThere k.place (Data m v) → m ≢ next
-    old_data m v there i = absurd (let w : v < length (slots_of k.place (Data next v)) = subst (λ (y : ℕ). IsThere k.place (Data y v)) i there in let n = ap (λ (o : Option SpacePages). length (data_in o)) a.new in omega arith)
+    old_data m v there i = absurd (let w : v < length (slots_of k.place (Data next v)) = subst (λ (y : ℕ). IsThere k.place (Data y v)) i there in
+        let n = ap (λ (o : Option SpacePages). length (data_in o)) a.new in omega arith)
 
     old_stack : (m v : ℕ) → IsThere k.place (Stack m v) → m ≢ next
-    old_stack m v there i = absurd (let w : v < length (slots_of k.place (Stack next v)) = subst (λ (y : ℕ). IsThere k.place (Stack y v)) i there in let n = ap (λ (o : Option SpacePages). length (stack_in o)) a.new in omega arith)
+    old_stack m v there i = absurd (let w : v < length (slots_of k.place (Stack next v)) = subst (λ (y : ℕ). IsThere k.place (Stack y v)) i there in
+        let n = ap (λ (o : Option SpacePages). length (stack_in o)) a.new in omega arith)
 
     stack_sid : (m n v w : ℕ) → Stack m v ≡ Stack n w → m ≡ n
     stack_sid m n v w e = cc
@@ -241,7 +247,8 @@ exec_core k images image flat after next sid number borrowed named top ps journa
 
     others : (w : Page) → IsThere l.place w → OtherBytes l.place c1 (beside_kernel l images image after) w
     others (Data m v) there = record {
-      file = ap (λ (i : ℕ). page_at v (data_of (image_numbered images i))) (image_by_shape (numbered space_number m p1.spaces) (numbered space_number m l.place.spaces) (g.other m (gone_data p1 l.place borrowed sid m v g there)));
+      file = ap (λ (i : ℕ). page_at v (data_of (image_numbered images i)))
+          (image_by_shape (numbered space_number m p1.spaces) (numbered space_number m l.place.spaces) (g.other m (gone_data p1 l.place borrowed sid m v g there)));
       start = refl;
       memory = ap (λ (o : Option Space). page_at v (data_bytes_in o)) (spaces_same m (gone_data p1 l.place borrowed sid m v g there));
       swap = swap_of (Data m v) there;
@@ -266,7 +273,8 @@ returned_none (q ∷ ps) pid s e = go q.holding e (returned_none ps pid s)
     by true h ih = absurd cc
     by false h ih = ap (λ (l : List Process). q ∷ l) (ih h)
 
-    go : (x : Holding) → (Rattle.flat_state.specs.Change.lends_to pid x || is_borrower ps pid) ≡ false → (is_borrower ps pid ≡ false → returned pid s ps ≡ ps) → returned_by (Rattle.flat_state.specs.Change.lends_to pid x) s q ps (returned pid s ps) ≡ q ∷ ps
+    go : (x : Holding) → (Rattle.flat_state.specs.Change.lends_to pid x || is_borrower ps pid) ≡ false → (is_borrower ps pid ≡ false → returned pid s ps ≡ ps)
+        → returned_by (Rattle.flat_state.specs.Change.lends_to pid x) s q ps (returned pid s ps) ≡ q ∷ ps
     go (Holds t) h ih = by false h ih
     go (Lends sid child) h ih = by (child == pid) h ih
     go (Zombie status) h ih = by false h ih
@@ -283,12 +291,15 @@ borrower_replaced (q ∷ ps) p pid h e = go (q.pid == p.pid) (borrower_replaced 
 
     go : (b : Bool) → (is_borrower ps pid ≡ false → is_borrower (replaced ps p) pid ≡ false) → is_borrower (replaced_by b p q ps (replaced ps p)) pid ≡ false
     go true ih = ap (λ (b : Bool). b || is_borrower ps pid) h ∙ (rest (Rattle.flat_state.specs.Change.lends_to pid q.holding) (is_borrower ps pid) e).1
-    go false ih = ap (λ (b : Bool). b || is_borrower (replaced ps p) pid) (rest (Rattle.flat_state.specs.Change.lends_to pid q.holding) (is_borrower ps pid) e).0 ∙ ih (rest (Rattle.flat_state.specs.Change.lends_to pid q.holding) (is_borrower ps pid) e).1
+    go false ih = ap (λ (b : Bool). b || is_borrower (replaced ps p) pid) (rest (Rattle.flat_state.specs.Change.lends_to pid q.holding) (is_borrower ps pid) e).0
+        ∙ ih (rest (Rattle.flat_state.specs.Change.lends_to pid q.holding) (is_borrower ps pid) e).1
 
 -- A process that holds its own space enters an image.
-pub exec_coupled_step : (size : ℕ) (before : Holdings) (k : Kernel) (images : List NamedImage) (image : List ℕ) (flat : FlatState) (pid : ℕ) (regs : Regs) (e : Entry) (number : ℕ) (top : List ℕ) (named : NamedImage) (q : Process) (s : Space)
+pub exec_coupled_step : (size : ℕ) (before : Holdings) (k : Kernel) (images : List NamedImage) (image : List ℕ) (flat : FlatState) (pid : ℕ) (regs : Regs)
+    (e : Entry) (number : ℕ) (top : List ℕ) (named : NamedImage) (q : Process) (s : Space)
     → Sound size (record k { holdings = before }) → IsNumbered flat → OutHold k.place flat
-    → k.place.due ≡ [] → KeepsStarts k → process_of flat pid ≡ Some q → q.holding ≡ Holds s → is_borrower flat.processes pid ≡ false → is_out k.place pid ≡ false → IsSettled k.place s.sid
+    → k.place.due ≡ [] → KeepsStarts k → process_of flat pid ≡ Some q → q.holding ≡ Holds s → is_borrower flat.processes pid ≡ false
+    → is_out k.place pid ≡ false → IsSettled k.place s.sid
     → MayForget (facts_of images) k.place s.sid false k.next_sid (Exec number top)
     → image_numbered images number ≡ Some named → DataFits named.image → length top ≡ 1024 → Coupled k images image flat
     → Coupled (change_step (facts_of images) k pid regs e (Exec number top)) images image (apply_change images flat pid regs (Exec number top))
@@ -304,7 +315,8 @@ exec_coupled_step size before k images image flat pid regs e number top named q 
     let found : numbered pid_of fp.pid flat.processes ≡ Some q = ap (λ (m : ℕ). numbered pid_of m flat.processes) g.pid_was ∙ g.found in
     let kept_found : numbered kept_pid kp.pid k.processes ≡ Some g.proc = ap (λ (m : ℕ). numbered kept_pid m k.processes) g.pid_is ∙ g.kept in
     let outlines : map outline_kept l.processes ≡ map outline_of after.processes =
-    with_replaced k.processes flat.processes kp fp c.tables.processes nums.pids (outline_is g.proc.pid q.pid g.proc.parent q.parent (HoldsSpace n) (HoldsSpace n) g.proc.asleep q.asleep pids g.parent refl g.asleep) in
+    with_replaced k.processes flat.processes kp fp c.tables.processes nums.pids
+    (outline_is g.proc.pid q.pid g.proc.parent q.parent (HoldsSpace n) (HoldsSpace n) g.proc.asleep q.asleep pids g.parent refl g.asleep) in
     let held_here : HeldAt flat.processes fp s = held_at flat.processes q fp s found h nums.sids in
     let apart : n ≢ s.sid = λ i. holds_there flat.processes q.pid q s found h (ap (λ (m : ℕ). numbered sid_of m (held flat.processes)) (sym i) ∙ next_sid_none flat nums) in
     let o : OneOwner size (lives k.processes) k.place before = so.owner in
@@ -317,7 +329,8 @@ exec_coupled_step size before k images image flat pid regs e number top named q 
       apart = λ i. apart;
       settled = λ i. settled;
       aside = subst (λ (x : Option Image). TextAside (give_up_unless false (enter_image k.place n number x) s.sid)) (facts_found images number named im)
-          (subst (λ (m : ℕ). TextAside (place_change (facts_of images) k.place pid s.sid false m 0 (Exec number top))) c.tables.next_sid (place_change_aside (facts_of images) k.place pid s.sid false k.next_sid 0 (Exec number top) o.aside forget));
+          (subst (λ (m : ℕ). TextAside (place_change (facts_of images) k.place pid s.sid false m 0 (Exec number top))) c.tables.next_sid
+          (place_change_aside (facts_of images) k.place pid s.sid false k.next_sid 0 (Exec number top) o.aside forget));
       image = im;
       fits = fit;
       whole = whole;
@@ -341,13 +354,22 @@ exec_coupled_step size before k images image flat pid regs e number top named q 
             let not_s : t.sid ≢ s.sid = other_space flat q.pid m q a s t nums (λ y. d (sym y)) found ea h ht in
             let not_n : t.sid ≢ n = λ y. holds_there flat.processes m a t ea ht (ap (λ (u : ℕ). numbered sid_of u (held flat.processes)) y ∙ next_sid_none flat nums) in
             let sizes = sizes_by_shape (numbered space_number t.sid p1.spaces) (numbered space_number t.sid l.place.spaces) (left.other t.sid (λ y. not_s)) in
-            let old : numbered space_number t.sid p1.spaces ≡ numbered space_number t.sid k.place.spaces = added_other t.sid k.place.spaces (new_pages n number named.image.facts) (λ y. not_n (sym y)) in
-            (ap (stored_at image) (unless_u false k.holdings s.sid (image_of k.place s.sid) (sharers l.place (image_of k.place s.sid)) m), sizes.0 ∙ ap (λ (x : Option SpacePages). length (data_in x)) old, sizes.1 ∙ ap (λ (x : Option SpacePages). length (stack_in x)) old);
+            let old : numbered space_number t.sid p1.spaces ≡ numbered space_number t.sid k.place.spaces =
+            added_other t.sid k.place.spaces (new_pages n number named.image.facts) (λ y. not_n (sym y)) in (
+              ap (stored_at image) (unless_u false k.holdings s.sid (image_of k.place s.sid) (sharers l.place (image_of k.place s.sid)) m),
+              sizes.0 ∙ ap (λ (x : Option SpacePages).
+                  length (data_in x)) old,
+              sizes.1 ∙ ap (λ (x : Option SpacePages). length (stack_in x)) old,
+            );
       })
     ] in
-    subst (λ (x : Kernel). Coupled x images image (apply_change images flat pid regs (Exec number top))) (sym (step_is (facts_of images) k pid regs e (Exec number top) g.proc (HoldsSpace s.sid) g.kept g.life))
+    subst (λ (x : Kernel). Coupled x images image (apply_change images flat pid regs (Exec number top)))
+    (sym (step_is (facts_of images) k pid regs e (Exec number top) g.proc (HoldsSpace s.sid) g.kept g.life))
     (subst (Coupled (by_life (facts_of images) k (record g.proc { regs = regs }) (HoldsSpace s.sid) e (Exec number top)) images image) (sym (applied images flat pid regs (Exec number top) q s f h))
-    (image_known images number named (λ (f : Option Image) (o : Option NamedImage). Coupled (exec_kernel k k.next_sid s.sid false number f top (with_proc k.processes (record g.proc { regs = regs; life = HoldsSpace k.next_sid })) (append k.journal e)) images image (entered flat (record q { regs = regs }) s number o top)) im
-    (subst (λ (m : ℕ). Coupled (exec_kernel k m s.sid false number (Some named.image.facts) top (with_proc k.processes (record g.proc { regs = regs; life = HoldsSpace m })) (append k.journal e)) images image (entered flat (record q { regs = regs }) s number (Some named) top)) (sym c.tables.next_sid)
-    (subst (λ (xs : List Process). Coupled l images image (record flat { processes = xs; next_sid = n + 1 })) (sym (returned_none (replaced flat.processes fp) q.pid s (borrower_replaced flat.processes fp q.pid refl (ap (is_borrower flat.processes) g.pid_was ∙ own_space))))
+    (image_known images number named (λ (f : Option Image) (o : Option NamedImage). Coupled (exec_kernel k k.next_sid s.sid false number f top
+    (with_proc k.processes (record g.proc { regs = regs; life = HoldsSpace k.next_sid })) (append k.journal e)) images image (entered flat (record q { regs = regs }) s number o top)) im
+    (subst (λ (m : ℕ). Coupled (exec_kernel k m s.sid false number (Some named.image.facts) top (with_proc k.processes (record g.proc { regs = regs; life = HoldsSpace m })) (append k.journal e))
+    images image (entered flat (record q { regs = regs }) s number (Some named) top)) (sym c.tables.next_sid)
+    (subst (λ (xs : List Process). Coupled l images image (record flat { processes = xs; next_sid = n + 1 }))
+    (sym (returned_none (replaced flat.processes fp) q.pid s (borrower_replaced flat.processes fp q.pid refl (ap (is_borrower flat.processes) g.pid_was ∙ own_space))))
     (coupled_of l images image after (tables_of l after outlines c.tables.next_pid refl core.0) core.1 regs_now)))))

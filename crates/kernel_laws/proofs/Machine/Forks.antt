@@ -46,7 +46,8 @@ fit_image s (Some x) f = f.image
 -- the next space is in no table
 pub next_new : (flat : FlatState) (p : Placement) → IsNumbered flat → AllFit flat p → IsNew p flat.next_sid
 next_new flat p nums all = fit_none (numbered space_number flat.next_sid p.spaces)
-    (subst (λ (o : Option Space). Fits o (numbered space_number flat.next_sid p.spaces)) (absent_none sid_of flat.next_sid (spaces_of flat) (below_absent flat.next_sid (map sid_of (spaces_of flat)) nums.sids_below)) (all flat.next_sid))
+    (subst (λ (o : Option Space). Fits o (numbered space_number flat.next_sid p.spaces))
+    (absent_none sid_of flat.next_sid (spaces_of flat) (below_absent flat.next_sid (map sid_of (spaces_of flat)) nums.sids_below)) (all flat.next_sid))
 
 pub next_sid_none : (flat : FlatState) → IsNumbered flat → numbered sid_of flat.next_sid (spaces_of flat) ≡ None
 next_sid_none flat nums = absent_none sid_of flat.next_sid (spaces_of flat) (below_absent flat.next_sid (map sid_of (spaces_of flat)) nums.sids_below)
@@ -79,7 +80,8 @@ out_begun [] pid at n = go (pid == n)
     go false = refl
 out_begun (r ∷ rs) pid at n = go (r.pid == n) (out_begun rs pid at n)
   where
-    go : (b : Bool) → (residence_of (rs ++ record { pid = pid; out = false; since = at } ∷ []) n).out ≡ (residence_of rs n).out → (cond b r (residence_of (rs ++ record { pid = pid; out = false; since = at } ∷ []) n)).out ≡ (cond b r (residence_of rs n)).out
+    go : (b : Bool) → (residence_of (rs ++ record { pid = pid; out = false; since = at } ∷ []) n).out ≡ (residence_of rs n).out
+        → (cond b r (residence_of (rs ++ record { pid = pid; out = false; since = at } ∷ []) n)).out ≡ (cond b r (residence_of rs n)).out
     go true ih = refl
     go false ih = ih
 
@@ -93,7 +95,8 @@ forked_kernel k p sid child next e = record k {
   journal = append k.journal e;
 }
 
-pub fork_coupled_step : (k : Kernel) (images : List NamedImage) (image : List ℕ) (flat : FlatState) (pid : ℕ) (regs : Regs) (e : Entry) (q : Process) (s : Space)
+pub fork_coupled_step : (k : Kernel) (images : List NamedImage) (image : List ℕ) (flat : FlatState) (pid : ℕ) (regs : Regs) (e : Entry)
+    (q : Process) (s : Space)
     → IsNumbered flat → OutHold k.place flat → k.place.due ≡ []
     → process_of flat pid ≡ Some q → q.holding ≡ Holds s → is_out k.place pid ≡ false → Coupled k images image flat
     → Coupled (change_step (facts_of images) k pid regs e (Fork flat.next_pid)) images image (apply_change images flat pid regs (Fork flat.next_pid))
@@ -102,7 +105,8 @@ fork_coupled_step k images image flat pid regs e q s nums outs due f h out c =
     let pids : kp.pid ≡ fp.pid = g.pid_is ∙ sym g.pid_was in
     let kept_found : numbered kept_pid kp.pid k.processes ≡ Some g.proc = ap (λ (m : ℕ). numbered kept_pid m k.processes) g.pid_is ∙ g.kept in
     let outline : outline_kept kp ≡ outline_of fp =
-    outline_is g.proc.pid q.pid g.proc.parent q.parent g.proc.life (Rattle.kernel_model.specs.Kernel.life_of q.holding) g.proc.asleep q.asleep pids g.parent (g.life ∙ sym (ap Rattle.kernel_model.specs.Kernel.life_of h)) g.asleep in
+    outline_is g.proc.pid q.pid g.proc.parent q.parent g.proc.life (Rattle.kernel_model.specs.Kernel.life_of q.holding) g.proc.asleep q.asleep pids g.parent
+    (g.life ∙ sym (ap Rattle.kernel_model.specs.Kernel.life_of h)) g.asleep in
     let child_outline : outline_kept kc ≡ outline_of ch = outline_is flat.next_pid flat.next_pid kp.pid fp.pid (HoldsSpace n) (HoldsSpace n) false false refl pids refl refl in
     let outlines : map outline_kept l.processes ≡ map outline_of after.processes =
     map_pushed outline_kept (with_proc k.processes kp) kc ∙ ap (λ (x : List Outline). x ++ outline_kept kc ∷ []) (with_replaced k.processes flat.processes kp fp c.tables.processes nums.pids outline)
@@ -139,7 +143,8 @@ fork_coupled_step k images image flat pid regs e q s nums outs due f h out c =
           (pushed_found pid_of q.pid (replaced flat.processes fp) ch fp (replaced_at flat.processes q fp found))
           (pushed_found kept_pid q.pid (with_proc k.processes kp) kc kp (ap (λ (y : ℕ). numbered kept_pid y (with_proc k.processes kp)) (sym pids) ∙ with_at k.processes kp g.proc kept_found)) refl)
       | inr d ↦ elim (cases_eq m flat.next_pid) [
-        | inl i ↦ subst (RegsAt l image after) (sym i) (regs_in_record l image after flat.next_pid ch kc (out_same flat.next_pid ∙ next_in flat k.place nums outs) child_flat child_kept (ap (λ (y : ℕ). with_results regs y 1) pids))
+        | inl i ↦ subst (RegsAt l image after) (sym i)
+            (regs_in_record l image after flat.next_pid ch kc (out_same flat.next_pid ∙ next_in flat k.place nums outs) child_flat child_kept (ap (λ (y : ℕ). with_results regs y 1) pids))
         | inr i ↦ regs_carried k l images image image flat after m c outs (record {
           flat_was = λ a ea. (a, sym (replaced_not flat.processes fp m d) ∙ sym (pushed_old pid_of m (replaced flat.processes fp) ch (λ y. i (sym y))) ∙ ea, refl, refl);
           kept_was = λ b eb. (b, sym (with_not k.processes kp m (λ y. d (y ∙ pids))) ∙ sym (pushed_old kept_pid m (with_proc k.processes kp) kc (λ y. i (sym y))) ∙ eb, refl);
@@ -150,7 +155,8 @@ fork_coupled_step k images image flat pid regs e q s nums outs due f h out c =
         })
       ]
     ] in
-    subst (λ (x : Kernel). Coupled x images image (apply_change images flat pid regs (Fork flat.next_pid))) (sym (step_is (facts_of images) k pid regs e (Fork flat.next_pid) g.proc (HoldsSpace s.sid) g.kept g.life))
+    subst (λ (x : Kernel). Coupled x images image (apply_change images flat pid regs (Fork flat.next_pid)))
+    (sym (step_is (facts_of images) k pid regs e (Fork flat.next_pid) g.proc (HoldsSpace s.sid) g.kept g.life))
     (subst (Coupled (by_life (facts_of images) k kp (HoldsSpace s.sid) e (Fork flat.next_pid)) images image) (sym (applied images flat pid regs (Fork flat.next_pid) q s f h))
     (subst (λ (m : ℕ). Coupled (forked_kernel k kp s.sid flat.next_pid m e) images image after) (sym c.tables.next_sid)
     (coupled_of l images image after (tables_of l after outlines (ap (λ (m : ℕ). m + 1) c.tables.next_pid) refl fits)
@@ -205,10 +211,13 @@ fork_coupled_step k images image flat pid regs e q s nums outs due f h out c =
 
     -- bytes
     old_data : (m v : ℕ) → IsThere k.place (Data m v) → m ≢ n
-    old_data m v there i = absurd (let w : v < length (slots_of k.place (Data n v)) = subst (λ (y : ℕ). IsThere k.place (Data y v)) i there in let z = ap (λ (o : Option SpacePages). length (data_in o)) new in omega arith)
+    old_data m v there i =
+        absurd (let w : v < length (slots_of k.place (Data n v)) = subst (λ (y : ℕ). IsThere k.place (Data y v)) i there in
+        let z = ap (λ (o : Option SpacePages). length (data_in o)) new in omega arith)
 
     old_stack : (m v : ℕ) → IsThere k.place (Stack m v) → m ≢ n
-    old_stack m v there i = absurd (let w : v < length (slots_of k.place (Stack n v)) = subst (λ (y : ℕ). IsThere k.place (Stack y v)) i there in let z = ap (λ (o : Option SpacePages). length (stack_in o)) new in omega arith)
+    old_stack m v there i = absurd (let w : v < length (slots_of k.place (Stack n v)) = subst (λ (y : ℕ). IsThere k.place (Stack y v)) i there in
+        let z = ap (λ (o : Option SpacePages). length (stack_in o)) new in omega arith)
 
     same : (w : Page) → IsThere k.place w → SameBytes (beside_kernel k images image flat) (beside_kernel l images image after) w
     same (Data m v) there = let d = old_data m v there in record {
@@ -218,5 +227,6 @@ fork_coupled_step k images image flat pid regs e q s nums outs due f h out c =
       start = refl;
       memory = ap (λ (o : Option Space). page_at v (data_bytes_in o)) (other m d);
     }
-    same (Stack m v) there = let d = old_stack m v there in record { frames = refl; swap = refl; file = refl; start = refl; memory = ap (λ (o : Option Space). page_at v (stack_bytes_in o)) (other m d) }
+    same (Stack m v) there =
+        let d = old_stack m v there in record { frames = refl; swap = refl; file = refl; start = refl; memory = ap (λ (o : Option Space). page_at v (stack_bytes_in o)) (other m d) }
     same (Text m v) there = record { frames = refl; swap = refl; file = refl; start = refl; memory = refl }

@@ -75,10 +75,12 @@ gone_unless false p sid = gone p sid
 
 -- a page of a space that is there is of another one
 pub gone_data : (p q : Placement) (borrowed : Bool) (sid m v : ℕ) → Gone p q borrowed sid → IsThere q (Data m v) → borrowed ≡ false → m ≢ sid
-gone_data p q borrowed sid m v g there b e = absurd (let w : v < length (slots_of q (Data sid v)) = subst (λ (n : ℕ). IsThere q (Data n v)) e there in let z = ap (λ (o : Option SpacePages). length (data_in o)) (g.own b) in omega arith)
+gone_data p q borrowed sid m v g there b e =
+    absurd (let w : v < length (slots_of q (Data sid v)) = subst (λ (n : ℕ). IsThere q (Data n v)) e there in let z = ap (λ (o : Option SpacePages). length (data_in o)) (g.own b) in omega arith)
 
 pub gone_stack : (p q : Placement) (borrowed : Bool) (sid m v : ℕ) → Gone p q borrowed sid → IsThere q (Stack m v) → borrowed ≡ false → m ≢ sid
-gone_stack p q borrowed sid m v g there b e = absurd (let w : v < length (slots_of q (Stack sid v)) = subst (λ (n : ℕ). IsThere q (Stack n v)) e there in let z = ap (λ (o : Option SpacePages). length (stack_in o)) (g.own b) in omega arith)
+gone_stack p q borrowed sid m v g there b e =
+    absurd (let w : v < length (slots_of q (Stack sid v)) = subst (λ (n : ℕ). IsThere q (Stack n v)) e there in let z = ap (λ (o : Option SpacePages). length (stack_in o)) (g.own b) in omega arith)
 
 -- Pages.
 
@@ -92,7 +94,8 @@ removed_keeps p sid b k =
     inl (
       (let e = drop_all_length (pages_of_space p sid) p w in let h = ap length r.2 in omega arith),
       record {
-        slot = ap (λ (xs : List Slot). get_or xs (number_of w) no_slot) r.2 ∙ drop_all_other (pages_of_space p sid) p w (each_page_append (λ x. w ≢ x) (data_from sid 0 (data_count p sid)) (stack_from sid 0 (stack_count p sid))
+        slot = ap (λ (xs : List Slot). get_or xs (number_of w) no_slot) r.2
+            ∙ drop_all_other (pages_of_space p sid) p w (each_page_append (λ x. w ≢ x) (data_from sid 0 (data_count p sid)) (stack_from sid 0 (stack_count p sid))
             (apart_data sid 0 (data_count p sid) w (λ v l. r.0 v)) (apart_stack sid 0 (stack_count p sid) w (λ v l. r.1 v)));
         due = ap (λ (ds : List Due). due_at ds w) rest.1;
         frames = λ g e. (refl, ap (λ (ts : List Transfer). errand_at (parts_of ts) g) rest.0);
@@ -186,8 +189,10 @@ text_owner a b e = cc
 pub unless_blocks : (borrowed : Bool) (hs : Holdings) (p q : Placement) (sid image : ℕ) (w : Page) → Gone p q borrowed sid → TextAside q → IsThere q w
     → (block_of (given_back_unless borrowed hs sid image (sharers q image)) w ≡ block_of hs w) ⊎ AsideText q w
 unless_blocks true hs p q sid image w g a there = inl refl
-unless_blocks false hs p q sid image (Data m v) g a there = inl (given_back_other hs sid image (sharers q image) (owners.Data m) v (λ e. gone_data p q false sid m v g there refl (sym (data_owner sid m e))) (λ e. cc) (λ z e. cc))
-unless_blocks false hs p q sid image (Stack m v) g a there = inl (given_back_other hs sid image (sharers q image) (owners.Stack m) v (λ e. cc) (λ e. gone_stack p q false sid m v g there refl (sym (stack_owner sid m e))) (λ z e. cc))
+unless_blocks false hs p q sid image (Data m v) g a there =
+    inl (given_back_other hs sid image (sharers q image) (owners.Data m) v (λ e. gone_data p q false sid m v g there refl (sym (data_owner sid m e))) (λ e. cc) (λ z e. cc))
+unless_blocks false hs p q sid image (Stack m v) g a there =
+    inl (given_back_other hs sid image (sharers q image) (owners.Stack m) v (λ e. cc) (λ e. gone_stack p q false sid m v g there refl (sym (stack_owner sid m e))) (λ z e. cc))
 unless_blocks false hs p q sid image (Text i v) g a there = elim (cases_eq (sharers q image) 0) [
   | inl z ↦ elim (cases_eq i image) [
     | inl e ↦ inr (i, v, refl, a i v (ap (sharers q) e ∙ z))

@@ -48,7 +48,8 @@ pass_is k from to p q giver receiver a b c d =
 pub passed_list : (ks : List Proc) (p : Proc) (sid to : ℕ) → IsAbsent to (map kept_pid ks)
     → map (passed sid p.pid to New) (with_proc ks p) ≡ with_proc ks (record p { life = LendsSpace sid to })
 passed_list [] p sid to a = refl
-passed_list (x ∷ ks) p sid to a = ap (λ (y : Proc). y ∷ map (passed sid p.pid to New) (with_proc ks p)) (go (x.pid == p.pid) refl) ∙ ap (λ (l : List Proc). cond (x.pid == p.pid) (record p { life = LendsSpace sid to }) x ∷ l) (passed_list ks p sid to a.1)
+passed_list (x ∷ ks) p sid to a = ap (λ (y : Proc). y ∷ map (passed sid p.pid to New) (with_proc ks p)) (go (x.pid == p.pid) refl)
+    ∙ ap (λ (l : List Proc). cond (x.pid == p.pid) (record p { life = LendsSpace sid to }) x ∷ l) (passed_list ks p sid to a.1)
   where
     go : (b : Bool) → (x.pid == p.pid) ≡ b → passed sid p.pid to New (cond b p x) ≡ cond b (record p { life = LendsSpace sid to }) x
     go true e = ap (λ (b : Bool). let y : Proc = record p { life = cond b (LendsSpace sid to) (cond (p.pid == to) (HoldsSpace sid) p.life) } in y) (eq_self p.pid)
@@ -60,10 +61,12 @@ pub passed_child : (p : Proc) (sid to : ℕ) → to ≢ p.pid → passed sid p.p
 passed_child p sid to d = ap (λ (b : Bool). let y : Proc = record (child_proc p to New) { life = cond b (LendsSpace sid to) (cond (to == to) (HoldsSpace sid) New) } in y) (ne_eqb to p.pid d)
     ∙ ap (λ (b : Bool). let y : Proc = record (child_proc p to New) { life = cond b (HoldsSpace sid) New } in y) (eq_self to)
 
-pub lend_coupled_step : (k : Kernel) (images : List NamedImage) (image : List ℕ) (flat : FlatState) (pid : ℕ) (regs : Regs) (e : Entry) (q : Process) (s : Space)
+pub lend_coupled_step : (k : Kernel) (images : List NamedImage) (image : List ℕ) (flat : FlatState) (pid : ℕ) (regs : Regs) (e : Entry)
+    (q : Process) (s : Space)
     → IsNumbered flat
     → OutHold k.place flat → process_of flat pid ≡ Some q → q.holding ≡ Holds s
-    → is_out k.place pid ≡ false → Coupled k images image flat → Coupled (pass_step (change_step (facts_of images) k pid regs e (Lend flat.next_pid)) pid flat.next_pid) images image (apply_change images flat pid regs (Lend flat.next_pid))
+    → is_out k.place pid ≡ false → Coupled k images image flat → Coupled (pass_step (change_step (facts_of images) k pid regs e (Lend flat.next_pid)) pid
+    flat.next_pid) images image (apply_change images flat pid regs (Lend flat.next_pid))
 lend_coupled_step k images image flat pid regs e q s nums outs f h out c =
     let ch : Process = child_of (record q { regs = regs }) child s in
     let after : FlatState = lent flat (record q { regs = regs }) s child in
@@ -106,12 +109,14 @@ lend_coupled_step k images image flat pid regs e q s nums outs f h out c =
         })
       ]
     ] in
-    subst (λ (x : Kernel). Coupled (pass_step x pid flat.next_pid) images image (apply_change images flat pid regs (Lend flat.next_pid))) (sym (step_is (facts_of images) k pid regs e (Lend flat.next_pid) g.proc (HoldsSpace s.sid) g.kept g.life))
+    subst (λ (x : Kernel). Coupled (pass_step x pid flat.next_pid) images image (apply_change images flat pid regs (Lend flat.next_pid)))
+    (sym (step_is (facts_of images) k pid regs e (Lend flat.next_pid) g.proc (HoldsSpace s.sid) g.kept g.life))
     (subst (Coupled (pass_step k1 pid flat.next_pid) images image) (sym (applied images flat pid regs (Lend flat.next_pid) q s f h))
     (subst (λ (x : Kernel). Coupled x images image after) (sym (pass_is k1 pid flat.next_pid kp kn (HoldsSpace s.sid) New parent_kept g.life child_kept refl))
     (subst (λ (xs : List Proc). Coupled (record k1 { processes = xs }) images image after) (sym processes)
     (coupled_of l images image after (tables_of l after outlines (ap (λ (m : ℕ). m + 1) c.tables.next_pid) c.tables.next_sid fits)
-    (alike_coupled l.place (beside_kernel k images image flat) (beside_kernel l images image after) (λ w. record { frames = refl; swap = refl; file = file_of_same w; start = refl; memory = memory_same images flat after spaces w })
+    (alike_coupled l.place (beside_kernel k images image flat) (beside_kernel l images image after)
+    (λ w. record { frames = refl; swap = refl; file = file_of_same w; start = refl; memory = memory_same images flat after spaces w })
     (still_coupled k.place l.place (beside_kernel k images image flat) (λ w. refl) refl refl c.pages)) regs_now))))
   where
     g : Stepping k flat pid q s

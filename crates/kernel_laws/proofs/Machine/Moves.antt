@@ -123,7 +123,8 @@ u_stored k image pid = stored_at image (block_in k.holdings (owners.U pid) 0)
 
 pub regs_kept : (k l : Kernel) (image after : List ℕ) (out : Bool) (q : Process) (kept : Regs) (sid : ℕ)
     → (out ≡ true → u_stored l after q.pid ≡ u_stored k image q.pid)
-    → length (slots_of l.place (Data sid 0)) ≡ length (slots_of k.place (Data sid 0)) → length (slots_of l.place (Stack sid 0)) ≡ length (slots_of k.place (Stack sid 0))
+    → length (slots_of l.place (Data sid 0)) ≡ length (slots_of k.place (Data sid 0))
+    → length (slots_of l.place (Stack sid 0)) ≡ length (slots_of k.place (Stack sid 0))
     → KeepsRegs k image out q kept sid → KeepsRegs l after out q kept sid
 regs_kept k l image after false q kept sid u d s r = r
 regs_kept k l image after true q kept sid u d s r =
@@ -146,7 +147,8 @@ moved_coupled k l images image after flat ps np ns u s pages c = record {
 pub paged_coupled : (k l : Kernel) (images : List NamedImage) (image : List ℕ) (flat : FlatState) → l.processes ≡ k.processes
     → l.next_pid ≡ k.next_pid → l.next_sid ≡ k.next_sid → l.holdings ≡ k.holdings
     → Shaped k.place l.place → CouplesPages l.place (beside_kernel l images image flat) → Coupled k images image flat → Coupled l images image flat
-paged_coupled k l images image flat ps np ns hs s pages c = moved_coupled k l images image image flat ps np ns (λ pid. ap (λ (x : Holdings). stored_at image (block_in x (owners.U pid) 0)) hs) s pages c
+paged_coupled k l images image flat ps np ns hs s pages c =
+    moved_coupled k l images image image flat ps np ns (λ pid. ap (λ (x : Holdings). stored_at image (block_in x (owners.U pid) 0)) hs) s pages c
 
 -- Entries.
 
@@ -156,26 +158,30 @@ note_coupled k images image flat e c = paged_coupled k (note_step k e) images im
 
 plain_coupled : (k : Kernel) (images : List NamedImage) (image : List ℕ) (flat : FlatState) (locked : List Page) (e : Entry)
     → Shaped k.place (plain_step k locked e).place
-    → CouplesPages (plain_step k locked e).place (beside_kernel k images image flat) → Coupled k images image flat → Coupled (plain_step k locked e) images image flat
+    → CouplesPages (plain_step k locked e).place (beside_kernel k images image flat) → Coupled k images image flat
+    → Coupled (plain_step k locked e) images image flat
 plain_coupled k images image flat locked e s pages c = paged_coupled k (plain_step k locked e) images image flat refl refl refl refl s
     (alike_coupled (plain_step k locked e).place (beside_kernel k images image flat) (beside_kernel (plain_step k locked e) images image flat)
     (λ w. record { frames = refl; swap = refl; file = file_same images k.place (plain_step k locked e).place s w; start = refl; memory = refl }) pages) c
 
 pub get_coupled_step : (size : ℕ) (k : Kernel) (images : List NamedImage) (image : List ℕ) (flat : FlatState) (q : Page) (lo n : ℕ) → Sound size k
     → EachPage (CanEnter k.place) (pages_from q lo n)
-    → EachPage (ReadsFrom k.place (source_for (state_of k.place q)) q) (pages_from q lo n) → Coupled k images image flat → Coupled (get_step k q lo n) images image flat
+    → EachPage (ReadsFrom k.place (source_for (state_of k.place q)) q) (pages_from q lo n) → Coupled k images image flat
+    → Coupled (get_step k q lo n) images image flat
 get_coupled_step size k images image flat q lo n so c r cp =
     let o : OneOwner size (lives k.processes) k.place k.holdings = so.owner in
     plain_coupled k images image flat [] (entries.Get q lo n) (get_run_shaped k.place (read_errand k.place q) (pages_from q lo n))
     (get_run_coupled k.place (source_for (state_of k.place q)) q (pages_from q lo n) (beside_kernel k images image flat) o.frames
-    (each_page_both (CanEnter k.place) (ReadsFrom k.place (source_for (state_of k.place q)) q) (Reading k.place (source_for (state_of k.place q)) q) (pages_from q lo n) c r (λ v a d. record { enters = a; from = d }))
+    (each_page_both (CanEnter k.place) (ReadsFrom k.place (source_for (state_of k.place q)) q) (Reading k.place (source_for (state_of k.place q)) q) (pages_from q lo n) c r
+    (λ v a d. record { enters = a; from = d }))
     (pages_from_apart q lo n) cp.pages) cp
 
 -- The read of a page with its run.
 pub read_coupled_step : (size : ℕ) (k : Kernel) (images : List NamedImage) (image : List ℕ) (flat : FlatState) (q : Page) → Sound size k → CanEnter k.place q
     → ReadsFrom k.place (source_for (state_of k.place q)) q q → Coupled k images image flat
     → Coupled (get_step k q (run_in k.place q).lo (run_in k.place q).n) images image flat
-read_coupled_step size k images image flat q so c r cp = get_coupled_step size k images image flat q (run_in k.place q).lo (run_in k.place q).n so (run_in_enters k.place q c) (run_in_reads k.place (beside_kernel k images image flat) q cp.pages r) cp
+read_coupled_step size k images image flat q so c r cp =
+    get_coupled_step size k images image flat q (run_in k.place q).lo (run_in k.place q).n so (run_in_enters k.place q c) (run_in_reads k.place (beside_kernel k images image flat) q cp.pages r) cp
 
 pub reclaim_coupled_step : (size : ℕ) (k : Kernel) (images : List NamedImage) (image : List ℕ) (flat : FlatState) (q : Page) → Sound size k
     → Coupled k images image flat → Coupled (reclaim_step k q) images image flat
@@ -212,9 +218,11 @@ filled_state p v f rest o c e =
 abbrev filled_kernel : Kernel → Page → List ℕ → List StartBytes → Entry → Kernel
 filled_kernel k v bytes ss e = record k { place = filled k.place v; frames = put_first k.place.free k.frames bytes; starts = ss; journal = append k.journal e }
 
-fill_coupled_step : (size : ℕ) (k : Kernel) (images : List NamedImage) (image : List ℕ) (flat : FlatState) (v : Page) (bytes : List ℕ) (ss : List StartBytes) (e : Entry)
+fill_coupled_step : (size : ℕ) (k : Kernel) (images : List NamedImage) (image : List ℕ) (flat : FlatState) (v : Page) (bytes : List ℕ)
+    (ss : List StartBytes) (e : Entry)
     → Sound size k → CanEnter k.place v → IsWritable v
-    → 0 < length k.place.free → bytes ≡ memory_of images flat v → ((w : Page) → w ≢ v → start_bytes ss w ≡ start_bytes k.starts w) → Coupled k images image flat → Coupled (filled_kernel k v bytes ss e) images image flat
+    → 0 < length k.place.free → bytes ≡ memory_of images flat v → ((w : Page) → w ≢ v → start_bytes ss w ≡ start_bytes k.starts w) → Coupled k images image flat
+    → Coupled (filled_kernel k v bytes ss e) images image flat
 fill_coupled_step size k images image flat v bytes ss e so c w some is st cp = go k.place.free refl
   where
     o : OwnsFrames k.place
@@ -223,7 +231,8 @@ fill_coupled_step size k images image flat v bytes ss e so c w some is st cp = g
     go : (fr : List ℕ) → k.place.free ≡ fr → Coupled (filled_kernel k v bytes ss e) images image flat
     go [] h = absurd (let l = ap length h in omega arith)
     go (f ∷ rest) h = paged_coupled k (filled_kernel k v bytes ss e) images image flat refl refl refl refl (filled_shaped k.place v)
-        (forgot_coupled (filled k.place v) v f (with_frame (beside_kernel k images image flat) f bytes) (beside_kernel (filled_kernel k v bytes ss e) images image flat) (filled_state k.place v f rest o c h)
+        (forgot_coupled (filled k.place v) v f (with_frame (beside_kernel k images image flat) f bytes) (beside_kernel (filled_kernel k v bytes ss e) images image flat)
+        (filled_state k.place v f rest o c h)
         (record {
           frames = ap (λ (fr : List ℕ). put_first fr k.frames bytes) h;
           swap = λ x. refl;
@@ -250,7 +259,8 @@ unfilled_is : (k : Kernel) (images : List NamedImage) (image : List ℕ) (flat :
     → state_of k.place q ≡ Unfilled
     → KeepsUnfilled (beside_kernel k images image flat) q (due_at k.place.due q) (filling_of k.place q)
 unfilled_is k images image flat q cp there e =
-    let h : KeepsUnfilled (beside_kernel k images image flat) q (due_at k.place.due q) (filling_of k.place q) × Rattle.page_model.specs.PageBytes.IsUnsaved q (Rattle.page_model.specs.Placement.mark_of k.place q) =
+    let h : KeepsUnfilled (beside_kernel k images image flat) q (due_at k.place.due q) (filling_of k.place q)
+    × Rattle.page_model.specs.PageBytes.IsUnsaved q (Rattle.page_model.specs.Placement.mark_of k.place q) =
     keeps_at k.place (beside_kernel k images image flat) q Unfilled cp.pages there e in
     h.0
 
@@ -266,11 +276,13 @@ no_start (s ∷ ss) q e = go (same_page s.page q) e (no_start ss q)
 -- A page of zeros.
 pub zero_coupled : (size : ℕ) (k : Kernel) (images : List NamedImage) (image : List ℕ) (flat : FlatState) (q : Page) → Sound size k → KeepsStarts k
     → CanEnter k.place q → IsWritable q → 0 < length k.place.free
-    → state_of k.place q ≡ Unfilled → due_at k.place.due q ≡ None → filling_of k.place q ≡ Zeros → Coupled k images image flat → Coupled (zero_step k q) images image flat
+    → state_of k.place q ≡ Unfilled → due_at k.place.due q ≡ None → filling_of k.place q ≡ Zeros → Coupled k images image flat
+    → Coupled (zero_step k q) images image flat
 zero_coupled size k images image flat q so ks c w some e d x cp =
     let u : zeros ≡ memory_of images flat q = subst (KeepsUnfilled (beside_kernel k images image flat) q None) x
     (subst (λ (o : Option Due). KeepsUnfilled (beside_kernel k images image flat) q o (filling_of k.place q)) d (unfilled_is k images image flat q cp c.there e)) in
-    fill_coupled_step size k images image flat q (start_bytes k.starts q) (starts_after k.starts q) (entries.Zero q) so c w some (no_start k.starts q (ks q (ap is_start d)) ∙ u) (λ v n. after_other k.starts q v n) cp
+    fill_coupled_step size k images image flat q (start_bytes k.starts q) (starts_after k.starts q) (entries.Zero q) so c w some (no_start k.starts q (ks q (ap is_start d)) ∙ u)
+    (λ v n. after_other k.starts q v n) cp
 
 -- A new stack page 0 with what is kept for it.
 pub start_coupled : (size : ℕ) (k : Kernel) (images : List NamedImage) (image : List ℕ) (flat : FlatState) (q r : Page) → Sound size k
@@ -284,7 +296,8 @@ start_coupled size k images image flat q r so c w some e d cp =
 -- A child's page with the bytes of its parent's.
 pub copy_coupled : (size : ℕ) (k : Kernel) (images : List NamedImage) (image : List ℕ) (flat : FlatState) (q r parent : Page) (f : ℕ) → Sound size k
     → CanEnter k.place q → IsWritable q → 0 < length k.place.free
-    → state_of k.place q ≡ Unfilled → due_at k.place.due q ≡ Some (CopyOf r parent) → state_of k.place parent ≡ Valid f → Coupled k images image flat → Coupled (copy_step k q) images image flat
+    → state_of k.place q ≡ Unfilled → due_at k.place.due q ≡ Some (CopyOf r parent) → state_of k.place parent ≡ Valid f → Coupled k images image flat
+    → Coupled (copy_step k q) images image flat
 copy_coupled size k images image flat q r parent f so c w some e d h cp =
     let u : memory_of images flat parent ≡ memory_of images flat q =
     subst (λ (o : Option Due). KeepsUnfilled (beside_kernel k images image flat) q o (filling_of k.place q)) d (unfilled_is k images image flat q cp c.there e) in

@@ -93,10 +93,12 @@ removed_outlines [] (f ∷ fs) n e = absurd cc
 removed_outlines (k ∷ ks) [] n e = absurd cc
 removed_outlines (k ∷ ks) (f ∷ fs) n e =
     let a = first_same (outline_kept k) (outline_of f) (map outline_kept ks) (map outline_of fs) e in
-    ap (λ (m : ℕ). map outline_kept (cond (not (m == n)) (k ∷ filter (λ (x : Proc). not (x.pid == n)) ks) (filter (λ (x : Proc). not (x.pid == n)) ks))) (ap (λ (o : Outline). o.pid) a.0) ∙ go (f.pid == n) a.0 (removed_outlines ks fs n a.1)
+    ap (λ (m : ℕ). map outline_kept (cond (not (m == n)) (k ∷ filter (λ (x : Proc). not (x.pid == n)) ks) (filter (λ (x : Proc). not (x.pid == n)) ks))) (ap (λ (o : Outline). o.pid) a.0)
+    ∙ go (f.pid == n) a.0 (removed_outlines ks fs n a.1)
   where
     go : (b : Bool) → outline_kept k ≡ outline_of f → map outline_kept (filter (λ (x : Proc). not (x.pid == n)) ks) ≡ map outline_of (filter (λ (x : Process). not (x.pid == n)) fs)
-        → map outline_kept (cond (not b) (k ∷ filter (λ (x : Proc). not (x.pid == n)) ks) (filter (λ (x : Proc). not (x.pid == n)) ks)) ≡ map outline_of (cond (not b) (f ∷ filter (λ (x : Process). not (x.pid == n)) fs) (filter (λ (x : Process). not (x.pid == n)) fs))
+        → map outline_kept (cond (not b) (k ∷ filter (λ (x : Proc). not (x.pid == n)) ks) (filter (λ (x : Proc). not (x.pid == n)) ks))
+        ≡ map outline_of (cond (not b) (f ∷ filter (λ (x : Process). not (x.pid == n)) fs) (filter (λ (x : Process). not (x.pid == n)) fs))
     go true h ih = ih
     go false h ih = ap (λ (o : Outline). o ∷ map outline_kept (filter (λ (x : Proc). not (x.pid == n)) ks)) h ∙ ap (λ (l : List Outline). outline_of f ∷ l) ih
 
@@ -139,7 +141,8 @@ holds_there (p ∷ ps) n q s e h z = elim (cases_eq p.pid n) [
   | inl i ↦ (let same : p ≡ q = same_Some p q (sym (numbered_hit pid_of n p ps i) ∙ e) in
       let k : numbered sid_of s.sid (s ∷ held ps) ≡ None = subst (λ (x : Holding). numbered sid_of s.sid (space_held x ++ held ps) ≡ None) (ap (λ (x : Process). x.holding) same ∙ h) z in
       let j : None ≡ Some s = sym k ∙ numbered_hit sid_of s.sid s (held ps) refl in cc)
-  | inr d ↦ holds_there ps n q s (sym (numbered_miss pid_of n p ps d) ∙ e) h (second (numbered sid_of s.sid (space_held p.holding)) (numbered sid_of s.sid (held ps)) (sym (numbered_append sid_of s.sid (space_held p.holding) (held ps)) ∙ z))
+  | inr d ↦ holds_there ps n q s (sym (numbered_miss pid_of n p ps d) ∙ e) h
+      (second (numbered sid_of s.sid (space_held p.holding)) (numbered sid_of s.sid (held ps)) (sym (numbered_append sid_of s.sid (space_held p.holding) (held ps)) ∙ z))
 ]
   where
     second : (o r : Option Space) → or_else o r ≡ None → r ≡ None
@@ -155,7 +158,8 @@ other_space flat m n p q s t nums d ep eq hp hq same =
     let i : p.pid ≡ m = has_number pid_of m flat.processes p ep in
     let f : numbered pid_of gone.pid flat.processes ≡ Some p = ap (λ (x : ℕ). numbered pid_of x flat.processes) i ∙ ep in
     let a : HeldAt flat.processes gone s = held_at flat.processes p gone s f hp nums.sids in
-    holds_there (replaced flat.processes gone) n q t (replaced_not flat.processes gone n (λ h. d (sym i ∙ sym h)) ∙ eq) hq (ap (λ (x : ℕ). numbered sid_of x (held (replaced flat.processes gone))) same ∙ held_now flat.processes gone s a)
+    holds_there (replaced flat.processes gone) n q t (replaced_not flat.processes gone n (λ h. d (sym i ∙ sym h)) ∙ eq) hq
+    (ap (λ (x : ℕ). numbered sid_of x (held (replaced flat.processes gone))) same ∙ held_now flat.processes gone s a)
 
 -- who is out holds a space
 pub out_space : (p : Placement) (flat : FlatState) (n : ℕ) (q : Process) → OutHold p flat → is_out p n ≡ true
@@ -238,7 +242,8 @@ pub record Carries (k l : Kernel) (image after : List ℕ) (flat flat2 : FlatSta
   pub kept_was : (b : Proc) → numbered kept_pid n l.processes ≡ Some b → (y : Proc) × (numbered kept_pid n k.processes ≡ Some y) × (b.regs ≡ y.regs)
   pub out : is_out l.place n ≡ is_out k.place n
   pub held_by : (x : Process) (t : Space) → numbered pid_of n flat.processes ≡ Some x → x.holding ≡ Holds t
-      → (u_stored l after n ≡ u_stored k image n) × (length (slots_of l.place (Data t.sid 0)) ≡ length (slots_of k.place (Data t.sid 0))) × (length (slots_of l.place (Stack t.sid 0)) ≡ length (slots_of k.place (Stack t.sid 0)))
+      → (u_stored l after n ≡ u_stored k image n) × (length (slots_of l.place (Data t.sid 0)) ≡ length (slots_of k.place (Data t.sid 0)))
+      × (length (slots_of l.place (Stack t.sid 0)) ≡ length (slots_of k.place (Stack t.sid 0)))
 
 pub regs_carried : (k l : Kernel) (images : List NamedImage) (image after : List ℕ) (flat flat2 : FlatState) (n : ℕ) → Coupled k images image flat
     → OutHold k.place flat → Carries k l image after flat flat2 n → RegsAt l after flat2 n

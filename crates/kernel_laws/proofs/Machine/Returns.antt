@@ -48,7 +48,8 @@ use Rattle.aout_image.specs.declared.Image.{Image}
 
 pub returned_is : (ps : List Process) (m : Process) (pid : ℕ) (s : Space) → AllDistinct (map pid_of ps) → numbered pid_of m.pid ps ≡ Some m
     → lends_to pid m.holding ≡ true
-    → ((x : Process) → numbered pid_of x.pid ps ≡ Some x → lends_to pid x.holding ≡ true → x.pid ≡ m.pid) → returned pid s ps ≡ replaced ps (record m { holding = Holds s })
+    → ((x : Process) → numbered pid_of x.pid ps ≡ Some x → lends_to pid x.holding ≡ true → x.pid ≡ m.pid)
+    → returned pid s ps ≡ replaced ps (record m { holding = Holds s })
 unfolding returned replaced
 returned_is [] m pid s d e t only = none_some m e
 returned_is (q ∷ ps) m pid s d e t only = elim (cases_Bool (lends_to pid q.holding)) [
@@ -56,9 +57,11 @@ returned_is (q ∷ ps) m pid s d e t only = elim (cases_Bool (lends_to pid q.hol
       let same : q ≡ m = same_Some q m (sym (numbered_hit pid_of m.pid q ps i) ∙ e) in
       ap (λ (b : Bool). returned_by b s q ps (returned pid s ps)) y ∙ ap (λ (x : Process). (let z : Process = record x { holding = Holds s } in z) ∷ ps) same
       ∙ sym (ap (λ (b : Bool). replaced_by b (record m { holding = Holds s }) q ps (replaced ps (record m { holding = Holds s }))) (ap (λ (n : ℕ). n == m.pid) i ∙ eq_self m.pid)))
-  | inr y ↦ (let n : q.pid ≢ m.pid = λ i. (let same : q ≡ m = same_Some q m (sym (numbered_hit pid_of m.pid q ps i) ∙ e) in let z : false ≡ true = sym y ∙ ap (λ (x : Process). lends_to pid x.holding) same ∙ t in cc) in
+  | inr y ↦ (let n : q.pid ≢ m.pid =
+      λ i. (let same : q ≡ m = same_Some q m (sym (numbered_hit pid_of m.pid q ps i) ∙ e) in let z : false ≡ true = sym y ∙ ap (λ (x : Process). lends_to pid x.holding) same ∙ t in cc) in
       ap (λ (b : Bool). returned_by b s q ps (returned pid s ps)) y
-      ∙ ap (λ (l : List Process). q ∷ l) (returned_is ps m pid s d.1 (sym (numbered_miss pid_of m.pid q ps n) ∙ e) t (λ x f l. only x (numbered_miss pid_of x.pid q ps (λ i. none_some x (sym (absent_none pid_of x.pid ps (subst (λ (n : ℕ). IsAbsent n (map pid_of ps)) i d.0)) ∙ f)) ∙ f) l))
+      ∙ ap (λ (l : List Process). q ∷ l) (returned_is ps m pid s d.1 (sym (numbered_miss pid_of m.pid q ps n) ∙ e) t
+      (λ x f l. only x (numbered_miss pid_of x.pid q ps (λ i. none_some x (sym (absent_none pid_of x.pid ps (subst (λ (n : ℕ). IsAbsent n (map pid_of ps)) i d.0)) ∙ f)) ∙ f) l))
       ∙ sym (ap (λ (b : Bool). replaced_by b (record m { holding = Holds s }) q ps (replaced ps (record m { holding = Holds s }))) (ne_eqb q.pid m.pid n)))
 ]
 
@@ -86,12 +89,14 @@ only_at (x ∷ ks) m d e = elim (cases_eq x.pid m.pid) [
 passed_back : (ks : List Proc) (p m : Proc) (sid : ℕ) → m.pid ≢ p.pid → OnlyAt m ks
     → with_proc (map (passes sid p.pid m.pid) ks) p ≡ with_proc (with_proc ks p) (record m { life = HoldsSpace sid })
 passed_back [] p m sid d o = refl
-passed_back (x ∷ ks) p m sid d o = ap (λ (y : Proc). y ∷ with_proc (map (passes sid p.pid m.pid) ks) p) (go (x.pid == p.pid) (x.pid == m.pid) refl refl) ∙ ap (λ (l : List Proc). cond ((cond (x.pid == p.pid) p x).pid == m.pid) (record m { life = HoldsSpace sid }) (cond (x.pid == p.pid) p x) ∷ l) (passed_back ks p m sid d o.1)
+passed_back (x ∷ ks) p m sid d o = ap (λ (y : Proc). y ∷ with_proc (map (passes sid p.pid m.pid) ks) p) (go (x.pid == p.pid) (x.pid == m.pid) refl refl)
+    ∙ ap (λ (l : List Proc). cond ((cond (x.pid == p.pid) p x).pid == m.pid) (record m { life = HoldsSpace sid }) (cond (x.pid == p.pid) p x) ∷ l) (passed_back ks p m sid d o.1)
   where
     go : (b c : Bool) → (x.pid == p.pid) ≡ b → (x.pid == m.pid) ≡ c
         → cond b p (record x { life = cond b New (cond c (HoldsSpace sid) x.life) }) ≡ cond ((cond b p x).pid == m.pid) (record m { life = HoldsSpace sid }) (cond b p x)
     go true c e f = sym (ap (λ (t : Bool). cond t (record m { life = HoldsSpace sid }) p) (ne_eqb p.pid m.pid (λ i. d (sym i))))
-    go false true e f = ap (λ (y : Proc). let z : Proc = record y { life = HoldsSpace sid } in z) (o.0 (eqb-true x.pid m.pid f)) ∙ sym (ap (λ (t : Bool). cond t (record m { life = HoldsSpace sid }) x) f)
+    go false true e f =
+        ap (λ (y : Proc). let z : Proc = record y { life = HoldsSpace sid } in z) (o.0 (eqb-true x.pid m.pid f)) ∙ sym (ap (λ (t : Bool). cond t (record m { life = HoldsSpace sid }) x) f)
     go false false e f = sym (ap (λ (t : Bool). cond t (record m { life = HoldsSpace sid }) x) f)
 
 -- The borrower and the lender in both tables.
@@ -144,7 +149,8 @@ pub record Back (k : Kernel) (flat : FlatState) (pid : ℕ) (q m fp : Process) (
   pub distinct_both : AllDistinct (map pid_of (replaced (replaced flat.processes fp) (record m { holding = Holds s })))
   pub lender_found : numbered pid_of m.pid (replaced flat.processes fp) ≡ Some m
   pub returned : returned q.pid s (replaced flat.processes fp) ≡ replaced (replaced flat.processes fp) (record m { holding = Holds s })
-  pub outlines : map outline_kept (with_proc (map (passes s.sid pid m.pid) k.processes) kp) ≡ map outline_of (replaced (replaced flat.processes fp) (record m { holding = Holds s }))
+  pub outlines : map outline_kept (with_proc (map (passes s.sid pid m.pid) k.processes) kp)
+      ≡ map outline_of (replaced (replaced flat.processes fp) (record m { holding = Holds s }))
 
 pub back : (k : Kernel) (flat : FlatState) (pid : ℕ) (q m fp : Process) (kp : Proc) (s : Space) → IsNumbered flat → SameTables k flat
     → IsLender flat pid s.sid m → (a : Borrowing k flat pid q m s)
@@ -169,7 +175,8 @@ back k flat pid q m fp kp s nums c is a fpid holds kpid o =
       returned = returned_is (replaced flat.processes fp) m q.pid s distinct lender_found (ap (lends_to q.pid) is.holding ∙ ap (λ (n : ℕ). n == q.pid) (sym g.pid_was) ∙ eq_self q.pid) only;
       outlines = ap (λ (n : ℕ). map outline_kept (with_proc (map (passes s.sid n m.pid) k.processes) kp)) (sym (kpid ∙ g.pid_is))
           ∙ ap (λ (n : ℕ). map outline_kept (with_proc (map (passes s.sid kp.pid n) k.processes) kp)) (sym a.pid_is)
-          ∙ ap (map outline_kept) (passed_back k.processes kp a.lender s.sid apart_kept (only_at k.processes a.lender distinct_kept (ap (λ (n : ℕ). numbered kept_pid n k.processes) a.pid_is ∙ a.kept)))
+          ∙ ap (map outline_kept)
+          (passed_back k.processes kp a.lender s.sid apart_kept (only_at k.processes a.lender distinct_kept (ap (λ (n : ℕ). numbered kept_pid n k.processes) a.pid_is ∙ a.kept)))
           ∙ with_replaced (with_proc k.processes kp) (replaced flat.processes fp) (record a.lender { life = HoldsSpace s.sid }) (record m { holding = Holds s })
           (with_replaced k.processes flat.processes kp fp c.processes nums.pids o) distinct
           (ap (λ (x : Outline). let y : Outline = record x { life = HoldsSpace s.sid } in y) a.outline);
@@ -179,11 +186,18 @@ back k flat pid q m fp kp s nums c is a fpid holds kpid o =
 flat_both : (k : Kernel) (flat : FlatState) (pid : ℕ) (q m fp : Process) (s : Space) (n : ℕ) (a : Process) → Borrowing k flat pid q m s
     → numbered pid_of m.pid (replaced flat.processes fp) ≡ Some m
     → n ≢ fp.pid → numbered pid_of n (replaced (replaced flat.processes fp) (record m { holding = Holds s })) ≡ Some a
-    → IsLender flat pid s.sid m → (x : Process) × (numbered pid_of n flat.processes ≡ Some x) × (a.regs ≡ x.regs) × (space_of_holding a.holding ≡ space_of_holding x.holding)
+    → IsLender flat pid s.sid m → (x : Process) × (numbered pid_of n flat.processes ≡ Some x) × (a.regs ≡ x.regs)
+    × (space_of_holding a.holding ≡ space_of_holding x.holding)
 flat_both k flat pid q m fp s n a g lf d e is = elim (cases_eq n m.pid) [
   | inl i ↦ (let same : (let y : Process = record m { holding = Holds s } in y) ≡ a =
-      same_Some (record m { holding = Holds s }) a (sym (replaced_at (replaced flat.processes fp) m (record m { holding = Holds s }) lf) ∙ ap (λ (y : ℕ). numbered pid_of y (replaced (replaced flat.processes fp) (record m { holding = Holds s }))) (sym i) ∙ e) in
-      (m, ap (λ (y : ℕ). numbered pid_of y flat.processes) i ∙ g.found, ap (λ (x : Process). x.regs) (sym same), ap (λ (x : Process). space_of_holding x.holding) (sym same) ∙ sym (ap space_of_holding is.holding)))
+      same_Some (record m { holding = Holds s }) a (sym (replaced_at (replaced flat.processes fp) m (record m { holding = Holds s }) lf)
+      ∙ ap (λ (y : ℕ). numbered pid_of y (replaced (replaced flat.processes fp) (record m { holding = Holds s }))) (sym i) ∙ e) in (
+        m,
+        ap (λ (y : ℕ). numbered pid_of y flat.processes) i ∙ g.found,
+        ap (λ (x : Process). x.regs) (sym same),
+        ap (λ (x : Process).
+            space_of_holding x.holding) (sym same) ∙ sym (ap space_of_holding is.holding),
+      ))
   | inr j ↦ (a, sym (replaced_not flat.processes fp n d) ∙ sym (replaced_not (replaced flat.processes fp) (record m { holding = Holds s }) n j) ∙ e, refl, refl)
 ]
 
@@ -191,14 +205,18 @@ flat_both k flat pid q m fp s n a g lf d e is = elim (cases_eq n m.pid) [
 kept_passed : (ks : List Proc) (sid from to n : ℕ) (b : Proc) → numbered kept_pid n (map (passes sid from to) ks) ≡ Some b
     → (y : Proc) × (numbered kept_pid n ks ≡ Some y) × (b.regs ≡ y.regs)
 kept_passed ks sid from to n b e =
-    let m : (y : Proc) × (numbered kept_pid n ks ≡ Some y) × (passes sid from to y ≡ b) = mapped_some (passes sid from to) (numbered kept_pid n ks) b (sym (numbered_map kept_pid (passes sid from to) (λ x. refl) n ks) ∙ e) in
+    let m : (y : Proc) × (numbered kept_pid n ks ≡ Some y) × (passes sid from to y ≡ b) =
+    mapped_some (passes sid from to) (numbered kept_pid n ks) b (sym (numbered_map kept_pid (passes sid from to) (λ x. refl) n ks) ∙ e) in
     (m.0, m.1, ap (λ (x : Proc). x.regs) (sym m.2))
 
 -- A process that borrowed its space enters an image.
-pub exec_back : (size : ℕ) (before : Holdings) (k : Kernel) (images : List NamedImage) (image : List ℕ) (flat : FlatState) (pid : ℕ) (regs : Regs) (e : Entry) (number : ℕ) (top : List ℕ) (named : NamedImage) (q m : Process) (s : Space)
+pub exec_back : (size : ℕ) (before : Holdings) (k : Kernel) (images : List NamedImage) (image : List ℕ) (flat : FlatState) (pid : ℕ) (regs : Regs) (e : Entry)
+    (number : ℕ) (top : List ℕ) (named : NamedImage) (q m : Process) (s : Space)
     → Sound size (record k { holdings = before }) → IsNumbered flat → OutHold k.place flat
-    → k.place.due ≡ [] → KeepsStarts k → process_of flat pid ≡ Some q → q.holding ≡ Holds s → IsLender flat pid s.sid m → is_out k.place pid ≡ false → image_numbered images number ≡ Some named → DataFits named.image → length top ≡ 1024
-    → Coupled k images image flat → Coupled (change_step (facts_of images) (pass_step k pid m.pid) pid regs e (Exec number top)) images image (apply_change images flat pid regs (Exec number top))
+    → k.place.due ≡ [] → KeepsStarts k → process_of flat pid ≡ Some q → q.holding ≡ Holds s → IsLender flat pid s.sid m → is_out k.place pid ≡ false
+    → image_numbered images number ≡ Some named → DataFits named.image → length top ≡ 1024
+    → Coupled k images image flat → Coupled (change_step (facts_of images) (pass_step k pid m.pid) pid regs e (Exec number top)) images image
+    (apply_change images flat pid regs (Exec number top))
 exec_back size before k images image flat pid regs e number top named q m s so nums outs due starts f h is out im fit whole c =
     let a : Borrowing k flat pid q m s = borrowing k flat pid q m s c.tables f h is in
     let g : Stepping k flat pid q s = a.step in
@@ -210,7 +228,8 @@ exec_back size before k images image flat pid regs e number top named q m s so n
     let mp : Process = record m { holding = Holds s } in
     let b : Back k flat pid q m fp kp s =
     let pids : g.proc.pid ≡ q.pid = g.pid_is ∙ sym g.pid_was in
-    back k flat pid q m fp kp s nums c.tables is a refl refl refl (outline_is g.proc.pid q.pid g.proc.parent q.parent (HoldsSpace n) (HoldsSpace n) g.proc.asleep q.asleep pids g.parent refl g.asleep) in
+    back k flat pid q m fp kp s nums c.tables is a refl refl refl
+    (outline_is g.proc.pid q.pid g.proc.parent q.parent (HoldsSpace n) (HoldsSpace n) g.proc.asleep q.asleep pids g.parent refl g.asleep) in
     let r1 : List Process = replaced flat.processes fp in
     let after : FlatState = record flat { processes = replaced r1 mp; next_sid = n + 1 } in
     let l : Kernel = exec_kernel k n 0 true number (Some named.image.facts) top (with_proc k1.processes kp) (append k.journal e) in
@@ -229,7 +248,8 @@ exec_back size before k images image flat pid regs e number top named q m s so n
       flat_new = next_sid_none flat nums;
       apart = λ i. absurd cc;
       settled = λ i. absurd cc;
-      aside = subst (λ (x : Option Image). TextAside (give_up_unless true (enter_image k.place n number x) 0)) (facts_found images number named im) (place_change_aside (facts_of images) k.place pid 0 true n 0 (Exec number top) o.aside (λ i. absurd cc));
+      aside = subst (λ (x : Option Image). TextAside (give_up_unless true (enter_image k.place n number x) 0)) (facts_found images number named im)
+          (place_change_aside (facts_of images) k.place pid 0 true n 0 (Exec number top) o.aside (λ i. absurd cc));
       image = im;
       fits = fit;
       whole = whole;
@@ -244,7 +264,8 @@ exec_back size before k images image flat pid regs e number top named q m s so n
     exec_core k images image flat after n 0 number true named top (with_proc k1.processes kp) (append k.journal e) enters c.tables.spaces c.pages in
     let own_flat : numbered pid_of q.pid after.processes ≡ Some fp = replaced_not r1 mp q.pid (λ i. a.apart (sym i)) ∙ replaced_at flat.processes q fp found in
     let own_kept : numbered kept_pid q.pid l.processes ≡ Some kp =
-    ap (λ (y : ℕ). numbered kept_pid y (with_proc k1.processes kp)) (sym pids) ∙ with_at k1.processes kp (record g.proc { life = New }) (ap (λ (y : ℕ). numbered kept_pid y k1.processes) g.pid_is ∙ back_proc k flat pid q m s a) in
+    ap (λ (y : ℕ). numbered kept_pid y (with_proc k1.processes kp)) (sym pids)
+    ∙ with_at k1.processes kp (record g.proc { life = New }) (ap (λ (y : ℕ). numbered kept_pid y k1.processes) g.pid_is ∙ back_proc k flat pid q m s a) in
     let regs_now : (y : ℕ) → RegsAt l image after y = λ y. elim (cases_eq y q.pid) [
       | inl i ↦ subst (RegsAt l image after) (sym i) (regs_in_record l image after q.pid fp kp (ap (is_out k.place) g.pid_was ∙ out) own_flat own_kept refl)
       | inr d ↦ regs_carried k l images image image flat after y c outs (record {
@@ -253,20 +274,26 @@ exec_back size before k images image flat pid regs e number top named q m s so n
         out = refl;
         held_by = λ x t ex hx.
             let not_n : t.sid ≢ n = λ i. holds_there flat.processes y x t ex hx (ap (λ (u : ℕ). numbered sid_of u (held flat.processes)) i ∙ next_sid_none flat nums) in
-            let old : numbered space_number t.sid l.place.spaces ≡ numbered space_number t.sid k.place.spaces = added_other t.sid k.place.spaces (new_pages n number named.image.facts) (λ i. not_n (sym i)) in
+            let old : numbered space_number t.sid l.place.spaces ≡ numbered space_number t.sid k.place.spaces =
+            added_other t.sid k.place.spaces (new_pages n number named.image.facts) (λ i. not_n (sym i)) in
             (refl, ap (λ (w : Option SpacePages). length (data_in w)) old, ap (λ (w : Option SpacePages). length (stack_in w)) old);
       })
     ] in
-    subst (λ (x : Kernel). Coupled (change_step (facts_of images) x pid regs e (Exec number top)) images image (apply_change images flat pid regs (Exec number top))) (sym (back_kernel k flat pid q m s a))
-    (subst (λ (x : Kernel). Coupled x images image (apply_change images flat pid regs (Exec number top))) (sym (step_is (facts_of images) k1 pid regs e (Exec number top) (record g.proc { life = New }) New (back_proc k flat pid q m s a) refl))
+    subst (λ (x : Kernel). Coupled (change_step (facts_of images) x pid regs e (Exec number top)) images image (apply_change images flat pid regs (Exec number top)))
+    (sym (back_kernel k flat pid q m s a))
+    (subst (λ (x : Kernel). Coupled x images image (apply_change images flat pid regs (Exec number top)))
+    (sym (step_is (facts_of images) k1 pid regs e (Exec number top) (record g.proc { life = New }) New (back_proc k flat pid q m s a) refl))
     (subst (Coupled (by_life (facts_of images) k1 (record g.proc { regs = regs; life = New }) New e (Exec number top)) images image) (sym (applied images flat pid regs (Exec number top) q s f h))
-    (image_known images number named (λ (f : Option Image) (o : Option NamedImage). Coupled (exec_kernel k k.next_sid 0 true number f top (with_proc k1.processes (record g.proc { regs = regs; life = HoldsSpace k.next_sid })) (append k.journal e)) images image (entered flat (record q { regs = regs }) s number o top)) im
-    (subst (λ (y : ℕ). Coupled (exec_kernel k y 0 true number (Some named.image.facts) top (with_proc k1.processes (record g.proc { regs = regs; life = HoldsSpace y })) (append k.journal e)) images image (entered flat (record q { regs = regs }) s number (Some named) top)) (sym c.tables.next_sid)
+    (image_known images number named (λ (f : Option Image) (o : Option NamedImage). Coupled (exec_kernel k k.next_sid 0 true number f top
+    (with_proc k1.processes (record g.proc { regs = regs; life = HoldsSpace k.next_sid })) (append k.journal e)) images image (entered flat (record q { regs = regs }) s number o top)) im
+    (subst (λ (y : ℕ). Coupled (exec_kernel k y 0 true number (Some named.image.facts) top (with_proc k1.processes (record g.proc { regs = regs; life = HoldsSpace y })) (append k.journal e)) images
+    image (entered flat (record q { regs = regs }) s number (Some named) top)) (sym c.tables.next_sid)
     (subst (λ (xs : List Process). Coupled l images image (record flat { processes = xs; next_sid = n + 1 })) (sym b.returned)
     (coupled_of l images image after (tables_of l after b.outlines c.tables.next_pid refl core.0) core.1 regs_now))))))
 
 -- A process that borrowed its space ends.
-pub end_back : (size : ℕ) (k : Kernel) (images : List NamedImage) (image : List ℕ) (flat : FlatState) (pid : ℕ) (regs : Regs) (e : Entry) (status : ℕ) (q m : Process) (s : Space)
+pub end_back : (size : ℕ) (k : Kernel) (images : List NamedImage) (image : List ℕ) (flat : FlatState) (pid : ℕ) (regs : Regs) (e : Entry) (status : ℕ)
+    (q m : Process) (s : Space)
     → Sound size k
     → IsNumbered flat → OutHold k.place flat → k.place.due ≡ []
     → process_of flat pid ≡ Some q → q.holding ≡ Holds s → IsLender flat pid s.sid m → Coupled k images image flat
@@ -281,7 +308,8 @@ end_back size k images image flat pid regs e status q m s so nums outs due f h i
     let mp : Process = record m { holding = Holds s } in
     let pids : kp.pid ≡ q.pid = g.pid_is ∙ sym g.pid_was in
     let b : Back k flat pid q m fp kz s =
-    back k flat pid q m fp kz s nums c.tables is a refl refl refl (outline_is g.proc.pid q.pid g.proc.parent q.parent (Ended status) (Ended status) g.proc.asleep q.asleep pids g.parent refl g.asleep) in
+    back k flat pid q m fp kz s nums c.tables is a refl refl refl
+    (outline_is g.proc.pid q.pid g.proc.parent q.parent (Ended status) (Ended status) g.proc.asleep q.asleep pids g.parent refl g.asleep) in
     let r1 : List Process = replaced flat.processes fp in
     let rs : List Process = replaced r1 mp in
     let after : FlatState = record flat { processes = left_flat (q.parent == 0) (orphans q.pid rs) q.pid q.parent } in
@@ -334,7 +362,8 @@ end_back size k images image flat pid regs e status q m s so nums outs due f h i
       })
     ] in
     subst (λ (x : Kernel). Coupled (change_step (facts_of images) x pid regs e (End status)) images image (apply_change images flat pid regs (End status))) (sym (back_kernel k flat pid q m s a))
-    (subst (λ (x : Kernel). Coupled x images image (apply_change images flat pid regs (End status))) (sym (step_is (facts_of images) k1 pid regs e (End status) (record g.proc { life = New }) New (back_proc k flat pid q m s a) refl))
+    (subst (λ (x : Kernel). Coupled x images image (apply_change images flat pid regs (End status)))
+    (sym (step_is (facts_of images) k1 pid regs e (End status) (record g.proc { life = New }) New (back_proc k flat pid q m s a) refl))
     (subst (Coupled (by_life (facts_of images) k1 kp New e (End status)) images image) (sym (applied images flat pid regs (End status) q s f h))
     (subst (Coupled l images image) (sym (left_is (q.parent == 0) (orphaned (Rattle.flat_state.specs.Change.given_back (with_process flat fp) q.pid s) q.pid) q.pid q.parent))
     (subst (λ (xs : List Process). Coupled l images image (record flat { processes = left_flat (q.parent == 0) (orphans q.pid xs) q.pid q.parent })) (sym b.returned)

@@ -120,9 +120,11 @@ changed_shape n sid change k h ss = elim (cases_eq sid n) [
 ]
 
 changed_text : (n image : ℕ) (v : ℕ) (s : PageState) (m : Bool) (xs : List TextPages)
-    → length (text_in (numbered image_number image (Rattle.page_model.specs.Pages.changed image_number n (with_text v s m) xs))) ≡ length (text_in (numbered image_number image xs))
+    → length (text_in (numbered image_number image (Rattle.page_model.specs.Pages.changed image_number n (with_text v s m) xs)))
+    ≡ length (text_in (numbered image_number image xs))
 changed_text n image v s m xs = elim (cases_eq image n) [
-  | inl e ↦ subst (λ (x : ℕ). length (text_in (numbered image_number x (Rattle.page_model.specs.Pages.changed image_number n (with_text v s m) xs))) ≡ length (text_in (numbered image_number x xs))) (sym e)
+  | inl e ↦ subst (λ (x : ℕ). length (text_in (numbered image_number x (Rattle.page_model.specs.Pages.changed image_number n (with_text v s m) xs))) ≡ length (text_in (numbered image_number x xs)))
+      (sym e)
       (ap (λ (o : Option TextPages). length (text_in o)) (changed_same image_number n (with_text v s m) (λ x. refl) xs) ∙ with_text_size v s m (numbered image_number n xs))
   | inr d ↦ ap (λ (o : Option TextPages). length (text_in o)) (changed_other image_number n image (with_text v s m) (λ x. refl) d xs)
 ]

@@ -74,17 +74,21 @@ one_more images n number named ss xs ds sid im r = elim (cases_eq n sid) [
 ]
 
 start_at : (images : List NamedImage) (numbers : List ℕ) (first : List Starting) (n sid : ℕ) → AreStarting images numbers first
-    → NoneAt (held (start_processes images n numbers)) (spaces_from n first) sid ⊎ StartAt images (held (start_processes images n numbers)) (spaces_from n first) (due_from n first) sid
+    → NoneAt (held (start_processes images n numbers)) (spaces_from n first) sid
+    ⊎ StartAt images (held (start_processes images n numbers)) (spaces_from n first) (due_from n first) sid
 start_at images [] [] n sid a = inl (refl, refl)
 start_at images [] (x ∷ first) n sid a = absurd a
 start_at images (number ∷ numbers) [] n sid a = absurd a
 start_at images (number ∷ numbers) (x ∷ first) n sid a =
     subst (λ (o : Option NamedImage). NoneAt (held (start_if n number o ++ start_processes images (n + 1) numbers)) (new_pages n x.image x.facts ∷ spaces_from (n + 1) first) sid
-    ⊎ StartAt images (held (start_if n number o ++ start_processes images (n + 1) numbers)) (new_pages n x.image x.facts ∷ spaces_from (n + 1) first) (Start (Stack n 0) ∷ due_from (n + 1) first) sid) (sym a.1)
+    ⊎ StartAt images (held (start_if n number o ++ start_processes images (n + 1) numbers)) (new_pages n x.image x.facts ∷ spaces_from (n + 1) first) (Start (Stack n 0) ∷ due_from (n + 1) first) sid)
+    (sym a.1)
     (subst (λ (m : ℕ). NoneAt (new_space n number a.0.image (a.0.name ∷ []) ∷ held (start_processes images (n + 1) numbers)) (new_pages n m x.facts ∷ spaces_from (n + 1) first) sid
-    ⊎ StartAt images (new_space n number a.0.image (a.0.name ∷ []) ∷ held (start_processes images (n + 1) numbers)) (new_pages n m x.facts ∷ spaces_from (n + 1) first) (Start (Stack n 0) ∷ due_from (n + 1) first) sid) (sym a.2)
+    ⊎ StartAt images (new_space n number a.0.image (a.0.name ∷ []) ∷ held (start_processes images (n + 1) numbers)) (new_pages n m x.facts ∷ spaces_from (n + 1) first)
+    (Start (Stack n 0) ∷ due_from (n + 1) first) sid) (sym a.2)
     (subst (λ (f : Image). NoneAt (new_space n number a.0.image (a.0.name ∷ []) ∷ held (start_processes images (n + 1) numbers)) (new_pages n number f ∷ spaces_from (n + 1) first) sid
-    ⊎ StartAt images (new_space n number a.0.image (a.0.name ∷ []) ∷ held (start_processes images (n + 1) numbers)) (new_pages n number f ∷ spaces_from (n + 1) first) (Start (Stack n 0) ∷ due_from (n + 1) first) sid) (sym a.3)
+    ⊎ StartAt images (new_space n number a.0.image (a.0.name ∷ []) ∷ held (start_processes images (n + 1) numbers)) (new_pages n number f ∷ spaces_from (n + 1) first)
+    (Start (Stack n 0) ∷ due_from (n + 1) first) sid) (sym a.3)
     (one_more images n number a.0 (held (start_processes images (n + 1) numbers)) (spaces_from (n + 1) first) (due_from (n + 1) first) sid a.1 (start_at images numbers first (n + 1) sid a.4))))
 
 -- no other page is due
@@ -97,7 +101,8 @@ pub all_in : (first : List Starting) (n pid : ℕ) → (residence_of (residents_
 all_in [] n pid = refl
 all_in (a ∷ first) n pid = go (n == pid) (all_in first (n + 1) pid)
   where
-    go : (b : Bool) → (residence_of (residents_from (n + 1) first) pid).out ≡ false → (cond b (let r : Residence = record { pid = n; out = false; since = 0 } in r) (residence_of (residents_from (n + 1) first) pid)).out ≡ false
+    go : (b : Bool) → (residence_of (residents_from (n + 1) first) pid).out ≡ false
+        → (cond b (let r : Residence = record { pid = n; out = false; since = 0 } in r) (residence_of (residents_from (n + 1) first) pid)).out ≡ false
     go true h = refl
     go false h = h
 
@@ -106,7 +111,8 @@ start_outlines [] = refl
 start_outlines (p ∷ ps) = ap (λ (l : List Outline). outline_of p ∷ l) (start_outlines ps)
 
 page_whole : (name : List ℕ) → length (argument_area (name ∷ [])) ≤ 1024 → length (start_page (name ∷ [])) ≡ 1024
-page_whole name l = length-append (replicate (1024 - length (argument_area (name ∷ []))) 0) (argument_area (name ∷ [])) ∙ (let z = length-replicate {A = ℕ} (1024 - length (argument_area (name ∷ []))) 0 in omega arith)
+page_whole name l = length-append (replicate (1024 - length (argument_area (name ∷ []))) 0) (argument_area (name ∷ []))
+    ∙ (let z = length-replicate {A = ℕ} (1024 - length (argument_area (name ∷ []))) 0 in omega arith)
 
 -- The start of a run.
 pub start_coupled_all : (A : Inputs) (first : List Starting) (hs : Holdings) (frames : List (List ℕ)) (image : List ℕ)
@@ -122,12 +128,14 @@ start_coupled_all A first hs frames image a fit =
             data_size = d.size ∙ ap (λ (m : ℕ). 1024 * m) (sym (unfilled_length s.named.image.facts 0 (data_pages_of s.named.image.facts)));
             stack_size = page_whole s.named.name f.name;
           } in
-          subst (λ (o : Option Space). Fits o (numbered space_number sid k.place.spaces)) (sym s.flat) (subst (Fits (Some (new_space sid s.number s.named.image (s.named.name ∷ [])))) (sym s.pages) sized))
+          subst (λ (o : Option Space). Fits o (numbered space_number sid k.place.spaces)) (sym s.flat)
+          (subst (Fits (Some (new_space sid s.number s.named.image (s.named.name ∷ [])))) (sym s.pages) sized))
     ] in
     coupled_of k A.images image flat (tables_of k flat (start_outlines flat.processes) refl refl fits)
     (record { each = each; text = λ i v. refl; text_due = λ i v. due_stacks first 1 (Text i v) (λ sid e. cc) })
     (λ n q p eq ep. subst (λ (o : Bool). Rattle.kernel_model.specs.Coupled.KeepsRegs k image o q p.regs (Rattle.page_model.specs.Place.space_of_holding q.holding)) (sym (all_in first 1 n))
-    (let same : kept_of q ≡ p = same_Some (kept_of q) p (ap (image_by kept_of) (sym eq) ∙ sym (numbered_image kept_of pid_of kept_pid (λ x. refl) n flat.processes) ∙ ep) in ap (λ (x : Proc). x.regs) (sym same)))
+    (let same : kept_of q ≡ p = same_Some (kept_of q) p (ap (image_by kept_of) (sym eq) ∙ sym (numbered_image kept_of pid_of kept_pid (λ x. refl) n flat.processes) ∙ ep) in
+    ap (λ (x : Proc). x.regs) (sym same)))
   where
     k : Kernel
     k = start_kernel A first hs frames
@@ -151,16 +159,19 @@ start_coupled_all A first hs frames image a fit =
       | inr s ↦ (let f : ImageFits s.named = fit s.number s.named s.image in
           let d : DataFits s.named.image = f.data in
           let w : v < data_pages_of s.named.image.facts =
-          (let x : v < length (data_in (numbered space_number sid k.place.spaces)) = there in let y = ap (λ (o : Option SpacePages). length (data_in o)) s.pages in let z = unfilled_length s.named.image.facts 0 (data_pages_of s.named.image.facts) in omega arith) in
+          (let x : v < length (data_in (numbered space_number sid k.place.spaces)) = there in
+          let y = ap (λ (o : Option SpacePages). length (data_in o)) s.pages in let z = unfilled_length s.named.image.facts 0 (data_pages_of s.named.image.facts) in omega arith) in
           let zero_plus : 0 + v ≡ v = omega arith in
           let slot : slot_of k.place (Data sid v) ≡ unfilled (data_filling s.named.image.facts v) = ap (λ (o : Option SpacePages). get_or (data_in o) v no_slot) s.pages
           ∙ unfilled_at s.named.image.facts 0 (data_pages_of s.named.image.facts) v w ∙ ap (λ (m : ℕ). unfilled (data_filling s.named.image.facts m)) zero_plus in
           let memory : b.memory (Data sid v) ≡ page_at v s.named.image.data = ap (λ (o : Option Space). page_at v (data_bytes_in o)) s.flat in
-          let file : b.file (Data sid v) ≡ page_at v s.named.image.data = ap (λ (o : Option SpacePages). page_at v (data_of (image_numbered A.images (image_in o)))) s.pages ∙ ap (λ (o : Option NamedImage). page_at v (data_of o)) s.image in
+          let file : b.file (Data sid v) ≡ page_at v s.named.image.data =
+          ap (λ (o : Option SpacePages). page_at v (data_of (image_numbered A.images (image_in o)))) s.pages ∙ ap (λ (o : Option NamedImage). page_at v (data_of o)) s.image in
           subst (KeepsUnfilled b (Data sid v) None) (sym (ap (λ (x : Slot). x.filling) slot)) (by_filling s.named d v w memory file (nat_lt (1024 * v) (data_given s.named.image.facts)) refl))
     ])
       where
-        by_filling : (named : NamedImage) → DataFits named.image → (u : ℕ) → u < data_pages_of named.image.facts → b.memory (Data sid v) ≡ page_at u named.image.data → b.file (Data sid v) ≡ page_at u named.image.data
+        by_filling : (named : NamedImage) → DataFits named.image → (u : ℕ) → u < data_pages_of named.image.facts → b.memory (Data sid v) ≡ page_at u named.image.data
+            → b.file (Data sid v) ≡ page_at u named.image.data
             → (t : Bool) → nat_lt (1024 * u) (data_given named.image.facts) ≡ t → KeepsUnfilled b (Data sid v) None (cond t OfImage Zeros)
         by_filling named d u w m f true e = f ∙ sym m
         by_filling named d u w m f false e = sym (m ∙ d.rest u (not_lt (1024 * u) (data_given named.image.facts) e) w)
@@ -171,7 +182,8 @@ start_coupled_all A first hs frames image a fit =
       | inl z ↦ absurd (let w : v < length (stack_in (numbered space_number sid k.place.spaces)) = there in let y = ap (λ (o : Option SpacePages). length (stack_in o)) z.1 in omega arith)
       | inr s ↦ (let f : ImageFits s.named = fit s.number s.named s.image in
           let i : v ≡ 0 = (let w : v < length (stack_in (numbered space_number sid k.place.spaces)) = there in let y = ap (λ (o : Option SpacePages). length (stack_in o)) s.pages in omega arith) in
-          let memory : b.memory (Stack sid 0) ≡ start_page (s.named.name ∷ []) = ap (λ (o : Option Space). page_at 0 (stack_bytes_in o)) s.flat ∙ take_all 1024 (start_page (s.named.name ∷ [])) (let l = page_whole s.named.name f.name in omega arith) in
+          let memory : b.memory (Stack sid 0) ≡ start_page (s.named.name ∷ []) =
+          ap (λ (o : Option Space). page_at 0 (stack_bytes_in o)) s.flat ∙ take_all 1024 (start_page (s.named.name ∷ [])) (let l = page_whole s.named.name f.name in omega arith) in
           subst (λ (u : ℕ). KeepsUnfilled b (Stack sid u) (due_at k.place.due (Stack sid u)) (filling_of k.place (Stack sid u))) (sym i)
           (subst (λ (o : Option Due). KeepsUnfilled b (Stack sid 0) o (filling_of k.place (Stack sid 0))) (sym s.due) (s.start ∙ sym memory)))
     ]
@@ -185,7 +197,8 @@ start_coupled_all A first hs frames image a fit =
       where
         blank : (w : Page) → (state_of k.place w ≡ Unfilled) × (mark_of k.place w ≡ false)
         blank w = start_blank (map (λ (named : NamedImage). named.image.facts) A.images) first A.frames w
-    each (Text i v) there = subst (KeepsBy k.place b (Text i v)) (sym (blank (Text i v)).0) (subst (λ (o : Option Due). KeepsUnfilled b (Text i v) o OfImage) (sym (due_stacks first 1 (Text i v) (λ sid e. cc))) refl, (blank (Text i v)).1)
+    each (Text i v) there = subst (KeepsBy k.place b (Text i v)) (sym (blank (Text i v)).0)
+        (subst (λ (o : Option Due). KeepsUnfilled b (Text i v) o OfImage) (sym (due_stacks first 1 (Text i v) (λ sid e. cc))) refl, (blank (Text i v)).1)
       where
         blank : (w : Page) → (state_of k.place w ≡ Unfilled) × (mark_of k.place w ≡ false)
         blank w = start_blank (map (λ (named : NamedImage). named.image.facts) A.images) first A.frames w

@@ -28,7 +28,8 @@ use Rattle.kernel_laws.proofs.Machine.Processes.{with_at, with_not, with_replace
 -- One process gives way to another with the same holding.
 pub stay_coupled : (k : Kernel) (images : List NamedImage) (image : List ℕ) (flat : FlatState) (q fp : Process) (p kp : Proc) (journal : List Entry)
     → AllDistinct (map pid_of flat.processes) → numbered pid_of fp.pid flat.processes ≡ Some q
-    → numbered kept_pid kp.pid k.processes ≡ Some p → fp.holding ≡ q.holding → outline_kept kp ≡ outline_of fp → kp.regs ≡ fp.regs → is_out k.place fp.pid ≡ false → Coupled k images image flat
+    → numbered kept_pid kp.pid k.processes ≡ Some p → fp.holding ≡ q.holding → outline_kept kp ≡ outline_of fp → kp.regs ≡ fp.regs
+    → is_out k.place fp.pid ≡ false → Coupled k images image flat
     → Coupled (record k { processes = with_proc k.processes kp; journal = journal }) images image (with_process flat fp)
 stay_coupled k images image flat q fp p kp journal d f g h o r out c =
     let t : SameTables k flat = c.tables in
@@ -53,11 +54,13 @@ stay_coupled k images image flat q fp p kp journal d f g h o r out c =
     regs_now n a b ea eb = elim (cases_eq n fp.pid) [
       | inl same ↦ (let fa : fp ≡ a = same_Some fp a (sym (replaced_at flat.processes q fp f) ∙ ap (λ (m : ℕ). numbered pid_of m (replaced flat.processes fp)) (sym same) ∙ ea) in
           let kb : kp ≡ b = same_Some kp b (sym (with_at k.processes kp p g) ∙ ap (λ (m : ℕ). numbered kept_pid m (with_proc k.processes kp)) (pids ∙ sym same) ∙ eb) in
-          subst (λ (z : Bool). KeepsRegs l image z a b.regs (space_of_holding a.holding)) (sym (ap (is_out k.place) same ∙ out)) (ap (λ (x : Proc). x.regs) (sym kb) ∙ r ∙ ap (λ (x : Process). x.regs) fa))
+          subst (λ (z : Bool). KeepsRegs l image z a b.regs (space_of_holding a.holding)) (sym (ap (is_out k.place) same ∙ out))
+          (ap (λ (x : Proc). x.regs) (sym kb) ∙ r ∙ ap (λ (x : Process). x.regs) fa))
       | inr m ↦ same_regs n a b (regs_at k images image flat c n a b (sym (replaced_not flat.processes fp n m) ∙ ea) (sym (with_not k.processes kp n (λ i. m (i ∙ pids))) ∙ eb))
     ]
       where
-        same_regs : (n : ℕ) (a : Process) (b : Proc) → KeepsRegs k image (is_out k.place n) a b.regs (space_of_holding a.holding) → KeepsRegs l image (is_out k.place n) a b.regs (space_of_holding a.holding)
+        same_regs : (n : ℕ) (a : Process) (b : Proc) → KeepsRegs k image (is_out k.place n) a b.regs (space_of_holding a.holding)
+            → KeepsRegs l image (is_out k.place n) a b.regs (space_of_holding a.holding)
         same_regs n a b x = Rattle.kernel_laws.proofs.Machine.Moves.regs_kept k l image image (is_out k.place n) a b.regs (space_of_holding a.holding) (λ z. refl) refl refl x
 
 -- a process that holds nothing goes
@@ -93,7 +96,8 @@ gone_coupled k images image flat child z d f h c =
         off false e = absurd cc
 
 pub outline_is : (a b c d : ℕ) (x y : Rattle.kernel_model.specs.Kernel.Life) (s t : Bool) → a ≡ b → c ≡ d → x ≡ y → s ≡ t
-    → (let o : Outline = record { pid = a; parent = c; life = x; asleep = s } in o) ≡ (let o : Outline = record { pid = b; parent = d; life = y; asleep = t } in o)
+    → (let o : Outline = record { pid = a; parent = c; life = x; asleep = s } in o)
+    ≡ (let o : Outline = record { pid = b; parent = d; life = y; asleep = t } in o)
 outline_is a b c d x y s t e f g h = cc
 
 -- An entry of a process that changes nothing else.
@@ -125,10 +129,12 @@ sleep_coupled k images image flat pid regs e q s nums f h out c =
     (ap (is_out k.place) g.pid_was ∙ out) c))
 
 -- A zombie child goes.
-pub reap_coupled : (k : Kernel) (images : List NamedImage) (image : List ℕ) (flat : FlatState) (pid : ℕ) (regs : Regs) (e : Entry) (child status : ℕ) (q z : Process) (s : Space)
+pub reap_coupled : (k : Kernel) (images : List NamedImage) (image : List ℕ) (flat : FlatState) (pid : ℕ) (regs : Regs) (e : Entry) (child status : ℕ)
+    (q z : Process) (s : Space)
     → IsNumbered flat
     → process_of flat pid ≡ Some q → q.holding ≡ Holds s → is_out k.place pid ≡ false
-    → process_of flat child ≡ Some z → z.holding ≡ Zombie status → Coupled k images image flat → Coupled (change_step (facts_of images) k pid regs e (Reap child)) images image (apply_change images flat pid regs (Reap child))
+    → process_of flat child ≡ Some z → z.holding ≡ Zombie status → Coupled k images image flat
+    → Coupled (change_step (facts_of images) k pid regs e (Reap child)) images image (apply_change images flat pid regs (Reap child))
 reap_coupled k images image flat pid regs e child status q z s nums f h out fz hz c =
     let holder : q ≡ z → ⊥ = λ i.
     let j : Holds s ≡ Zombie status = sym h ∙ ap (λ (x : Process). x.holding) i ∙ hz in cc in
@@ -137,7 +143,8 @@ reap_coupled k images image flat pid regs e child status q z s nums f h out fz h
     let other : pid ≢ child = λ i. holder (same_Some q z (sym g.found ∙ ap (λ (n : ℕ). numbered pid_of n flat.processes) i ∙ at)) in
     subst (λ (x : Kernel). Coupled x images image (apply_change images flat pid regs (Reap child))) (sym (step_is (facts_of images) k pid regs e (Reap child) g.proc (HoldsSpace s.sid) g.kept g.life))
     (subst (Coupled (by_life (facts_of images) k (record g.proc { regs = regs }) (HoldsSpace s.sid) e (Reap child)) images image) (sym (applied images flat pid regs (Reap child) q s f h))
-    (stay_coupled (record k { processes = without_proc k.processes child }) images image (without_process flat child) q (record q { regs = regs }) g.proc (record g.proc { regs = regs }) (append k.journal e)
+    (stay_coupled (record k { processes = without_proc k.processes child }) images image (without_process flat child) q (record q { regs = regs }) g.proc
+    (record g.proc { regs = regs }) (append k.journal e)
     (distinct_filter pid_of (λ (x : Process). not (x.pid == child)) flat.processes nums.pids)
     (removed_not pid_of q.pid child flat.processes (λ i. other (sym g.pid_was ∙ i)) ∙ ap (λ (n : ℕ). numbered pid_of n flat.processes) g.pid_was ∙ g.found)
     (removed_not kept_pid g.proc.pid child k.processes (λ i. other (sym g.pid_is ∙ i)) ∙ ap (λ (n : ℕ). numbered kept_pid n k.processes) g.pid_is ∙ g.kept) refl

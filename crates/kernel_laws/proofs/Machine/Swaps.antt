@@ -76,7 +76,8 @@ memory_same images flat after h (Text image v) = refl
 
 regs_outlines : (pid : ℕ) (regs : Regs) (ps : List Proc) → map outline_kept (map (with_regs pid regs) ps) ≡ map outline_kept ps
 regs_outlines pid regs [] = refl
-regs_outlines pid regs (p ∷ ps) = ap (λ (x : Outline). x ∷ map outline_kept (map (with_regs pid regs) ps)) (go (p.pid == pid)) ∙ ap (λ (xs : List Outline). outline_kept p ∷ xs) (regs_outlines pid regs ps)
+regs_outlines pid regs (p ∷ ps) =
+    ap (λ (x : Outline). x ∷ map outline_kept (map (with_regs pid regs) ps)) (go (p.pid == pid)) ∙ ap (λ (xs : List Outline). outline_kept p ∷ xs) (regs_outlines pid regs ps)
   where
     go : (b : Bool) → outline_kept (cond b (record p { regs = regs }) p) ≡ outline_kept p
     go true = refl
@@ -92,14 +93,16 @@ with_regs_pid pid regs p = go (p.pid == pid)
 -- the process itself has them, and each other is as it was
 regs_same : (pid : ℕ) (regs : Regs) (ps : List Proc) (p : Proc) → numbered kept_pid pid (map (with_regs pid regs) ps) ≡ Some p → p.regs ≡ regs
 regs_same pid regs ps p e =
-    let m : (x : Proc) × (numbered kept_pid pid ps ≡ Some x) × (with_regs pid regs x ≡ p) = mapped_some (with_regs pid regs) (numbered kept_pid pid ps) p (sym (numbered_map kept_pid (with_regs pid regs) (with_regs_pid pid regs) pid ps) ∙ e) in
+    let m : (x : Proc) × (numbered kept_pid pid ps ≡ Some x) × (with_regs pid regs x ≡ p) =
+    mapped_some (with_regs pid regs) (numbered kept_pid pid ps) p (sym (numbered_map kept_pid (with_regs pid regs) (with_regs_pid pid regs) pid ps) ∙ e) in
     let n : m.0.pid ≡ pid = has_number kept_pid pid ps m.0 m.1 in
     ap (λ (x : Proc). x.regs) (sym m.2) ∙ ap (λ (b : Bool). (cond b (record m.0 { regs = regs }) m.0).regs) (ap (λ (i : ℕ). i == pid) n ∙ eq_self pid)
 
 regs_other : (pid n : ℕ) (regs : Regs) (ps : List Proc) (p : Proc) → n ≢ pid → numbered kept_pid n (map (with_regs pid regs) ps) ≡ Some p
     → numbered kept_pid n ps ≡ Some p
 regs_other pid n regs ps p d e =
-    let m : (x : Proc) × (numbered kept_pid n ps ≡ Some x) × (with_regs pid regs x ≡ p) = mapped_some (with_regs pid regs) (numbered kept_pid n ps) p (sym (numbered_map kept_pid (with_regs pid regs) (with_regs_pid pid regs) n ps) ∙ e) in
+    let m : (x : Proc) × (numbered kept_pid n ps ≡ Some x) × (with_regs pid regs x ≡ p) =
+    mapped_some (with_regs pid regs) (numbered kept_pid n ps) p (sym (numbered_map kept_pid (with_regs pid regs) (with_regs_pid pid regs) n ps) ∙ e) in
     let i : m.0.pid ≡ n = has_number kept_pid n ps m.0 m.1 in
     m.1 ∙ ap Some (ap (λ (b : Bool). cond b (record m.0 { regs = regs }) m.0) (sym (ne_eqb m.0.pid pid (λ h. d (sym i ∙ h)))) ∙ m.2)
 
@@ -141,34 +144,45 @@ ran_coupled k images image flat pid regs e q s f h out c =
 -- Who is out.
 
 pub out_other : (rs : List Residence) (pid n : ℕ) (out : Bool) (at : ℕ) → n ≢ pid
-    → (residence_of (Rattle.page_model.specs.Pages.changed (λ (r : Residence). r.pid) pid (λ (r : Residence). record r { out = out; since = at }) rs) n).out ≡ (residence_of rs n).out
+    → (residence_of (Rattle.page_model.specs.Pages.changed (λ (r : Residence). r.pid) pid (λ (r : Residence). record r { out = out; since = at }) rs) n).out
+    ≡ (residence_of rs n).out
 out_other [] pid n out at d = refl
 out_other (r ∷ rs) pid n out at d = go (r.pid == pid) refl (out_other rs pid n out at d)
   where
-    go : (b : Bool) → (r.pid == pid) ≡ b → (residence_of (Rattle.page_model.specs.Pages.changed (λ (r : Residence). r.pid) pid (λ (r : Residence). record r { out = out; since = at }) rs) n).out ≡ (residence_of rs n).out
-        → (residence_of (cond b (record r { out = out; since = at } ∷ rs) (r ∷ Rattle.page_model.specs.Pages.changed (λ (r : Residence). r.pid) pid (λ (r : Residence). record r { out = out; since = at }) rs)) n).out ≡ (residence_of (r ∷ rs) n).out
+    go : (b : Bool) → (r.pid == pid) ≡ b → (residence_of (Rattle.page_model.specs.Pages.changed (λ (r : Residence). r.pid) pid (λ (r : Residence). record r { out = out; since = at }) rs) n).out
+        ≡ (residence_of rs n).out
+        → (residence_of (cond b (record r { out = out; since = at } ∷ rs)
+        (r ∷ Rattle.page_model.specs.Pages.changed (λ (r : Residence). r.pid) pid (λ (r : Residence). record r { out = out; since = at }) rs)) n).out ≡ (residence_of (r ∷ rs) n).out
     go true e ih = let m : (r.pid == n) ≡ false = ne_eqb r.pid n (λ h. d (sym h ∙ eqb-true r.pid pid e)) in
         ap (λ (b : Bool). (cond b (record r { out = out; since = at }) (residence_of rs n)).out) m ∙ sym (ap (λ (b : Bool). (cond b r (residence_of rs n)).out) m)
     go false e ih = head (r.pid == n)
       where
-        head : (b : Bool) → (cond b r (residence_of (Rattle.page_model.specs.Pages.changed (λ (r : Residence). r.pid) pid (λ (r : Residence). record r { out = out; since = at }) rs) n)).out ≡ (cond b r (residence_of rs n)).out
+        head : (b : Bool) → (cond b r (residence_of (Rattle.page_model.specs.Pages.changed (λ (r : Residence). r.pid) pid (λ (r : Residence). record r { out = out; since = at }) rs) n)).out
+            ≡ (cond b r (residence_of rs n)).out
         head true = refl
         head false = ih
 
 -- a process that isn't in the list is in
 pub out_same : (rs : List Residence) (pid : ℕ) (out : Bool) (at : ℕ)
-    → ((residence_of (Rattle.page_model.specs.Pages.changed (λ (r : Residence). r.pid) pid (λ (r : Residence). record r { out = out; since = at }) rs) pid).out ≡ out)
-    ⊎ (((residence_of (Rattle.page_model.specs.Pages.changed (λ (r : Residence). r.pid) pid (λ (r : Residence). record r { out = out; since = at }) rs) pid).out ≡ false) × ((residence_of rs pid).out ≡ false))
+    → ((residence_of (Rattle.page_model.specs.Pages.changed (λ (r : Residence). r.pid) pid (λ (r : Residence). record r { out = out; since = at }) rs) pid).out
+    ≡ out)
+    ⊎ (((residence_of (Rattle.page_model.specs.Pages.changed (λ (r : Residence). r.pid) pid (λ (r : Residence). record r { out = out; since = at }) rs) pid).out
+    ≡ false) × ((residence_of rs pid).out ≡ false))
 out_same [] pid out at = inr (refl, refl)
 out_same (r ∷ rs) pid out at = go (r.pid == pid) refl (out_same rs pid out at)
   where
-    go : (b : Bool) → (r.pid == pid) ≡ b → ((residence_of (Rattle.page_model.specs.Pages.changed (λ (r : Residence). r.pid) pid (λ (r : Residence). record r { out = out; since = at }) rs) pid).out ≡ out)
-        ⊎ (((residence_of (Rattle.page_model.specs.Pages.changed (λ (r : Residence). r.pid) pid (λ (r : Residence). record r { out = out; since = at }) rs) pid).out ≡ false) × ((residence_of rs pid).out ≡ false))
-        → ((residence_of (cond b (record r { out = out; since = at } ∷ rs) (r ∷ Rattle.page_model.specs.Pages.changed (λ (r : Residence). r.pid) pid (λ (r : Residence). record r { out = out; since = at }) rs)) pid).out ≡ out)
-        ⊎ (((residence_of (cond b (record r { out = out; since = at } ∷ rs) (r ∷ Rattle.page_model.specs.Pages.changed (λ (r : Residence). r.pid) pid (λ (r : Residence). record r { out = out; since = at }) rs)) pid).out ≡ false) × ((residence_of (r ∷ rs) pid).out ≡ false))
+    go : (b : Bool) → (r.pid == pid) ≡ b
+        → ((residence_of (Rattle.page_model.specs.Pages.changed (λ (r : Residence). r.pid) pid (λ (r : Residence). record r { out = out; since = at }) rs) pid).out ≡ out)
+        ⊎ (((residence_of (Rattle.page_model.specs.Pages.changed (λ (r : Residence). r.pid) pid (λ (r : Residence). record r { out = out; since = at }) rs) pid).out ≡ false)
+        × ((residence_of rs pid).out ≡ false))
+        → ((residence_of (cond b (record r { out = out; since = at } ∷ rs)
+        (r ∷ Rattle.page_model.specs.Pages.changed (λ (r : Residence). r.pid) pid (λ (r : Residence). record r { out = out; since = at }) rs)) pid).out ≡ out)
+        ⊎ (((residence_of (cond b (record r { out = out; since = at } ∷ rs) (r ∷ Rattle.page_model.specs.Pages.changed (λ (r : Residence). r.pid) pid
+        (λ (r : Residence). record r { out = out; since = at }) rs)) pid).out ≡ false) × ((residence_of (r ∷ rs) pid).out ≡ false))
     go true e ih = inl (ap (λ (b : Bool). (cond b (record r { out = out; since = at }) (residence_of rs pid)).out) e)
     go false e ih = elim ih [
-      | inl h ↦ inl (ap (λ (b : Bool). (cond b r (residence_of (Rattle.page_model.specs.Pages.changed (λ (r : Residence). r.pid) pid (λ (r : Residence). record r { out = out; since = at }) rs) pid)).out) e ∙ h)
+      | inl h ↦ inl
+          (ap (λ (b : Bool). (cond b r (residence_of (Rattle.page_model.specs.Pages.changed (λ (r : Residence). r.pid) pid (λ (r : Residence). record r { out = out; since = at }) rs) pid)).out) e ∙ h)
       | inr h ↦ inr (
         ap (λ (b : Bool). (cond b r (residence_of (Rattle.page_model.specs.Pages.changed (λ (r : Residence). r.pid) pid (λ (r : Residence). record r { out = out; since = at }) rs) pid)).out) e ∙ h.0,
         ap (λ (b : Bool). (cond b r (residence_of rs pid)).out) e ∙ h.1,
@@ -269,7 +283,8 @@ pub out_coupled : (size : ℕ) (k : Kernel) (images : List NamedImage) (image : 
     → 512 * size ≤ length image
     → numbered kept_pid pid k.processes ≡ Some p → has_life p.life ≡ true → AreRegs p.regs
     → IsResident k.place pid → is_out k.place pid ≡ false → Coupled k images image flat
-    → Coupled (out_step k pid) images (store_at image (block_in k.holdings (owners.U pid) 0) (u_page p.regs (length (slots_of k.place (Data (space_of_life p.life) 0))) (length (slots_of k.place (Stack (space_of_life p.life) 0))))) flat
+    → Coupled (out_step k pid) images (store_at image (block_in k.holdings (owners.U pid) 0)
+    (u_page p.regs (length (slots_of k.place (Data (space_of_life p.life) 0))) (length (slots_of k.place (Stack (space_of_life p.life) 0))))) flat
 out_coupled size k images image flat pid p so li e alive are resides out c =
     let t : SameTables k flat = c.tables in
     let o : OneOwner size (lives k.processes) k.place k.holdings = so.owner in
@@ -298,7 +313,8 @@ out_coupled size k images image flat pid p so li e alive are resides out c =
       | inr d ↦ (let i : a.pid ≡ n = has_number pid_of n flat.processes a ea in
           subst (λ (z : Bool). KeepsRegs l after z a b.regs (space_of_holding a.holding)) (sym (out_other k.place.residents pid n true (length (append k.journal (entries.SwapOut pid))) d))
           (regs_kept k l image after (is_out k.place n) a b.regs (space_of_holding a.holding)
-          (λ z. u_other size k.holdings image bytes pid block.0 (owners.U a.pid) 0 book li lb block.1 (λ h. d (sym i ∙ u_number a.pid pid h))) refl refl (regs_at k images image flat c n a b ea (regs_other pid n cleared k.processes b d eb))))
+          (λ z. u_other size k.holdings image bytes pid block.0 (owners.U a.pid) 0 book li lb block.1 (λ h. d (sym i ∙ u_number a.pid pid h))) refl refl
+          (regs_at k images image flat c n a b ea (regs_other pid n cleared k.processes b d eb))))
     ] in
     subst (λ (i : List ℕ). Coupled l images i flat) (sym (ap (λ (o : Option ℕ). store_at image o bytes) block.1))
     (coupled_of l images after flat (tables_of l flat (regs_outlines pid cleared k.processes ∙ t.processes) t.next_pid t.next_sid (all_fit k flat t))
@@ -344,7 +360,8 @@ left_coupled k images image flat pid regs out c =
       | inl same ↦ (let there : is_out k.place n ≡ true = ap (is_out k.place) same ∙ out in
           let was : (x : Proc) × (numbered kept_pid n k.processes ≡ Some x) × (with_regs pid regs x ≡ b) =
           mapped_some (with_regs pid regs) (numbered kept_pid n k.processes) b (sym (numbered_map kept_pid (with_regs pid regs) (with_regs_pid pid regs) n k.processes) ∙ eb) in
-          let old : KeepsRegs k image true a was.0.regs (space_of_holding a.holding) = subst (λ (o : Bool). KeepsRegs k image o a was.0.regs (space_of_holding a.holding)) there (regs_at k images image flat c n a was.0 ea was.1) in
+          let old : KeepsRegs k image true a was.0.regs (space_of_holding a.holding) =
+          subst (λ (o : Bool). KeepsRegs k image o a was.0.regs (space_of_holding a.holding)) there (regs_at k images image flat c n a was.0 ea was.1) in
           subst (λ (o : Bool). KeepsRegs l image o a b.regs (space_of_holding a.holding)) (sym there) old)
       | inr d ↦ regs_at k images image flat c n a b ea (regs_other pid n regs k.processes b d eb)
     ] in
@@ -352,4 +369,5 @@ left_coupled k images image flat pid regs out c =
 
 -- the record of who goes out has no registers then
 pub out_record : (k : Kernel) (pid : ℕ) (p : Proc) → proc_of k pid ≡ Some p → proc_of (out_step k pid) pid ≡ Some (record p { regs = cleared })
-out_record k pid p e = numbered_map kept_pid (with_regs pid cleared) (with_regs_pid pid cleared) pid k.processes ∙ ap (mapped (with_regs pid cleared)) e ∙ ap (λ (b : Bool). Some (cond b (record p { regs = cleared }) p)) (ap (λ (n : ℕ). n == pid) (has_number kept_pid pid k.processes p e) ∙ eq_self pid)
+out_record k pid p e = numbered_map kept_pid (with_regs pid cleared) (with_regs_pid pid cleared) pid k.processes ∙ ap (mapped (with_regs pid cleared)) e
+    ∙ ap (λ (b : Bool). Some (cond b (record p { regs = cleared }) p)) (ap (λ (n : ℕ). n == pid) (has_number kept_pid pid k.processes p e) ∙ eq_self pid)

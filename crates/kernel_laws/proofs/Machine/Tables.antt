@@ -33,7 +33,8 @@ tables_of k flat ps np ns f = record { processes = ps; next_pid = np; next_sid =
 -- the two tables have the same processes
 pub outlines_at : (ks : List Proc) (fs : List Process) → map outline_kept ks ≡ map outline_of fs → (n : ℕ)
     → image_by outline_kept (numbered kept_pid n ks) ≡ image_by outline_of (numbered pid_of n fs)
-outlines_at ks fs e n = sym (numbered_image outline_kept kept_pid (λ (o : Outline). o.pid) (λ x. refl) n ks) ∙ ap (numbered (λ (o : Outline). o.pid) n) e ∙ numbered_image outline_of pid_of (λ (o : Outline). o.pid) (λ x. refl) n fs
+outlines_at ks fs e n = sym (numbered_image outline_kept kept_pid (λ (o : Outline). o.pid) (λ x. refl) n ks) ∙ ap (numbered (λ (o : Outline). o.pid) n) e
+    ∙ numbered_image outline_of pid_of (λ (o : Outline). o.pid) (λ x. refl) n fs
 
 pub outline_at : (ks : List Proc) (fs : List Process) → map outline_kept ks ≡ map outline_of fs → (n : ℕ) (p : Proc) (q : Process)
     → numbered kept_pid n ks ≡ Some p → numbered pid_of n fs ≡ Some q → outline_kept p ≡ outline_of q
@@ -56,7 +57,8 @@ kept_at ks fs e n q b = go (numbered kept_pid n ks) refl
 
 -- what is so of the registers of one process
 abbrev pub RegsAt : Kernel → List ℕ → FlatState → ℕ → Type 0
-RegsAt k image flat n = (q : Process) (p : Proc) → numbered pid_of n flat.processes ≡ Some q → numbered kept_pid n k.processes ≡ Some p → KeepsRegs k image (is_out k.place n) q p.regs (space_of_holding q.holding)
+RegsAt k image flat n =
+    (q : Process) (p : Proc) → numbered pid_of n flat.processes ≡ Some q → numbered kept_pid n k.processes ≡ Some p → KeepsRegs k image (is_out k.place n) q p.regs (space_of_holding q.holding)
 
 pub regs_at : (k : Kernel) (images : List NamedImage) (image : List ℕ) (flat : FlatState) → Coupled k images image flat → (n : ℕ) → RegsAt k image flat n
 regs_at k images image flat c n q p e h =
@@ -70,7 +72,8 @@ coupled_of k images image flat t pages r = record { tables = t; pages = pages; r
 
 -- a process that has the registers of another, with a space of the same sizes
 pub regs_carry : (k l : Kernel) (image after : List ℕ) (out : Bool) (q r : Process) (a b : Regs) (s t : ℕ) → r.regs ≡ q.regs → b ≡ a
-    → (out ≡ true → (u_stored l after r.pid ≡ u_stored k image q.pid) × (length (slots_of l.place (Data t 0)) ≡ length (slots_of k.place (Data s 0))) × (length (slots_of l.place (Stack t 0)) ≡ length (slots_of k.place (Stack s 0))))
+    → (out ≡ true → (u_stored l after r.pid ≡ u_stored k image q.pid) × (length (slots_of l.place (Data t 0)) ≡ length (slots_of k.place (Data s 0)))
+    × (length (slots_of l.place (Stack t 0)) ≡ length (slots_of k.place (Stack s 0))))
     → KeepsRegs k image out q a s → KeepsRegs l after out r b t
 regs_carry k l image after false q r a b s t e h u o = h ∙ o ∙ sym e
 regs_carry k l image after true q r a b s t e h u o =

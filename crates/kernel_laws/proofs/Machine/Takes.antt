@@ -95,7 +95,8 @@ u_some regs d s e = let h = ap length e in let n = length-append (flat_map word_
 pub takes_coupled : (size : ℕ) (k : Kernel) (images : List NamedImage) (image : List ℕ) (flat : FlatState) (ws : List Wanted) (new : Holdings)
     → TextFits images k.place
     → place_all size k.holdings ws ≡ Ok new → Coupled k images image flat → Coupled (record k { holdings = new }) images image flat
-takes_coupled size k images image flat ws new fits e c = coupled_of l images image flat (record { processes = c.tables.processes; next_pid = c.tables.next_pid; next_sid = c.tables.next_sid; spaces = c.tables.spaces })
+takes_coupled size k images image flat ws new fits e c =
+    coupled_of l images image flat (record { processes = c.tables.processes; next_pid = c.tables.next_pid; next_sid = c.tables.next_sid; spaces = c.tables.spaces })
     (changed_coupled k.place k.place b (beside_kernel l images image flat) c.pages one c.pages.text c.pages.text_due) regs_now
   where
     l : Kernel
@@ -126,10 +127,12 @@ takes_coupled size k images image flat ws new fits e c = coupled_of l images ima
     regs_now : (n : ℕ) → RegsAt l image flat n
     regs_now n q p ea eb = go (is_out k.place n) (regs_at k images image flat c n q p ea eb)
       where
-        found : (d s : ℕ) (o : Option ℕ) → block_in k.holdings (owners.U q.pid) 0 ≡ o → stored_at image (block_in k.holdings (owners.U q.pid) 0) ≡ u_page q.regs d s → stored_at image (block_in new (owners.U q.pid) 0) ≡ u_page q.regs d s
+        found : (d s : ℕ) (o : Option ℕ) → block_in k.holdings (owners.U q.pid) 0 ≡ o → stored_at image (block_in k.holdings (owners.U q.pid) 0) ≡ u_page q.regs d s
+            → stored_at image (block_in new (owners.U q.pid) 0) ≡ u_page q.regs d s
         found d s None h r = absurd (u_some q.regs d s (ap (stored_at image) (sym h) ∙ r))
         found d s (Some x) h r = ap (stored_at image) (still_found size k.holdings new ws (owners.U q.pid) 0 x e h ∙ sym h) ∙ r
 
         go : (out : Bool) → KeepsRegs k image out q p.regs (space_of_holding q.holding) → KeepsRegs l image out q p.regs (space_of_holding q.holding)
         go false r = r
-        go true r = found (length (slots_of k.place (Data (space_of_holding q.holding) 0))) (length (slots_of k.place (Stack (space_of_holding q.holding) 0))) (block_in k.holdings (owners.U q.pid) 0) refl r
+        go true r =
+            found (length (slots_of k.place (Data (space_of_holding q.holding) 0))) (length (slots_of k.place (Stack (space_of_holding q.holding) 0))) (block_in k.holdings (owners.U q.pid) 0) refl r

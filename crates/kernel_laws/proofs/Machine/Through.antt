@@ -96,7 +96,8 @@ fork_tables k images flat pid regs e q s nums f h c =
     let pids : kp.pid ≡ fp.pid = g.pid_is ∙ sym g.pid_was in
     let found : numbered pid_of fp.pid flat.processes ≡ Some q = ap (λ (m : ℕ). numbered pid_of m flat.processes) g.pid_was ∙ g.found in
     let outline : outline_kept kp ≡ outline_of fp =
-    outline_is g.proc.pid q.pid g.proc.parent q.parent g.proc.life (Rattle.kernel_model.specs.Kernel.life_of q.holding) g.proc.asleep q.asleep pids g.parent (g.life ∙ sym (ap Rattle.kernel_model.specs.Kernel.life_of h)) g.asleep in
+    outline_is g.proc.pid q.pid g.proc.parent q.parent g.proc.life (Rattle.kernel_model.specs.Kernel.life_of q.holding) g.proc.asleep q.asleep pids g.parent
+    (g.life ∙ sym (ap Rattle.kernel_model.specs.Kernel.life_of h)) g.asleep in
     let child_outline : outline_kept kc ≡ outline_of ch = outline_is flat.next_pid flat.next_pid kp.pid fp.pid (HoldsSpace n) (HoldsSpace n) false false refl pids refl refl in
     let outlines : map outline_kept l.processes ≡ map outline_of after.processes =
     map_pushed outline_kept (with_proc k.processes kp) kc ∙ ap (λ (x : List Outline). x ++ outline_kept kc ∷ []) (with_replaced k.processes flat.processes kp fp c.processes nums.pids outline)
@@ -124,7 +125,8 @@ fork_tables k images flat pid regs e q s nums f h c =
           (subst (λ (y : Option Space). Fits y (numbered space_number n l.place.spaces)) (sym own) (subst (Fits (Some z)) (sym place_own) sized))
       | inr d ↦ subst (λ (y : Option Space). Fits y (numbered space_number m l.place.spaces)) (sym (other m d)) (subst (Fits (numbered sid_of m (spaces_of flat))) (sym (place_other m d)) (all m))
     ] in
-    subst (λ (x : Kernel). SameTables x (apply_change images flat pid regs (Fork flat.next_pid))) (sym (step_is (facts_of images) k pid regs e (Fork flat.next_pid) g.proc (HoldsSpace s.sid) g.kept g.life))
+    subst (λ (x : Kernel). SameTables x (apply_change images flat pid regs (Fork flat.next_pid)))
+    (sym (step_is (facts_of images) k pid regs e (Fork flat.next_pid) g.proc (HoldsSpace s.sid) g.kept g.life))
     (subst (SameTables (by_life (facts_of images) k kp (HoldsSpace s.sid) e (Fork flat.next_pid))) (sym (applied images flat pid regs (Fork flat.next_pid) q s f h))
     (subst (λ (m : ℕ). SameTables (forked_kernel k kp s.sid flat.next_pid m e) after) (sym c.next_sid)
     (tables_of l after outlines (ap (λ (m : ℕ). m + 1) c.next_pid) refl fits)))
@@ -132,7 +134,8 @@ fork_tables k images flat pid regs e q s nums f h c =
 -- Vfork, with the space that passes.
 pub lend_tables : (k : Kernel) (images : List NamedImage) (flat : FlatState) (pid : ℕ) (regs : Regs) (e : Entry) (q : Process) (s : Space)
     → IsNumbered flat → process_of flat pid ≡ Some q → q.holding ≡ Holds s → SameTables k flat
-    → SameTables (pass_step (change_step (facts_of images) k pid regs e (Lend flat.next_pid)) pid flat.next_pid) (apply_change images flat pid regs (Lend flat.next_pid))
+    → SameTables (pass_step (change_step (facts_of images) k pid regs e (Lend flat.next_pid)) pid flat.next_pid)
+    (apply_change images flat pid regs (Lend flat.next_pid))
 lend_tables k images flat pid regs e q s nums f h c =
     let g : Stepping k flat pid q s = stepping k flat pid q s c f h in
     let child : ℕ = flat.next_pid in
@@ -172,7 +175,8 @@ lend_tables k images flat pid regs e q s nums f h c =
     ] in
     let all : AllFit flat k.place = c.spaces in
     let fits : AllFit after l.place = λ n. subst (λ (o : Option Space). Fits o (numbered space_number n k.place.spaces)) (sym (spaces n)) (all n) in
-    subst (λ (x : Kernel). SameTables (pass_step x pid flat.next_pid) (apply_change images flat pid regs (Lend flat.next_pid))) (sym (step_is (facts_of images) k pid regs e (Lend flat.next_pid) g.proc (HoldsSpace s.sid) g.kept g.life))
+    subst (λ (x : Kernel). SameTables (pass_step x pid flat.next_pid) (apply_change images flat pid regs (Lend flat.next_pid)))
+    (sym (step_is (facts_of images) k pid regs e (Lend flat.next_pid) g.proc (HoldsSpace s.sid) g.kept g.life))
     (subst (SameTables (pass_step k1 pid flat.next_pid)) (sym (applied images flat pid regs (Lend flat.next_pid) q s f h))
     (subst (λ (x : Kernel). SameTables x after) (sym (pass_is k1 pid flat.next_pid kp kn (HoldsSpace s.sid) New parent_kept g.life child_kept refl))
     (subst (λ (xs : List Proc). SameTables (record k1 { processes = xs }) after) (sym processes)
@@ -189,7 +193,8 @@ pub record EntersTables (k : Kernel) (flat after : FlatState) (next sid number :
   pub gone : borrowed ≡ false → numbered sid_of sid (spaces_of after) ≡ None
 
 -- A new image, where the old space goes unless it was borrowed.
-enter_fits : (k : Kernel) (flat after : FlatState) (next sid number : ℕ) (borrowed : Bool) (named : NamedImage) (top : List ℕ) (ps : List Proc) (journal : List Entry)
+enter_fits : (k : Kernel) (flat after : FlatState) (next sid number : ℕ) (borrowed : Bool) (named : NamedImage) (top : List ℕ)
+    (ps : List Proc) (journal : List Entry)
     → EntersTables k flat after next sid number borrowed named top → AllFit flat k.place
     → AllFit after (exec_kernel k next sid borrowed number (Some named.image.facts) top ps journal).place
 enter_fits k flat after next sid number borrowed named top ps journal a all =
@@ -228,9 +233,11 @@ enter_fits k flat after next sid number borrowed named top ps journal a all =
     fits
 
 -- Execve of a process that holds its own space.
-pub exec_tables : (k : Kernel) (images : List NamedImage) (flat : FlatState) (pid : ℕ) (regs : Regs) (e : Entry) (number : ℕ) (top : List ℕ) (named : NamedImage) (q : Process) (s : Space)
+pub exec_tables : (k : Kernel) (images : List NamedImage) (flat : FlatState) (pid : ℕ) (regs : Regs) (e : Entry) (number : ℕ) (top : List ℕ)
+    (named : NamedImage) (q : Process) (s : Space)
     → IsNumbered flat → process_of flat pid ≡ Some q → q.holding ≡ Holds s → is_borrower flat.processes pid ≡ false
-    → image_numbered images number ≡ Some named → DataFits named.image → length top ≡ 1024 → SameTables k flat → SameTables (change_step (facts_of images) k pid regs e (Exec number top)) (apply_change images flat pid regs (Exec number top))
+    → image_numbered images number ≡ Some named → DataFits named.image → length top ≡ 1024 → SameTables k flat
+    → SameTables (change_step (facts_of images) k pid regs e (Exec number top)) (apply_change images flat pid regs (Exec number top))
 exec_tables k images flat pid regs e number top named q s nums f h own_space im fit whole c =
     let g : Stepping k flat pid q s = stepping k flat pid q s c f h in
     let n : ℕ = flat.next_sid in
@@ -242,7 +249,8 @@ exec_tables k images flat pid regs e number top named q s nums f h own_space im 
     let pids : kp.pid ≡ fp.pid = g.pid_is ∙ sym g.pid_was in
     let found : numbered pid_of fp.pid flat.processes ≡ Some q = ap (λ (m : ℕ). numbered pid_of m flat.processes) g.pid_was ∙ g.found in
     let outlines : map outline_kept l.processes ≡ map outline_of after.processes =
-    with_replaced k.processes flat.processes kp fp c.processes nums.pids (outline_is g.proc.pid q.pid g.proc.parent q.parent (HoldsSpace n) (HoldsSpace n) g.proc.asleep q.asleep pids g.parent refl g.asleep) in
+    with_replaced k.processes flat.processes kp fp c.processes nums.pids
+    (outline_is g.proc.pid q.pid g.proc.parent q.parent (HoldsSpace n) (HoldsSpace n) g.proc.asleep q.asleep pids g.parent refl g.asleep) in
     let held_here : HeldAt flat.processes fp s = held_at flat.processes q fp s found h nums.sids in
     let apart : n ≢ s.sid = λ i. holds_there flat.processes q.pid q s found h (ap (λ (m : ℕ). numbered sid_of m (held flat.processes)) (sym i) ∙ next_sid_none flat nums) in
     let enters : EntersTables k flat after n s.sid number false named top = record {
@@ -256,9 +264,12 @@ exec_tables k images flat pid regs e number top named q s nums f h own_space im 
     } in
     subst (λ (x : Kernel). SameTables x (apply_change images flat pid regs (Exec number top))) (sym (step_is (facts_of images) k pid regs e (Exec number top) g.proc (HoldsSpace s.sid) g.kept g.life))
     (subst (SameTables (by_life (facts_of images) k (record g.proc { regs = regs }) (HoldsSpace s.sid) e (Exec number top))) (sym (applied images flat pid regs (Exec number top) q s f h))
-    (image_known images number named (λ (f : Option Image) (o : Option NamedImage). SameTables (exec_kernel k k.next_sid s.sid false number f top (with_proc k.processes (record g.proc { regs = regs; life = HoldsSpace k.next_sid })) (append k.journal e)) (entered flat (record q { regs = regs }) s number o top)) im
-    (subst (λ (m : ℕ). SameTables (exec_kernel k m s.sid false number (Some named.image.facts) top (with_proc k.processes (record g.proc { regs = regs; life = HoldsSpace m })) (append k.journal e)) (entered flat (record q { regs = regs }) s number (Some named) top)) (sym c.next_sid)
-    (subst (λ (xs : List Process). SameTables l (record flat { processes = xs; next_sid = n + 1 })) (sym (returned_none (replaced flat.processes fp) q.pid s (borrower_replaced flat.processes fp q.pid refl (ap (is_borrower flat.processes) g.pid_was ∙ own_space))))
+    (image_known images number named (λ (f : Option Image) (o : Option NamedImage). SameTables (exec_kernel k k.next_sid s.sid false number f top
+    (with_proc k.processes (record g.proc { regs = regs; life = HoldsSpace k.next_sid })) (append k.journal e)) (entered flat (record q { regs = regs }) s number o top)) im
+    (subst (λ (m : ℕ). SameTables (exec_kernel k m s.sid false number (Some named.image.facts) top (with_proc k.processes (record g.proc { regs = regs; life = HoldsSpace m })) (append k.journal e))
+    (entered flat (record q { regs = regs }) s number (Some named) top)) (sym c.next_sid)
+    (subst (λ (xs : List Process). SameTables l (record flat { processes = xs; next_sid = n + 1 }))
+    (sym (returned_none (replaced flat.processes fp) q.pid s (borrower_replaced flat.processes fp q.pid refl (ap (is_borrower flat.processes) g.pid_was ∙ own_space))))
     (tables_of l after outlines c.next_pid refl (enter_fits k flat after n s.sid number false named top (with_proc k.processes kp) (append k.journal e) enters c.spaces))))))
 
 -- what is asked of the flat state after an end, of the tables alone
@@ -310,7 +321,8 @@ end_tables k images flat pid regs e status q s nums f h own_space c =
     let outlines : map outline_kept l.processes ≡ map outline_of after.processes = ended_outlines k.processes rs kp g.proc status distinct_kept kept_found lonely_kept lonely_kept both
     ∙ ap (λ (m : ℕ). map outline_of (left_flat (kp.parent == 0) (orphans m rs) m kp.parent)) pids ∙ ap (λ (m : ℕ). map outline_of (left_flat (m == 0) (orphans q.pid rs) q.pid m)) g.parent in
     let pids_of_both : map pid_of rs ≡ map pid_of flat.processes =
-    sym (pids_same (with_proc k.processes (record kp { life = Ended status })) rs both) ∙ with_pids k.processes (record kp { life = Ended status }) ∙ pids_same k.processes flat.processes c.processes in
+    sym (pids_same (with_proc k.processes (record kp { life = Ended status })) rs both) ∙ with_pids k.processes (record kp { life = Ended status })
+    ∙ pids_same k.processes flat.processes c.processes in
     let distinct : AllDistinct (map pid_of rs) = subst AllDistinct (sym pids_of_both) nums.pids in
     let spaces : spaces_of after ≡ held rs = end_held (q.parent == 0) rs fp q.pid q.parent distinct (replaced_at flat.processes q fp found) refl in
     let held_here : HeldAt flat.processes fp s = held_at flat.processes q fp s found h nums.sids in
@@ -323,10 +335,12 @@ end_tables k images flat pid regs e status q s nums f h own_space c =
     (subst (SameTables l) (sym (left_is (q.parent == 0) (orphaned (Rattle.flat_state.specs.Change.given_back (with_process flat fp) q.pid s) q.pid) q.pid q.parent))
     (subst (λ (xs : List Process). SameTables l (record flat { processes = left_flat (q.parent == 0) (orphans q.pid xs) q.pid q.parent }))
     (sym (returned_none (replaced flat.processes fp) q.pid s (borrower_replaced flat.processes fp q.pid refl (ap (is_borrower flat.processes) g.pid_was ∙ own_space))))
-    (tables_of l after outlines c.next_pid c.next_sid (leave_fits k flat after kp.pid s.sid false (left_procs (kp.parent == 0) (orphaned_procs k.processes kp.pid) kp status) (append k.journal e) leaves c.spaces)))))
+    (tables_of l after outlines c.next_pid c.next_sid
+    (leave_fits k flat after kp.pid s.sid false (left_procs (kp.parent == 0) (orphaned_procs k.processes kp.pid) kp status) (append k.journal e) leaves c.spaces)))))
 
 -- Execve of a borrower.
-pub exec_back_tables : (k : Kernel) (images : List NamedImage) (flat : FlatState) (pid : ℕ) (regs : Regs) (e : Entry) (number : ℕ) (top : List ℕ) (named : NamedImage) (q m : Process) (s : Space)
+pub exec_back_tables : (k : Kernel) (images : List NamedImage) (flat : FlatState) (pid : ℕ) (regs : Regs) (e : Entry) (number : ℕ) (top : List ℕ)
+    (named : NamedImage) (q m : Process) (s : Space)
     → IsNumbered flat → process_of flat pid ≡ Some q → q.holding ≡ Holds s → IsLender flat pid s.sid m
     → image_numbered images number ≡ Some named → DataFits named.image → length top ≡ 1024 → SameTables k flat
     → SameTables (change_step (facts_of images) (pass_step k pid m.pid) pid regs e (Exec number top)) (apply_change images flat pid regs (Exec number top))
@@ -364,10 +378,13 @@ exec_back_tables k images flat pid regs e number top named q m s nums f h is im 
       gone = λ i. absurd cc;
     } in
     subst (λ (x : Kernel). SameTables (change_step (facts_of images) x pid regs e (Exec number top)) (apply_change images flat pid regs (Exec number top))) (sym (back_kernel k flat pid q m s a))
-    (subst (λ (x : Kernel). SameTables x (apply_change images flat pid regs (Exec number top))) (sym (step_is (facts_of images) k1 pid regs e (Exec number top) (record g.proc { life = New }) New (back_proc k flat pid q m s a) refl))
+    (subst (λ (x : Kernel). SameTables x (apply_change images flat pid regs (Exec number top)))
+    (sym (step_is (facts_of images) k1 pid regs e (Exec number top) (record g.proc { life = New }) New (back_proc k flat pid q m s a) refl))
     (subst (SameTables (by_life (facts_of images) k1 (record g.proc { regs = regs; life = New }) New e (Exec number top))) (sym (applied images flat pid regs (Exec number top) q s f h))
-    (image_known images number named (λ (f : Option Image) (o : Option NamedImage). SameTables (exec_kernel k k.next_sid 0 true number f top (with_proc k1.processes (record g.proc { regs = regs; life = HoldsSpace k.next_sid })) (append k.journal e)) (entered flat (record q { regs = regs }) s number o top)) im
-    (subst (λ (y : ℕ). SameTables (exec_kernel k y 0 true number (Some named.image.facts) top (with_proc k1.processes (record g.proc { regs = regs; life = HoldsSpace y })) (append k.journal e)) (entered flat (record q { regs = regs }) s number (Some named) top)) (sym c.next_sid)
+    (image_known images number named (λ (f : Option Image) (o : Option NamedImage). SameTables (exec_kernel k k.next_sid 0 true number f top
+    (with_proc k1.processes (record g.proc { regs = regs; life = HoldsSpace k.next_sid })) (append k.journal e)) (entered flat (record q { regs = regs }) s number o top)) im
+    (subst (λ (y : ℕ). SameTables (exec_kernel k y 0 true number (Some named.image.facts) top (with_proc k1.processes (record g.proc { regs = regs; life = HoldsSpace y })) (append k.journal e))
+    (entered flat (record q { regs = regs }) s number (Some named) top)) (sym c.next_sid)
     (subst (λ (xs : List Process). SameTables l (record flat { processes = xs; next_sid = n + 1 })) (sym b.returned)
     (tables_of l after b.outlines c.next_pid refl (enter_fits k flat after n 0 number true named top (with_proc k1.processes kp) (append k.journal e) enters c.spaces)))))))
 
@@ -411,11 +428,13 @@ end_back_tables k images flat pid regs e status q m s nums f h is c =
       gone = λ i. absurd cc;
     } in
     subst (λ (x : Kernel). SameTables (change_step (facts_of images) x pid regs e (End status)) (apply_change images flat pid regs (End status))) (sym (back_kernel k flat pid q m s a))
-    (subst (λ (x : Kernel). SameTables x (apply_change images flat pid regs (End status))) (sym (step_is (facts_of images) k1 pid regs e (End status) (record g.proc { life = New }) New (back_proc k flat pid q m s a) refl))
+    (subst (λ (x : Kernel). SameTables x (apply_change images flat pid regs (End status)))
+    (sym (step_is (facts_of images) k1 pid regs e (End status) (record g.proc { life = New }) New (back_proc k flat pid q m s a) refl))
     (subst (SameTables (by_life (facts_of images) k1 kp New e (End status))) (sym (applied images flat pid regs (End status) q s f h))
     (subst (SameTables l) (sym (left_is (q.parent == 0) (orphaned (Rattle.flat_state.specs.Change.given_back (with_process flat fp) q.pid s) q.pid) q.pid q.parent))
     (subst (λ (xs : List Process). SameTables l (record flat { processes = left_flat (q.parent == 0) (orphans q.pid xs) q.pid q.parent })) (sym b.returned)
-    (tables_of l after outlines c.next_pid c.next_sid (leave_fits k flat after kp.pid 0 true (left_procs (kp.parent == 0) (orphaned_procs k1.processes kp.pid) kp status) (append k.journal e) leaves c.spaces))))))
+    (tables_of l after outlines c.next_pid c.next_sid
+    (leave_fits k flat after kp.pid 0 true (left_procs (kp.parent == 0) (orphaned_procs k1.processes kp.pid) kp status) (append k.journal e) leaves c.spaces))))))
   where
     passed_pids : (ks : List Proc) → map kept_pid (map (passes s.sid pid m.pid) ks) ≡ map kept_pid ks
     passed_pids [] = refl
@@ -426,7 +445,8 @@ stay_tables : (k : Kernel) (flat : FlatState) (q fp : Process) (kp : Proc) (jour
     → numbered pid_of fp.pid flat.processes ≡ Some q
     → fp.holding ≡ q.holding → outline_kept kp ≡ outline_of fp → SameTables k flat
     → SameTables (record k { processes = with_proc k.processes kp; journal = journal }) (with_process flat fp)
-stay_tables k flat q fp kp journal d f h o t = tables_of (record k { processes = with_proc k.processes kp; journal = journal }) (with_process flat fp) (with_replaced k.processes flat.processes kp fp t.processes d o) t.next_pid t.next_sid
+stay_tables k flat q fp kp journal d f h o t =
+    tables_of (record k { processes = with_proc k.processes kp; journal = journal }) (with_process flat fp) (with_replaced k.processes flat.processes kp fp t.processes d o) t.next_pid t.next_sid
     (λ sid. subst (λ (xs : List Space). Fits (numbered sid_of sid xs) (numbered space_number sid k.place.spaces)) (sym (same_held flat.processes q fp f h)) (all_fit k flat t sid))
 
 -- An entry that changes nothing else.
@@ -448,7 +468,8 @@ sleep_tables k images flat pid regs e q s nums f h c =
     let g : Stepping k flat pid q s = stepping k flat pid q s c f h in
     subst (λ (x : Kernel). SameTables x (apply_change images flat pid regs Sleep)) (sym (step_is (facts_of images) k pid regs e Sleep g.proc (HoldsSpace s.sid) g.kept g.life))
     (subst (SameTables (by_life (facts_of images) k (record g.proc { regs = regs }) (HoldsSpace s.sid) e Sleep)) (sym (applied images flat pid regs Sleep q s f h))
-    (stay_tables k flat q (record q { regs = regs; asleep = true }) (record g.proc { regs = regs; asleep = true }) (append k.journal e) nums.pids (ap (λ (n : ℕ). numbered pid_of n flat.processes) g.pid_was ∙ g.found) refl
+    (stay_tables k flat q (record q { regs = regs; asleep = true }) (record g.proc { regs = regs; asleep = true }) (append k.journal e) nums.pids
+    (ap (λ (n : ℕ). numbered pid_of n flat.processes) g.pid_was ∙ g.found) refl
     (outline_is g.proc.pid q.pid g.proc.parent q.parent g.proc.life (life_of q.holding) true true (g.pid_is ∙ sym g.pid_was) g.parent (g.life ∙ sym (ap life_of h)) refl) c))
 
 -- A zombie child goes.
@@ -471,7 +492,8 @@ reap_tables k images flat pid regs e child status q z s nums f h fz hz c =
     (gone_tables at)))
   where
     gone_tables : numbered pid_of child flat.processes ≡ Some z → SameTables (record k { processes = without_proc k.processes child }) (without_process flat child)
-    gone_tables at = tables_of (record k { processes = without_proc k.processes child }) (without_process flat child) (removed_outlines k.processes flat.processes child c.processes) c.next_pid c.next_sid
+    gone_tables at =
+        tables_of (record k { processes = without_proc k.processes child }) (without_process flat child) (removed_outlines k.processes flat.processes child c.processes) c.next_pid c.next_sid
         (λ sid. subst (λ (xs : List Space). Fits (numbered sid_of sid xs) (numbered space_number sid k.place.spaces)) (sym spaces) (all_fit k flat c sid))
       where
         off : (b : Bool) → not b ≡ false → b ≡ true

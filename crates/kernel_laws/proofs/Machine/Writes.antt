@@ -91,7 +91,8 @@ put_in s w v at h = go (address_in s w.address) h
       stack_length = refl;
       writable = subst IsWritable (sym h.0) tt;
       own_data = λ n e. let m : i / 1024 ≡ n = data_number s.sid (i / 1024) n (sym h.0 ∙ e) in
-          subst (λ (x : ℕ). page_at x (set s.data_bytes i w.byte) ≡ set (page_at x s.data_bytes) at w.byte) m (own_page i w.byte s.data_bytes ∙ ap (λ (x : ℕ). set (page_at (i / 1024) s.data_bytes) x w.byte) (sym h.1));
+          subst (λ (x : ℕ). page_at x (set s.data_bytes i w.byte) ≡ set (page_at x s.data_bytes) at w.byte) m
+          (own_page i w.byte s.data_bytes ∙ ap (λ (x : ℕ). set (page_at (i / 1024) s.data_bytes) x w.byte) (sym h.1));
       own_stack = λ n e. absurd (let k : Data s.sid (i / 1024) ≡ Stack s.sid n = sym h.0 ∙ e in cc);
       other_data = λ n d. other_page i n w.byte s.data_bytes (λ e. d (ap (Data s.sid) e ∙ sym h.0));
       other_stack = λ n d. refl;
@@ -105,7 +106,8 @@ put_in s w v at h = go (address_in s w.address) h
       writable = subst IsWritable (sym h.0) tt;
       own_data = λ n e. absurd (let k : Stack s.sid (i / 1024) ≡ Data s.sid n = sym h.0 ∙ e in cc);
       own_stack = λ n e. let m : i / 1024 ≡ n = stack_number s.sid (i / 1024) n (sym h.0 ∙ e) in
-          subst (λ (x : ℕ). page_at x (set s.stack_bytes i w.byte) ≡ set (page_at x s.stack_bytes) at w.byte) m (own_page i w.byte s.stack_bytes ∙ ap (λ (x : ℕ). set (page_at (i / 1024) s.stack_bytes) x w.byte) (sym h.1));
+          subst (λ (x : ℕ). page_at x (set s.stack_bytes i w.byte) ≡ set (page_at x s.stack_bytes) at w.byte) m
+          (own_page i w.byte s.stack_bytes ∙ ap (λ (x : ℕ). set (page_at (i / 1024) s.stack_bytes) x w.byte) (sym h.1));
       other_data = λ n d. refl;
       other_stack = λ n d. other_page i n w.byte s.stack_bytes (λ e. d (ap (Stack s.sid) e ∙ sym h.0));
       kind = inr (i / 1024, h.0);
@@ -119,7 +121,8 @@ pub written : (flat : FlatState) (pid : ℕ) (w : ByteWrite) (q : Process) (s : 
 unfolding apply_writes
 written flat pid w q s e h = ap (wrote_if flat (w ∷ [])) e ∙ ap (wrote_by flat q (w ∷ [])) h
 
-pub write_coupled : (size : ℕ) (k : Kernel) (images : List NamedImage) (image : List ℕ) (flat : FlatState) (pid : ℕ) (q : Process) (s : Space) (w : ByteWrite) (v : Page) (f at : ℕ)
+pub write_coupled : (size : ℕ) (k : Kernel) (images : List NamedImage) (image : List ℕ) (flat : FlatState) (pid : ℕ) (q : Process) (s : Space)
+    (w : ByteWrite) (v : Page) (f at : ℕ)
     → Sound size k → k.place.due ≡ [] → IsNumbered flat
     → process_of flat pid ≡ Some q → q.holding ≡ Holds s → IsByteOf s (address_in s w.address) v at → state_of k.place v ≡ Valid f → Coupled k images image flat
     → Coupled (write_step k v f at w.byte) images image (apply_writes flat pid (w ∷ []))
@@ -132,7 +135,8 @@ write_coupled size k images image flat pid q s w v f at so due nums fq hq is e c
     let fits : AllFit after l.place = λ n. fit_shaped k.place l.place (numbered sid_of n (spaces_of after)) n shaped (elim (cases_eq n s.sid) [
       | inl h ↦ subst (λ (m : ℕ). Fits (numbered sid_of m (spaces_of after)) (numbered space_number m k.place.spaces)) (sym h)
           (subst (λ (x : Option Space). Fits x (numbered space_number s.sid k.place.spaces)) (sym own)
-          (fit_bytes s z (numbered space_number s.sid k.place.spaces) i.image i.data_length i.stack_length (subst (λ (x : Option Space). Fits x (numbered space_number s.sid k.place.spaces)) was (all_fit k flat t s.sid))))
+          (fit_bytes s z (numbered space_number s.sid k.place.spaces) i.image i.data_length i.stack_length
+          (subst (λ (x : Option Space). Fits x (numbered space_number s.sid k.place.spaces)) was (all_fit k flat t s.sid))))
       | inr d ↦ subst (λ (x : Option Space). Fits x (numbered space_number n k.place.spaces)) (sym (other n d)) (all_fit k flat t n)
     ]) in
     -- what the bytes are
@@ -147,7 +151,8 @@ write_coupled size k images image flat pid q s w v f at so due nums fq hq is e c
     ] in
     let both : WritesBoth b c1 v f bytes = record { frames = refl; own = own_memory; others = other_memory; swap = λ x. refl; file = λ x. refl; start = λ x. refl } in
     subst (Coupled l images image) (sym (written flat pid w q s fq hq))
-    (coupled_of l images image after (tables_of l after (t.processes ∙ sym (replaced_outlines flat.processes q p found (ap (λ (n : ℕ). outline n) i.sid ∙ sym (ap outline_held hq)))) t.next_pid t.next_sid fits)
+    (coupled_of l images image after
+    (tables_of l after (t.processes ∙ sym (replaced_outlines flat.processes q p found (ap (λ (n : ℕ). outline n) i.sid ∙ sym (ap outline_held hq)))) t.next_pid t.next_sid fits)
     (alike_coupled (touch k.place v) c1 (beside_kernel l images image after)
     (λ x. record { frames = refl; swap = refl; file = file_same images k.place (touch k.place v) shaped x; start = refl; memory = refl })
     (touch_coupled k.place v f b c1 bytes o e i.writable due so.tokens both c.pages))
@@ -201,28 +206,33 @@ write_coupled size k images image flat pid q s w v f at so due nums fq hq is e c
 
     other_memory : (x : Page) → x ≢ v → memory_of images after x ≡ memory_of images flat x
     other_memory (Data sid n) d = elim (cases_eq sid s.sid) [
-      | inl h ↦ ap (λ (m : ℕ). memory_of images after (Data m n)) h ∙ data_at n ∙ i.other_data n (λ g. d (ap (λ (m : ℕ). Data m n) h ∙ g)) ∙ sym (data_was n) ∙ ap (λ (m : ℕ). memory_of images flat (Data m n)) (sym h)
+      | inl h ↦ ap (λ (m : ℕ). memory_of images after (Data m n)) h ∙ data_at n ∙ i.other_data n (λ g. d (ap (λ (m : ℕ). Data m n) h ∙ g)) ∙ sym (data_was n)
+          ∙ ap (λ (m : ℕ). memory_of images flat (Data m n)) (sym h)
       | inr m ↦ ap (λ (x : Option Space). page_at n (data_bytes_in x)) (other sid m)
     ]
     other_memory (Stack sid n) d = elim (cases_eq sid s.sid) [
-      | inl h ↦ ap (λ (m : ℕ). memory_of images after (Stack m n)) h ∙ stack_now n ∙ i.other_stack n (λ g. d (ap (λ (m : ℕ). Stack m n) h ∙ g)) ∙ sym (stack_was n) ∙ ap (λ (m : ℕ). memory_of images flat (Stack m n)) (sym h)
+      | inl h ↦ ap (λ (m : ℕ). memory_of images after (Stack m n)) h ∙ stack_now n ∙ i.other_stack n (λ g. d (ap (λ (m : ℕ). Stack m n) h ∙ g)) ∙ sym (stack_was n)
+          ∙ ap (λ (m : ℕ). memory_of images flat (Stack m n)) (sym h)
       | inr m ↦ ap (λ (x : Option Space). page_at n (stack_bytes_in x)) (other sid m)
     ]
     other_memory (Text j n) d = refl
 
     regs_now : (n : ℕ) → RegsAt l image after n
-    regs_now n x y ex ey = subst (λ (out : Bool). KeepsRegs l image out x y.regs (space_of_holding x.holding)) (sym (ap (λ (rs : List Rattle.page_model.specs.Placement.Residence). (residence_of rs n).out) shaped.residents)) (elim (cases_eq n q.pid) [
-      | inl h ↦ (let same : p ≡ x = same_Some p x (sym (replaced_at flat.processes q p found) ∙ ap (λ (m : ℕ). numbered pid_of m (replaced flat.processes p)) (sym h) ∙ ex) in
-          subst (λ (r : Process). KeepsRegs l image (is_out k.place n) r y.regs (space_of_holding r.holding)) same
-          (regs_carry k l image image (is_out k.place n) q p y.regs y.regs (space_of_holding q.holding) z.sid refl refl
-          (λ out. (refl, size_at (λ m. Data m 0), size_at (λ m. Stack m 0))) (regs_at k images image flat c n q y (ap (λ (m : ℕ). numbered pid_of m flat.processes) h ∙ found) ey)))
-      | inr d ↦ regs_carry k l image image (is_out k.place n) x x y.regs y.regs (space_of_holding x.holding) (space_of_holding x.holding) refl refl
-          (λ out. (refl, sizes_kept k.place l.place shaped (Data (space_of_holding x.holding) 0), sizes_kept k.place l.place shaped (Stack (space_of_holding x.holding) 0)))
-          (regs_at k images image flat c n x y (sym (replaced_not flat.processes p n d) ∙ ex) ey)
-    ])
+    regs_now n x y ex ey = subst (λ (out : Bool). KeepsRegs l image out x y.regs (space_of_holding x.holding))
+        (sym (ap (λ (rs : List Rattle.page_model.specs.Placement.Residence). (residence_of rs n).out) shaped.residents)) (elim (cases_eq n q.pid) [
+          | inl h ↦ (let same : p ≡ x = same_Some p x (sym (replaced_at flat.processes q p found) ∙ ap (λ (m : ℕ). numbered pid_of m (replaced flat.processes p)) (sym h) ∙ ex) in
+              subst (λ (r : Process). KeepsRegs l image (is_out k.place n) r y.regs (space_of_holding r.holding)) same
+              (regs_carry k l image image (is_out k.place n) q p y.regs y.regs (space_of_holding q.holding) z.sid refl refl
+              (λ out. (refl, size_at (λ m. Data m 0), size_at (λ m. Stack m 0))) (regs_at k images image flat c n q y (ap (λ (m : ℕ). numbered pid_of m flat.processes) h ∙ found) ey)))
+          | inr d ↦ regs_carry k l image image (is_out k.place n) x x y.regs y.regs (space_of_holding x.holding) (space_of_holding x.holding) refl refl
+              (λ out. (refl, sizes_kept k.place l.place shaped (Data (space_of_holding x.holding) 0), sizes_kept k.place l.place shaped (Stack (space_of_holding x.holding) 0)))
+              (regs_at k images image flat c n x y (sym (replaced_not flat.processes p n d) ∙ ex) ey)
+        ])
       where
-        size_at : (page : ℕ → Page) → length (Rattle.page_model.specs.Placement.slots_of l.place (page z.sid)) ≡ length (Rattle.page_model.specs.Placement.slots_of k.place (page (space_of_holding q.holding)))
-        size_at page = ap (λ (m : ℕ). length (Rattle.page_model.specs.Placement.slots_of l.place (page m))) (i.sid ∙ sym (ap space_of_holding hq)) ∙ sizes_kept k.place l.place shaped (page (space_of_holding q.holding))
+        size_at : (page : ℕ → Page) → length (Rattle.page_model.specs.Placement.slots_of l.place (page z.sid))
+            ≡ length (Rattle.page_model.specs.Placement.slots_of k.place (page (space_of_holding q.holding)))
+        size_at page = ap (λ (m : ℕ). length (Rattle.page_model.specs.Placement.slots_of l.place (page m))) (i.sid ∙ sym (ap space_of_holding hq))
+            ∙ sizes_kept k.place l.place shaped (page (space_of_holding q.holding))
 
 written_all : (flat : FlatState) (pid : ℕ) (ws : List ByteWrite) (q : Process) (s : Space) → process_of flat pid ≡ Some q → q.holding ≡ Holds s
     → apply_writes flat pid ws ≡ with_process flat (record q { holding = Holds (puts s ws) })
@@ -236,6 +246,7 @@ pub writes_one : (flat : FlatState) (pid : ℕ) (w : ByteWrite) (ws : List ByteW
 writes_one flat pid w ws q s e h =
     let p : Process = record q { holding = Holds (put s w) } in
     let r : Process = record q { holding = Holds (puts (put s w) ws) } in
-    let at : process_of (with_process flat p) pid ≡ Some p = found_is (replaced flat.processes p) pid ∙ ap (λ (n : ℕ). numbered pid_of n (replaced flat.processes p)) (sym (found_at flat pid q e).0) ∙ replaced_at flat.processes q p (found_self flat pid q e) in
+    let at : process_of (with_process flat p) pid ≡ Some p = found_is (replaced flat.processes p) pid ∙ ap (λ (n : ℕ). numbered pid_of n (replaced flat.processes p)) (sym (found_at flat pid q e).0)
+    ∙ replaced_at flat.processes q p (found_self flat pid q e) in
     written_all flat pid (w ∷ ws) q s e h ∙ ap (λ (l : List Process). let x : FlatState = record flat { processes = l } in x) (sym (replaced_twice flat.processes p r refl))
     ∙ sym (written_all (with_process flat p) pid ws p (put s w) at refl) ∙ ap (λ (x : FlatState). apply_writes x pid ws) (sym (written flat pid w q s e h))

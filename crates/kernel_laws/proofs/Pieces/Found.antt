@@ -123,7 +123,8 @@ added_lengths owner [] = refl
 added_lengths owner (g ∷ gs) = go (same_owner g.owner owner) (added_lengths owner gs)
   where
     go : (b : Bool) → lengths owner gs ≡ wanted_lengths owner (map wanted_as gs)
-        → map (λ (h : Held). h.length) (cond b (g ∷ Rattle.swap_book.specs.Holdings.of_owner owner gs) (Rattle.swap_book.specs.Holdings.of_owner owner gs)) ≡ cond b (g.length ∷ wanted_lengths owner (map wanted_as gs)) (wanted_lengths owner (map wanted_as gs))
+        → map (λ (h : Held). h.length) (cond b (g ∷ Rattle.swap_book.specs.Holdings.of_owner owner gs) (Rattle.swap_book.specs.Holdings.of_owner owner gs))
+        ≡ cond b (g.length ∷ wanted_lengths owner (map wanted_as gs)) (wanted_lengths owner (map wanted_as gs))
     go true ih = ap (λ (ns : List ℕ). g.length ∷ ns) ih
     go false ih = ih
 
@@ -148,8 +149,11 @@ both_needed k next (owners.Data sid) t = (2 * Rattle.std.specs.Prelude.max (data
 both_needed k next (owners.Stack sid) t = (2 * Rattle.std.specs.Prelude.max (stack_count k.place sid) (stack_count next.place sid), both_pieces (stack_count k.place sid) (stack_count next.place sid))
 both_needed k next (owners.U pid) t = (u_blocks (lives k.processes pid || lives next.processes pid), both_u (lives k.processes pid) (lives next.processes pid))
 both_needed k next (owners.Text image) t =
-    let w = while_of (sharers k.place image + sharers next.place image) (2 * length (slots_of k.place (Text image 0))) in
-    (w.0, both_while (sharers k.place image) (sharers next.place image) (2 * length (slots_of k.place (Text image 0))) (2 * length (slots_of next.place (Text image 0))) (ap (λ (n : ℕ). 2 * n) (t image)) ∙ w.1)
+    let w = while_of (sharers k.place image + sharers next.place image) (2 * length (slots_of k.place (Text image 0))) in (
+      w.0,
+      both_while (sharers k.place image) (sharers next.place image) (2 * length (slots_of k.place (Text image 0))) (2
+          * length (slots_of next.place (Text image 0))) (ap (λ (n : ℕ). 2 * n) (t image)) ∙ w.1,
+    )
 
 pub found_taken : (size : ℕ) (k next : Kernel) (before : Holdings) (ws : List Wanted) → OwnsBlocks size (lives k.processes) k.place before
     → SameTexts k next → place_all size before ws ≡ Ok k.holdings
@@ -174,7 +178,8 @@ step_texts images k pid regs e change i = go (numbered (λ (p : Proc). p.pid) pi
 
 -- A machine whose holdings have got the pieces that a change wants is sound after it.
 pub found_sound : (size : ℕ) (images : List Image) (k : Kernel) (before : Holdings) (ws : List Wanted) (pid : ℕ) (regs : Regs) (e : Entry) (change : Change)
-    → Sound size (record k { holdings = before }) → place_all size before ws ≡ Ok k.holdings → AsksFor k (change_step images k pid regs e change) ws → MayChange images k pid change → Sound size (change_step images k pid regs e change)
+    → Sound size (record k { holdings = before }) → place_all size before ws ≡ Ok k.holdings → AsksFor k (change_step images k pid regs e change) ws
+    → MayChange images k pid change → Sound size (change_step images k pid regs e change)
 found_sound size images k before ws pid regs e change s f a m =
     let o : OneOwner size (lives k.processes) k.place before = s.owner in
     flat_sound size images k before pid regs e change s (found_taken size k (change_step images k pid regs e change) before ws o.blocks (step_texts images k pid regs e change) f a) m

@@ -36,7 +36,8 @@ kept_each P owner zero (h ∷ hs) a = go (same_owner h.owner owner) (kept_each P
     go : (b : Bool) → All P (kept owner zero hs) → All P (cond b (kept owner zero hs) (h ∷ kept owner zero hs))
     go true rest = rest
     go false rest = All-cons P h (kept owner zero hs) (All-head P h hs a) rest
-kept_each P owner (suc n) (h ∷ hs) a = All-cons P h (kept owner (cond (same_owner h.owner owner) n (suc n)) hs) (All-head P h hs a) (kept_each P owner (cond (same_owner h.owner owner) n (suc n)) hs (All-tail P h hs a))
+kept_each P owner (suc n) (h ∷ hs) a =
+    All-cons P h (kept owner (cond (same_owner h.owner owner) n (suc n)) hs) (All-head P h hs a) (kept_each P owner (cond (same_owner h.owner owner) n (suc n)) hs (All-tail P h hs a))
 
 pairs_head : (h : Held) (hs : List Held) → AllPairs IsApart (h ∷ hs) → All (IsApart h) hs
 pairs_head h hs a = λ k d l. a 0 (suc k) d (omega arith) (omega arith)
@@ -80,10 +81,12 @@ unless_apart size hs false sid image left a = go left
 
 pub after_apart : (size : ℕ) (hs : Holdings) (p q : Placement) (pid sid : ℕ) (borrowed : Bool) (change : Change) → AreApart size hs
     → AreApart size (holdings_after hs p q pid sid borrowed change)
-after_apart size hs p q pid sid borrowed (Resize d s) a = kept_apart size (owners.Stack sid) (length (pieces (2 * s))) (kept (owners.Data sid) (length (pieces (2 * d))) hs) (kept_apart size (owners.Data sid) (length (pieces (2 * d))) hs a)
+after_apart size hs p q pid sid borrowed (Resize d s) a =
+    kept_apart size (owners.Stack sid) (length (pieces (2 * s))) (kept (owners.Data sid) (length (pieces (2 * d))) hs) (kept_apart size (owners.Data sid) (length (pieces (2 * d))) hs a)
 after_apart size hs p q pid sid borrowed (Exec image top) a = unless_apart size hs borrowed sid (image_of p sid) (sharers q (image_of p sid)) a
 after_apart size hs p q pid sid borrowed (End status) a =
-    kept_apart size (owners.U pid) 0 (given_back_unless borrowed hs sid (image_of p sid) (sharers q (image_of p sid))) (unless_apart size hs borrowed sid (image_of p sid) (sharers q (image_of p sid)) a)
+    kept_apart size (owners.U pid) 0 (given_back_unless borrowed hs sid (image_of p sid) (sharers q (image_of p sid)))
+    (unless_apart size hs borrowed sid (image_of p sid) (sharers q (image_of p sid)) a)
 after_apart size hs p q pid sid borrowed _ a = a
 
 -- Lengths.
@@ -191,7 +194,8 @@ pub grows_fits : (p q : Placement) (hs : Holdings) → Grows p q → FitsBoth p 
 grows_fits p q hs g f = record {
   of_data = λ t. f.of_data t ∙ pieces_larger (length (slots_of p (Data t 0))) (length (slots_of q (Data t 0))) (g.of_data t);
   of_stack = λ t. f.of_stack t ∙ pieces_larger (length (slots_of p (Stack t 0))) (length (slots_of q (Stack t 0))) (g.of_stack t);
-  of_text = λ i. f.of_text i ∙ while_some (sharers p i) (sharers q i) (2 * length (slots_of p (Text i 0))) (2 * length (slots_of q (Text i 0))) (g.sharing i) (twice (length (slots_of q (Text i 0))) (length (slots_of p (Text i 0))) (g.texts i));
+  of_text = λ i. f.of_text i ∙ while_some (sharers p i) (sharers q i) (2 * length (slots_of p (Text i 0))) (2 * length (slots_of q (Text i 0))) (g.sharing i)
+      (twice (length (slots_of q (Text i 0))) (length (slots_of p (Text i 0))) (g.texts i));
 }
 
 none_for : (n : ℕ) → n ≡ 0 → [] ≡ pieces (2 * n)
@@ -201,17 +205,22 @@ pub loses_fits : (sid image : ℕ) (p q : Placement) (hs : Holdings) → Loses s
     → Fits q (space_given_back hs sid image (sharers q image))
 loses_fits sid image p q hs g f = record {
   of_data = λ t. before_text (owners.Data t) refl (sharers q image) ∙ other_left (owners.Stack sid) (owners.Data t) 0 (kept (owners.Data sid) 0 hs) refl ∙ elim (cases_eq t sid) [
-    | inl e ↦ subst (λ (x : ℕ). lengths (owners.Data x) (kept (owners.Data sid) 0 hs) ≡ pieces (2 * length (slots_of q (Data x 0)))) (sym e) (own_left (owners.Data sid) hs ∙ none_for (length (slots_of q (Data sid 0))) g.data_gone)
+    | inl e ↦ subst (λ (x : ℕ). lengths (owners.Data x) (kept (owners.Data sid) 0 hs) ≡ pieces (2 * length (slots_of q (Data x 0)))) (sym e)
+        (own_left (owners.Data sid) hs ∙ none_for (length (slots_of q (Data sid 0))) g.data_gone)
     | inr n ↦ other_left (owners.Data sid) (owners.Data t) 0 hs (differs sid t n) ∙ f.of_data t ∙ pieces_larger (length (slots_of p (Data t 0))) (length (slots_of q (Data t 0))) (g.of_data t n)
   ];
   of_stack = λ t. before_text (owners.Stack t) refl (sharers q image) ∙ elim (cases_eq t sid) [
-    | inl e ↦ subst (λ (x : ℕ). lengths (owners.Stack x) (kept (owners.Stack sid) 0 (kept (owners.Data sid) 0 hs)) ≡ pieces (2 * length (slots_of q (Stack x 0)))) (sym e) (own_left (owners.Stack sid) (kept (owners.Data sid) 0 hs) ∙ none_for (length (slots_of q (Stack sid 0))) g.stack_gone)
-    | inr n ↦ other_left (owners.Stack sid) (owners.Stack t) 0 (kept (owners.Data sid) 0 hs) (differs sid t n) ∙ other_left (owners.Data sid) (owners.Stack t) 0 hs refl ∙ f.of_stack t ∙ pieces_larger (length (slots_of p (Stack t 0))) (length (slots_of q (Stack t 0))) (g.of_stack t n)
+    | inl e ↦ subst (λ (x : ℕ). lengths (owners.Stack x) (kept (owners.Stack sid) 0 (kept (owners.Data sid) 0 hs)) ≡ pieces (2 * length (slots_of q (Stack x 0)))) (sym e)
+        (own_left (owners.Stack sid) (kept (owners.Data sid) 0 hs) ∙ none_for (length (slots_of q (Stack sid 0))) g.stack_gone)
+    | inr n ↦ other_left (owners.Stack sid) (owners.Stack t) 0 (kept (owners.Data sid) 0 hs) (differs sid t n) ∙ other_left (owners.Data sid) (owners.Stack t) 0 hs refl ∙ f.of_stack t
+        ∙ pieces_larger (length (slots_of p (Stack t 0))) (length (slots_of q (Stack t 0))) (g.of_stack t n)
   ];
   of_text = λ i. elim (cases_eq i image) [
-    | inl e ↦ subst (λ (x : ℕ). lengths (owners.Text x) (space_given_back hs sid image (sharers q image)) ≡ text_pieces_while (sharers q x) (2 * length (slots_of q (Text x 0)))) (sym e) (own (sharers q image) refl)
+    | inl e ↦ subst (λ (x : ℕ). lengths (owners.Text x) (space_given_back hs sid image (sharers q image)) ≡ text_pieces_while (sharers q x) (2 * length (slots_of q (Text x 0)))) (sym e)
+        (own (sharers q image) refl)
     | inr n ↦ text_other i n (sharers q image) ∙ others i ∙ f.of_text i
-        ∙ while_some (sharers p i) (sharers q i) (2 * length (slots_of p (Text i 0))) (2 * length (slots_of q (Text i 0))) (g.sharing i n) (twice (length (slots_of q (Text i 0))) (length (slots_of p (Text i 0))) (g.texts i))
+        ∙ while_some (sharers p i) (sharers q i) (2 * length (slots_of p (Text i 0))) (2 * length (slots_of q (Text i 0))) (g.sharing i n)
+        (twice (length (slots_of q (Text i 0))) (length (slots_of p (Text i 0))) (g.texts i))
   ];
 }
   where
@@ -231,7 +240,8 @@ loses_fits sid image p q hs g f = record {
     own : (n : ℕ) → sharers q image ≡ n → lengths (owners.Text image) (text_given_back n rest image) ≡ text_pieces_while (sharers q image) (2 * length (slots_of q (Text image 0)))
     own zero e = own_left (owners.Text image) rest ∙ ap (λ (k : ℕ). text_pieces_while k (2 * length (slots_of q (Text image 0)))) (sym e)
     own (suc n) e = others image ∙ f.of_text image
-        ∙ while_some (sharers p image) (sharers q image) (2 * length (slots_of p (Text image 0))) (2 * length (slots_of q (Text image 0))) (λ l. omega arith) (twice (length (slots_of q (Text image 0))) (length (slots_of p (Text image 0))) (g.texts image))
+        ∙ while_some (sharers p image) (sharers q image) (2 * length (slots_of p (Text image 0))) (2 * length (slots_of q (Text image 0))) (λ l. omega arith)
+        (twice (length (slots_of q (Text image 0))) (length (slots_of p (Text image 0))) (g.texts image))
 
 -- the pieces of the larger size, cut to those of the new one
 cut_to : (a b n : ℕ) → (b ≡ n) ⊎ ((b ≡ 0) × (a ≡ 0)) → take (length (pieces (2 * n))) (pieces (2 * max a b)) ≡ pieces (2 * b)
@@ -253,15 +263,19 @@ resizes_fits sid d s p q hs g f =
       of_data = λ t. other_left (owners.Stack sid) (owners.Data t) ks (kept (owners.Data sid) kd hs) refl ∙ elim (cases_eq t sid) [
         | inl e ↦ subst (λ (x : ℕ). lengths (owners.Data x) (kept (owners.Data sid) kd hs) ≡ pieces (2 * length (slots_of q (Data x 0)))) (sym e)
             (lengths-kept (owners.Data sid) kd hs ∙ ap (take kd) (f.of_data sid) ∙ cut_to (length (slots_of p (Data sid 0))) (length (slots_of q (Data sid 0))) d g.data_now)
-        | inr n ↦ other_left (owners.Data sid) (owners.Data t) kd hs (differs sid t n) ∙ f.of_data t ∙ pieces_larger (length (slots_of p (Data t 0))) (length (slots_of q (Data t 0))) (let e = g.of_data t n in omega arith)
+        | inr n ↦ other_left (owners.Data sid) (owners.Data t) kd hs (differs sid t n) ∙ f.of_data t
+            ∙ pieces_larger (length (slots_of p (Data t 0))) (length (slots_of q (Data t 0))) (let e = g.of_data t n in omega arith)
       ];
       of_stack = λ t. elim (cases_eq t sid) [
         | inl e ↦ subst (λ (x : ℕ). lengths (owners.Stack x) (kept (owners.Stack sid) ks (kept (owners.Data sid) kd hs)) ≡ pieces (2 * length (slots_of q (Stack x 0)))) (sym e)
-            (lengths-kept (owners.Stack sid) ks (kept (owners.Data sid) kd hs) ∙ ap (take ks) (other_left (owners.Data sid) (owners.Stack sid) kd hs refl ∙ f.of_stack sid) ∙ cut_to (length (slots_of p (Stack sid 0))) (length (slots_of q (Stack sid 0))) s g.stack_now)
-        | inr n ↦ other_left (owners.Stack sid) (owners.Stack t) ks (kept (owners.Data sid) kd hs) (differs sid t n) ∙ other_left (owners.Data sid) (owners.Stack t) kd hs refl ∙ f.of_stack t ∙ pieces_larger (length (slots_of p (Stack t 0))) (length (slots_of q (Stack t 0))) (let e = g.of_stack t n in omega arith)
+            (lengths-kept (owners.Stack sid) ks (kept (owners.Data sid) kd hs) ∙ ap (take ks) (other_left (owners.Data sid) (owners.Stack sid) kd hs refl ∙ f.of_stack sid)
+            ∙ cut_to (length (slots_of p (Stack sid 0))) (length (slots_of q (Stack sid 0))) s g.stack_now)
+        | inr n ↦ other_left (owners.Stack sid) (owners.Stack t) ks (kept (owners.Data sid) kd hs) (differs sid t n) ∙ other_left (owners.Data sid) (owners.Stack t) kd hs refl ∙ f.of_stack t
+            ∙ pieces_larger (length (slots_of p (Stack t 0))) (length (slots_of q (Stack t 0))) (let e = g.of_stack t n in omega arith)
       ];
       of_text = λ i. other_left (owners.Stack sid) (owners.Text i) ks (kept (owners.Data sid) kd hs) refl ∙ other_left (owners.Data sid) (owners.Text i) kd hs refl ∙ f.of_text i
-          ∙ while_some (sharers p i) (sharers q i) (2 * length (slots_of p (Text i 0))) (2 * length (slots_of q (Text i 0))) (λ l. let e = g.sharing i in omega arith) (twice (length (slots_of q (Text i 0))) (length (slots_of p (Text i 0))) (g.texts i));
+          ∙ while_some (sharers p i) (sharers q i) (2 * length (slots_of p (Text i 0))) (2 * length (slots_of q (Text i 0))) (λ l. let e = g.sharing i in omega arith)
+          (twice (length (slots_of q (Text i 0))) (length (slots_of p (Text i 0))) (g.texts i));
     }
 
 pub less_u : (p : Placement) (hs : Holdings) (pid : ℕ) → Fits p hs → Fits p (kept (owners.U pid) 0 hs)
@@ -321,8 +335,10 @@ both_while zero b n m e = whole (text_pieces_while b m) ∙ ap (text_pieces_whil
     whole : (xs : List ℕ) → drop 0 xs ≡ xs
     whole [] = refl
     whole (x ∷ xs) = refl
-both_while (suc a) zero n m e = ap (λ (xs : List ℕ). text_pieces n ++ xs) (drop_past (length (text_pieces n)) [] (omega arith)) ∙ append-nil (text_pieces n) ∙ ap (λ (k : ℕ). text_pieces_while k n) (let z : suc a ≡ suc a + 0 = omega arith in z)
-both_while (suc a) (suc b) n m e = ap (λ (k : ℕ). text_pieces n ++ drop (length (text_pieces n)) (text_pieces k)) e ∙ ap (λ (xs : List ℕ). text_pieces n ++ xs) (drop_past (length (text_pieces n)) (text_pieces n) (omega arith)) ∙ append-nil (text_pieces n)
+both_while (suc a) zero n m e = ap (λ (xs : List ℕ). text_pieces n ++ xs) (drop_past (length (text_pieces n)) [] (omega arith)) ∙ append-nil (text_pieces n)
+    ∙ ap (λ (k : ℕ). text_pieces_while k n) (let z : suc a ≡ suc a + 0 = omega arith in z)
+both_while (suc a) (suc b) n m e = ap (λ (k : ℕ). text_pieces n ++ drop (length (text_pieces n)) (text_pieces k)) e
+    ∙ ap (λ (xs : List ℕ). text_pieces n ++ xs) (drop_past (length (text_pieces n)) (text_pieces n) (omega arith)) ∙ append-nil (text_pieces n)
     ∙ sym (ap (λ (k : ℕ). text_pieces_while k n) (let z : suc a + suc b ≡ suc (a + suc b) = omega arith in z))
 
 pub both_u : (a b : Bool) → u_pieces (u_blocks a) ++ drop (length (u_pieces (u_blocks a))) (u_pieces (u_blocks b)) ≡ u_pieces (u_blocks (a || b))

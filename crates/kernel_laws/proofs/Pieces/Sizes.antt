@@ -114,10 +114,12 @@ give_up_rest p sid j = leave_text_sharers (remove_space (drop_all p (pages_of_sp
 
 -- nothing is left of a space that goes
 pub gone_data : (p : Placement) (sid : ℕ) → length (slots_of (give_up p sid) (Data sid 0)) ≡ 0
-gone_data p sid = let d : Placement = drop_all p (pages_of_space p sid) in leave_text_length (remove_space d sid) (image_of p sid) (Data sid 0) ∙ ap (λ (o : Option SpacePages). length (data_in o)) (removed_same sid d.spaces)
+gone_data p sid = let d : Placement =
+    drop_all p (pages_of_space p sid) in leave_text_length (remove_space d sid) (image_of p sid) (Data sid 0) ∙ ap (λ (o : Option SpacePages). length (data_in o)) (removed_same sid d.spaces)
 
 pub gone_stack : (p : Placement) (sid : ℕ) → length (slots_of (give_up p sid) (Stack sid 0)) ≡ 0
-gone_stack p sid = let d : Placement = drop_all p (pages_of_space p sid) in leave_text_length (remove_space d sid) (image_of p sid) (Stack sid 0) ∙ ap (λ (o : Option SpacePages). length (stack_in o)) (removed_same sid d.spaces)
+gone_stack p sid = let d : Placement =
+    drop_all p (pages_of_space p sid) in leave_text_length (remove_space d sid) (image_of p sid) (Stack sid 0) ∙ ap (λ (o : Option SpacePages). length (stack_in o)) (removed_same sid d.spaces)
 
 -- a space of a grown placement goes
 gone_loses : (p q : Placement) (sid image : ℕ) → Grows p q → ((j : ℕ) → j ≢ image → 0 < sharers p j → 0 < sharers (give_up q sid) j)
@@ -181,7 +183,8 @@ exec_loses p next image sid (Some facts) new c =
 
 unless_fits : (borrowed : Bool) (p r : Placement) (sid : ℕ) (hs : Holdings) → (borrowed ≡ true → Grows p (give_up_unless borrowed r sid))
     → (borrowed ≡ false → Loses sid (image_of p sid) p (give_up_unless borrowed r sid))
-    → FitsBoth p (give_up_unless borrowed r sid) hs → Fits (give_up_unless borrowed r sid) (given_back_unless borrowed hs sid (image_of p sid) (sharers (give_up_unless borrowed r sid) (image_of p sid)))
+    → FitsBoth p (give_up_unless borrowed r sid) hs
+    → Fits (give_up_unless borrowed r sid) (given_back_unless borrowed hs sid (image_of p sid) (sharers (give_up_unless borrowed r sid) (image_of p sid)))
 unless_fits true p r sid hs g l f = grows_fits p r hs (g refl) f
 unless_fits false p r sid hs g l f = loses_fits sid (image_of p sid) p (give_up r sid) hs (l refl) f
 
@@ -203,7 +206,8 @@ end_lost false p sid c e = give_up_loses p sid (c refl)
 pub change_fits : (images : List Image) (p : Placement) (pid sid : ℕ) (borrowed : Bool) (next at : ℕ) (change : Change) (hs : Holdings)
     → CanChange p sid borrowed next change → MayForget images p sid borrowed next change
     → FitsBoth p (place_change images p pid sid borrowed next at change) hs
-    → Fits (place_change images p pid sid borrowed next at change) (holdings_after hs p (place_change images p pid sid borrowed next at change) pid sid borrowed change)
+    → Fits (place_change images p pid sid borrowed next at change)
+    (holdings_after hs p (place_change images p pid sid borrowed next at change) pid sid borrowed change)
 change_fits images p pid sid borrowed next at (Resize d s) hs c m f = resizes_fits sid d s p (resize p sid d s) hs (resize_sizes p sid d s) f
 change_fits images p pid sid borrowed next at (Fork child) hs c m f =
     let g = fork_grows p sid next in
@@ -234,6 +238,7 @@ enter_texts p sid image (Some facts) i = refl
 pub change_texts : (images : List Image) (p : Placement) (pid sid : ℕ) (borrowed : Bool) (next at : ℕ) (change : Change) (i : ℕ)
     → length (slots_of (place_change images p pid sid borrowed next at change) (Text i 0)) ≡ length (slots_of p (Text i 0))
 change_texts images p pid sid borrowed next at (Resize d s) i = drop_all_length (dropped_pages p sid d s) p (Text i 0)
-change_texts images p pid sid borrowed next at (Exec image top) i = unless_texts borrowed (enter_image p next image (facts_numbered images image)) sid i ∙ enter_texts p next image (facts_numbered images image) i
+change_texts images p pid sid borrowed next at (Exec image top) i =
+    unless_texts borrowed (enter_image p next image (facts_numbered images image)) sid i ∙ enter_texts p next image (facts_numbered images image) i
 change_texts images p pid sid borrowed next at (End status) i = unless_texts borrowed p sid i
 change_texts images p pid sid borrowed next at _ i = refl

@@ -36,7 +36,8 @@ apart a b e = grind (arith, nat_tests)
 parts : (p : Placement) (earlier : List ℕ) (pid : ℕ) (a : Starting) (more : List Starting) (owner : Owner)
     → wanted_lengths owner (start_asks p earlier pid (a ∷ more))
     ≡ wanted_lengths owner (text_asked (times a.image earlier) a.image (2 * length (slots_of p (Text a.image 0))))
-    ++ (wanted_lengths owner (wanted (owners.Data pid) (pieces (2 * data_pages_of a.facts))) ++ (wanted_lengths owner (wanted (owners.Stack pid) (pieces 2)) ++ (wanted_lengths owner (wanted (owners.U pid) (u_pieces 2)) ++ wanted_lengths owner (start_asks p (a.image ∷ earlier) (pid + 1) more))))
+    ++ (wanted_lengths owner (wanted (owners.Data pid) (pieces (2 * data_pages_of a.facts))) ++ (wanted_lengths owner (wanted (owners.Stack pid) (pieces 2))
+    ++ (wanted_lengths owner (wanted (owners.U pid) (u_pieces 2)) ++ wanted_lengths owner (start_asks p (a.image ∷ earlier) (pid + 1) more))))
 parts p earlier pid a more owner =
     let rest = start_asks p (a.image ∷ earlier) (pid + 1) more in
     let u = wanted (owners.U pid) (u_pieces 2) in
@@ -59,10 +60,14 @@ data_later : (p : Placement) (earlier : List ℕ) (pid : ℕ) (first : List Star
     → wanted_lengths (owners.Data t) (start_asks p earlier pid first) ≡ []
 data_later p earlier pid [] t l = refl
 data_later p earlier pid (a ∷ more) t l = parts p earlier pid a more (owners.Data t)
-    ∙ put_parts (wanted_lengths (owners.Data t) (text_asked (times a.image earlier) a.image (2 * length (slots_of p (Text a.image 0))))) (wanted_lengths (owners.Data t) (wanted (owners.Data pid) (pieces (2 * data_pages_of a.facts))))
-    (wanted_lengths (owners.Data t) (wanted (owners.Stack pid) (pieces 2))) (wanted_lengths (owners.Data t) (wanted (owners.U pid) (u_pieces 2))) (wanted_lengths (owners.Data t) (start_asks p (a.image ∷ earlier) (pid + 1) more)) [] [] [] [] []
-    (text_none (times a.image earlier) a.image (2 * length (slots_of p (Text a.image 0))) (owners.Data t) refl) (lengths_other (owners.Data pid) (owners.Data t) (pieces (2 * data_pages_of a.facts)) (ne_eqb pid t (λ e. absurd (omega arith))))
-    (lengths_other (owners.Stack pid) (owners.Data t) (pieces 2) refl) (lengths_other (owners.U pid) (owners.Data t) (u_pieces 2) refl) (data_later p (a.image ∷ earlier) (pid + 1) more t (omega arith))
+    ∙ put_parts (wanted_lengths (owners.Data t) (text_asked (times a.image earlier) a.image (2 * length (slots_of p (Text a.image 0)))))
+    (wanted_lengths (owners.Data t) (wanted (owners.Data pid) (pieces (2 * data_pages_of a.facts))))
+    (wanted_lengths (owners.Data t) (wanted (owners.Stack pid) (pieces 2))) (wanted_lengths (owners.Data t) (wanted (owners.U pid) (u_pieces 2)))
+    (wanted_lengths (owners.Data t) (start_asks p (a.image ∷ earlier) (pid + 1) more)) [] [] [] [] []
+    (text_none (times a.image earlier) a.image (2 * length (slots_of p (Text a.image 0))) (owners.Data t) refl)
+    (lengths_other (owners.Data pid) (owners.Data t) (pieces (2 * data_pages_of a.facts)) (ne_eqb pid t (λ e. absurd (omega arith))))
+    (lengths_other (owners.Stack pid) (owners.Data t) (pieces 2) refl) (lengths_other (owners.U pid) (owners.Data t) (u_pieces 2) refl)
+    (data_later p (a.image ∷ earlier) (pid + 1) more t (omega arith))
 
 data_asked : (p : Placement) (earlier : List ℕ) (pid : ℕ) (first : List Starting) (t : ℕ)
     → wanted_lengths (owners.Data t) (start_asks p earlier pid first) ≡ pieces (2 * length (data_in (numbered space_number t (spaces_from pid first))))
@@ -72,28 +77,39 @@ data_asked p earlier pid (a ∷ more) t = parts p earlier pid a more (owners.Dat
     rest : List ℕ
     rest = wanted_lengths (owners.Data t) (start_asks p (a.image ∷ earlier) (pid + 1) more)
 
-    with : (d r b f : List ℕ) → d ≡ b → r ≡ f → in_order (wanted_lengths (owners.Data t) (text_asked (times a.image earlier) a.image (2 * length (slots_of p (Text a.image 0))))) d (wanted_lengths (owners.Data t) (wanted (owners.Stack pid) (pieces 2))) (wanted_lengths (owners.Data t) (wanted (owners.U pid) (u_pieces 2))) r ≡ b ++ f
-    with d r b f x y = put_parts (wanted_lengths (owners.Data t) (text_asked (times a.image earlier) a.image (2 * length (slots_of p (Text a.image 0))))) d (wanted_lengths (owners.Data t) (wanted (owners.Stack pid) (pieces 2))) (wanted_lengths (owners.Data t) (wanted (owners.U pid) (u_pieces 2))) r [] b [] [] f
-        (text_none (times a.image earlier) a.image (2 * length (slots_of p (Text a.image 0))) (owners.Data t) refl) x (lengths_other (owners.Stack pid) (owners.Data t) (pieces 2) refl) (lengths_other (owners.U pid) (owners.Data t) (u_pieces 2) refl) y
+    with : (d r b f : List ℕ) → d ≡ b → r ≡ f → in_order (wanted_lengths (owners.Data t) (text_asked (times a.image earlier) a.image (2 * length (slots_of p (Text a.image 0))))) d
+        (wanted_lengths (owners.Data t) (wanted (owners.Stack pid) (pieces 2))) (wanted_lengths (owners.Data t) (wanted (owners.U pid) (u_pieces 2))) r ≡ b ++ f
+    with d r b f x y = put_parts (wanted_lengths (owners.Data t) (text_asked (times a.image earlier) a.image (2 * length (slots_of p (Text a.image 0))))) d
+        (wanted_lengths (owners.Data t) (wanted (owners.Stack pid) (pieces 2))) (wanted_lengths (owners.Data t) (wanted (owners.U pid) (u_pieces 2))) r [] b [] [] f
+        (text_none (times a.image earlier) a.image (2 * length (slots_of p (Text a.image 0))) (owners.Data t) refl) x (lengths_other (owners.Stack pid) (owners.Data t) (pieces 2) refl)
+        (lengths_other (owners.U pid) (owners.Data t) (u_pieces 2) refl) y
 
     own : List ℕ
     own = pieces (2 * data_pages_of a.facts)
 
     go : (b : Bool) → (pid == t) ≡ b → rest ≡ pieces (2 * length (data_in (numbered space_number t (spaces_from (pid + 1) more))))
-        → in_order (wanted_lengths (owners.Data t) (text_asked (times a.image earlier) a.image (2 * length (slots_of p (Text a.image 0))))) (wanted_lengths (owners.Data t) (wanted (owners.Data pid) own)) (wanted_lengths (owners.Data t) (wanted (owners.Stack pid) (pieces 2))) (wanted_lengths (owners.Data t) (wanted (owners.U pid) (u_pieces 2))) rest
+        → in_order (wanted_lengths (owners.Data t) (text_asked (times a.image earlier) a.image (2 * length (slots_of p (Text a.image 0))))) (wanted_lengths (owners.Data t)
+        (wanted (owners.Data pid) own)) (wanted_lengths (owners.Data t) (wanted (owners.Stack pid) (pieces 2))) (wanted_lengths (owners.Data t) (wanted (owners.U pid) (u_pieces 2))) rest
         ≡ pieces (2 * length (data_in (cond b (Some (Rattle.page_model.specs.Placement.new_pages pid a.image a.facts)) (numbered space_number t (spaces_from (pid + 1) more)))))
-    go true e ih = with (wanted_lengths (owners.Data t) (wanted (owners.Data pid) own)) rest own [] (subst (λ (n : ℕ). wanted_lengths (owners.Data n) (wanted (owners.Data pid) own) ≡ own) (eqb-true pid t e) (lengths_own (owners.Data pid) own))
-        (data_later p (a.image ∷ earlier) (pid + 1) more t (let k = eqb-true pid t e in omega arith)) ∙ append-nil own ∙ ap (λ (n : ℕ). pieces (2 * n)) (sym (unfilled_length a.facts 0 (data_pages_of a.facts)))
-    go false e ih = with (wanted_lengths (owners.Data t) (wanted (owners.Data pid) own)) rest [] (pieces (2 * length (data_in (numbered space_number t (spaces_from (pid + 1) more))))) (lengths_other (owners.Data pid) (owners.Data t) own e) ih
+    go true e ih = with (wanted_lengths (owners.Data t) (wanted (owners.Data pid) own)) rest own []
+        (subst (λ (n : ℕ). wanted_lengths (owners.Data n) (wanted (owners.Data pid) own) ≡ own) (eqb-true pid t e) (lengths_own (owners.Data pid) own))
+        (data_later p (a.image ∷ earlier) (pid + 1) more t (let k = eqb-true pid t e in omega arith)) ∙ append-nil own
+        ∙ ap (λ (n : ℕ). pieces (2 * n)) (sym (unfilled_length a.facts 0 (data_pages_of a.facts)))
+    go false e ih = with (wanted_lengths (owners.Data t) (wanted (owners.Data pid) own)) rest [] (pieces (2 * length (data_in (numbered space_number t (spaces_from (pid + 1) more)))))
+        (lengths_other (owners.Data pid) (owners.Data t) own e) ih
 
 stack_later : (p : Placement) (earlier : List ℕ) (pid : ℕ) (first : List Starting) (t : ℕ) → t < pid
     → wanted_lengths (owners.Stack t) (start_asks p earlier pid first) ≡ []
 stack_later p earlier pid [] t l = refl
 stack_later p earlier pid (a ∷ more) t l = parts p earlier pid a more (owners.Stack t)
-    ∙ put_parts (wanted_lengths (owners.Stack t) (text_asked (times a.image earlier) a.image (2 * length (slots_of p (Text a.image 0))))) (wanted_lengths (owners.Stack t) (wanted (owners.Data pid) (pieces (2 * data_pages_of a.facts))))
-    (wanted_lengths (owners.Stack t) (wanted (owners.Stack pid) (pieces 2))) (wanted_lengths (owners.Stack t) (wanted (owners.U pid) (u_pieces 2))) (wanted_lengths (owners.Stack t) (start_asks p (a.image ∷ earlier) (pid + 1) more)) [] [] [] [] []
-    (text_none (times a.image earlier) a.image (2 * length (slots_of p (Text a.image 0))) (owners.Stack t) refl) (lengths_other (owners.Data pid) (owners.Stack t) (pieces (2 * data_pages_of a.facts)) refl)
-    (lengths_other (owners.Stack pid) (owners.Stack t) (pieces 2) (ne_eqb pid t (λ e. absurd (omega arith)))) (lengths_other (owners.U pid) (owners.Stack t) (u_pieces 2) refl) (stack_later p (a.image ∷ earlier) (pid + 1) more t (omega arith))
+    ∙ put_parts (wanted_lengths (owners.Stack t) (text_asked (times a.image earlier) a.image (2 * length (slots_of p (Text a.image 0)))))
+    (wanted_lengths (owners.Stack t) (wanted (owners.Data pid) (pieces (2 * data_pages_of a.facts))))
+    (wanted_lengths (owners.Stack t) (wanted (owners.Stack pid) (pieces 2))) (wanted_lengths (owners.Stack t) (wanted (owners.U pid) (u_pieces 2)))
+    (wanted_lengths (owners.Stack t) (start_asks p (a.image ∷ earlier) (pid + 1) more)) [] [] [] [] []
+    (text_none (times a.image earlier) a.image (2 * length (slots_of p (Text a.image 0))) (owners.Stack t) refl)
+    (lengths_other (owners.Data pid) (owners.Stack t) (pieces (2 * data_pages_of a.facts)) refl)
+    (lengths_other (owners.Stack pid) (owners.Stack t) (pieces 2) (ne_eqb pid t (λ e. absurd (omega arith)))) (lengths_other (owners.U pid) (owners.Stack t) (u_pieces 2) refl)
+    (stack_later p (a.image ∷ earlier) (pid + 1) more t (omega arith))
 
 stack_asked : (p : Placement) (earlier : List ℕ) (pid : ℕ) (first : List Starting) (t : ℕ)
     → wanted_lengths (owners.Stack t) (start_asks p earlier pid first) ≡ pieces (2 * length (stack_in (numbered space_number t (spaces_from pid first))))
@@ -103,28 +119,38 @@ stack_asked p earlier pid (a ∷ more) t = parts p earlier pid a more (owners.St
     rest : List ℕ
     rest = wanted_lengths (owners.Stack t) (start_asks p (a.image ∷ earlier) (pid + 1) more)
 
-    with : (s r c f : List ℕ) → s ≡ c → r ≡ f → in_order (wanted_lengths (owners.Stack t) (text_asked (times a.image earlier) a.image (2 * length (slots_of p (Text a.image 0))))) (wanted_lengths (owners.Stack t) (wanted (owners.Data pid) (pieces (2 * data_pages_of a.facts)))) s (wanted_lengths (owners.Stack t) (wanted (owners.U pid) (u_pieces 2))) r ≡ c ++ f
-    with s r c f x y = put_parts (wanted_lengths (owners.Stack t) (text_asked (times a.image earlier) a.image (2 * length (slots_of p (Text a.image 0))))) (wanted_lengths (owners.Stack t) (wanted (owners.Data pid) (pieces (2 * data_pages_of a.facts)))) s (wanted_lengths (owners.Stack t) (wanted (owners.U pid) (u_pieces 2))) r [] [] c [] f
-        (text_none (times a.image earlier) a.image (2 * length (slots_of p (Text a.image 0))) (owners.Stack t) refl) (lengths_other (owners.Data pid) (owners.Stack t) (pieces (2 * data_pages_of a.facts)) refl) x (lengths_other (owners.U pid) (owners.Stack t) (u_pieces 2) refl) y
+    with : (s r c f : List ℕ) → s ≡ c → r ≡ f → in_order (wanted_lengths (owners.Stack t) (text_asked (times a.image earlier) a.image (2 * length (slots_of p (Text a.image 0)))))
+        (wanted_lengths (owners.Stack t) (wanted (owners.Data pid) (pieces (2 * data_pages_of a.facts)))) s (wanted_lengths (owners.Stack t) (wanted (owners.U pid) (u_pieces 2))) r ≡ c ++ f
+    with s r c f x y = put_parts (wanted_lengths (owners.Stack t) (text_asked (times a.image earlier) a.image (2 * length (slots_of p (Text a.image 0)))))
+        (wanted_lengths (owners.Stack t) (wanted (owners.Data pid) (pieces (2 * data_pages_of a.facts)))) s (wanted_lengths (owners.Stack t) (wanted (owners.U pid) (u_pieces 2))) r [] [] c [] f
+        (text_none (times a.image earlier) a.image (2 * length (slots_of p (Text a.image 0))) (owners.Stack t) refl)
+        (lengths_other (owners.Data pid) (owners.Stack t) (pieces (2 * data_pages_of a.facts)) refl) x (lengths_other (owners.U pid) (owners.Stack t) (u_pieces 2) refl) y
 
     own : List ℕ
     own = pieces 2
 
     go : (b : Bool) → (pid == t) ≡ b → rest ≡ pieces (2 * length (stack_in (numbered space_number t (spaces_from (pid + 1) more))))
-        → in_order (wanted_lengths (owners.Stack t) (text_asked (times a.image earlier) a.image (2 * length (slots_of p (Text a.image 0))))) (wanted_lengths (owners.Stack t) (wanted (owners.Data pid) (pieces (2 * data_pages_of a.facts)))) (wanted_lengths (owners.Stack t) (wanted (owners.Stack pid) own)) (wanted_lengths (owners.Stack t) (wanted (owners.U pid) (u_pieces 2))) rest
+        → in_order (wanted_lengths (owners.Stack t) (text_asked (times a.image earlier) a.image (2 * length (slots_of p (Text a.image 0)))))
+        (wanted_lengths (owners.Stack t) (wanted (owners.Data pid) (pieces (2 * data_pages_of a.facts)))) (wanted_lengths (owners.Stack t) (wanted (owners.Stack pid) own))
+        (wanted_lengths (owners.Stack t) (wanted (owners.U pid) (u_pieces 2))) rest
         ≡ pieces (2 * length (stack_in (cond b (Some (Rattle.page_model.specs.Placement.new_pages pid a.image a.facts)) (numbered space_number t (spaces_from (pid + 1) more)))))
-    go true e ih = with (wanted_lengths (owners.Stack t) (wanted (owners.Stack pid) own)) rest own [] (subst (λ (n : ℕ). wanted_lengths (owners.Stack n) (wanted (owners.Stack pid) own) ≡ own) (eqb-true pid t e) (lengths_own (owners.Stack pid) own))
+    go true e ih = with (wanted_lengths (owners.Stack t) (wanted (owners.Stack pid) own)) rest own []
+        (subst (λ (n : ℕ). wanted_lengths (owners.Stack n) (wanted (owners.Stack pid) own) ≡ own) (eqb-true pid t e) (lengths_own (owners.Stack pid) own))
         (stack_later p (a.image ∷ earlier) (pid + 1) more t (let k = eqb-true pid t e in omega arith)) ∙ append-nil own
-    go false e ih = with (wanted_lengths (owners.Stack t) (wanted (owners.Stack pid) own)) rest [] (pieces (2 * length (stack_in (numbered space_number t (spaces_from (pid + 1) more))))) (lengths_other (owners.Stack pid) (owners.Stack t) own e) ih
+    go false e ih = with (wanted_lengths (owners.Stack t) (wanted (owners.Stack pid) own)) rest [] (pieces (2 * length (stack_in (numbered space_number t (spaces_from (pid + 1) more)))))
+        (lengths_other (owners.Stack pid) (owners.Stack t) own e) ih
 
 u_later : (p : Placement) (earlier : List ℕ) (pid : ℕ) (first : List Starting) (t : ℕ) → t < pid
     → wanted_lengths (owners.U t) (start_asks p earlier pid first) ≡ []
 u_later p earlier pid [] t l = refl
 u_later p earlier pid (a ∷ more) t l = parts p earlier pid a more (owners.U t)
-    ∙ put_parts (wanted_lengths (owners.U t) (text_asked (times a.image earlier) a.image (2 * length (slots_of p (Text a.image 0))))) (wanted_lengths (owners.U t) (wanted (owners.Data pid) (pieces (2 * data_pages_of a.facts))))
-    (wanted_lengths (owners.U t) (wanted (owners.Stack pid) (pieces 2))) (wanted_lengths (owners.U t) (wanted (owners.U pid) (u_pieces 2))) (wanted_lengths (owners.U t) (start_asks p (a.image ∷ earlier) (pid + 1) more)) [] [] [] [] []
+    ∙ put_parts (wanted_lengths (owners.U t) (text_asked (times a.image earlier) a.image (2 * length (slots_of p (Text a.image 0)))))
+    (wanted_lengths (owners.U t) (wanted (owners.Data pid) (pieces (2 * data_pages_of a.facts))))
+    (wanted_lengths (owners.U t) (wanted (owners.Stack pid) (pieces 2))) (wanted_lengths (owners.U t) (wanted (owners.U pid) (u_pieces 2)))
+    (wanted_lengths (owners.U t) (start_asks p (a.image ∷ earlier) (pid + 1) more)) [] [] [] [] []
     (text_none (times a.image earlier) a.image (2 * length (slots_of p (Text a.image 0))) (owners.U t) refl) (lengths_other (owners.Data pid) (owners.U t) (pieces (2 * data_pages_of a.facts)) refl)
-    (lengths_other (owners.Stack pid) (owners.U t) (pieces 2) refl) (lengths_other (owners.U pid) (owners.U t) (u_pieces 2) (ne_eqb pid t (λ e. absurd (omega arith)))) (u_later p (a.image ∷ earlier) (pid + 1) more t (omega arith))
+    (lengths_other (owners.Stack pid) (owners.U t) (pieces 2) refl) (lengths_other (owners.U pid) (owners.U t) (u_pieces 2) (ne_eqb pid t (λ e. absurd (omega arith))))
+    (u_later p (a.image ∷ earlier) (pid + 1) more t (omega arith))
 
 u_asked : (p : Placement) (earlier : List ℕ) (pid : ℕ) (first : List Starting) (t : ℕ)
     → wanted_lengths (owners.U t) (start_asks p earlier pid first) ≡ u_pieces (u_blocks (is_started pid first t))
@@ -134,16 +160,24 @@ u_asked p earlier pid (a ∷ more) t = parts p earlier pid a more (owners.U t) �
     rest : List ℕ
     rest = wanted_lengths (owners.U t) (start_asks p (a.image ∷ earlier) (pid + 1) more)
 
-    with : (u r c f : List ℕ) → u ≡ c → r ≡ f → in_order (wanted_lengths (owners.U t) (text_asked (times a.image earlier) a.image (2 * length (slots_of p (Text a.image 0))))) (wanted_lengths (owners.U t) (wanted (owners.Data pid) (pieces (2 * data_pages_of a.facts)))) (wanted_lengths (owners.U t) (wanted (owners.Stack pid) (pieces 2))) u r ≡ c ++ f
-    with u r c f x y = put_parts (wanted_lengths (owners.U t) (text_asked (times a.image earlier) a.image (2 * length (slots_of p (Text a.image 0))))) (wanted_lengths (owners.U t) (wanted (owners.Data pid) (pieces (2 * data_pages_of a.facts)))) (wanted_lengths (owners.U t) (wanted (owners.Stack pid) (pieces 2))) u r [] [] [] c f
-        (text_none (times a.image earlier) a.image (2 * length (slots_of p (Text a.image 0))) (owners.U t) refl) (lengths_other (owners.Data pid) (owners.U t) (pieces (2 * data_pages_of a.facts)) refl) (lengths_other (owners.Stack pid) (owners.U t) (pieces 2) refl) x y
+    with : (u r c f : List ℕ) → u ≡ c → r ≡ f → in_order (wanted_lengths (owners.U t) (text_asked (times a.image earlier) a.image (2 * length (slots_of p (Text a.image 0)))))
+        (wanted_lengths (owners.U t) (wanted (owners.Data pid) (pieces (2 * data_pages_of a.facts)))) (wanted_lengths (owners.U t) (wanted (owners.Stack pid) (pieces 2))) u r ≡ c ++ f
+    with u r c f x y = put_parts (wanted_lengths (owners.U t) (text_asked (times a.image earlier) a.image (2 * length (slots_of p (Text a.image 0)))))
+        (wanted_lengths (owners.U t) (wanted (owners.Data pid) (pieces (2 * data_pages_of a.facts)))) (wanted_lengths (owners.U t) (wanted (owners.Stack pid) (pieces 2))) u r [] [] [] c f
+        (text_none (times a.image earlier) a.image (2 * length (slots_of p (Text a.image 0))) (owners.U t) refl)
+        (lengths_other (owners.Data pid) (owners.U t) (pieces (2 * data_pages_of a.facts)) refl) (lengths_other (owners.Stack pid) (owners.U t) (pieces 2) refl) x y
 
     go : (b : Bool) → (pid == t) ≡ b → rest ≡ u_pieces (u_blocks (is_started (pid + 1) more t))
-        → in_order (wanted_lengths (owners.U t) (text_asked (times a.image earlier) a.image (2 * length (slots_of p (Text a.image 0))))) (wanted_lengths (owners.U t) (wanted (owners.Data pid) (pieces (2 * data_pages_of a.facts)))) (wanted_lengths (owners.U t) (wanted (owners.Stack pid) (pieces 2))) (wanted_lengths (owners.U t) (wanted (owners.U pid) (u_pieces 2))) rest
+        → in_order (wanted_lengths (owners.U t) (text_asked (times a.image earlier) a.image (2 * length (slots_of p (Text a.image 0)))))
+        (wanted_lengths (owners.U t) (wanted (owners.Data pid) (pieces (2 * data_pages_of a.facts)))) (wanted_lengths (owners.U t) (wanted (owners.Stack pid) (pieces 2)))
+        (wanted_lengths (owners.U t) (wanted (owners.U pid) (u_pieces 2))) rest
         ≡ u_pieces (u_blocks (cond b true (is_started (pid + 1) more t)))
-    go true e ih = with (wanted_lengths (owners.U t) (wanted (owners.U pid) (u_pieces 2))) rest (u_pieces 2) [] (subst (λ (n : ℕ). wanted_lengths (owners.U n) (wanted (owners.U pid) (u_pieces 2)) ≡ u_pieces 2) (eqb-true pid t e) (lengths_own (owners.U pid) (u_pieces 2)))
+    go true e ih = with (wanted_lengths (owners.U t) (wanted (owners.U pid) (u_pieces 2))) rest (u_pieces 2) []
+        (subst (λ (n : ℕ). wanted_lengths (owners.U n) (wanted (owners.U pid) (u_pieces 2)) ≡ u_pieces 2) (eqb-true pid t e) (lengths_own (owners.U pid) (u_pieces 2)))
         (u_later p (a.image ∷ earlier) (pid + 1) more t (let k = eqb-true pid t e in omega arith))
-    go false e ih = with (wanted_lengths (owners.U t) (wanted (owners.U pid) (u_pieces 2))) rest [] (u_pieces (u_blocks (is_started (pid + 1) more t))) (lengths_other (owners.U pid) (owners.U t) (u_pieces 2) e) ih
+    go false e ih =
+        with (wanted_lengths (owners.U t) (wanted (owners.U pid) (u_pieces 2))) rest [] (u_pieces (u_blocks (is_started (pid + 1) more t)))
+        (lengths_other (owners.U pid) (owners.U t) (u_pieces 2) e) ih
 
 -- Text.
 
@@ -158,9 +192,12 @@ text_other earlier image i blocks (inl n) = text_none (times image earlier) imag
 text_other earlier image i blocks (inr l) = text_shared (times image earlier) image blocks (owners.Text i) l
 
 text_rest : (p : Placement) (earlier : List ℕ) (pid : ℕ) (a : Starting) (more : List Starting) (i : ℕ) (t r b f : List ℕ) → t ≡ b → r ≡ f
-    → in_order t (wanted_lengths (owners.Text i) (wanted (owners.Data pid) (pieces (2 * data_pages_of a.facts)))) (wanted_lengths (owners.Text i) (wanted (owners.Stack pid) (pieces 2))) (wanted_lengths (owners.Text i) (wanted (owners.U pid) (u_pieces 2))) r ≡ b ++ f
-text_rest p earlier pid a more i t r b f x y = put_parts t (wanted_lengths (owners.Text i) (wanted (owners.Data pid) (pieces (2 * data_pages_of a.facts)))) (wanted_lengths (owners.Text i) (wanted (owners.Stack pid) (pieces 2))) (wanted_lengths (owners.Text i) (wanted (owners.U pid) (u_pieces 2))) r b [] [] [] f
-    x (lengths_other (owners.Data pid) (owners.Text i) (pieces (2 * data_pages_of a.facts)) refl) (lengths_other (owners.Stack pid) (owners.Text i) (pieces 2) refl) (lengths_other (owners.U pid) (owners.Text i) (u_pieces 2) refl) y
+    → in_order t (wanted_lengths (owners.Text i) (wanted (owners.Data pid) (pieces (2 * data_pages_of a.facts))))
+    (wanted_lengths (owners.Text i) (wanted (owners.Stack pid) (pieces 2))) (wanted_lengths (owners.Text i) (wanted (owners.U pid) (u_pieces 2))) r ≡ b ++ f
+text_rest p earlier pid a more i t r b f x y = put_parts t (wanted_lengths (owners.Text i) (wanted (owners.Data pid) (pieces (2 * data_pages_of a.facts))))
+    (wanted_lengths (owners.Text i) (wanted (owners.Stack pid) (pieces 2))) (wanted_lengths (owners.Text i) (wanted (owners.U pid) (u_pieces 2))) r b [] [] [] f
+    x (lengths_other (owners.Data pid) (owners.Text i) (pieces (2 * data_pages_of a.facts)) refl) (lengths_other (owners.Stack pid) (owners.Text i) (pieces 2) refl)
+    (lengths_other (owners.U pid) (owners.Text i) (u_pieces 2) refl) y
 
 counted : (b : Bool) (n : ℕ) → n ≤ cond b 1 0 + n
 counted true n = omega arith
@@ -170,8 +207,10 @@ text_later : (p : Placement) (earlier : List ℕ) (pid : ℕ) (first : List Star
     → wanted_lengths (owners.Text i) (start_asks p earlier pid first) ≡ []
 text_later p earlier pid [] i l = refl
 text_later p earlier pid (a ∷ more) i l = parts p earlier pid a more (owners.Text i)
-    ∙ text_rest p earlier pid a more i (wanted_lengths (owners.Text i) (text_asked (times a.image earlier) a.image (2 * length (slots_of p (Text a.image 0))))) (wanted_lengths (owners.Text i) (start_asks p (a.image ∷ earlier) (pid + 1) more)) [] []
-    (text_other earlier a.image i (2 * length (slots_of p (Text a.image 0))) (go (a.image == i) refl)) (text_later p (a.image ∷ earlier) (pid + 1) more i (let k = counted (a.image == i) (times i earlier) in omega arith))
+    ∙ text_rest p earlier pid a more i (wanted_lengths (owners.Text i) (text_asked (times a.image earlier) a.image (2 * length (slots_of p (Text a.image 0)))))
+    (wanted_lengths (owners.Text i) (start_asks p (a.image ∷ earlier) (pid + 1) more)) [] []
+    (text_other earlier a.image i (2 * length (slots_of p (Text a.image 0))) (go (a.image == i) refl))
+    (text_later p (a.image ∷ earlier) (pid + 1) more i (let k = counted (a.image == i) (times i earlier) in omega arith))
   where
     go : (b : Bool) → (a.image == i) ≡ b → (a.image ≢ i) ⊎ (0 < times a.image earlier)
     go true e = inr (subst (λ (n : ℕ). 0 < times n earlier) (sym (eqb-true a.image i e)) l)
@@ -181,7 +220,8 @@ while_more : (n blocks : ℕ) → text_pieces blocks ≡ text_pieces_while (1 + 
 while_more n blocks = ap (λ (k : ℕ). text_pieces_while k blocks) (let z : suc n ≡ 1 + n = omega arith in z)
 
 text_all : (p : Placement) (earlier : List ℕ) (pid : ℕ) (first : List Starting) (i : ℕ) → times i earlier ≡ 0
-    → wanted_lengths (owners.Text i) (start_asks p earlier pid first) ≡ text_pieces_while (sharers_in i (spaces_from pid first)) (2 * length (slots_of p (Text i 0)))
+    → wanted_lengths (owners.Text i) (start_asks p earlier pid first)
+    ≡ text_pieces_while (sharers_in i (spaces_from pid first)) (2 * length (slots_of p (Text i 0)))
 text_all p earlier pid [] i z = refl
 text_all p earlier pid (a ∷ more) i z = parts p earlier pid a more (owners.Text i) ∙ go (a.image == i) refl (text_all p (a.image ∷ earlier) (pid + 1) more i)
   where
@@ -199,12 +239,14 @@ text_all p earlier pid (a ∷ more) i z = parts p earlier pid a more (owners.Tex
         ∙ ap (λ (n : ℕ). wanted_lengths (owners.Text i) (text_asked n i blocks)) z ∙ lengths_own (owners.Text i) (text_pieces blocks)
 
     go : (b : Bool) → (a.image == i) ≡ b → (times i (a.image ∷ earlier) ≡ 0 → rest ≡ text_pieces_while (sharers_in i (spaces_from (pid + 1) more)) blocks)
-        → in_order mine (wanted_lengths (owners.Text i) (wanted (owners.Data pid) (pieces (2 * data_pages_of a.facts)))) (wanted_lengths (owners.Text i) (wanted (owners.Stack pid) (pieces 2))) (wanted_lengths (owners.Text i) (wanted (owners.U pid) (u_pieces 2))) rest
+        → in_order mine (wanted_lengths (owners.Text i) (wanted (owners.Data pid) (pieces (2 * data_pages_of a.facts)))) (wanted_lengths (owners.Text i) (wanted (owners.Stack pid) (pieces 2)))
+        (wanted_lengths (owners.Text i) (wanted (owners.U pid) (u_pieces 2))) rest
         ≡ text_pieces_while (cond b 1 0 + sharers_in i (spaces_from (pid + 1) more)) blocks
     go true e ih = text_rest p earlier pid a more i mine rest (text_pieces blocks) [] (first_text (eqb-true a.image i e))
         (text_later p (a.image ∷ earlier) (pid + 1) more i (subst (λ (n : ℕ). 0 < times i (n ∷ earlier)) (sym (eqb-true a.image i e)) (let k = times_head i earlier in omega arith)))
         ∙ append-nil (text_pieces blocks) ∙ while_more (sharers_in i (spaces_from (pid + 1) more)) blocks
-    go false e ih = text_rest p earlier pid a more i mine rest [] (text_pieces_while (sharers_in i (spaces_from (pid + 1) more)) blocks) (text_other earlier a.image i (2 * length (slots_of p (Text a.image 0))) (inl (apart a.image i e)))
+    go false e ih = text_rest p earlier pid a more i mine rest [] (text_pieces_while (sharers_in i (spaces_from (pid + 1) more)) blocks)
+        (text_other earlier a.image i (2 * length (slots_of p (Text a.image 0))) (inl (apart a.image i e)))
         (ih (ap (λ (b : Bool). cond b 1 0 + times i earlier) e ∙ (let k : 0 + times i earlier ≡ 0 = omega arith in k)))
         ∙ ap (λ (n : ℕ). text_pieces_while n blocks) (let k : sharers_in i (spaces_from (pid + 1) more) ≡ 0 + sharers_in i (spaces_from (pid + 1) more) = omega arith in k)
 

@@ -55,7 +55,8 @@ lengths_both owner (v ∷ vs) ws = go (same_owner v.owner owner) (lengths_both o
 
 pub lengths_own : (owner : Owner) (ns : List ℕ) → wanted_lengths owner (wanted owner ns) ≡ ns
 lengths_own owner [] = refl
-lengths_own owner (n ∷ ns) = ap (λ (b : Bool). cond b (n ∷ wanted_lengths owner (wanted owner ns)) (wanted_lengths owner (wanted owner ns))) (same_owner_itself owner) ∙ ap (λ (ms : List ℕ). n ∷ ms) (lengths_own owner ns)
+lengths_own owner (n ∷ ns) =
+    ap (λ (b : Bool). cond b (n ∷ wanted_lengths owner (wanted owner ns)) (wanted_lengths owner (wanted owner ns))) (same_owner_itself owner) ∙ ap (λ (ms : List ℕ). n ∷ ms) (lengths_own owner ns)
 
 pub lengths_other : (owner other : Owner) (ns : List ℕ) → same_owner owner other ≡ false → wanted_lengths other (wanted owner ns) ≡ []
 lengths_other owner other [] d = refl
@@ -107,7 +108,8 @@ filter_back : (test : Proc → Bool) (ps : List Proc) (n : ℕ) → ((q : Proc) 
 filter_back test [] n h e = e
 filter_back test (q ∷ qs) n h e = go (test q) (q.pid == n) refl refl e (filter_back test qs n h)
   where
-    go : (b c : Bool) → test q ≡ b → (q.pid == n) ≡ c → lives (cond b (q ∷ filter test qs) (filter test qs)) n ≡ true → (lives (filter test qs) n ≡ true → lives qs n ≡ true) → lives_in (cond c (Some q) (find n qs)) ≡ true
+    go : (b c : Bool) → test q ≡ b → (q.pid == n) ≡ c → lives (cond b (q ∷ filter test qs) (filter test qs)) n ≡ true → (lives (filter test qs) n ≡ true → lives qs n ≡ true)
+        → lives_in (cond c (Some q) (find n qs)) ≡ true
     go true true x y l ih = sym (ap (λ (b : Bool). lives_in (cond b (Some q) (find n (filter test qs)))) y) ∙ l
     go true false x y l ih = ih (sym (ap (λ (b : Bool). lives_in (cond b (Some q) (find n (filter test qs)))) y) ∙ l)
     go false true x y l ih = absurd (let z : true ≡ false = sym (h q (eqb-true q.pid n y)) ∙ x in cc)
@@ -127,7 +129,8 @@ kept_back : (test : Proc → Bool) (ps : List Proc) (n : ℕ) → OneEach ps →
 kept_back test [] n o e = e
 kept_back test (q ∷ qs) n o e = go (test q) (q.pid == n) refl e (kept_back test qs n o.1)
   where
-    go : (b c : Bool) → (q.pid == n) ≡ c → lives (cond b (q ∷ filter test qs) (filter test qs)) n ≡ true → (lives (filter test qs) n ≡ true → lives qs n ≡ true) → lives_in (cond c (Some q) (find n qs)) ≡ true
+    go : (b c : Bool) → (q.pid == n) ≡ c → lives (cond b (q ∷ filter test qs) (filter test qs)) n ≡ true → (lives (filter test qs) n ≡ true → lives qs n ≡ true)
+        → lives_in (cond c (Some q) (find n qs)) ≡ true
     go true true y l ih = sym (ap (λ (b : Bool). lives_in (cond b (Some q) (find n (filter test qs)))) y) ∙ l
     go true false y l ih = ih (sym (ap (λ (b : Bool). lives_in (cond b (Some q) (find n (filter test qs)))) y) ∙ l)
     go false true y l ih = absurd (
@@ -170,7 +173,8 @@ left_back : (gone : Bool) (ps : List Proc) (p : Proc) (status n : ℕ) → lives
 left_back true ps p status n e = without_back ps p.pid n e
 left_back false ps p status n e = elim (cases_eq n p.pid) [
   | inl h ↦ absurd (let z : true ≡ false = sym e ∙ ap (lives (left_procs false ps p status)) h ∙ left_dead false ps p status in cc)
-  | inr d ↦ with_back_other (record p { life = Rattle.kernel_model.specs.Kernel.Ended status }) ps n d (sym (woken_lives (with_proc ps record p { life = Rattle.kernel_model.specs.Kernel.Ended status }) p.parent n) ∙ e)
+  | inr d ↦ with_back_other (record p { life = Rattle.kernel_model.specs.Kernel.Ended status }) ps n d
+      (sym (woken_lives (with_proc ps record p { life = Rattle.kernel_model.specs.Kernel.Ended status }) p.parent n) ∙ e)
 ]
 
 -- but for a child
@@ -219,7 +223,8 @@ absent_changed sid t change k (s ∷ ss) e = go (space_number s == t) (space_num
   where
     go : (b c : Bool) → (space_number s == sid) ≡ c → numbered space_number sid (cond b (change s ∷ ss) (s ∷ changed space_number t change ss)) ≡ None
         → (numbered space_number sid (changed space_number t change ss) ≡ None → numbered space_number sid ss ≡ None) → cond c (Some s) (numbered space_number sid ss) ≡ None
-    go true c x h ih = hit c (sym (ap (λ (n : ℕ). cond (n == sid) (Some (change s)) (numbered space_number sid ss)) (k s) ∙ ap (λ (b : Bool). cond b (Some (change s)) (numbered space_number sid ss)) x) ∙ h)
+    go true c x h ih =
+        hit c (sym (ap (λ (n : ℕ). cond (n == sid) (Some (change s)) (numbered space_number sid ss)) (k s) ∙ ap (λ (b : Bool). cond b (Some (change s)) (numbered space_number sid ss)) x) ∙ h)
       where
         hit : (c : Bool) → cond c (Some (change s)) (numbered space_number sid ss) ≡ None → cond c (Some s) (numbered space_number sid ss) ≡ None
         hit true z = absurd cc
@@ -294,7 +299,8 @@ nothing_asked : (k next : Kernel) → AtMost k.place next.place → Living k nex
 nothing_asked k next a l (owners.Data t) = none_further (data_count k.place t) (data_count next.place t) (a.of_data t)
 nothing_asked k next a l (owners.Stack t) = none_further (stack_count k.place t) (stack_count next.place t) (a.of_stack t)
 nothing_asked k next a l (owners.U n) = none_u (lives k.processes n) (lives next.processes n) (l n)
-nothing_asked k next a l (owners.Text i) = none_text (sharers k.place i) (sharers next.place i) (2 * length (slots_of k.place (Text i 0))) (2 * length (slots_of next.place (Text i 0))) (a.sharing i) (ap (λ (n : ℕ). 2 * n) (a.texts i))
+nothing_asked k next a l (owners.Text i) =
+    none_text (sharers k.place i) (sharers next.place i) (2 * length (slots_of k.place (Text i 0))) (2 * length (slots_of next.place (Text i 0))) (a.sharing i) (ap (λ (n : ℕ). 2 * n) (a.texts i))
 
 -- Growth and break.
 resize_asks : (k next : Kernel) (sid d s : ℕ) → HasSpace k.place sid → next.place ≡ resize k.place sid d s → Living k next
@@ -313,28 +319,39 @@ resize_asks k next sid d s h e l = by
     now : (data_count q sid ≡ d) × (stack_count q sid ≡ s)
     now = subst (λ (r : Placement). (data_count r sid ≡ d) × (stack_count r sid ≡ s)) (sym e) (resized_there p sid d s h)
 
-    parts : (owner : Owner) → wanted_lengths owner (change_asks [] p sid 0 (Resize d s)) ≡ wanted_lengths owner (further (owners.Data sid) (data_count p sid) d) ++ wanted_lengths owner (further (owners.Stack sid) (stack_count p sid) s)
+    parts : (owner : Owner) → wanted_lengths owner (change_asks [] p sid 0 (Resize d s))
+        ≡ wanted_lengths owner (further (owners.Data sid) (data_count p sid) d) ++ wanted_lengths owner (further (owners.Stack sid) (stack_count p sid) s)
     parts owner = lengths_both owner (further (owners.Data sid) (data_count p sid) d) (further (owners.Stack sid) (stack_count p sid) s)
 
     more : ℕ → ℕ → List ℕ
     more a b = drop (length (pieces (2 * a))) (pieces (2 * b))
 
     by : AsksFor k next (change_asks [] p sid 0 (Resize d s))
-    by (owners.Data t) = parts (owners.Data t) ∙ ap (λ (xs : List ℕ). wanted_lengths (owners.Data t) (further (owners.Data sid) (data_count p sid) d) ++ xs) (lengths_other (owners.Stack sid) (owners.Data t) (more (stack_count p sid) s) refl)
+    by (owners.Data t) = parts (owners.Data t)
+        ∙ ap (λ (xs : List ℕ). wanted_lengths (owners.Data t) (further (owners.Data sid) (data_count p sid) d) ++ xs)
+        (lengths_other (owners.Stack sid) (owners.Data t) (more (stack_count p sid) s) refl)
         ∙ append-nil (wanted_lengths (owners.Data t) (further (owners.Data sid) (data_count p sid) d)) ∙ elim (cases_eq t sid) [
           | inl i ↦ subst (λ (x : ℕ). wanted_lengths (owners.Data x) (further (owners.Data sid) (data_count p sid) d) ≡ more (data_count p x) (data_count q x)) (sym i)
               (lengths_own (owners.Data sid) (more (data_count p sid) d) ∙ ap (λ (n : ℕ). more (data_count p sid) n) (sym now.0))
-          | inr n ↦ lengths_other (owners.Data sid) (owners.Data t) (more (data_count p sid) d) (ne_eqb sid t (λ i. n (sym i))) ∙ none_further (data_count p t) (data_count q t) (let m = g.of_data t n in omega arith)
+          | inr n ↦ lengths_other (owners.Data sid) (owners.Data t) (more (data_count p sid) d) (ne_eqb sid t (λ i. n (sym i)))
+              ∙ none_further (data_count p t) (data_count q t) (let m = g.of_data t n in omega arith)
         ]
-    by (owners.Stack t) = parts (owners.Stack t) ∙ ap (λ (xs : List ℕ). xs ++ wanted_lengths (owners.Stack t) (further (owners.Stack sid) (stack_count p sid) s)) (lengths_other (owners.Data sid) (owners.Stack t) (more (data_count p sid) d) refl)
+    by (owners.Stack t) = parts (owners.Stack t)
+        ∙ ap (λ (xs : List ℕ). xs ++ wanted_lengths (owners.Stack t) (further (owners.Stack sid) (stack_count p sid) s))
+        (lengths_other (owners.Data sid) (owners.Stack t) (more (data_count p sid) d) refl)
         ∙ elim (cases_eq t sid) [
           | inl i ↦ subst (λ (x : ℕ). wanted_lengths (owners.Stack x) (further (owners.Stack sid) (stack_count p sid) s) ≡ more (stack_count p x) (stack_count q x)) (sym i)
               (lengths_own (owners.Stack sid) (more (stack_count p sid) s) ∙ ap (λ (n : ℕ). more (stack_count p sid) n) (sym now.1))
-          | inr n ↦ lengths_other (owners.Stack sid) (owners.Stack t) (more (stack_count p sid) s) (ne_eqb sid t (λ i. n (sym i))) ∙ none_further (stack_count p t) (stack_count q t) (let m = g.of_stack t n in omega arith)
+          | inr n ↦ lengths_other (owners.Stack sid) (owners.Stack t) (more (stack_count p sid) s) (ne_eqb sid t (λ i. n (sym i)))
+              ∙ none_further (stack_count p t) (stack_count q t) (let m = g.of_stack t n in omega arith)
         ]
-    by (owners.U n) = parts (owners.U n) ∙ nothing_with (wanted_lengths (owners.U n) (further (owners.Data sid) (data_count p sid) d)) (wanted_lengths (owners.U n) (further (owners.Stack sid) (stack_count p sid) s))
-        (lengths_other (owners.Data sid) (owners.U n) (more (data_count p sid) d) refl) (lengths_other (owners.Stack sid) (owners.U n) (more (stack_count p sid) s) refl) ∙ none_u (lives k.processes n) (lives next.processes n) (l n)
-    by (owners.Text i) = parts (owners.Text i) ∙ nothing_with (wanted_lengths (owners.Text i) (further (owners.Data sid) (data_count p sid) d)) (wanted_lengths (owners.Text i) (further (owners.Stack sid) (stack_count p sid) s))
+    by (owners.U n) =
+        parts (owners.U n)
+        ∙ nothing_with (wanted_lengths (owners.U n) (further (owners.Data sid) (data_count p sid) d)) (wanted_lengths (owners.U n) (further (owners.Stack sid) (stack_count p sid) s))
+        (lengths_other (owners.Data sid) (owners.U n) (more (data_count p sid) d) refl) (lengths_other (owners.Stack sid) (owners.U n) (more (stack_count p sid) s) refl)
+        ∙ none_u (lives k.processes n) (lives next.processes n) (l n)
+    by (owners.Text i) = parts (owners.Text i)
+        ∙ nothing_with (wanted_lengths (owners.Text i) (further (owners.Data sid) (data_count p sid) d)) (wanted_lengths (owners.Text i) (further (owners.Stack sid) (stack_count p sid) s))
         (lengths_other (owners.Data sid) (owners.Text i) (more (data_count p sid) d) refl) (lengths_other (owners.Stack sid) (owners.Text i) (more (stack_count p sid) s) refl)
         ∙ none_text (sharers p i) (sharers q i) (2 * length (slots_of p (Text i 0))) (2 * length (slots_of q (Text i 0))) (λ m. let z = g.sharing i in omega arith) (ap (λ (n : ℕ). 2 * n) (g.texts i))
 
@@ -400,14 +417,19 @@ fork_asks k next sid child_sid child new h e t dead live l = by
     shared : (i : ℕ) → 0 < sharers next.place i → 0 < sharers p i
     shared i m = sharers_added p x p.due i (λ (j : image_of p sid ≡ i). subst (λ (n : ℕ). 0 < sharers p n) j (has_sharer sid p.spaces h)) (subst (λ (ss : List SpacePages). 0 < sharers_in i ss) e m)
 
-    none_in : (owner : Owner) → same_owner (owners.Data child_sid) owner ≡ false → same_owner (owners.Stack child_sid) owner ≡ false → same_owner (owners.U child) owner ≡ false → wanted_lengths owner (change_asks [] p sid child_sid (Fork child)) ≡ []
-    none_in owner a b c = parts owner ∙ nothing_with (wanted_lengths owner (wanted (owners.Data child_sid) d)) (wanted_lengths owner (wanted (owners.Stack child_sid) s) ++ wanted_lengths owner (wanted (owners.U child) (u_pieces 2)))
+    none_in : (owner : Owner) → same_owner (owners.Data child_sid) owner ≡ false → same_owner (owners.Stack child_sid) owner ≡ false → same_owner (owners.U child) owner ≡ false
+        → wanted_lengths owner (change_asks [] p sid child_sid (Fork child)) ≡ []
+    none_in owner a b c = parts owner
+        ∙ nothing_with (wanted_lengths owner (wanted (owners.Data child_sid) d))
+        (wanted_lengths owner (wanted (owners.Stack child_sid) s) ++ wanted_lengths owner (wanted (owners.U child) (u_pieces 2)))
         (lengths_other (owners.Data child_sid) owner d a)
-        (nothing_with (wanted_lengths owner (wanted (owners.Stack child_sid) s)) (wanted_lengths owner (wanted (owners.U child) (u_pieces 2))) (lengths_other (owners.Stack child_sid) owner s b) (lengths_other (owners.U child) owner (u_pieces 2) c))
+        (nothing_with (wanted_lengths owner (wanted (owners.Stack child_sid) s)) (wanted_lengths owner (wanted (owners.U child) (u_pieces 2))) (lengths_other (owners.Stack child_sid) owner s b)
+        (lengths_other (owners.U child) owner (u_pieces 2) c))
 
     data_in_list : wanted_lengths (owners.Data child_sid) (change_asks [] p sid child_sid (Fork child)) ≡ d
     data_in_list = parts (owners.Data child_sid) ∙ ap₂ (λ (xs ys : List ℕ). xs ++ ys) (lengths_own (owners.Data child_sid) d)
-        (nothing_with (wanted_lengths (owners.Data child_sid) (wanted (owners.Stack child_sid) s)) (wanted_lengths (owners.Data child_sid) (wanted (owners.U child) (u_pieces 2))) (lengths_other (owners.Stack child_sid) (owners.Data child_sid) s refl) (lengths_other (owners.U child) (owners.Data child_sid) (u_pieces 2) refl)) ∙ append-nil d
+        (nothing_with (wanted_lengths (owners.Data child_sid) (wanted (owners.Stack child_sid) s)) (wanted_lengths (owners.Data child_sid) (wanted (owners.U child) (u_pieces 2)))
+        (lengths_other (owners.Stack child_sid) (owners.Data child_sid) s refl) (lengths_other (owners.U child) (owners.Data child_sid) (u_pieces 2) refl)) ∙ append-nil d
 
     stack_in_list : wanted_lengths (owners.Stack child_sid) (change_asks [] p sid child_sid (Fork child)) ≡ s
     stack_in_list = parts (owners.Stack child_sid) ∙ ap₂ (λ (xs ys : List ℕ). xs ++ ys) (lengths_other (owners.Data child_sid) (owners.Stack child_sid) d refl)
@@ -419,30 +441,39 @@ fork_asks k next sid child_sid child new h e t dead live l = by
 
     by : AsksFor k next (change_asks [] p sid child_sid (Fork child))
     by (owners.Data n) = elim (cases_eq n child_sid) [
-      | inl i ↦ subst (λ (y : ℕ). wanted_lengths (owners.Data y) (change_asks [] p sid child_sid (Fork child)) ≡ drop (length (pieces (2 * data_count p y))) (pieces (2 * data_count next.place y))) (sym i)
-          (data_in_list ∙ ap (λ (m : ℕ). pieces (2 * m)) (sym child_data) ∙ all_further (data_count p child_sid) (data_count next.place child_sid) (ap (λ (o : Option SpacePages). length (data_in o)) new))
+      | inl i ↦ subst (λ (y : ℕ). wanted_lengths (owners.Data y) (change_asks [] p sid child_sid (Fork child)) ≡ drop (length (pieces (2 * data_count p y))) (pieces (2 * data_count next.place y)))
+          (sym i)
+          (data_in_list ∙ ap (λ (m : ℕ). pieces (2 * m)) (sym child_data)
+          ∙ all_further (data_count p child_sid) (data_count next.place child_sid) (ap (λ (o : Option SpacePages). length (data_in o)) new))
       | inr m ↦ none_in (owners.Data n) (ne_eqb child_sid n (λ i. m (sym i))) refl refl ∙ none_further (data_count p n) (data_count next.place n) (let a = other_data n m in omega arith)
     ]
     by (owners.Stack n) = elim (cases_eq n child_sid) [
-      | inl i ↦ subst (λ (y : ℕ). wanted_lengths (owners.Stack y) (change_asks [] p sid child_sid (Fork child)) ≡ drop (length (pieces (2 * stack_count p y))) (pieces (2 * stack_count next.place y))) (sym i)
-          (stack_in_list ∙ ap (λ (m : ℕ). pieces (2 * m)) (sym child_stack) ∙ all_further (stack_count p child_sid) (stack_count next.place child_sid) (ap (λ (o : Option SpacePages). length (stack_in o)) new))
+      | inl i ↦ subst (λ (y : ℕ). wanted_lengths (owners.Stack y) (change_asks [] p sid child_sid (Fork child)) ≡ drop (length (pieces (2 * stack_count p y))) (pieces (2 * stack_count next.place y)))
+          (sym i)
+          (stack_in_list ∙ ap (λ (m : ℕ). pieces (2 * m)) (sym child_stack)
+          ∙ all_further (stack_count p child_sid) (stack_count next.place child_sid) (ap (λ (o : Option SpacePages). length (stack_in o)) new))
       | inr m ↦ none_in (owners.Stack n) refl (ne_eqb child_sid n (λ i. m (sym i))) refl ∙ none_further (stack_count p n) (stack_count next.place n) (let a = other_stack n m in omega arith)
     ]
     by (owners.U n) = elim (cases_eq n child) [
-      | inl i ↦ subst (λ (y : ℕ). wanted_lengths (owners.U y) (change_asks [] p sid child_sid (Fork child)) ≡ drop (length (u_pieces (u_blocks (lives k.processes y)))) (u_pieces (u_blocks (lives next.processes y)))) (sym i)
+      | inl i ↦ subst (λ (y : ℕ). wanted_lengths (owners.U y) (change_asks [] p sid child_sid (Fork child))
+          ≡ drop (length (u_pieces (u_blocks (lives k.processes y)))) (u_pieces (u_blocks (lives next.processes y)))) (sym i)
           (u_in_list ∙ new_u (lives k.processes child) (lives next.processes child) dead live)
       | inr m ↦ none_in (owners.U n) refl refl (ne_eqb child n (λ i. m (sym i))) ∙ none_u (lives k.processes n) (lives next.processes n) (l n m)
     ]
-    by (owners.Text i) = none_in (owners.Text i) refl refl refl ∙ none_text (sharers p i) (sharers next.place i) (2 * length (slots_of p (Text i 0))) (2 * length (slots_of next.place (Text i 0))) (shared i) (ap (λ (n : ℕ). 2 * n) (texts i))
+    by (owners.Text i) = none_in (owners.Text i) refl refl refl
+        ∙ none_text (sharers p i) (sharers next.place i) (2 * length (slots_of p (Text i 0))) (2 * length (slots_of next.place (Text i 0))) (shared i) (ap (λ (n : ℕ). 2 * n) (texts i))
 
 -- vfork wants the child's u page alone.
 lend_asks : (k next : Kernel) (sid next_sid child : ℕ) → AtMost k.place next.place → lives k.processes child ≡ false
     → lives next.processes child ≡ true → ((n : ℕ) → n ≢ child → lives next.processes n ≡ true → lives k.processes n ≡ true)
     → AsksFor k next (change_asks [] k.place sid next_sid (Lend child))
-lend_asks k next sid next_sid child a dead live l (owners.Data t) = lengths_other (owners.U child) (owners.Data t) (u_pieces 2) refl ∙ none_further (data_count k.place t) (data_count next.place t) (a.of_data t)
-lend_asks k next sid next_sid child a dead live l (owners.Stack t) = lengths_other (owners.U child) (owners.Stack t) (u_pieces 2) refl ∙ none_further (stack_count k.place t) (stack_count next.place t) (a.of_stack t)
+lend_asks k next sid next_sid child a dead live l (owners.Data t) =
+    lengths_other (owners.U child) (owners.Data t) (u_pieces 2) refl ∙ none_further (data_count k.place t) (data_count next.place t) (a.of_data t)
+lend_asks k next sid next_sid child a dead live l (owners.Stack t) =
+    lengths_other (owners.U child) (owners.Stack t) (u_pieces 2) refl ∙ none_further (stack_count k.place t) (stack_count next.place t) (a.of_stack t)
 lend_asks k next sid next_sid child a dead live l (owners.U n) = elim (cases_eq n child) [
-  | inl i ↦ subst (λ (y : ℕ). wanted_lengths (owners.U y) (wanted (owners.U child) (u_pieces 2)) ≡ drop (length (u_pieces (u_blocks (lives k.processes y)))) (u_pieces (u_blocks (lives next.processes y)))) (sym i)
+  | inl i ↦ subst (λ (y : ℕ). wanted_lengths (owners.U y) (wanted (owners.U child) (u_pieces 2))
+      ≡ drop (length (u_pieces (u_blocks (lives k.processes y)))) (u_pieces (u_blocks (lives next.processes y)))) (sym i)
       (lengths_own (owners.U child) (u_pieces 2) ∙ new_u (lives k.processes child) (lives next.processes child) dead live)
   | inr m ↦ lengths_other (owners.U child) (owners.U n) (u_pieces 2) (ne_eqb child n (λ i. m (sym i))) ∙ none_u (lives k.processes n) (lives next.processes n) (l n m)
 ]
@@ -524,7 +555,8 @@ text_own (suc n) b image blocks m l e = none_text (suc n) b blocks m (λ h. omeg
 
 pub exec_asks : (k next : Kernel) (image ns sid : ℕ) (borrowed : Bool) (facts : Image) → IsNew k.place ns → (borrowed ≡ false → ns ≢ sid)
     → next.place ≡ give_up_unless borrowed (enter_space k.place ns image facts) sid
-    → ((i : ℕ) → length (slots_of next.place (Text i 0)) ≡ length (slots_of k.place (Text i 0))) → Living k next → AsksFor k next (image_asked k.place ns image (Some facts))
+    → ((i : ℕ) → length (slots_of next.place (Text i 0)) ≡ length (slots_of k.place (Text i 0))) → Living k next
+    → AsksFor k next (image_asked k.place ns image (Some facts))
 exec_asks k next image ns sid borrowed facts new apart e texts l = by
   where
     p : Placement
@@ -552,11 +584,15 @@ exec_asks k next image ns sid borrowed facts new apart e texts l = by
     all = image_asked p ns image (Some facts)
 
     parts : (owner : Owner) → wanted_lengths owner all ≡ wanted_lengths owner t ++ (wanted_lengths owner (wanted (owners.Data ns) d) ++ wanted_lengths owner (wanted (owners.Stack ns) s))
-    parts owner = lengths_both owner t (wanted (owners.Data ns) d ++ wanted (owners.Stack ns) s) ∙ ap (λ (xs : List ℕ). wanted_lengths owner t ++ xs) (lengths_both owner (wanted (owners.Data ns) d) (wanted (owners.Stack ns) s))
+    parts owner = lengths_both owner t (wanted (owners.Data ns) d ++ wanted (owners.Stack ns) s)
+        ∙ ap (λ (xs : List ℕ). wanted_lengths owner t ++ xs) (lengths_both owner (wanted (owners.Data ns) d) (wanted (owners.Stack ns) s))
 
     none_in : (owner : Owner) → same_owner (owners.Text image) owner ≡ false → same_owner (owners.Data ns) owner ≡ false → same_owner (owners.Stack ns) owner ≡ false → wanted_lengths owner all ≡ []
-    none_in owner a b c = parts owner ∙ nothing_with (wanted_lengths owner t) (wanted_lengths owner (wanted (owners.Data ns) d) ++ wanted_lengths owner (wanted (owners.Stack ns) s)) (text_none (sharers p image) image blocks owner a)
-        (nothing_with (wanted_lengths owner (wanted (owners.Data ns) d)) (wanted_lengths owner (wanted (owners.Stack ns) s)) (lengths_other (owners.Data ns) owner d b) (lengths_other (owners.Stack ns) owner s c))
+    none_in owner a b c = parts owner
+        ∙ nothing_with (wanted_lengths owner t) (wanted_lengths owner (wanted (owners.Data ns) d) ++ wanted_lengths owner (wanted (owners.Stack ns) s))
+        (text_none (sharers p image) image blocks owner a)
+        (nothing_with (wanted_lengths owner (wanted (owners.Data ns) d)) (wanted_lengths owner (wanted (owners.Stack ns) s)) (lengths_other (owners.Data ns) owner d b)
+        (lengths_other (owners.Stack ns) owner s c))
 
     data_list : wanted_lengths (owners.Data ns) all ≡ d
     data_list = parts (owners.Data ns) ∙ ap₂ (λ (xs ys : List ℕ). xs ++ ys) (text_none (sharers p image) image blocks (owners.Data ns) refl)
@@ -568,11 +604,13 @@ exec_asks k next image ns sid borrowed facts new apart e texts l = by
 
     text_list : wanted_lengths (owners.Text image) all ≡ wanted_lengths (owners.Text image) t
     text_list = parts (owners.Text image) ∙ ap (λ (xs : List ℕ). wanted_lengths (owners.Text image) t ++ xs)
-        (nothing_with (wanted_lengths (owners.Text image) (wanted (owners.Data ns) d)) (wanted_lengths (owners.Text image) (wanted (owners.Stack ns) s)) (lengths_other (owners.Data ns) (owners.Text image) d refl) (lengths_other (owners.Stack ns) (owners.Text image) s refl))
+        (nothing_with (wanted_lengths (owners.Text image) (wanted (owners.Data ns) d)) (wanted_lengths (owners.Text image) (wanted (owners.Stack ns) s))
+        (lengths_other (owners.Data ns) (owners.Text image) d refl) (lengths_other (owners.Stack ns) (owners.Text image) s refl))
         ∙ append-nil (wanted_lengths (owners.Text image) t)
 
     new_data : data_count next.place ns ≡ data_pages_of facts
-    new_data = ap (λ (q : Placement). data_count q ns) e ∙ unless_data_same borrowed r sid ns apart ∙ ap (λ (o : Option SpacePages). length (data_in o)) (added_same ns p.spaces x refl new) ∙ unfilled_length facts 0 (data_pages_of facts)
+    new_data = ap (λ (q : Placement). data_count q ns) e ∙ unless_data_same borrowed r sid ns apart ∙ ap (λ (o : Option SpacePages). length (data_in o)) (added_same ns p.spaces x refl new)
+        ∙ unfilled_length facts 0 (data_pages_of facts)
 
     new_stack : stack_count next.place ns ≡ 1
     new_stack = ap (λ (q : Placement). stack_count q ns) e ∙ unless_stack_same borrowed r sid ns apart ∙ ap (λ (o : Option SpacePages). length (stack_in o)) (added_same ns p.spaces x refl new)
@@ -610,7 +648,8 @@ exec_asks k next image ns sid borrowed facts new apart e texts l = by
     ]
     by (owners.U n) = none_in (owners.U n) refl refl refl ∙ none_u (lives k.processes n) (lives next.processes n) (l n)
     by (owners.Text i) = elim (cases_eq i image) [
-      | inl j ↦ subst (λ (y : ℕ). wanted_lengths (owners.Text y) all ≡ drop (length (text_pieces_while (sharers p y) (2 * length (slots_of p (Text y 0))))) (text_pieces_while (sharers next.place y) (2 * length (slots_of next.place (Text y 0))))) (sym j)
+      | inl j ↦ subst (λ (y : ℕ). wanted_lengths (owners.Text y) all
+          ≡ drop (length (text_pieces_while (sharers p y) (2 * length (slots_of p (Text y 0))))) (text_pieces_while (sharers next.place y) (2 * length (slots_of next.place (Text y 0))))) (sym j)
           (text_list ∙ text_own (sharers p image) (sharers next.place image) image blocks (2 * length (slots_of next.place (Text image 0)))
           (subst (λ (q : Placement). 0 < sharers q image) (sym e) (entered_shared borrowed p x r.due sid apart)) (ap (λ (n : ℕ). 2 * n) (texts image)))
       | inr m ↦ none_in (owners.Text i) (ne_eqb image i (λ j. m (sym j))) refl refl
@@ -624,7 +663,8 @@ most_self p = record { of_data = λ t. omega arith; of_stack = λ t. omega arith
 
 change_asked : (images : List Image) (k : Kernel) (x : Proc) (e : Entry) (change : Change) → lives k.processes x.pid ≡ true
     → CanChange k.place (space_of_life x.life) (gave_back x.life) k.next_sid change
-    → MayAsk k.place k.processes (space_of_life x.life) (gave_back x.life) k.next_sid change → AsksFor k (change_by images k x e change) (change_asks images k.place (space_of_life x.life) k.next_sid change)
+    → MayAsk k.place k.processes (space_of_life x.life) (gave_back x.life) k.next_sid change
+    → AsksFor k (change_by images k x e change) (change_asks images k.place (space_of_life x.life) k.next_sid change)
 change_asked images k x e change a c m = go change c m
   where
     sid : ℕ
@@ -636,7 +676,8 @@ change_asked images k x e change a c m = go change c m
     at : ℕ
     at = length (append k.journal e)
 
-    back : (change : Change) → MayAsk k.place k.processes sid borrowed k.next_sid change → (n : ℕ) → (IsChild change n → ⊥) → lives (procs_after k.processes x k.next_sid change) n ≡ true → lives k.processes n ≡ true
+    back : (change : Change) → MayAsk k.place k.processes sid borrowed k.next_sid change → (n : ℕ) → (IsChild change n → ⊥) → lives (procs_after k.processes x k.next_sid change) n ≡ true
+        → lives k.processes n ≡ true
     back change m n h l = after_back k.processes x k.next_sid n change a (λ status i. subst (MayAsk k.place k.processes sid borrowed k.next_sid) i m) h l
 
     living : (change : Change) → MayAsk k.place k.processes sid borrowed k.next_sid change → ((n : ℕ) → IsChild change n → ⊥) → Living k (change_by images k x e change)
@@ -662,25 +703,30 @@ change_asked images k x e change a c m = go change c m
     born : (child : ℕ) (life : Life) → IsUnused k.processes child → has_life life ≡ true → lives (with_proc k.processes x ++ child_proc x child life ∷ []) child ≡ true
     born child life u h = last_lives (with_proc k.processes x) (child_proc x child life) (unused_with k.processes x child u) h
 
-    image : (number : ℕ) (top : List ℕ) (o : Option Image) → facts_numbered images number ≡ o → IsNew k.place k.next_sid → (borrowed ≡ false → k.next_sid ≢ sid) → AsksFor k (change_by images k x e (Exec number top)) (image_asked k.place k.next_sid number o)
-    image number top None f new apart = nothing_asked k (change_by images k x e (Exec number top)) (subst (AtMost k.place) (sym (ap (λ (o : Option Image). give_up_unless borrowed (enter_image k.place k.next_sid number o) sid) f)) (record {
-      of_data = unless_data borrowed k.place sid;
-      of_stack = unless_stack borrowed k.place sid;
-      texts = unless_most.texts;
-      sharing = λ i l. (let h = unless_sharers borrowed k.place sid i in omega arith);
-    })) (living (Exec number top) apart (λ n h. h))
+    image : (number : ℕ) (top : List ℕ) (o : Option Image) → facts_numbered images number ≡ o → IsNew k.place k.next_sid → (borrowed ≡ false → k.next_sid ≢ sid)
+        → AsksFor k (change_by images k x e (Exec number top)) (image_asked k.place k.next_sid number o)
+    image number top None f new apart = nothing_asked k (change_by images k x e (Exec number top))
+        (subst (AtMost k.place) (sym (ap (λ (o : Option Image). give_up_unless borrowed (enter_image k.place k.next_sid number o) sid) f)) (record {
+          of_data = unless_data borrowed k.place sid;
+          of_stack = unless_stack borrowed k.place sid;
+          texts = unless_most.texts;
+          sharing = λ i l. (let h = unless_sharers borrowed k.place sid i in omega arith);
+        })) (living (Exec number top) apart (λ n h. h))
     image number top (Some facts) f new apart = exec_asks k (change_by images k x e (Exec number top)) number k.next_sid sid borrowed facts new apart
         (ap (λ (o : Option Image). give_up_unless borrowed (enter_image k.place k.next_sid number o) sid) f) (texts (Exec number top)) (living (Exec number top) apart (λ n h. h))
 
-    go : (change : Change) → CanChange k.place sid borrowed k.next_sid change → MayAsk k.place k.processes sid borrowed k.next_sid change → AsksFor k (change_by images k x e change) (change_asks images k.place sid k.next_sid change)
+    go : (change : Change) → CanChange k.place sid borrowed k.next_sid change → MayAsk k.place k.processes sid borrowed k.next_sid change
+        → AsksFor k (change_by images k x e change) (change_asks images k.place sid k.next_sid change)
     go Keep c m = nothing_asked k (change_by images k x e Keep) (most_self k.place) (living Keep m (λ n h. h))
     go (Resize d s) c m = resize_asks k (change_by images k x e (Resize d s)) sid d s m refl (living (Resize d s) m (λ n h. h))
-    go (Fork child) c m = fork_asks k (change_by images k x e (Fork child)) sid k.next_sid child c m.0 refl refl (dead child m.1) (born child (HoldsSpace k.next_sid) m.1 refl) (λ n h l. back (Fork child) m n h l)
+    go (Fork child) c m =
+        fork_asks k (change_by images k x e (Fork child)) sid k.next_sid child c m.0 refl refl (dead child m.1) (born child (HoldsSpace k.next_sid) m.1 refl) (λ n h l. back (Fork child) m n h l)
     go (Lend child) c m = lend_asks k (change_by images k x e (Lend child)) sid k.next_sid child (lent_most child) (dead child m) (born child New m refl) (λ n h l. back (Lend child) m n h l)
     go (Exec number top) c m = image number top (facts_numbered images number) refl c.0 m
     go (Reap child) c m = nothing_asked k (change_by images k x e (Reap child)) (most_self k.place) (living (Reap child) m (λ n h. h))
     go Sleep c m = nothing_asked k (change_by images k x e Sleep) (most_self k.place) (living Sleep m (λ n h. h))
-    go (End status) c m = nothing_asked k (change_by images k x e (End status)) (record { of_data = unless_most.of_data; of_stack = unless_most.of_stack; texts = unless_most.texts; sharing = unless_most.sharing }) (living (End status) m (λ n h. h))
+    go (End status) c m = nothing_asked k (change_by images k x e (End status))
+        (record { of_data = unless_most.of_data; of_stack = unless_most.of_stack; texts = unless_most.texts; sharing = unless_most.sharing }) (living (End status) m (λ n h. h))
 
 -- The pieces that are asked for are those that a change takes.
 pub asked_for : (images : List Image) (k : Kernel) (pid : ℕ) (regs : Regs) (e : Entry) (change : Change) → MayChange images k pid change

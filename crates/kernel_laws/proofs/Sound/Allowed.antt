@@ -71,10 +71,13 @@ one_more sid (s ∷ ss) d n = go (s.sid == sid) refl n (one_more sid ss d.1)
 
     go : (b : Bool) → (s.sid == sid) ≡ b → (cond b (Some s) (numbered space_number sid ss) ≢ None)
         → ((numbered space_number sid ss ≢ None) → sharers_in (image_in (numbered space_number sid ss)) ss ≡ 1 + sharers_in (image_in (numbered space_number sid ss)) (rest_of sid ss))
-        → sharers_in (image_in (cond b (Some s) (numbered space_number sid ss))) (s ∷ ss) ≡ 1 + sharers_in (image_in (cond b (Some s) (numbered space_number sid ss))) (cond (not b) (s ∷ rest_of sid ss) (rest_of sid ss))
+        → sharers_in (image_in (cond b (Some s) (numbered space_number sid ss))) (s ∷ ss)
+        ≡ 1 + sharers_in (image_in (cond b (Some s) (numbered space_number sid ss))) (cond (not b) (s ∷ rest_of sid ss) (rest_of sid ss))
     go true e k ih = first (s.image == s.image) (sharers_in s.image ss) (sharers_in s.image (rest_of sid ss)) (eq-eqb s.image s.image refl)
         (absent_rest sid s.image ss (subst (λ (n : ℕ). IsAbsent n (map space_number ss)) (eqb-true s.sid sid e) d.0))
-    go false e k ih = later (s.image == image_in (numbered space_number sid ss)) (sharers_in (image_in (numbered space_number sid ss)) ss) (sharers_in (image_in (numbered space_number sid ss)) (rest_of sid ss)) (ih k)
+    go false e k ih =
+        later (s.image == image_in (numbered space_number sid ss)) (sharers_in (image_in (numbered space_number sid ss)) ss)
+        (sharers_in (image_in (numbered space_number sid ss)) (rest_of sid ss)) (ih k)
 
 -- a settled space has its text at rest where it is the last sharer
 settled_text : (p : Placement) (sid : ℕ) → OwnsFrames p → AllDistinct (map space_number p.spaces) → HasSpace p sid → is_settled p sid ≡ true
@@ -99,13 +102,15 @@ rest_more : (sid j : ℕ) (ss rs : List SpacePages) → sharers_in j (rest_of si
 rest_more sid j [] rs = omega arith
 rest_more sid j (s ∷ ss) rs = go (s.sid == sid) (rest_more sid j ss rs)
   where
-    go : (b : Bool) → sharers_in j (rest_of sid ss) ≤ sharers_in j (rest_of sid (ss ++ rs)) → sharers_in j (cond (not b) (s ∷ rest_of sid ss) (rest_of sid ss)) ≤ sharers_in j (cond (not b) (s ∷ rest_of sid (ss ++ rs)) (rest_of sid (ss ++ rs)))
+    go : (b : Bool) → sharers_in j (rest_of sid ss) ≤ sharers_in j (rest_of sid (ss ++ rs))
+        → sharers_in j (cond (not b) (s ∷ rest_of sid ss) (rest_of sid ss)) ≤ sharers_in j (cond (not b) (s ∷ rest_of sid (ss ++ rs)) (rest_of sid (ss ++ rs)))
     go true l = l
     go false l = omega arith
 
 -- and so once a new space is there
 exec_forgets : (p : Placement) (next image sid : ℕ) (facts : Option Image) → OwnsFrames p → AllDistinct (map space_number p.spaces)
-    → AllDistinct (map space_number (enter_image p next image facts).spaces) → HasSpace p sid → next ≢ sid → is_settled p sid ≡ true → CanForget (enter_image p next image facts) sid
+    → AllDistinct (map space_number (enter_image p next image facts).spaces) → HasSpace p sid → next ≢ sid → is_settled p sid ≡ true
+    → CanForget (enter_image p next image facts) sid
 exec_forgets p next image sid None o d f h n e = forgets p sid o d h e
 exec_forgets p next image sid (Some facts) o d f h n e =
     let x : SpacePages = new_pages next image facts in
@@ -137,7 +142,8 @@ can_by k sid borrowed _ o n r = tt
 forget_by : (images : List Image) (k : Kernel) (sid : ℕ) (borrowed : Bool) (change : Change) → OwnsFrames k.place → Numbered k
     → ReadySpace k.place sid borrowed change → MayForget images k.place sid borrowed k.next_sid change
 forget_by images k sid borrowed (Exec image top) o n r = λ e.
-    let f : Fine (k.next_sid + 1) (map space_number (enter_image k.place k.next_sid image (facts_numbered images image)).spaces) = enter_fine k.next_sid k.place image (facts_numbered images image) (fine_spaces k n) in
+    let f : Fine (k.next_sid + 1) (map space_number (enter_image k.place k.next_sid image (facts_numbered images image)).spaces) =
+    enter_fine k.next_sid k.place image (facts_numbered images image) (fine_spaces k n) in
     exec_forgets k.place k.next_sid image sid (facts_numbered images image) o n.spaces_differ f.differ (r e).0 (next_apart k sid n (r e).0) (r e).1
 forget_by images k sid borrowed (End status) o n r = λ e. forgets k.place sid o n.spaces_differ (r e).0 (r e).1
 forget_by images k sid borrowed _ o n r = tt
@@ -167,7 +173,8 @@ wants_these k pid change n r =
 
 -- A sound machine, a process that is ready, and pieces that were found: the machine is sound after the change.
 pub ready_sound : (size : ℕ) (images : List Image) (k : Kernel) (before : Holdings) (pid : ℕ) (regs : Regs) (e : Entry) (change : Change)
-    → Sound size (record k { holdings = before }) → Numbered k → ReadyFor k pid change → place_all size before (asked images k pid change) ≡ Ok k.holdings → Sound size (change_step images k pid regs e change)
+    → Sound size (record k { holdings = before }) → Numbered k → ReadyFor k pid change → place_all size before (asked images k pid change) ≡ Ok k.holdings
+    → Sound size (change_step images k pid regs e change)
 ready_sound size images k before pid regs e change s n r f =
     let o : OneOwner size (lives k.processes) k.place before = s.owner in
     let m = may_change images k pid change o.frames n r in
@@ -191,5 +198,6 @@ first_below n (a ∷ more) = (
 )
 
 pub start_numbers : (images : List Image) (first : List Starting) (frames : ℕ)
-    → AllDistinct (map space_number (start_placement images first frames).spaces) × AllBelow (1 + length first) (map space_number (start_placement images first frames).spaces)
+    → AllDistinct (map space_number (start_placement images first frames).spaces)
+    × AllBelow (1 + length first) (map space_number (start_placement images first frames).spaces)
 start_numbers images first frames = (first_differ 1 first, first_below 1 first)

@@ -52,12 +52,14 @@ begin_asked k found image name facts new unused = by
     own : AsksFor k spaces (image_pieces k.place pid image facts)
     own = exec_asks k spaces image pid 0 true facts new (λ z. absurd cc) refl (λ i. refl) (λ n a. a)
 
-    both : (owner : Owner) → wanted_lengths owner (begin_asks k.place pid image facts) ≡ wanted_lengths owner (image_pieces k.place pid image facts) ++ wanted_lengths owner (wanted (owners.U pid) (u_pieces 2))
+    both : (owner : Owner)
+        → wanted_lengths owner (begin_asks k.place pid image facts) ≡ wanted_lengths owner (image_pieces k.place pid image facts) ++ wanted_lengths owner (wanted (owners.U pid) (u_pieces 2))
     both owner = lengths_both owner (image_pieces k.place pid image facts) (wanted (owners.U pid) (u_pieces 2))
 
     -- of another owner than the u page
     other : (owner : Owner) → same_owner (owners.U pid) owner ≡ false → wanted_lengths owner (begin_asks k.place pid image facts) ≡ drop (length (needed k owner)) (needed spaces owner)
-    other owner d = both owner ∙ ap (λ (xs : List ℕ). wanted_lengths owner (image_pieces k.place pid image facts) ++ xs) (lengths_other (owners.U pid) owner (u_pieces 2) d) ∙ append-nil (wanted_lengths owner (image_pieces k.place pid image facts)) ∙ own owner
+    other owner d = both owner ∙ ap (λ (xs : List ℕ). wanted_lengths owner (image_pieces k.place pid image facts) ++ xs) (lengths_other (owners.U pid) owner (u_pieces 2) d)
+        ∙ append-nil (wanted_lengths owner (image_pieces k.place pid image facts)) ∙ own owner
 
     none : (n : ℕ) → wanted_lengths (owners.U n) (image_pieces k.place pid image facts) ≡ []
     none n = own (owners.U n) ∙ drop_past (length (needed k (owners.U n))) (needed k (owners.U n)) (omega arith)
@@ -70,10 +72,23 @@ begin_asked k found image name facts new unused = by
     by (owners.Stack n) = other (owners.Stack n) refl
     by (owners.Text i) = other (owners.Text i) refl
     by (owners.U n) = both (owners.U n) ∙ ap (λ (xs : List ℕ). xs ++ wanted_lengths (owners.U n) (wanted (owners.U pid) (u_pieces 2))) (none n) ∙ elim (cases_eq n pid) [
-      | inl i ↦ subst (λ (y : ℕ). wanted_lengths (owners.U y) (wanted (owners.U pid) (u_pieces 2)) ≡ drop (length (u_pieces (u_blocks (lives k.processes y)))) (u_pieces (u_blocks (lives l.processes y)))) (sym i)
-          (lengths_own (owners.U pid) (u_pieces 2) ∙ new_u (lives k.processes pid) (lives l.processes pid) dead (last_lives k.processes (record { pid = pid; parent = 0; regs = Rattle.flat_state.specs.Flat.start_regs facts.entry (name ∷ []); life = Rattle.kernel_model.specs.Kernel.HoldsSpace pid; asleep = false }) unused refl))
+      | inl i ↦ subst (λ (y : ℕ). wanted_lengths (owners.U y) (wanted (owners.U pid) (u_pieces 2))
+          ≡ drop (length (u_pieces (u_blocks (lives k.processes y)))) (u_pieces (u_blocks (lives l.processes y)))) (sym i)
+          (lengths_own (owners.U pid) (u_pieces 2) ∙ new_u (lives k.processes pid) (lives l.processes pid) dead (last_lives k.processes (record {
+            pid = pid;
+            parent = 0;
+            regs = Rattle.flat_state.specs.Flat.start_regs facts.entry (name ∷ []);
+            life = Rattle.kernel_model.specs.Kernel.HoldsSpace pid;
+            asleep = false;
+          }) unused refl))
       | inr m ↦ lengths_other (owners.U pid) (owners.U n) (u_pieces 2) (differs pid n (λ i. m (sym i))) ∙ none_u (lives k.processes n) (lives l.processes n)
-          (append_back k.processes (record { pid = pid; parent = 0; regs = Rattle.flat_state.specs.Flat.start_regs facts.entry (name ∷ []); life = Rattle.kernel_model.specs.Kernel.HoldsSpace pid; asleep = false }) n m)
+          (append_back k.processes (record {
+            pid = pid;
+            parent = 0;
+            regs = Rattle.flat_state.specs.Flat.start_regs facts.entry (name ∷ []);
+            life = Rattle.kernel_model.specs.Kernel.HoldsSpace pid;
+            asleep = false;
+          }) n m)
     ]
 
 pub begin_sound : (size : ℕ) (k : Kernel) (found : Holdings) (image : ℕ) (name : List ℕ) (facts : Image) → Sound size k → Numbered k → k.next_sid ≡ k.next_pid
@@ -93,10 +108,24 @@ begin_sound size k found image name facts s n e pieces =
     record {
       owner = one_owner size (lives l.processes) l.place found
           (let f : OwnsFrames (enter_space k.place pid image facts) = enter_space_owner k.place pid image facts o.frames new in
-          record { once = f.once; frames = f.frames; names = f.names; named = f.named; listed = λ g q a b. let i = f.listed g q a b in record { state = i.state; clean = i.clean }; moves = f.moves; dirty = f.dirty })
+          record {
+            once = f.once;
+            frames = f.frames;
+            names = f.names;
+            named = f.named;
+            listed = λ g q a b. let i = f.listed g q a b in record { state = i.state; clean = i.clean };
+            moves = f.moves;
+            dirty = f.dirty;
+          })
           (owns_from size (lives l.processes) l.place found (let b = taken.book in record { pieces = b.pieces; apart = b.apart })
           (grows_fits k.place l.place found grows (taken_fits size with l taken (λ i. refl)))
-          (λ m. taken_u size with l m taken ∙ u_some (lives k.processes m) (lives l.processes m) (append_alive k.processes (record { pid = pid; parent = 0; regs = Rattle.flat_state.specs.Flat.start_regs facts.entry (name ∷ []); life = Rattle.kernel_model.specs.Kernel.HoldsSpace pid; asleep = false } ∷ []) m)))
+          (λ m. taken_u size with l m taken ∙ u_some (lives k.processes m) (lives l.processes m) (append_alive k.processes (record {
+            pid = pid;
+            parent = 0;
+            regs = Rattle.flat_state.specs.Flat.start_regs facts.entry (name ∷ []);
+            life = Rattle.kernel_model.specs.Kernel.HoldsSpace pid;
+            asleep = false;
+          } ∷ []) m)))
           (λ i v z. let a = add_aside k.place (new_pages pid image facts) l.place.due o.aside i v z in record { unsaved = a.unsaved; rests = a.rests });
       tokens = s.tokens;
       hands = hands_stand k.place l.place (record { front = refl; back = refl; frames = refl }) s.hands;

@@ -75,7 +75,8 @@ pub filter_alive : (test : Proc → Bool) (ps : List Proc) (n : ℕ) → ((q : P
 filter_alive test [] n h e = e
 filter_alive test (q ∷ qs) n h e = go (test q) (q.pid == n) refl refl e (filter_alive test qs n h)
   where
-    go : (b c : Bool) → test q ≡ b → (q.pid == n) ≡ c → lives_in (cond c (Some q) (find n qs)) ≡ true → (lives qs n ≡ true → lives (filter test qs) n ≡ true) → lives (cond b (q ∷ filter test qs) (filter test qs)) n ≡ true
+    go : (b c : Bool) → test q ≡ b → (q.pid == n) ≡ c → lives_in (cond c (Some q) (find n qs)) ≡ true → (lives qs n ≡ true → lives (filter test qs) n ≡ true)
+        → lives (cond b (q ∷ filter test qs) (filter test qs)) n ≡ true
     go true true x y l ih = ap (λ (b : Bool). lives_in (cond b (Some q) (find n (filter test qs)))) y ∙ l
     go true false x y l ih = ap (λ (b : Bool). lives_in (cond b (Some q) (find n (filter test qs)))) y ∙ ih l
     go false true x y l ih = absurd (let z : true ≡ false = sym (h q (eqb-true q.pid n y) l) ∙ x in cc)
@@ -115,7 +116,8 @@ without_dead (q ∷ qs) pid = go (q.pid == pid) refl (without_dead qs pid)
     go false x ih = ap (λ (b : Bool). lives_in (cond b (Some q) (find pid (without_proc qs pid)))) x ∙ ih
 
 orphan_alive : (ps : List Proc) (pid n : ℕ) → lives ps n ≡ true → lives (orphaned_procs ps pid) n ≡ true
-orphan_alive ps pid n e = map_alive (λ (q : Proc). record q { parent = cond (q.parent == pid) 0 q.parent }) (filter (λ (q : Proc). not ((q.parent == pid) && is_ended q.life)) ps) n (λ q. refl) (λ q i l. l)
+orphan_alive ps pid n e =
+    map_alive (λ (q : Proc). record q { parent = cond (q.parent == pid) 0 q.parent }) (filter (λ (q : Proc). not ((q.parent == pid) && is_ended q.life)) ps) n (λ q. refl) (λ q i l. l)
     (filter_alive (λ (q : Proc). not ((q.parent == pid) && is_ended q.life)) ps n (λ q i l. live q.life (q.parent == pid) l) e)
   where
     live : (life : Life) (b : Bool) → has_life life ≡ true → not (b && is_ended life) ≡ true
@@ -136,7 +138,8 @@ left_alive false ps p status n d e = woken_lives (with_proc ps record p { life =
 
 pub left_dead : (gone : Bool) (ps : List Proc) (p : Proc) (status : ℕ) → lives (left_procs gone ps p status) p.pid ≡ false
 left_dead true ps p status = without_dead ps p.pid
-left_dead false ps p status = woken_lives (with_proc ps record p { life = Ended status }) p.parent p.pid ∙ map_dead (λ (q : Proc). cond (q.pid == p.pid) (record p { life = Ended status }) q) ps p.pid (with_number (record p { life = Ended status })) (λ q i. go q (q.pid == p.pid) (eq-eqb q.pid p.pid i))
+left_dead false ps p status = woken_lives (with_proc ps record p { life = Ended status }) p.parent p.pid ∙ map_dead (λ (q : Proc). cond (q.pid == p.pid) (record p { life = Ended status }) q) ps p.pid
+    (with_number (record p { life = Ended status })) (λ q i. go q (q.pid == p.pid) (eq-eqb q.pid p.pid i))
   where
     go : (q : Proc) (b : Bool) → b ≡ true → has_life (cond b (record p { life = Ended status }) q).life ≡ false
     go q true e = refl
@@ -164,7 +167,8 @@ after_alive ps p next n _ h r l e = with_alive p ps n h e
 
 u_kept : (ps : List Proc) (p : Proc) (next : ℕ) (hs : Holdings) (change : Change) (n : ℕ) → (p.pid ≡ n → lives ps n ≡ true → has_life p.life ≡ true)
     → MayReap ps change → Lasts p change n
-    → lengths (owners.U n) hs ≡ u_pieces (u_blocks (lives ps n || lives (procs_after ps p next change) n)) → lengths (owners.U n) hs ≡ u_pieces (u_blocks (lives (procs_after ps p next change) n))
+    → lengths (owners.U n) hs ≡ u_pieces (u_blocks (lives ps n || lives (procs_after ps p next change) n))
+    → lengths (owners.U n) hs ≡ u_pieces (u_blocks (lives (procs_after ps p next change) n))
 u_kept ps p next hs change n h r l e = e ∙ u_some (lives ps n) (lives (procs_after ps p next change) n) (λ a. after_alive ps p next n change (λ k. h k a) r l a)
 
 u_after : (ps : List Proc) (x : Proc) (next : ℕ) (hs : Holdings) (p q : Placement) (sid : ℕ) (borrowed : Bool) (change : Change)
@@ -179,7 +183,8 @@ u_after ps x next hs p q sid borrowed (End status) h r u n =
     elim (cases_eq n x.pid) [
       | inl e ↦ subst (λ (m : ℕ). lengths (owners.U m) (kept (owners.U x.pid) 0 rest) ≡ u_pieces (u_blocks (lives (procs_after ps x next (End status)) m))) (sym e)
           (own_left (owners.U x.pid) rest ∙ ap (λ (b : Bool). u_pieces (u_blocks b)) (sym (left_dead (x.parent == 0) (orphaned_procs ps x.pid) x status)))
-      | inr d ↦ other_left (owners.U x.pid) (owners.U n) 0 rest (ne_eqb x.pid n (λ k. d (sym k))) ∙ unless_u hs borrowed sid (image_of p sid) (sharers q (image_of p sid)) n ∙ u_kept ps x next hs (End status) n (h n) r d (u n)
+      | inr d ↦ other_left (owners.U x.pid) (owners.U n) 0 rest (ne_eqb x.pid n (λ k. d (sym k))) ∙ unless_u hs borrowed sid (image_of p sid) (sharers q (image_of p sid)) n
+          ∙ u_kept ps x next hs (End status) n (h n) r d (u n)
     ]
 u_after ps x next hs p q sid borrowed y h r u n = u_kept ps x next hs y n (h n) r tt (u n)
 
@@ -241,7 +246,8 @@ give_up_unhanded p sid =
     let d : Placement = drop_all p (pages_of_space p sid) in
     let u : Unhanded p d = drop_all_unhanded (pages_of_space p sid) p in
     let h : SameHands p d = u.hands in
-    unhanded_both p (remove_space d sid) (give_up p sid) (record { hands = record { front = h.front; back = h.back; frames = h.frames }; transfers = u.transfers }) (text_unhanded (remove_space d sid) (image_of p sid))
+    unhanded_both p (remove_space d sid) (give_up p sid) (record { hands = record { front = h.front; back = h.back; frames = h.frames }; transfers = u.transfers })
+    (text_unhanded (remove_space d sid) (image_of p sid))
 
 unless_unhanded : (borrowed : Bool) (p : Placement) (sid : ℕ) → Unhanded p (give_up_unless borrowed p sid)
 unless_unhanded true p sid = unhanded_self p
@@ -256,7 +262,8 @@ pub change_unhanded : (images : List Image) (p : Placement) (pid sid : ℕ) (bor
 change_unhanded images p pid sid borrowed next at (Resize d s) = resize_unhanded p sid d s
 change_unhanded images p pid sid borrowed next at (Fork child) = record { hands = record { front = refl; back = refl; frames = refl }; transfers = refl }
 change_unhanded images p pid sid borrowed next at (Lend child) = record { hands = record { front = refl; back = refl; frames = refl }; transfers = refl }
-change_unhanded images p pid sid borrowed next at (Exec image top) = unhanded_both p (enter_image p next image (facts_numbered images image)) (place_change images p pid sid borrowed next at (Exec image top))
+change_unhanded images p pid sid borrowed next at (Exec image top) =
+    unhanded_both p (enter_image p next image (facts_numbered images image)) (place_change images p pid sid borrowed next at (Exec image top))
     (enter_unhanded p next image (facts_numbered images image)) (unless_unhanded borrowed (enter_image p next image (facts_numbered images image)) sid)
 change_unhanded images p pid sid borrowed next at (End status) =
     let u : Unhanded p (give_up_unless borrowed p sid) = unless_unhanded borrowed p sid in
@@ -277,7 +284,8 @@ pub taken_fits : (size : ℕ) (k next : Kernel) → HasTaken size k next
 taken_fits size k next t e = record {
   of_data = λ sid. t.taken (owners.Data sid) ∙ both_pieces (data_count k.place sid) (data_count next.place sid);
   of_stack = λ sid. t.taken (owners.Stack sid) ∙ both_pieces (stack_count k.place sid) (stack_count next.place sid);
-  of_text = λ i. t.taken (owners.Text i) ∙ both_while (sharers k.place i) (sharers next.place i) (2 * length (slots_of k.place (Text i 0))) (2 * length (slots_of next.place (Text i 0))) (ap (λ (n : ℕ). 2 * n) (e i));
+  of_text = λ i. t.taken (owners.Text i)
+      ∙ both_while (sharers k.place i) (sharers next.place i) (2 * length (slots_of k.place (Text i 0))) (2 * length (slots_of next.place (Text i 0))) (ap (λ (n : ℕ). 2 * n) (e i));
 }
 
 pub taken_u : (size : ℕ) (k next : Kernel) (n : ℕ) → HasTaken size k next
@@ -287,7 +295,8 @@ taken_u size k next n t = t.taken (owners.U n) ∙ both_u (lives k.processes n) 
 change_sound : (size : ℕ) (images : List Image) (k : Kernel) (before : Holdings) (x : Proc) (e : Entry) (change : Change)
     → ((n : ℕ) → x.pid ≡ n → lives k.processes n ≡ true → has_life x.life ≡ true)
     → Sound size (record k { holdings = before }) → HasTaken size k (change_by images k x e change)
-    → CanChange k.place (space_of_life x.life) (gave_back x.life) k.next_sid change → MayForget images k.place (space_of_life x.life) (gave_back x.life) k.next_sid change → MayReap k.processes change
+    → CanChange k.place (space_of_life x.life) (gave_back x.life) k.next_sid change
+    → MayForget images k.place (space_of_life x.life) (gave_back x.life) k.next_sid change → MayReap k.processes change
     → Sound size (change_by images k x e change)
 change_sound size images k before x e change h s t c m r =
     let o : OneOwner size (lives k.processes) k.place before = s.owner in
@@ -302,9 +311,12 @@ change_sound size images k before x e change h s t c m r =
           (place_change_owner images k.place x.pid sid borrowed k.next_sid at change o.frames c)
           (owns_from size (lives (procs_after k.processes x k.next_sid change)) (place_change images k.place x.pid sid borrowed k.next_sid at change)
           (holdings_after k.holdings k.place (place_change images k.place x.pid sid borrowed k.next_sid at change) x.pid sid borrowed change)
-          (after_apart size k.holdings k.place (place_change images k.place x.pid sid borrowed k.next_sid at change) x.pid sid borrowed change (record { pieces = t.book.pieces; apart = t.book.apart }))
-          (change_fits images k.place x.pid sid borrowed k.next_sid at change k.holdings c m (taken_fits size k (change_by images k x e change) t (change_texts images k.place x.pid sid borrowed k.next_sid at change)))
-          (u_after k.processes x k.next_sid k.holdings k.place (place_change images k.place x.pid sid borrowed k.next_sid at change) sid borrowed change h r (λ n. taken_u size k (change_by images k x e change) n t)))
+          (after_apart size k.holdings k.place (place_change images k.place x.pid sid borrowed k.next_sid at change) x.pid sid borrowed change
+          (record { pieces = t.book.pieces; apart = t.book.apart }))
+          (change_fits images k.place x.pid sid borrowed k.next_sid at change k.holdings c m
+          (taken_fits size k (change_by images k x e change) t (change_texts images k.place x.pid sid borrowed k.next_sid at change)))
+          (u_after k.processes x k.next_sid k.holdings k.place (place_change images k.place x.pid sid borrowed k.next_sid at change) sid borrowed change h r
+          (λ n. taken_u size k (change_by images k x e change) n t)))
           (place_change_aside images k.place x.pid sid borrowed k.next_sid at change o.aside m);
       tokens = s.tokens ∙ sym w.frames;
       hands = hands_stand k.place (place_change images k.place x.pid sid borrowed k.next_sid at change) w s.hands;
@@ -328,11 +340,13 @@ still_sound size k before s t =
 
 -- A change of a process keeps the machine sound.
 pub flat_sound : (size : ℕ) (images : List Image) (k : Kernel) (before : Holdings) (pid : ℕ) (regs : Regs) (e : Entry) (change : Change)
-    → Sound size (record k { holdings = before }) → HasTaken size k (change_step images k pid regs e change) → MayChange images k pid change → Sound size (change_step images k pid regs e change)
+    → Sound size (record k { holdings = before }) → HasTaken size k (change_step images k pid regs e change) → MayChange images k pid change
+    → Sound size (change_step images k pid regs e change)
 flat_sound size images k before pid regs e change s t m = go (find pid k.processes) refl t m.can m.forgets
   where
     go : (o : Option Proc) → find pid k.processes ≡ o → HasTaken size k (change_if images k regs e change o)
-        → CanChange k.place (space_of_life (life_of_proc o)) (gave_back (life_of_proc o)) k.next_sid change → MayForget images k.place (space_of_life (life_of_proc o)) (gave_back (life_of_proc o)) k.next_sid change
+        → CanChange k.place (space_of_life (life_of_proc o)) (gave_back (life_of_proc o)) k.next_sid change
+        → MayForget images k.place (space_of_life (life_of_proc o)) (gave_back (life_of_proc o)) k.next_sid change
         → Sound size (change_if images k regs e change o)
     go None f t c w = still_sound size k before s t
     go (Some p) f t c w = change_sound size images k before (record p { regs = regs }) e change alive s t c w m.reaps

@@ -46,7 +46,8 @@ changed_numbers : (n : ℕ) (change : SpacePages → SpacePages) → ((s : Space
 changed_numbers n change k [] = refl
 changed_numbers n change k (s ∷ ss) = go (space_number s == n) (changed_numbers n change k ss)
   where
-    go : (b : Bool) → map space_number (changed space_number n change ss) ≡ map space_number ss → map space_number (cond b (change s ∷ ss) (s ∷ changed space_number n change ss)) ≡ map space_number (s ∷ ss)
+    go : (b : Bool) → map space_number (changed space_number n change ss) ≡ map space_number ss
+        → map space_number (cond b (change s ∷ ss) (s ∷ changed space_number n change ss)) ≡ map space_number (s ∷ ss)
     go true ih = ap (λ (m : ℕ). m ∷ map space_number ss) (k s)
     go false ih = ap (λ (ms : List ℕ). space_number s ∷ ms) ih
 
@@ -147,7 +148,8 @@ change_fine images p pid sid borrowed n at (Fork child) f = add_fine n p (record
   data_pages = map Rattle.page_model.specs.Place.child_slot (Rattle.page_model.specs.Placement.slots_of p (Data sid 0));
   stack_pages = map Rattle.page_model.specs.Place.child_slot (Rattle.page_model.specs.Placement.slots_of p (Stack sid 0));
 }) refl f
-change_fine images p pid sid borrowed n at (Exec image top) f = unless_fine borrowed (n + 1) (enter_image p n image (facts_numbered images image)) sid (enter_fine n p image (facts_numbered images image) f)
+change_fine images p pid sid borrowed n at (Exec image top) f =
+    unless_fine borrowed (n + 1) (enter_image p n image (facts_numbered images image)) sid (enter_fine n p image (facts_numbered images image) f)
 change_fine images p pid sid borrowed n at (End status) f = unless_fine borrowed n p sid f
 change_fine images p pid sid borrowed n at _ f = f
 
@@ -178,7 +180,8 @@ orphan_fine n ps pid f = map_fine n (λ (q : Proc). record q { parent = cond (q.
 
 left_fine : (n : ℕ) (gone : Bool) (ps : List Proc) (p : Proc) (status : ℕ) → Fine n (pids ps) → Fine n (pids (left_procs gone ps p status))
 left_fine n true ps p status f = without_fine n ps p.pid f
-left_fine n false ps p status f = map_fine n (λ (q : Proc). record q { asleep = cond (q.pid == p.parent) false q.asleep }) (with_proc ps record p { life = Ended status }) (λ q. refl) (with_fine n ps record p { life = Ended status } f)
+left_fine n false ps p status f = map_fine n (λ (q : Proc). record q { asleep = cond (q.pid == p.parent) false q.asleep }) (with_proc ps record p { life = Ended status }) (λ q. refl)
+    (with_fine n ps record p { life = Ended status } f)
 
 procs_fine : (n : ℕ) (ps : List Proc) (x : Proc) (next : ℕ) (k : Kernel) (change : Change) → k.next_pid ≡ n → TakesNext k change → Fine n (pids ps)
     → Fine (Rattle.kernel_model.specs.ChangeStep.pid_after n change) (pids (procs_after ps x next change))
@@ -211,7 +214,8 @@ plain_numbered k locked e n =
 paged_numbered : (k l : Kernel) (e : Entry) → l.next_sid ≡ k.next_sid → l.next_pid ≡ k.next_pid → l.processes ≡ k.processes
     → l.place ≡ place_entry [] 0 k.place e → Numbered k → Numbered l
 paged_numbered k l e s p ps is n = numbered_from l
-    (subst (λ (m : ℕ). FineSpaces m l.place) (sym s) (subst (FineSpaces k.next_sid) (sym is) (same_fine k.next_sid k.place (place_entry [] 0 k.place e) (entry_numbers [] 0 k.place e) (fine_spaces k n))))
+    (subst (λ (m : ℕ). FineSpaces m l.place) (sym s)
+    (subst (FineSpaces k.next_sid) (sym is) (same_fine k.next_sid k.place (place_entry [] 0 k.place e) (entry_numbers [] 0 k.place e) (fine_spaces k n))))
     (subst (λ (m : ℕ). Fine m (pids l.processes)) (sym p) (subst (λ (xs : List Proc). Fine k.next_pid (pids xs)) (sym ps) (fine_pids k n)))
     (each_resides k l (λ m a. ap (λ (xs : List Proc). lives xs m) (sym ps) ∙ a) (λ m h. subst (λ (q : Placement). IsResident q m) (sym is) (entry_resides [] 0 k.place e m h)) n.residents)
 
@@ -226,7 +230,8 @@ done_numbered k read n = paged_numbered k (done_step k read) entries.Done refl r
 
 pub write_numbered : (k : Kernel) (q : Page) (f at byte : ℕ) → Numbered k → Numbered (write_step k q f at byte)
 write_numbered k q f at byte n = numbered_from (write_step k q f at byte) (same_fine k.next_sid k.place (touch k.place q) (touch_kept numbers_by_puts k.place q) (fine_spaces k n)) (fine_pids k n)
-    (each_resides k (write_step k q f at byte) (λ m a. a) (λ m h. let x : Shaped k.place (touch k.place q) = touch_shaped k.place q in resides k.place.residents (touch k.place q).residents m x.residents h) n.residents)
+    (each_resides k (write_step k q f at byte) (λ m a. a)
+    (λ m h. let x : Shaped k.place (touch k.place q) = touch_shaped k.place q in resides k.place.residents (touch k.place q).residents m x.residents h) n.residents)
 
 pub note_numbered : (k : Kernel) (e : Entry) → Numbered k → Numbered (note_step k e)
 note_numbered k e n = numbered_from (note_step k e) (fine_spaces k n) (fine_pids k n) n.residents

@@ -49,20 +49,29 @@ moved_none : (pid n : ℕ) (out : Bool) (at : ℕ) (rs : List Residence)
 moved_none pid n out at [] e = refl
 moved_none pid n out at (r ∷ rs) e = go (r.pid == pid) (r.pid == n) refl e (moved_none pid n out at rs)
   where
-    go : (b c : Bool) → (r.pid == n) ≡ c → numbered here n (cond b ((let x : Residence = record r { out = out; since = at } in x) ∷ rs) (r ∷ changed here pid (λ (r : Residence). record r { out = out; since = at }) rs)) ≡ None
+    go : (b c : Bool) → (r.pid == n) ≡ c
+        → numbered here n (cond b ((let x : Residence = record r { out = out; since = at } in x) ∷ rs) (r ∷ changed here pid (λ (r : Residence). record r { out = out; since = at }) rs)) ≡ None
         → (numbered here n (changed here pid (λ (r : Residence). record r { out = out; since = at }) rs) ≡ None → numbered here n rs ≡ None) → cond c (Some r) (numbered here n rs) ≡ None
-    go true true i z ih = absurd (let y : Some (let x : Residence = record r { out = out; since = at } in x) ≡ None = sym (ap (λ (c : Bool). cond c (Some (let x : Residence = record r { out = out; since = at } in x)) (numbered here n rs)) i) ∙ z in cc)
+    go true true i z ih = absurd (let y : Some (let x : Residence = record r { out = out; since = at } in x) ≡ None =
+        sym (ap (λ (c : Bool). cond c (Some (let x : Residence = record r { out = out; since = at } in x)) (numbered here n rs)) i) ∙ z in cc)
     go true false i z ih = sym (ap (λ (c : Bool). cond c (Some (let x : Residence = record r { out = out; since = at } in x)) (numbered here n rs)) i) ∙ z
-    go false true i z ih = absurd (let y : Some r ≡ None = sym (ap (λ (c : Bool). cond c (Some r) (numbered here n (changed here pid (λ (r : Residence). record r { out = out; since = at }) rs))) i) ∙ z in cc)
+    go false true i z ih =
+        absurd (let y : Some r ≡ None = sym (ap (λ (c : Bool). cond c (Some r) (numbered here n (changed here pid (λ (r : Residence). record r { out = out; since = at }) rs))) i) ∙ z in cc)
     go false false i z ih = ih (sym (ap (λ (c : Bool). cond c (Some r) (numbered here n (changed here pid (λ (r : Residence). record r { out = out; since = at }) rs))) i) ∙ z)
 
 pub entry_resides : (lk : List Page) (at : ℕ) (p : Placement) (e : Entry) (n : ℕ) → IsResident p n → IsResident (place_entry lk at p e) n
-entry_resides lk at p (entries.Zero q) n h = let x : Shaped p (place_entry lk at p (entries.Zero q)) = filled_shaped p q in resides p.residents (place_entry lk at p (entries.Zero q)).residents n x.residents h
-entry_resides lk at p (entries.Copy q) n h = let x : Shaped p (place_entry lk at p (entries.Copy q)) = filled_shaped p q in resides p.residents (place_entry lk at p (entries.Copy q)).residents n x.residents h
-entry_resides lk at p (entries.Get q lo m) n h = let x : Shaped p (place_entry lk at p (entries.Get q lo m)) = get_run_shaped p (read_errand p q) (pages_from q lo m) in resides p.residents (place_entry lk at p (entries.Get q lo m)).residents n x.residents h
-entry_resides lk at p (entries.Reclaim q) n h = let x : Shaped p (place_entry lk at p (entries.Reclaim q)) = reclaim_shaped p q in resides p.residents (place_entry lk at p (entries.Reclaim q)).residents n x.residents h
-entry_resides lk at p (entries.Hands m) n h = let x : Shaped p (place_entry lk at p (entries.Hands m)) = moves_shaped m p lk in resides p.residents (place_entry lk at p (entries.Hands m)).residents n x.residents h
-entry_resides lk at p (entries.Put q m) n h = let x : Shaped p (place_entry lk at p (entries.Put q m)) = put_step_shaped p q (pages_from q (number_of q) m) in resides p.residents (place_entry lk at p (entries.Put q m)).residents n x.residents h
+entry_resides lk at p (entries.Zero q) n h =
+    let x : Shaped p (place_entry lk at p (entries.Zero q)) = filled_shaped p q in resides p.residents (place_entry lk at p (entries.Zero q)).residents n x.residents h
+entry_resides lk at p (entries.Copy q) n h =
+    let x : Shaped p (place_entry lk at p (entries.Copy q)) = filled_shaped p q in resides p.residents (place_entry lk at p (entries.Copy q)).residents n x.residents h
+entry_resides lk at p (entries.Get q lo m) n h = let x : Shaped p (place_entry lk at p (entries.Get q lo m)) =
+    get_run_shaped p (read_errand p q) (pages_from q lo m) in resides p.residents (place_entry lk at p (entries.Get q lo m)).residents n x.residents h
+entry_resides lk at p (entries.Reclaim q) n h =
+    let x : Shaped p (place_entry lk at p (entries.Reclaim q)) = reclaim_shaped p q in resides p.residents (place_entry lk at p (entries.Reclaim q)).residents n x.residents h
+entry_resides lk at p (entries.Hands m) n h =
+    let x : Shaped p (place_entry lk at p (entries.Hands m)) = moves_shaped m p lk in resides p.residents (place_entry lk at p (entries.Hands m)).residents n x.residents h
+entry_resides lk at p (entries.Put q m) n h = let x : Shaped p (place_entry lk at p (entries.Put q m)) =
+    put_step_shaped p q (pages_from q (number_of q) m) in resides p.residents (place_entry lk at p (entries.Put q m)).residents n x.residents h
 entry_resides lk at p entries.Done n h = let x : Shaped p (place_entry lk at p entries.Done) = done_shaped p in resides p.residents (place_entry lk at p entries.Done).residents n x.residents h
 entry_resides lk at p (entries.SwapOut pid) n h = λ z. h (moved_none pid n true at p.residents z)
 entry_resides lk at p (entries.SwapIn pid) n h = λ z. h (moved_none pid n false at p.residents z)
@@ -90,7 +99,8 @@ pushed_old [] x n e = (refl, go (x.pid == n) refl e)
     go false i z = i
 pushed_old (r ∷ rs) x n e = go (r.pid == n) e (pushed_old rs x n)
   where
-    go : (b : Bool) → cond b (Some r) (numbered here n (rs ++ x ∷ [])) ≡ None → (numbered here n (rs ++ x ∷ []) ≡ None → (numbered here n rs ≡ None) × ((x.pid == n) ≡ false)) → (cond b (Some r) (numbered here n rs) ≡ None) × ((x.pid == n) ≡ false)
+    go : (b : Bool) → cond b (Some r) (numbered here n (rs ++ x ∷ [])) ≡ None → (numbered here n (rs ++ x ∷ []) ≡ None → (numbered here n rs ≡ None) × ((x.pid == n) ≡ false))
+        → (cond b (Some r) (numbered here n rs) ≡ None) × ((x.pid == n) ≡ false)
     go true z ih = absurd cc
     go false z ih = ih z
 
@@ -104,7 +114,8 @@ ended_none : (rs : List Residence) (pid n : ℕ) → n ≢ pid → numbered here
 ended_none [] pid n d e = refl
 ended_none (r ∷ rs) pid n d e = go (r.pid == pid) (r.pid == n) refl refl e (ended_none rs pid n d)
   where
-    go : (b c : Bool) → (r.pid == pid) ≡ b → (r.pid == n) ≡ c → numbered here n (cond (not b) (r ∷ filter (λ (r : Residence). not (r.pid == pid)) rs) (filter (λ (r : Residence). not (r.pid == pid)) rs)) ≡ None
+    go : (b c : Bool) → (r.pid == pid) ≡ b → (r.pid == n) ≡ c
+        → numbered here n (cond (not b) (r ∷ filter (λ (r : Residence). not (r.pid == pid)) rs) (filter (λ (r : Residence). not (r.pid == pid)) rs)) ≡ None
         → (numbered here n (filter (λ (r : Residence). not (r.pid == pid)) rs) ≡ None → numbered here n rs ≡ None) → cond c (Some r) (numbered here n rs) ≡ None
     go true true i k z ih = absurd (d (sym (eqb-true r.pid n k) ∙ eqb-true r.pid pid i))
     go true false i k z ih = ih z
@@ -120,7 +131,8 @@ Lasting change pid n = Unit {0}
 change_resides : (images : List Image) (p : Placement) (pid sid : ℕ) (b : Bool) (next at : ℕ) (change : Change) (n : ℕ)
     → IsChild change n ⊎ (IsResident p n × Lasting change pid n)
     → IsResident (place_change images p pid sid b next at change) n
-change_resides images p pid sid b next at (Resize d s) n (inr h) = let sh : Shaped p (drop_all p (dropped_pages p sid d s)) = drop_all_shaped (dropped_pages p sid d s) p in resides p.residents (place_change images p pid sid b next at (Resize d s)).residents n sh.residents h.0
+change_resides images p pid sid b next at (Resize d s) n (inr h) = let sh : Shaped p (drop_all p (dropped_pages p sid d s)) =
+    drop_all_shaped (dropped_pages p sid d s) p in resides p.residents (place_change images p pid sid b next at (Resize d s)).residents n sh.residents h.0
 change_resides images p pid sid b next at (Fork child) n (inl c) = begun p.residents child at n (inl c)
 change_resides images p pid sid b next at (Fork child) n (inr h) = begun p.residents child at n (inr h.0)
 change_resides images p pid sid b next at (Lend child) n (inl c) = begun p.residents child at n (inl c)
@@ -149,7 +161,8 @@ child_or (Lend child) n = cases_eq n child
 child_or _ n = inr (λ z. z)
 
 lasting : (ps : List Proc) (x : Proc) (next n : ℕ) (change : Change) → lives (procs_after ps x next change) n ≡ true → Lasting change x.pid n
-lasting ps x next n (End status) e = λ h. absurd (let z : true ≡ false = sym e ∙ ap (lives (left_procs (x.parent == 0) (orphaned_procs ps x.pid) x status)) h ∙ left_dead (x.parent == 0) (orphaned_procs ps x.pid) x status in cc)
+lasting ps x next n (End status) e =
+    λ h. absurd (let z : true ≡ false = sym e ∙ ap (lives (left_procs (x.parent == 0) (orphaned_procs ps x.pid) x status)) h ∙ left_dead (x.parent == 0) (orphaned_procs ps x.pid) x status in cc)
 lasting ps x next n _ e = tt
 
 -- who lives after a change is a child, or lived before and lasts
@@ -164,10 +177,11 @@ lived ps x next n change a o e = elim (child_or change n) [
 pub change_reside : (images : List Image) (k : Kernel) (x : Proc) (e : Entry) (change : Change) → lives k.processes x.pid ≡ true
     → AllDistinct (map (λ (p : Proc). p.pid) k.processes) → EachResides k
     → EachResides (change_by images k x e change)
-change_reside images k x e change a d r = λ n l. change_resides images k.place x.pid (space_of_life x.life) (gave_back x.life) k.next_sid (length (append k.journal e)) change n (elim (lived k.processes x k.next_sid n change a (one_each k.processes d) l) [
-  | inl c ↦ inl c
-  | inr h ↦ inr (r n h.0, h.1)
-])
+change_reside images k x e change a d r = λ n l. change_resides images k.place x.pid (space_of_life x.life) (gave_back x.life) k.next_sid (length (append k.journal e)) change n
+    (elim (lived k.processes x k.next_sid n change a (one_each k.processes d) l) [
+      | inl c ↦ inl c
+      | inr h ↦ inr (r n h.0, h.1)
+    ])
 
 -- The start.
 
@@ -175,6 +189,7 @@ pub started_in : (k n : ℕ) (first : List Starting) → is_started k first n �
 started_in k n [] e = absurd cc
 started_in k n (a ∷ more) e = go (k == n) e (started_in (k + 1) n more)
   where
-    go : (b : Bool) → cond b true (is_started (k + 1) more n) ≡ true → (is_started (k + 1) more n ≡ true → numbered here n (residents_from (k + 1) more) ≢ None) → cond b (Some (let r : Residence = record { pid = k; out = false; since = 0 } in r)) (numbered here n (residents_from (k + 1) more)) ≢ None
+    go : (b : Bool) → cond b true (is_started (k + 1) more n) ≡ true → (is_started (k + 1) more n ≡ true → numbered here n (residents_from (k + 1) more) ≢ None)
+        → cond b (Some (let r : Residence = record { pid = k; out = false; since = 0 } in r)) (numbered here n (residents_from (k + 1) more)) ≢ None
     go true x ih = λ z. cc
     go false x ih = ih x

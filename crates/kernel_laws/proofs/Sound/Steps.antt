@@ -91,7 +91,8 @@ landed_length (t ∷ ts) read frames = go t.errand
 -- The end of a transfer, whatever was read.
 pub done_sound : (size : ℕ) (k : Kernel) (read : List (List ℕ)) → Sound size k → Sound size (done_step k read)
 done_sound size k read s =
-    let t = frames_sound size (plain_step k [] entries.Done) (landed k.place.transfers read k.frames) (plain_sound size k [] entries.Done s tt tt (let l = s.few_transfers in omega arith)) (landed_length k.place.transfers read k.frames) in
+    let t = frames_sound size (plain_step k [] entries.Done) (landed k.place.transfers read k.frames) (plain_sound size k [] entries.Done s tt tt (let l = s.few_transfers in omega arith))
+    (landed_length k.place.transfers read k.frames) in
     record { owner = t.owner; tokens = t.tokens; hands = t.hands; few_transfers = t.few_transfers }
 
 -- User writes.
@@ -159,7 +160,8 @@ alive_owner size a b p hs e o =
     let w : OwnsBlocks size a p hs = o.blocks in
     record {
       frames = o.frames;
-      blocks = record { book = w.book; data_held = w.data_held; stack_held = w.stack_held; text_held = w.text_held; u_held = λ pid. w.u_held pid ∙ ap (λ (x : Bool). u_pieces (u_blocks x)) (sym (e pid)) };
+      blocks =
+          record { book = w.book; data_held = w.data_held; stack_held = w.stack_held; text_held = w.text_held; u_held = λ pid. w.u_held pid ∙ ap (λ (x : Bool). u_pieces (u_blocks x)) (sym (e pid)) };
       aside = o.aside;
       places = o.places;
     }
@@ -221,7 +223,8 @@ lives_map life (p ∷ ps) n h = go (p.pid == n) h (lives_map life ps n)
   where
     go : (b : Bool) → ((q : Proc) → cond b (Some p) (numbered (λ (x : Proc). x.pid) n ps) ≡ Some q → has_life (life q) ≡ has_life q.life)
         → (((q : Proc) → numbered (λ (x : Proc). x.pid) n ps ≡ Some q → has_life (life q) ≡ has_life q.life) → lives (map (λ (q : Proc). record q { life = life q }) ps) n ≡ lives ps n)
-        → lives_in (cond b (Some (record p { life = life p })) (numbered (λ (x : Proc). x.pid) n (map (λ (q : Proc). record q { life = life q }) ps))) ≡ lives_in (cond b (Some p) (numbered (λ (x : Proc). x.pid) n ps))
+        → lives_in (cond b (Some (record p { life = life p })) (numbered (λ (x : Proc). x.pid) n (map (λ (q : Proc). record q { life = life q }) ps)))
+        ≡ lives_in (cond b (Some p) (numbered (λ (x : Proc). x.pid) n ps))
     go true k ih = k p refl
     go false k ih = ih k
 

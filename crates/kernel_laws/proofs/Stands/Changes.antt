@@ -82,7 +82,8 @@ held_pushed ps p n h = go (numbered pid_of n ps) refl h
 
 still_out : (images : List NamedImage) (k l : Kernel) (flat after : FlatState) → l.starts ≡ k.starts → l.place.due ≡ k.place.due
     → ((i : ℕ) → length (slots_of l.place (Text i 0)) ≡ length (slots_of k.place (Text i 0)))
-    → ((n : ℕ) → is_out l.place n ≡ true → (is_out k.place n ≡ true) × (Held flat.processes n → Held after.processes n)) → Stands images k flat → Stands images l after
+    → ((n : ℕ) → is_out l.place n ≡ true → (is_out k.place n ≡ true) × (Held flat.processes n → Held after.processes n))
+    → Stands images k flat → Stands images l after
 still_out images k l flat after ss ds ts h s = record {
   starts = λ q e. ap (λ (x : List StartBytes). has_start x q) ss ∙ s.starts q (ap (λ (x : List Due). is_start (due_at x q)) (sym ds) ∙ e);
   texts = λ i. s.texts i ∙ ap (λ (n : ℕ). 1024 * n) (sym (ts i));
@@ -102,7 +103,8 @@ pub ran_stands : (images : List NamedImage) (k : Kernel) (flat : FlatState) (pid
     → process_of flat pid ≡ Some q → q.holding ≡ Holds s → is_out k.place pid ≡ false
     → Stands images k flat → Stands images (ran_by k pid regs e) (apply_change images flat pid regs Keep)
 ran_stands images k flat pid regs e q s f h out st = subst (Stands images (ran_by k pid regs e)) (sym (applied images flat pid regs Keep q s f h))
-    (still_out images k (ran_by k pid regs e) flat (with_process flat (record q { regs = regs })) refl refl (λ i. refl) (one_out k.place flat (record q { regs = regs }) pid ((found_at flat pid q f).0) out) st)
+    (still_out images k (ran_by k pid regs e) flat (with_process flat (record q { regs = regs })) refl refl (λ i. refl)
+    (one_out k.place flat (record q { regs = regs }) pid ((found_at flat pid q f).0) out) st)
 
 pub write_stands : (images : List NamedImage) (k : Kernel) (flat : FlatState) (pid : ℕ) (q : Process) (s : Space) (w : ByteWrite) (v : Page) (f at : ℕ)
     → process_of flat pid ≡ Some q → q.holding ≡ Holds s
@@ -116,30 +118,35 @@ write_stands images k flat pid q s w v f at fq hq st = subst (Stands images (wri
 -- An entry of a process, by the process of the machine.
 by_step : (images : List NamedImage) (k : Kernel) (flat : FlatState) (pid : ℕ) (regs : Regs) (e : Entry) (change : Change) (q : Process) (s : Space)
     → SameTables k flat → process_of flat pid ≡ Some q → q.holding ≡ Holds s
-    → ((kp : Proc) → kp.pid ≡ pid → Stands images (by_life (facts_of images) k kp (HoldsSpace s.sid) e change) (changed images flat (record q { regs = regs }) s change))
+    → ((kp : Proc) → kp.pid ≡ pid
+    → Stands images (by_life (facts_of images) k kp (HoldsSpace s.sid) e change) (changed images flat (record q { regs = regs }) s change))
     → Stands images (change_step (facts_of images) k pid regs e change) (apply_change images flat pid regs change)
 by_step images k flat pid regs e change q s t f h make =
     let g : Stepping k flat pid q s = stepping k flat pid q s t f h in
     subst (λ (x : Kernel). Stands images x (apply_change images flat pid regs change)) (sym (step_is (facts_of images) k pid regs e change g.proc (HoldsSpace s.sid) g.kept g.life))
-    (subst (Stands images (by_life (facts_of images) k (record g.proc { regs = regs }) (HoldsSpace s.sid) e change)) (sym (applied images flat pid regs change q s f h)) (make (record g.proc { regs = regs }) g.pid_is))
+    (subst (Stands images (by_life (facts_of images) k (record g.proc { regs = regs }) (HoldsSpace s.sid) e change)) (sym (applied images flat pid regs change q s f h))
+    (make (record g.proc { regs = regs }) g.pid_is))
 
 pub keep_stands : (images : List NamedImage) (k : Kernel) (flat : FlatState) (pid : ℕ) (regs : Regs) (e : Entry) (q : Process) (s : Space)
     → SameTables k flat → process_of flat pid ≡ Some q → q.holding ≡ Holds s → is_out k.place pid ≡ false
     → Stands images k flat → Stands images (change_step (facts_of images) k pid regs e Keep) (apply_change images flat pid regs Keep)
 keep_stands images k flat pid regs e q s t f h out st = by_step images k flat pid regs e Keep q s t f h (λ kp i.
-    still_out images k (by_life (facts_of images) k kp (HoldsSpace s.sid) e Keep) flat (with_process flat (record q { regs = regs })) refl refl (λ i. refl) (one_out k.place flat (record q { regs = regs }) pid ((found_at flat pid q f).0) out) st)
+    still_out images k (by_life (facts_of images) k kp (HoldsSpace s.sid) e Keep) flat (with_process flat (record q { regs = regs })) refl refl (λ i. refl)
+    (one_out k.place flat (record q { regs = regs }) pid ((found_at flat pid q f).0) out) st)
 
 pub sleep_stands : (images : List NamedImage) (k : Kernel) (flat : FlatState) (pid : ℕ) (regs : Regs) (e : Entry) (q : Process) (s : Space)
     → SameTables k flat → process_of flat pid ≡ Some q
     → q.holding ≡ Holds s → is_out k.place pid ≡ false
     → Stands images k flat → Stands images (change_step (facts_of images) k pid regs e Sleep) (apply_change images flat pid regs Sleep)
 sleep_stands images k flat pid regs e q s t f h out st = by_step images k flat pid regs e Sleep q s t f h (λ kp i.
-    still_out images k (by_life (facts_of images) k kp (HoldsSpace s.sid) e Sleep) flat (with_process flat (record q { regs = regs; asleep = true })) refl refl (λ i. refl) (one_out k.place flat (record q { regs = regs; asleep = true }) pid ((found_at flat pid q f).0) out) st)
+    still_out images k (by_life (facts_of images) k kp (HoldsSpace s.sid) e Sleep) flat (with_process flat (record q { regs = regs; asleep = true })) refl refl (λ i. refl)
+    (one_out k.place flat (record q { regs = regs; asleep = true }) pid ((found_at flat pid q f).0) out) st)
 
 pub reap_stands : (images : List NamedImage) (k : Kernel) (flat : FlatState) (pid : ℕ) (regs : Regs) (e : Entry) (child status : ℕ) (q z : Process) (s : Space)
     → SameTables k flat
     → process_of flat pid ≡ Some q → q.holding ≡ Holds s → is_out k.place pid ≡ false → process_of flat child ≡ Some z
-    → z.holding ≡ Zombie status → Stands images k flat → Stands images (change_step (facts_of images) k pid regs e (Reap child)) (apply_change images flat pid regs (Reap child))
+    → z.holding ≡ Zombie status → Stands images k flat
+    → Stands images (change_step (facts_of images) k pid regs e (Reap child)) (apply_change images flat pid regs (Reap child))
 reap_stands images k flat pid regs e child status q z s t f h out fz hz st = by_step images k flat pid regs e (Reap child) q s t f h (λ kp i.
     still_out images k (by_life (facts_of images) k kp (HoldsSpace s.sid) e (Reap child)) flat (with_process (without_process flat child) (record q { regs = regs })) refl refl (λ i. refl)
     (λ n o. (
@@ -157,9 +164,11 @@ pub resize_stands : (images : List NamedImage) (k : Kernel) (flat : FlatState) (
     → Stands images k flat → Stands images (change_step (facts_of images) k pid regs e (Resize d t)) (apply_change images flat pid regs (Resize d t))
 resize_stands images k flat pid regs e d t q s tb f h out st = by_step images k flat pid regs e (Resize d t) q s tb f h (λ kp i.
     let sh : Shaped k.place (drop_all k.place (dropped_pages k.place s.sid d t)) = drop_all_shaped (dropped_pages k.place s.sid d t) k.place in
-    still_out images k (by_life (facts_of images) k kp (HoldsSpace s.sid) e (Resize d t)) flat (with_process flat (record q { regs = regs; holding = Holds (resized s d t) })) refl ((drop_all_rest (dropped_pages k.place s.sid d t) k.place).1)
+    still_out images k (by_life (facts_of images) k kp (HoldsSpace s.sid) e (Resize d t)) flat (with_process flat (record q { regs = regs; holding = Holds (resized s d t) })) refl
+    ((drop_all_rest (dropped_pages k.place s.sid d t) k.place).1)
     (λ j. sizes_kept k.place (drop_all k.place (dropped_pages k.place s.sid d t)) sh (Text j 0))
-    (λ n o. one_out k.place flat (record q { regs = regs; holding = Holds (resized s d t) }) pid ((found_at flat pid q f).0) out n (ap (λ (rs : List Residence). (residence_of rs n).out) (sym sh.residents) ∙ o)) st)
+    (λ n o. one_out k.place flat (record q { regs = regs; holding = Holds (resized s d t) }) pid ((found_at flat pid q f).0) out n
+    (ap (λ (rs : List Residence). (residence_of rs n).out) (sym sh.residents) ∙ o)) st)
 
 -- nothing is kept where nothing is due
 none_kept : (images : List NamedImage) (k : Kernel) (flat : FlatState) → k.place.due ≡ [] → Stands images k flat → (w : Page) → has_start k.starts w ≡ false
@@ -168,7 +177,8 @@ none_kept images k flat due st w = st.starts w (ap (λ (ds : List Due). is_start
 pub fork_stands : (images : List NamedImage) (k : Kernel) (flat : FlatState) (pid : ℕ) (regs : Regs) (e : Entry) (q : Process) (s : Space)
     → SameTables k flat → k.place.due ≡ []
     → process_of flat pid ≡ Some q → q.holding ≡ Holds s → is_out k.place pid ≡ false
-    → Stands images k flat → Stands images (change_step (facts_of images) k pid regs e (Fork flat.next_pid)) (apply_change images flat pid regs (Fork flat.next_pid))
+    → Stands images k flat → Stands images (change_step (facts_of images) k pid regs e (Fork flat.next_pid))
+    (apply_change images flat pid regs (Fork flat.next_pid))
 fork_stands images k flat pid regs e q s t due f h out st = by_step images k flat pid regs e (Fork flat.next_pid) q s t f h (λ kp i. record {
   starts = λ w _. none_kept images k flat due st w;
   texts = st.texts;
@@ -182,9 +192,11 @@ fork_stands images k flat pid regs e q s t due f h out st = by_step images k fla
 
 pub lend_stands : (images : List NamedImage) (k : Kernel) (flat : FlatState) (pid : ℕ) (regs : Regs) (e : Entry) (q : Process) (s : Space)
     → SameTables k flat → process_of flat pid ≡ Some q → q.holding ≡ Holds s → is_out k.place pid ≡ false
-    → Stands images k flat → Stands images (pass_step (change_step (facts_of images) k pid regs e (Lend flat.next_pid)) pid flat.next_pid) (apply_change images flat pid regs (Lend flat.next_pid))
+    → Stands images k flat → Stands images (pass_step (change_step (facts_of images) k pid regs e (Lend flat.next_pid)) pid flat.next_pid)
+    (apply_change images flat pid regs (Lend flat.next_pid))
 lend_stands images k flat pid regs e q s t f h out st =
-    let x : Stands images (change_step (facts_of images) k pid regs e (Lend flat.next_pid)) (apply_change images flat pid regs (Lend flat.next_pid)) = by_step images k flat pid regs e (Lend flat.next_pid) q s t f h (λ kp i.
+    let x : Stands images (change_step (facts_of images) k pid regs e (Lend flat.next_pid)) (apply_change images flat pid regs (Lend flat.next_pid)) =
+    by_step images k flat pid regs e (Lend flat.next_pid) q s t f h (λ kp i.
     still_out images k (by_life (facts_of images) k kp (HoldsSpace s.sid) e (Lend flat.next_pid)) flat (changed images flat (record q { regs = regs }) s (Lend flat.next_pid)) refl refl (λ i. refl)
     (λ n o. let was : is_out k.place n ≡ true = sym (out_begun k.place.residents flat.next_pid (length (append k.journal e)) n) ∙ o in (
       was,
@@ -219,13 +231,16 @@ held_orphans : (ps : List Process) (pid n : ℕ) → Held ps n → Held (orphans
 held_orphans [] pid n h = h
 held_orphans (q ∷ ps) pid n h = elim (cases_eq q.pid n) [
   | inl i ↦ (let t : holds_space q.holding ≡ true = sym (ap holds_some (numbered_hit pid_of n q ps i)) ∙ h in
-      ap (λ (b : Bool). holds_some (numbered pid_of n (map (without_parent pid) (cond (not ((q.parent == pid) && b)) (q ∷ filter (λ (x : Process). not (is_zombie_child pid x)) ps) (filter (λ (x : Process). not (is_zombie_child pid x)) ps))))) (no_zombie q.holding t)
-      ∙ ap (λ (b : Bool). holds_some (numbered pid_of n (map (without_parent pid) (cond (not b) (q ∷ filter (λ (x : Process). not (is_zombie_child pid x)) ps) (filter (λ (x : Process). not (is_zombie_child pid x)) ps))))) (and-false (q.parent == pid))
+      ap (λ (b : Bool). holds_some (numbered pid_of n (map (without_parent pid)
+      (cond (not ((q.parent == pid) && b)) (q ∷ filter (λ (x : Process). not (is_zombie_child pid x)) ps) (filter (λ (x : Process). not (is_zombie_child pid x)) ps))))) (no_zombie q.holding t)
+      ∙ ap (λ (b : Bool). holds_some (numbered pid_of n (map (without_parent pid)
+      (cond (not b) (q ∷ filter (λ (x : Process). not (is_zombie_child pid x)) ps) (filter (λ (x : Process). not (is_zombie_child pid x)) ps))))) (and-false (q.parent == pid))
       ∙ ap holds_some (numbered_hit pid_of n (without_parent pid q) (orphans pid ps) i) ∙ t)
   | inr d ↦ go (not (is_zombie_child pid q)) d (held_orphans ps pid n (ap holds_some (sym (numbered_miss pid_of n q ps d)) ∙ h))
 ]
   where
-    go : (b : Bool) → q.pid ≢ n → Held (orphans pid ps) n → holds_some (numbered pid_of n (map (without_parent pid) (cond b (q ∷ filter (λ (x : Process). not (is_zombie_child pid x)) ps) (filter (λ (x : Process). not (is_zombie_child pid x)) ps)))) ≡ true
+    go : (b : Bool) → q.pid ≢ n → Held (orphans pid ps) n → holds_some
+        (numbered pid_of n (map (without_parent pid) (cond b (q ∷ filter (λ (x : Process). not (is_zombie_child pid x)) ps) (filter (λ (x : Process). not (is_zombie_child pid x)) ps)))) ≡ true
     go true d ih = ap holds_some (numbered_miss pid_of n (without_parent pid q) (orphans pid ps) d) ∙ ih
     go false d ih = ih
 
@@ -247,9 +262,11 @@ has_pushed (x ∷ ss) s w e d = go (same_page x.page w) e (has_pushed ss s w)
     go true h ih = absurd cc
     go false h ih = ih h d
 
-exec_stands_core : (images : List NamedImage) (k : Kernel) (flat after : FlatState) (next sid number : ℕ) (borrowed : Bool) (named : NamedImage) (top : List ℕ) (ps : List Proc) (journal : List Entry)
+exec_stands_core : (images : List NamedImage) (k : Kernel) (flat after : FlatState) (next sid number : ℕ) (borrowed : Bool) (named : NamedImage) (top : List ℕ)
+    (ps : List Proc) (journal : List Entry)
     → k.place.due ≡ [] → Stands images k flat
-    → ((n : ℕ) → is_out k.place n ≡ true → Held flat.processes n → Held after.processes n) → Stands images (exec_kernel k next sid borrowed number (Some named.image.facts) top ps journal) after
+    → ((n : ℕ) → is_out k.place n ≡ true → Held flat.processes n → Held after.processes n)
+    → Stands images (exec_kernel k next sid borrowed number (Some named.image.facts) top ps journal) after
 exec_stands_core images k flat after next sid number borrowed named top ps journal due st h =
     let l : Kernel = exec_kernel k next sid borrowed number (Some named.image.facts) top ps journal in
     let p1 : Placement = enter_image k.place next number (Some named.image.facts) in
@@ -264,16 +281,21 @@ exec_stands_core images k flat after next sid number borrowed named top ps journ
       out = out_held k.place l.place flat after st.out (λ n e. let o : is_out k.place n ≡ true = ap (λ (rs : List Residence). (residence_of rs n).out) (sym g.residents) ∙ e in (o, h n o));
     }
 
-pub exec_stands : (images : List NamedImage) (k : Kernel) (flat : FlatState) (pid : ℕ) (regs : Regs) (e : Entry) (number : ℕ) (top : List ℕ) (named : NamedImage) (q : Process) (s : Space)
+pub exec_stands : (images : List NamedImage) (k : Kernel) (flat : FlatState) (pid : ℕ) (regs : Regs) (e : Entry) (number : ℕ) (top : List ℕ)
+    (named : NamedImage) (q : Process) (s : Space)
     → SameTables k flat → k.place.due ≡ [] → process_of flat pid ≡ Some q → q.holding ≡ Holds s
-    → is_out k.place pid ≡ false → image_numbered images number ≡ Some named → Stands images k flat → Stands images (change_step (facts_of images) k pid regs e (Exec number top)) (apply_change images flat pid regs (Exec number top))
+    → is_out k.place pid ≡ false → image_numbered images number ≡ Some named → Stands images k flat
+    → Stands images (change_step (facts_of images) k pid regs e (Exec number top)) (apply_change images flat pid regs (Exec number top))
 exec_stands images k flat pid regs e number top named q s t due f h out im st = by_step images k flat pid regs e (Exec number top) q s t f h (λ kp i.
-    image_known images number named (λ (f : Option Image) (o : Option NamedImage). Stands images (exec_kernel k k.next_sid s.sid false number f top (with_proc k.processes (record kp { life = HoldsSpace k.next_sid })) (append k.journal e)) (entered flat (record q { regs = regs }) s number o top)) im
-    (exec_stands_core images k flat (entered flat (record q { regs = regs }) s number (Some named) top) k.next_sid s.sid number false named top (with_proc k.processes (record kp { life = HoldsSpace k.next_sid })) (append k.journal e) due st
+    image_known images number named (λ (f : Option Image) (o : Option NamedImage). Stands images (exec_kernel k k.next_sid s.sid false number f top
+    (with_proc k.processes (record kp { life = HoldsSpace k.next_sid })) (append k.journal e)) (entered flat (record q { regs = regs }) s number o top)) im
+    (exec_stands_core images k flat (entered flat (record q { regs = regs }) s number (Some named) top) k.next_sid s.sid number false named top
+    (with_proc k.processes (record kp { life = HoldsSpace k.next_sid })) (append k.journal e) due st
     (λ n o y. held_returned (replaced flat.processes (record q { regs = regs; holding = Holds (space_with flat.next_sid number named.image top) })) q.pid s n
     ((one_out k.place flat (record q { regs = regs; holding = Holds (space_with flat.next_sid number named.image top) }) pid ((found_at flat pid q f).0) out n o).1 y))))
 
-pub exec_back_stands : (images : List NamedImage) (k : Kernel) (flat : FlatState) (pid : ℕ) (regs : Regs) (e : Entry) (number : ℕ) (top : List ℕ) (named : NamedImage) (q m : Process) (s : Space)
+pub exec_back_stands : (images : List NamedImage) (k : Kernel) (flat : FlatState) (pid : ℕ) (regs : Regs) (e : Entry) (number : ℕ) (top : List ℕ)
+    (named : NamedImage) (q m : Process) (s : Space)
     → SameTables k flat → k.place.due ≡ [] → process_of flat pid ≡ Some q
     → q.holding ≡ Holds s → IsLender flat pid s.sid m → is_out k.place pid ≡ false → image_numbered images number ≡ Some named → Stands images k flat
     → Stands images (change_step (facts_of images) (pass_step k pid m.pid) pid regs e (Exec number top)) (apply_change images flat pid regs (Exec number top))
@@ -282,16 +304,20 @@ exec_back_stands images k flat pid regs e number top named q m s c due f h is ou
     let g : Stepping k flat pid q s = a.step in
     let k1 : Kernel = record k { processes = map (passes s.sid pid m.pid) k.processes } in
     subst (λ (x : Kernel). Stands images (change_step (facts_of images) x pid regs e (Exec number top)) (apply_change images flat pid regs (Exec number top))) (sym (back_kernel k flat pid q m s a))
-    (subst (λ (x : Kernel). Stands images x (apply_change images flat pid regs (Exec number top))) (sym (step_is (facts_of images) k1 pid regs e (Exec number top) (record g.proc { life = New }) New (back_proc k flat pid q m s a) refl))
+    (subst (λ (x : Kernel). Stands images x (apply_change images flat pid regs (Exec number top)))
+    (sym (step_is (facts_of images) k1 pid regs e (Exec number top) (record g.proc { life = New }) New (back_proc k flat pid q m s a) refl))
     (subst (Stands images (by_life (facts_of images) k1 (record g.proc { regs = regs; life = New }) New e (Exec number top))) (sym (applied images flat pid regs (Exec number top) q s f h))
-    (image_known images number named (λ (f : Option Image) (o : Option NamedImage). Stands images (exec_kernel k k.next_sid 0 true number f top (with_proc k1.processes (record g.proc { regs = regs; life = HoldsSpace k.next_sid })) (append k.journal e)) (entered flat (record q { regs = regs }) s number o top)) im
-    (exec_stands_core images k flat (entered flat (record q { regs = regs }) s number (Some named) top) k.next_sid 0 number true named top (with_proc k1.processes (record g.proc { regs = regs; life = HoldsSpace k.next_sid })) (append k.journal e) due st
+    (image_known images number named (λ (f : Option Image) (o : Option NamedImage). Stands images (exec_kernel k k.next_sid 0 true number f top
+    (with_proc k1.processes (record g.proc { regs = regs; life = HoldsSpace k.next_sid })) (append k.journal e)) (entered flat (record q { regs = regs }) s number o top)) im
+    (exec_stands_core images k flat (entered flat (record q { regs = regs }) s number (Some named) top) k.next_sid 0 number true named top
+    (with_proc k1.processes (record g.proc { regs = regs; life = HoldsSpace k.next_sid })) (append k.journal e) due st
     (λ n o y. held_returned (replaced flat.processes (record q { regs = regs; holding = Holds (space_with flat.next_sid number named.image top) })) q.pid s n
     ((one_out k.place flat (record q { regs = regs; holding = Holds (space_with flat.next_sid number named.image top) }) pid ((found_at flat pid q f).0) out n o).1 y))))))
 
 -- The end.
 
-end_stands_core : (images : List NamedImage) (k : Kernel) (flat : FlatState) (q : Process) (regs : Regs) (s : Space) (status pid sid : ℕ) (borrowed : Bool) (ps : List Proc) (journal : List Entry)
+end_stands_core : (images : List NamedImage) (k : Kernel) (flat : FlatState) (q : Process) (regs : Regs) (s : Space) (status pid sid : ℕ) (borrowed : Bool)
+    (ps : List Proc) (journal : List Entry)
     → pid ≡ q.pid → Stands images k flat
     → Stands images (end_kernel k pid sid borrowed ps journal) (ended flat (record q { regs = regs }) s status)
 end_stands_core images k flat q regs s status pid sid borrowed ps journal i st =
@@ -300,7 +326,8 @@ end_stands_core images k flat q regs s status pid sid borrowed ps journal i st =
     let p1 : Placement = give_up_unless borrowed k.place sid in
     let g : Gone k.place p1 borrowed sid = gone_unless borrowed k.place sid in
     subst (Stands images l) (sym (left_is (q.parent == 0) (orphaned (given_back (with_process flat fp) q.pid s) q.pid) q.pid q.parent))
-    (still_out images k l flat (record flat { processes = left_flat (q.parent == 0) (orphans q.pid (returned q.pid s (replaced flat.processes fp))) q.pid q.parent }) refl g.due (unless_texts borrowed k.place sid)
+    (still_out images k l flat (record flat { processes = left_flat (q.parent == 0) (orphans q.pid (returned q.pid s (replaced flat.processes fp))) q.pid q.parent }) refl g.due
+    (unless_texts borrowed k.place sid)
     (λ n e. elim (cases_eq n pid) [
       | inl j ↦ absurd (let z : false ≡ true = sym (out_gone p1.residents pid) ∙ ap (is_out l.place) (sym j) ∙ e in cc)
       | inr d ↦ (
@@ -315,7 +342,8 @@ pub end_stands : (images : List NamedImage) (k : Kernel) (flat : FlatState) (pid
     → process_of flat pid ≡ Some q → q.holding ≡ Holds s → Stands images k flat
     → Stands images (change_step (facts_of images) k pid regs e (End status)) (apply_change images flat pid regs (End status))
 end_stands images k flat pid regs e status q s t f h st = by_step images k flat pid regs e (End status) q s t f h (λ kp i.
-    end_stands_core images k flat q regs s status kp.pid s.sid false (left_procs (kp.parent == 0) (orphaned_procs k.processes kp.pid) kp status) (append k.journal e) (i ∙ sym (found_at flat pid q f).0) st)
+    end_stands_core images k flat q regs s status kp.pid s.sid false (left_procs (kp.parent == 0) (orphaned_procs k.processes kp.pid) kp status) (append k.journal e)
+    (i ∙ sym (found_at flat pid q f).0) st)
 
 pub end_back_stands : (images : List NamedImage) (k : Kernel) (flat : FlatState) (pid : ℕ) (regs : Regs) (e : Entry) (status : ℕ) (q m : Process) (s : Space)
     → SameTables k flat
@@ -327,6 +355,7 @@ end_back_stands images k flat pid regs e status q m s c f h is st =
     let k1 : Kernel = record k { processes = map (passes s.sid pid m.pid) k.processes } in
     let kp : Proc = record g.proc { regs = regs; life = New } in
     subst (λ (x : Kernel). Stands images (change_step (facts_of images) x pid regs e (End status)) (apply_change images flat pid regs (End status))) (sym (back_kernel k flat pid q m s a))
-    (subst (λ (x : Kernel). Stands images x (apply_change images flat pid regs (End status))) (sym (step_is (facts_of images) k1 pid regs e (End status) (record g.proc { life = New }) New (back_proc k flat pid q m s a) refl))
+    (subst (λ (x : Kernel). Stands images x (apply_change images flat pid regs (End status)))
+    (sym (step_is (facts_of images) k1 pid regs e (End status) (record g.proc { life = New }) New (back_proc k flat pid q m s a) refl))
     (subst (Stands images (by_life (facts_of images) k1 kp New e (End status))) (sym (applied images flat pid regs (End status) q s f h))
     (end_stands_core images k flat q regs s status kp.pid 0 true (left_procs (kp.parent == 0) (orphaned_procs k1.processes kp.pid) kp status) (append k.journal e) (g.pid_is ∙ sym g.pid_was) st)))

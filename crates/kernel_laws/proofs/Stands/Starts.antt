@@ -90,7 +90,11 @@ first_hold images (x ∷ numbers) n m q e = go (image_numbered images x) e (firs
         → (numbered pid_of m (start_processes images (n + 1) numbers) ≡ Some q → (s : Space) × (q.holding ≡ Holds s)) → (s : Space) × (q.holding ≡ Holds s)
     go None f ih = ih f
     go (Some named) f ih = elim (cases_eq n m) [
-      | inl i ↦ (Rattle.flat_state.specs.Flat.new_space n x named.image (named.name ∷ []), ap (λ (y : Process). y.holding) (same_Some q (start_process n x named) (sym f ∙ numbered_hit pid_of m (start_process n x named) (start_processes images (n + 1) numbers) i)))
+      | inl i ↦ (
+        Rattle.flat_state.specs.Flat.new_space n x named.image (named.name ∷ []),
+        ap (λ (y : Process).
+            y.holding) (same_Some q (start_process n x named) (sym f ∙ numbered_hit pid_of m (start_process n x named) (start_processes images (n + 1) numbers) i)),
+      )
       | inr d ↦ ih (sym (numbered_miss pid_of m (start_process n x named) (start_processes images (n + 1) numbers) d) ∙ f)
     ]
 
@@ -118,7 +122,8 @@ starts_due images (x ∷ numbers) (y ∷ first) n w a e =
     (go (same_page (Stack n 0) w) e (starts_due images numbers first (n + 1) w a.4))
   where
     go : (b : Bool) → is_start (cond b (Some (Start (Stack n 0))) (due_at (due_from (n + 1) first) w)) ≡ false
-        → (is_start (due_at (due_from (n + 1) first) w) ≡ false → has_start (map start_of (held (start_processes images (n + 1) numbers))) w ≡ false) → (b || has_start (map start_of (held (start_processes images (n + 1) numbers))) w) ≡ false
+        → (is_start (due_at (due_from (n + 1) first) w) ≡ false → has_start (map start_of (held (start_processes images (n + 1) numbers))) w ≡ false)
+        → (b || has_start (map start_of (held (start_processes images (n + 1) numbers))) w) ≡ false
     go true h ih = absurd cc
     go false h ih = ih h
 
@@ -126,19 +131,23 @@ starts_due images (x ∷ numbers) (y ∷ first) n w a e =
 
 -- the text of the image at a place
 text_at : (images : List NamedImage) (m j i : ℕ) → i ≡ m + j → ((named : NamedImage) → slice_get images j ≡ Some named → ImageFits named)
-    → length (text_of (slice_get images j)) ≡ 1024 * length (text_in (numbered image_number i (texts_from m (map (λ (named : NamedImage). named.image.facts) images))))
+    → length (text_of (slice_get images j))
+    ≡ 1024 * length (text_in (numbered image_number i (texts_from m (map (λ (named : NamedImage). named.image.facts) images))))
 text_at [] m j i e fit = refl
 text_at (named ∷ images) m zero i e fit =
     let f : ImageFits named = fit named refl in
     let pages : List Slot = replicate (text_pages_of named.image.facts) (unfilled Zeros) in
     f.text ∙ ap (λ (n : ℕ). 1024 * n) (sym (length-replicate {A = Slot} (text_pages_of named.image.facts) (unfilled Zeros)))
-    ∙ sym (ap (λ (o : Option TextPages). 1024 * length (text_in o)) (numbered_hit image_number i (Rattle.page_model.specs.Placement.new_text m named.image.facts) (texts_from (m + 1) (map (λ (named : NamedImage). named.image.facts) images)) (omega arith)))
+    ∙ sym (ap (λ (o : Option TextPages). 1024 * length (text_in o))
+    (numbered_hit image_number i (Rattle.page_model.specs.Placement.new_text m named.image.facts) (texts_from (m + 1) (map (λ (named : NamedImage). named.image.facts) images)) (omega arith)))
 text_at (named ∷ images) m (suc j) i e fit = text_at images (m + 1) j i (omega arith) fit
-    ∙ sym (ap (λ (o : Option TextPages). 1024 * length (text_in o)) (numbered_miss image_number i (Rattle.page_model.specs.Placement.new_text m named.image.facts) (texts_from (m + 1) (map (λ (named : NamedImage). named.image.facts) images)) (λ h. absurd (let y : m ≡ i = h in omega arith))))
+    ∙ sym (ap (λ (o : Option TextPages). 1024 * length (text_in o)) (numbered_miss image_number i (Rattle.page_model.specs.Placement.new_text m named.image.facts)
+    (texts_from (m + 1) (map (λ (named : NamedImage). named.image.facts) images)) (λ h. absurd (let y : m ≡ i = h in omega arith))))
 
 no_text : (images : List Image) (m : ℕ) → 0 < m → numbered image_number 0 (texts_from m images) ≡ None
 no_text [] m l = refl
-no_text (x ∷ images) m l = numbered_miss image_number 0 (Rattle.page_model.specs.Placement.new_text m x) (texts_from (m + 1) images) (λ h. absurd (let y : m ≡ 0 = h in omega arith)) ∙ no_text images (m + 1) (omega arith)
+no_text (x ∷ images) m l =
+    numbered_miss image_number 0 (Rattle.page_model.specs.Placement.new_text m x) (texts_from (m + 1) images) (λ h. absurd (let y : m ≡ 0 = h in omega arith)) ∙ no_text images (m + 1) (omega arith)
 
 pub start_beside : (A : Inputs) (first : List Starting) (hs : Holdings) (frames : List (List ℕ)) → AreStarting A.images A.first first
     → ImagesFit A.images → Stands A.images (start_kernel A first hs frames) (start_state A)

@@ -52,7 +52,8 @@ note_stands images k flat e s = stands_still images k (note_step k e) flat refl 
 
 pub get_stands : (images : List NamedImage) (k : Kernel) (flat : FlatState) (q : Page) (lo n : ℕ) → Stands images k flat
     → Stands images (get_step k q lo n) flat
-get_stands images k flat q lo n s = stands_still images k (get_step k q lo n) flat refl (get_due_list (pages_from q lo n) (begin k.place (read_errand k.place q)) (read_errand k.place q)) (get_run_shaped k.place (read_errand k.place q) (pages_from q lo n)) s
+get_stands images k flat q lo n s = stands_still images k (get_step k q lo n) flat refl (get_due_list (pages_from q lo n) (begin k.place (read_errand k.place q)) (read_errand k.place q))
+    (get_run_shaped k.place (read_errand k.place q) (pages_from q lo n)) s
 
 pub reclaim_stands : (images : List NamedImage) (k : Kernel) (flat : FlatState) (q : Page) → Stands images k flat → Stands images (reclaim_step k q) flat
 reclaim_stands images k flat q s = stands_still images k (reclaim_step k q) flat refl (reclaim_due k.place q) (reclaim_shaped k.place q) s
@@ -78,7 +79,8 @@ after_start : (ss : List StartBytes) (v w : Page) → has_start ss w ≡ false �
 after_start [] v w e = refl
 after_start (s ∷ ss) v w e = go (same_page s.page v) (same_page s.page w) e (after_start ss v w)
   where
-    go : (b c : Bool) → (c || has_start ss w) ≡ false → (has_start ss w ≡ false → has_start (starts_after ss v) w ≡ false) → has_start (cond (not b) (s ∷ starts_after ss v) (starts_after ss v)) w ≡ false
+    go : (b c : Bool) → (c || has_start ss w) ≡ false → (has_start ss w ≡ false → has_start (starts_after ss v) w ≡ false)
+        → has_start (cond (not b) (s ∷ starts_after ss v) (starts_after ss v)) w ≡ false
     go b true h ih = absurd cc
     go true false h ih = ih h
     go false false h ih = head (same_page s.page w) refl (ih h)

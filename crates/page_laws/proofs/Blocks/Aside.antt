@@ -74,7 +74,10 @@ evict_aside p f o a b = go (page_of p f) refl
         local_aside p (evict_at p f (Some v)) v f o (evict_local p f v o e) (put_sharers p v (left_state v (mark_of p v)) (mark_of p v)) a
         (λ i n k z.
         let was : IsAside p v = subst (IsAside p) (sym k) (a i n z) in
-        record { unsaved = put_mark p v (left_state v (mark_of p v)) (mark_of p v) there ∙ was.unsaved; rests = inl (put_state p v (left_state v (mark_of p v)) (mark_of p v) there ∙ left_unfilled v (mark_of p v) i n k was.unsaved) })
+        record {
+          unsaved = put_mark p v (left_state v (mark_of p v)) (mark_of p v) there ∙ was.unsaved;
+          rests = inl (put_state p v (left_state v (mark_of p v)) (mark_of p v) there ∙ left_unfilled v (mark_of p v) i n k was.unsaved);
+        })
 
 pub evict_sharers : (p : Placement) (f image : ℕ) → sharers (evict p f) image ≡ sharers p image
 evict_sharers p f image = go (page_of p f)
@@ -85,7 +88,8 @@ evict_sharers p f image = go (page_of p f)
 
 pub enter_aside : (p : Placement) (v : Page) (f : ℕ) (s : PageState) (m : Bool) (ts : List Transfer) → OwnsFrames p → 0 < times f p.free
     → Enters (evict p f) v f s m ts → TextAside p → IsShared p v → TextAside (enter (evict p f) v f s m ts)
-enter_aside p v f s m ts o b t a sh = local_aside (evict p f) (enter (evict p f) v f s m ts) v f (evict_owner p f o b) (enter_local (evict p f) v f s m ts (evict_owner p f o b) t) (put_sharers (evict p f) v s m) (evict_aside p f o a b)
+enter_aside p v f s m ts o b t a sh = local_aside (evict p f) (enter (evict p f) v f s m ts) v f (evict_owner p f o b) (enter_local (evict p f) v f s m ts (evict_owner p f o b) t)
+    (put_sharers (evict p f) v s m) (evict_aside p f o a b)
     (λ i n e z. shared_not p v i n sh e (sym (evict_sharers p f i) ∙ z))
 
 -- Blocks.
@@ -97,8 +101,10 @@ unshared_or (suc k) = inr (k, refl)
 -- a page of a space or of shared text has its blocks
 pub has_blocks : (size : ℕ) (lives : ℕ → Bool) (p : Placement) (hs : Holdings) (q : Page) → OwnsBlocks size lives p hs → IsThere p q → IsShared p q
     → IsSome (block_of hs q)
-has_blocks size lives p hs (Data sid v) o there sh = let a : ArePlacesApart size hs = places_apart_of size hs o.book in a.found (owners.Data sid) (2 * length (slots_of p (Data sid 0))) v (o.data_held sid) tt (let l : v < length (slots_of p (Data sid 0)) = there in omega arith)
-has_blocks size lives p hs (Stack sid v) o there sh = let a : ArePlacesApart size hs = places_apart_of size hs o.book in a.found (owners.Stack sid) (2 * length (slots_of p (Stack sid 0))) v (o.stack_held sid) tt (let l : v < length (slots_of p (Stack sid 0)) = there in omega arith)
+has_blocks size lives p hs (Data sid v) o there sh = let a : ArePlacesApart size hs =
+    places_apart_of size hs o.book in a.found (owners.Data sid) (2 * length (slots_of p (Data sid 0))) v (o.data_held sid) tt (let l : v < length (slots_of p (Data sid 0)) = there in omega arith)
+has_blocks size lives p hs (Stack sid v) o there sh = let a : ArePlacesApart size hs =
+    places_apart_of size hs o.book in a.found (owners.Stack sid) (2 * length (slots_of p (Stack sid 0))) v (o.stack_held sid) tt (let l : v < length (slots_of p (Stack sid 0)) = there in omega arith)
 has_blocks size lives p hs (Text image v) o there sh = elim (unshared_or (sharers p image)) [
   | inl z ↦ absurd (let l : 0 < sharers p image = sh in omega arith)
   | inr e ↦ (let a : ArePlacesApart size hs = places_apart_of size hs o.book in a.found (owners.Text image) (2 * length (slots_of p (Text image 0))) v
@@ -164,6 +170,7 @@ blocks_still size lives p q hs s sh o = record {
   book = o.book;
   data_held = λ sid. o.data_held sid ∙ ap (λ (n : ℕ). pieces (2 * n)) (sym (s (Data sid 0)));
   stack_held = λ sid. o.stack_held sid ∙ ap (λ (n : ℕ). pieces (2 * n)) (sym (s (Stack sid 0)));
-  text_held = λ image. o.text_held image ∙ ap (λ (n : ℕ). text_pieces_while n (2 * length (slots_of p (Text image 0)))) (sym (sh image)) ∙ ap (λ (n : ℕ). text_pieces_while (sharers q image) (2 * n)) (sym (s (Text image 0)));
+  text_held = λ image. o.text_held image ∙ ap (λ (n : ℕ). text_pieces_while n (2 * length (slots_of p (Text image 0)))) (sym (sh image))
+      ∙ ap (λ (n : ℕ). text_pieces_while (sharers q image) (2 * n)) (sym (s (Text image 0)));
   u_held = o.u_held;
 }

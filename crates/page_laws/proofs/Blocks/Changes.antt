@@ -100,7 +100,8 @@ image_changed : (sid image t : ℕ) (change : SpacePages → SpacePages) → ((x
     → ((x : SpacePages) → (change x).image ≡ x.image) → (ss : List SpacePages)
     → HasImage sid image ss → HasImage sid image (changed space_number t change ss)
 image_changed sid image t change a i [] h = tt
-image_changed sid image t change a i (s ∷ ss) h = image_changed_by sid image t change (space_number s == t) s ss (changed space_number t change ss) (a s) (i s) h.0 h.1 (image_changed sid image t change a i ss h.1)
+image_changed sid image t change a i (s ∷ ss) h =
+    image_changed_by sid image t change (space_number s == t) s ss (changed space_number t change ss) (a s) (i s) h.0 h.1 (image_changed sid image t change a i ss h.1)
 
 put_image : (p : Placement) (v : Page) (s : PageState) (m : Bool) (sid image : ℕ) → HasImage sid image p.spaces
     → HasImage sid image (spaces_with p.spaces v s m)
@@ -191,7 +192,10 @@ leave_here p v there r = go (state_of p v) (listed p v) refl refl r
     go : (s : PageState) (n : ℕ) → state_of p v ≡ s → listed p v ≡ n → AtRest s → IsAside (leave_by p v s n) v
     go (Valid g) n e h r = record { unsaved = put_mark p v (Invalid g) false there; rests = inr (g, put_state p v (Invalid g) false there, some g) }
     go (Invalid g) zero e h r = record { unsaved = put_mark p v (Invalid g) false there; rests = inr (g, put_state p v (Invalid g) false there, some g) }
-    go (Invalid g) (suc n) e h r = record { unsaved = put_mark p v (Invalid g) false there; rests = inr (g, put_state p v (Invalid g) false there, let k : times g p.free ≡ suc n = ap (λ (s : PageState). listed_of p (frame_of s)) (sym e) ∙ h in omega arith) }
+    go (Invalid g) (suc n) e h r = record {
+      unsaved = put_mark p v (Invalid g) false there;
+      rests = inr (g, put_state p v (Invalid g) false there, let k : times g p.free ≡ suc n = ap (λ (s : PageState). listed_of p (frame_of s)) (sym e) ∙ h in omega arith);
+    }
     go OnSwap n e h r = record { unsaved = put_mark p v Unfilled false there; rests = inl (put_state p v Unfilled false there) }
     go Unfilled n e h r = record { unsaved = put_mark p v Unfilled false there; rests = inl (put_state p v Unfilled false there) }
     go (Coming g) n e h r = absurd r
@@ -233,7 +237,8 @@ can_still p v w c d = (
 
 leave_all_keeps : (qs : List Page) (p : Placement) (w : Page) → EachPage (CanLeave p) qs → IsAside p w → IsAside (leave_all p qs) w
 leave_all_keeps [] p w c a = a
-leave_all_keeps (v ∷ qs) p w c a = leave_all_keeps qs (leave_page p v) w (Rattle.page_laws.proofs.Lists.Runs.each_page_imp (CanLeave p) (CanLeave (leave_page p v)) qs c.1 (λ x d. can_still p v x c.0 d)) (aside_page p v w c.0.0 c.0.1 a)
+leave_all_keeps (v ∷ qs) p w c a = leave_all_keeps qs (leave_page p v) w
+    (Rattle.page_laws.proofs.Lists.Runs.each_page_imp (CanLeave p) (CanLeave (leave_page p v)) qs c.1 (λ x d. can_still p v x c.0 d)) (aside_page p v w c.0.0 c.0.1 a)
 
 leave_all_aside : (qs : List Page) (p : Placement) → EachPage (CanLeave p) qs → EachPage (IsAside (leave_all p qs)) qs
 leave_all_aside [] p c = tt
@@ -265,7 +270,8 @@ leave_text_aside : (p : Placement) (image : ℕ) → ((j n : ℕ) → j ≢ imag
 leave_text_aside p image others rest = go (sharers p image) refl
   where
     can : sharers p image ≡ 0 → EachPage (CanLeave p) (pages_of_text p image)
-    can z = pages_from_each (CanLeave p) (Text image 0) 0 (length (slots_of p (Text image 0))) (λ w l m. ((let k : w < length (slots_of p (Text image w)) = (let j : w < length (slots_of p (Text image 0)) = (omega arith) in j) in k), rest z w))
+    can z = pages_from_each (CanLeave p) (Text image 0) 0 (length (slots_of p (Text image 0)))
+        (λ w l m. ((let k : w < length (slots_of p (Text image w)) = (let j : w < length (slots_of p (Text image 0)) = (omega arith) in j) in k), rest z w))
 
     go : (n : ℕ) → sharers p image ≡ n → TextAside (leave_text_by p image n)
     go zero z = λ j n s. elim (cases_eq j image) [
@@ -356,7 +362,8 @@ place_change_aside images p pid sid borrowed next_sid at (Fork child) a c = λ i
   stack_pages = map child_slot (slots_of p (Stack sid 0));
 }) (fork_space p sid next_sid).due a i n z in record { unsaved = k.unsaved; rests = k.rests }
 place_change_aside images p pid sid borrowed next_sid at (Lend child) a c = λ i n z. let k = a i n z in record { unsaved = k.unsaved; rests = k.rests }
-place_change_aside images p pid sid borrowed next_sid at (Exec image top) a c = give_up_unless_aside borrowed (enter_image p next_sid image (facts_numbered images image)) sid (enter_image_aside p next_sid image (facts_numbered images image) a) c
+place_change_aside images p pid sid borrowed next_sid at (Exec image top) a c =
+    give_up_unless_aside borrowed (enter_image p next_sid image (facts_numbered images image)) sid (enter_image_aside p next_sid image (facts_numbered images image) a) c
 place_change_aside images p pid sid borrowed next_sid at (End status) a c = λ i n z. let k = give_up_unless_aside borrowed p sid a c i n z in record { unsaved = k.unsaved; rests = k.rests }
 place_change_aside images p pid sid borrowed next_sid at _ a c = a
 

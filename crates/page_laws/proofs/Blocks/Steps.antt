@@ -44,7 +44,8 @@ get_aside p source demanded v o c latest a s = go p.free refl
   where
     go : (fr : List ℕ) → p.free ≡ fr → TextAside (get_at p (Reads source demanded) v fr)
     go [] e = a
-    go (f ∷ rest) e = enter_aside p v f (Coming f) (mark_of p v) (join_last p.transfers (Reads source demanded) (record { page = v; frame = f })) o (some_free p f rest e) (get_enters p (Reads source demanded) v f rest o c latest refl e) a s
+    go (f ∷ rest) e = enter_aside p v f (Coming f) (mark_of p v) (join_last p.transfers (Reads source demanded) (record { page = v; frame = f })) o (some_free p f rest e)
+        (get_enters p (Reads source demanded) v f rest o c latest refl e) a s
 
 pub get_sharers : (p : Placement) (e : Errand) (v : Page) (image : ℕ) → sharers (get_one p e v) image ≡ sharers p image
 get_sharers p e v image = go p.free
@@ -189,14 +190,16 @@ moves_aside zero p locked o a = a
 moves_aside (suc n) p locked o a = moves_aside n (hand_move p locked) locked (move_owner p locked o) (move_aside p locked o a)
 
 pub land_aside : (p : Placement) (e : Errand) (x : Part) (rest : List Transfer) → OwnsFrames p → Landing p e x rest → TextAside p → TextAside (land p e x rest)
-land_aside p Writes x rest o l a = turn_aside p x.page x.frame (Invalid x.frame) (written_mark x.page) (p.free ++ x.frame ∷ []) rest o (tail_turns p Writes x rest (written_mark x.page) o l (written_clean x.page)) a (subst (IsBusy p) (sym (landing_state p Writes x rest o l)) tt)
+land_aside p Writes x rest o l a = turn_aside p x.page x.frame (Invalid x.frame) (written_mark x.page) (p.free ++ x.frame ∷ []) rest o
+    (tail_turns p Writes x rest (written_mark x.page) o l (written_clean x.page)) a (subst (IsBusy p) (sym (landing_state p Writes x rest o l)) tt)
 land_aside p (Reads source demanded) x rest o l a = go (same_page x.page demanded)
   where
     busy : IsBusy p (state_of p x.page)
     busy = subst (IsBusy p) (sym (landing_state p (Reads source demanded) x rest o l)) tt
 
     go : (b : Bool) → TextAside (land_read p source x rest b)
-    go true = turn_aside p x.page x.frame (Valid x.frame) (arrived_mark source x.page (mark_of p x.page)) p.free rest o (valid_turns p (Reads source demanded) x rest (arrived_mark source x.page (mark_of p x.page)) o l) a busy
+    go true = turn_aside p x.page x.frame (Valid x.frame) (arrived_mark source x.page (mark_of p x.page)) p.free rest o
+        (valid_turns p (Reads source demanded) x rest (arrived_mark source x.page (mark_of p x.page)) o l) a busy
     go false = turn_aside p x.page x.frame (Invalid x.frame) (mark_of p x.page) (p.free ++ x.frame ∷ []) rest o
         (tail_turns p (Reads source demanded) x rest (mark_of p x.page) o l (coming_clean p x.page x.frame o (landing_state p (Reads source demanded) x rest o l))) a busy
 
@@ -205,7 +208,8 @@ land_all_aside : (xs : List Part) (p : Placement) (e : Errand) (ts : List Transf
 land_all_aside [] p e ts o h a = λ i n z. let k = a i n z in record { unsaved = k.unsaved; rests = k.rests }
 land_all_aside (x ∷ xs) p e ts o h a =
     let l : Landing p e x (record { errand = e; parts = xs } ∷ ts) = record { parts = ap parts_of h } in
-    land_all_aside xs (land p e x (record { errand = e; parts = xs } ∷ ts)) e ts (land_owner p e x (record { errand = e; parts = xs } ∷ ts) o l) (land_transfers p e x (record { errand = e; parts = xs } ∷ ts))
+    land_all_aside xs (land p e x (record { errand = e; parts = xs } ∷ ts)) e ts (land_owner p e x (record { errand = e; parts = xs } ∷ ts) o l)
+    (land_transfers p e x (record { errand = e; parts = xs } ∷ ts))
     (land_aside p e x (record { errand = e; parts = xs } ∷ ts) o l a)
 
 pub done_aside : (p : Placement) → OwnsFrames p → TextAside p → TextAside (done p)
@@ -224,7 +228,8 @@ beside_shared p _ w s = tt
 entry_aside : (locked : List Page) (at : ℕ) (p : Placement) (e : Entry) → OwnsFrames p → CanPlace p e → EntryShared p e → TextAside p
     → TextAside (place_entry locked at p e)
 entry_aside locked at p (entries.Zero q) o c s a = filled_aside p q o c a s
-entry_aside locked at p (entries.Get q lo n) o c s a = get_run_aside p (source_for (state_of p q)) q (pages_from q lo n) o c (pages_from_apart q lo n) a (pages_from_each (IsShared p) q lo n (λ w l m. beside_shared p q w s))
+entry_aside locked at p (entries.Get q lo n) o c s a =
+    get_run_aside p (source_for (state_of p q)) q (pages_from q lo n) o c (pages_from_apart q lo n) a (pages_from_each (IsShared p) q lo n (λ w l m. beside_shared p q w s))
 entry_aside locked at p (entries.Copy q) o c s a = filled_aside p q o c a s
 entry_aside locked at p (entries.Reclaim q) o c s a = reclaim_aside p q o a s
 entry_aside locked at p (entries.Hands n) o c s a = moves_aside n p locked o a

@@ -82,8 +82,11 @@ cut d s x = record x { data_pages = sized d x.data_pages; stack_pages = sized s 
 pub zero_keeps : (q : Placement) (c : Bytes) (w : Page) → slot_of q w ≡ unfilled Zeros → ((image v : ℕ) → w ≢ Text image v) → due_at q.due w ≡ None
     → zeros ≡ c.memory w → Keeps q c w
 zero_keeps q c (Text image v) e n d z = absurd (n image v refl)
-zero_keeps q c y e n d z = subst (KeepsBy q c y) (sym (ap (λ (x : Slot). x.state) e))
-    (subst (λ (f : Filling). Rattle.page_model.specs.PageBytes.KeepsUnfilled c y (due_at q.due y) f) (sym (ap (λ (x : Slot). x.filling) e)) (subst (λ (o : Option Due). Rattle.page_model.specs.PageBytes.KeepsUnfilled c y o Zeros) (sym d) z), tt)
+zero_keeps q c y e n d z = subst (KeepsBy q c y) (sym (ap (λ (x : Slot). x.state) e)) (
+  subst (λ (f : Filling). Rattle.page_model.specs.PageBytes.KeepsUnfilled c y
+      (due_at q.due y) f) (sym (ap (λ (x : Slot). x.filling) e)) (subst (λ (o : Option Due). Rattle.page_model.specs.PageBytes.KeepsUnfilled c y o Zeros) (sym d) z),
+  tt,
+)
 
 -- What a new size does to a page that is there afterwards.
 abbrev Resized : Placement → Placement → Page → Type 0
@@ -119,13 +122,15 @@ cut_resizes p sid d s (Data t v) there = by_segment p (cut_space p sid d s) (Dat
   where
     go : (t ≡ sid) ⊎ (t ≢ sid) → (slots_of (cut_space p sid d s) (Data t v) ≡ slots_of p (Data t v)) ⊎ (slots_of (cut_space p sid d s) (Data t v) ≡ sized d (slots_of p (Data t v)))
     go (inl e) = subst (λ (x : ℕ). (slots_of (cut_space p sid d s) (Data x v) ≡ slots_of p (Data x v)) ⊎ (slots_of (cut_space p sid d s) (Data x v) ≡ sized d (slots_of p (Data x v)))) (sym e)
-        (subst (λ (o : Option SpacePages). (data_in o ≡ slots_of p (Data sid v)) ⊎ (data_in o ≡ sized d (slots_of p (Data sid v)))) (sym (changed_same space_number sid (cut d s) (λ x. refl) p.spaces)) (data_after d s (numbered space_number sid p.spaces)))
+        (subst (λ (o : Option SpacePages). (data_in o ≡ slots_of p (Data sid v)) ⊎ (data_in o ≡ sized d (slots_of p (Data sid v)))) (sym (changed_same space_number sid (cut d s) (λ x. refl) p.spaces))
+        (data_after d s (numbered space_number sid p.spaces)))
     go (inr n) = inl (ap data_in (changed_other space_number sid t (cut d s) (λ x. refl) n p.spaces))
 cut_resizes p sid d s (Stack t v) there = by_segment p (cut_space p sid d s) (Stack t v) s (λ i n h. absurd cc) (go (cases_eq t sid)) there
   where
     go : (t ≡ sid) ⊎ (t ≢ sid) → (slots_of (cut_space p sid d s) (Stack t v) ≡ slots_of p (Stack t v)) ⊎ (slots_of (cut_space p sid d s) (Stack t v) ≡ sized s (slots_of p (Stack t v)))
     go (inl e) = subst (λ (x : ℕ). (slots_of (cut_space p sid d s) (Stack x v) ≡ slots_of p (Stack x v)) ⊎ (slots_of (cut_space p sid d s) (Stack x v) ≡ sized s (slots_of p (Stack x v)))) (sym e)
-        (subst (λ (o : Option SpacePages). (stack_in o ≡ slots_of p (Stack sid v)) ⊎ (stack_in o ≡ sized s (slots_of p (Stack sid v)))) (sym (changed_same space_number sid (cut d s) (λ x. refl) p.spaces)) (stack_after d s (numbered space_number sid p.spaces)))
+        (subst (λ (o : Option SpacePages). (stack_in o ≡ slots_of p (Stack sid v)) ⊎ (stack_in o ≡ sized s (slots_of p (Stack sid v))))
+        (sym (changed_same space_number sid (cut d s) (λ x. refl) p.spaces)) (stack_after d s (numbered space_number sid p.spaces)))
     go (inr n) = inl (ap stack_in (changed_other space_number sid t (cut d s) (λ x. refl) n p.spaces))
 cut_resizes p sid d s (Text i v) there = inl (there, refl)
 
@@ -145,11 +150,13 @@ stack_cut d s (Some x) = inr refl
 
 pub data_bound : (p : Placement) (sid d s v : ℕ) → IsThere (cut_space p sid d s) (Data sid v) → v < d
 data_bound p sid d s v there = cut_within d v (slots_of (cut_space p sid d s) (Data sid v)) (slots_of p (Data sid v))
-    (subst (λ (o : Option SpacePages). ((data_in o ≡ slots_of p (Data sid v)) × (slots_of p (Data sid v) ≡ [])) ⊎ (data_in o ≡ sized d (slots_of p (Data sid v)))) (sym (changed_same space_number sid (cut d s) (λ x. refl) p.spaces)) (data_cut d s (numbered space_number sid p.spaces))) there
+    (subst (λ (o : Option SpacePages). ((data_in o ≡ slots_of p (Data sid v)) × (slots_of p (Data sid v) ≡ [])) ⊎ (data_in o ≡ sized d (slots_of p (Data sid v))))
+    (sym (changed_same space_number sid (cut d s) (λ x. refl) p.spaces)) (data_cut d s (numbered space_number sid p.spaces))) there
 
 pub stack_bound : (p : Placement) (sid d s v : ℕ) → IsThere (cut_space p sid d s) (Stack sid v) → v < s
 stack_bound p sid d s v there = cut_within s v (slots_of (cut_space p sid d s) (Stack sid v)) (slots_of p (Stack sid v))
-    (subst (λ (o : Option SpacePages). ((stack_in o ≡ slots_of p (Stack sid v)) × (slots_of p (Stack sid v) ≡ [])) ⊎ (stack_in o ≡ sized s (slots_of p (Stack sid v)))) (sym (changed_same space_number sid (cut d s) (λ x. refl) p.spaces)) (stack_cut d s (numbered space_number sid p.spaces))) there
+    (subst (λ (o : Option SpacePages). ((stack_in o ≡ slots_of p (Stack sid v)) × (slots_of p (Stack sid v) ≡ [])) ⊎ (stack_in o ≡ sized s (slots_of p (Stack sid v))))
+    (sym (changed_same space_number sid (cut d s) (λ x. refl) p.spaces)) (stack_cut d s (numbered space_number sid p.spaces))) there
 
 -- pages of a space from a number on, and a page that isn't among them
 pub apart_data : (sid lo n : ℕ) (w : Page) → ((v : ℕ) → lo ≤ v → w ≢ Data sid v) → EachPage (λ r. w ≢ r) (data_from sid lo n)
@@ -183,7 +190,8 @@ resize_coupled p sid d s b c k due same new text =
             still_unmoved p (resize p sid d s) b c w (h.1 ∙ drop_all_other (dropped_pages p sid d s) p w (kept_apart dropped p sid d s w there))
                 ((drop_all_rest (dropped_pages p sid d s) p).0) (due_none (resize p sid d s).due w no_due) (due_none p.due w due) (same w there was),
           ))
-      | inr h ↦ inr (zero_keeps (resize p sid d s) c w h.0 h.1 (due_none (resize p sid d s).due w no_due) (new w there (let e = drop_all_length (dropped_pages p sid d s) p w in let l = h.2 in omega arith)))
+      | inr h ↦ inr
+          (zero_keeps (resize p sid d s) c w h.0 h.1 (due_none (resize p sid d s).due w no_due) (new w there (let e = drop_all_length (dropped_pages p sid d s) p w in let l = h.2 in omega arith)))
     ] in
     changed_coupled p (resize p sid d s) b c k one text (λ i v. due_none (resize p sid d s).due (Text i v) no_due)
 
@@ -194,13 +202,15 @@ pub removed_there : (p : Placement) (sid : ℕ) (w : Page) → IsThere (remove_s
 removed_there p sid (Data t v) there =
     let data_sid : (a b x y : ℕ) → Data a x ≡ Data b y → a ≡ b = λ a b x y h. cc in
     elim (cases_eq t sid) [
-      | inl e ↦ absurd (let h : numbered space_number t (remove_space p sid).spaces ≡ None = ap (λ (x : ℕ). numbered space_number x (remove_space p sid).spaces) e ∙ removed_same sid p.spaces in let l = ap (λ (o : Option SpacePages). length (data_in o)) h in omega arith)
+      | inl e ↦ absurd (let h : numbered space_number t (remove_space p sid).spaces ≡ None = ap (λ (x : ℕ). numbered space_number x (remove_space p sid).spaces) e ∙ removed_same sid p.spaces in
+          let l = ap (λ (o : Option SpacePages). length (data_in o)) h in omega arith)
       | inr n ↦ ((λ x h. n (data_sid t sid v x h)), (λ x h. absurd cc), ap data_in (removed_other sid t p.spaces n))
     ]
 removed_there p sid (Stack t v) there =
     let stack_sid : (a b x y : ℕ) → Stack a x ≡ Stack b y → a ≡ b = λ a b x y h. cc in
     elim (cases_eq t sid) [
-      | inl e ↦ absurd (let h : numbered space_number t (remove_space p sid).spaces ≡ None = ap (λ (x : ℕ). numbered space_number x (remove_space p sid).spaces) e ∙ removed_same sid p.spaces in let l = ap (λ (o : Option SpacePages). length (stack_in o)) h in omega arith)
+      | inl e ↦ absurd (let h : numbered space_number t (remove_space p sid).spaces ≡ None = ap (λ (x : ℕ). numbered space_number x (remove_space p sid).spaces) e ∙ removed_same sid p.spaces in
+          let l = ap (λ (o : Option SpacePages). length (stack_in o)) h in omega arith)
       | inr n ↦ ((λ x h. absurd cc), (λ x h. n (stack_sid t sid v x h)), ap stack_in (removed_other sid t p.spaces n))
     ]
 removed_there p sid (Text i v) there = ((λ x h. absurd cc), (λ x h. absurd cc), refl)
@@ -217,7 +227,8 @@ removed_coupled p sid b c k due same text =
     inl (
       was,
       still_unmoved p (remove_space dropped sid) b c w
-          (ap (λ (xs : List Slot). get_or xs (number_of w) no_slot) r.2 ∙ drop_all_other (pages_of_space p sid) p w (each_page_append (λ x. w ≢ x) (data_from sid 0 (data_count p sid)) (stack_from sid 0 (stack_count p sid))
+          (ap (λ (xs : List Slot). get_or xs (number_of w) no_slot) r.2
+          ∙ drop_all_other (pages_of_space p sid) p w (each_page_append (λ x. w ≢ x) (data_from sid 0 (data_count p sid)) (stack_from sid 0 (stack_count p sid))
           (apart_data sid 0 (data_count p sid) w (λ v l. r.0 v)) (apart_stack sid 0 (stack_count p sid) w (λ v l. r.1 v))))
           ((drop_all_rest (pages_of_space p sid) p).0) (due_none (remove_space dropped sid).due w no_due) (due_none p.due w due) (same w there was),
     ) in

@@ -72,7 +72,8 @@ get_all_lasts [] p source demanded w o c a latest n = inl refl
 get_all_lasts (v ∷ qs) p source demanded w o c a latest n = lasts_both p (get_one p (Reads source demanded) v) (get_all (get_one p (Reads source demanded) v) (Reads source demanded) qs) w
     (get_lasts p (Reads source demanded) v w o n.0)
     (get_all_lasts qs (get_one p (Reads source demanded) v) source demanded w (Rattle.page_laws.proofs.Ownership.Pages.get_owner p source demanded v o c.0 latest)
-    (Rattle.page_laws.proofs.Lists.Runs.each_page_both (CanEnter p) (λ r. r ≢ v) (CanEnter (get_one p (Reads source demanded) v)) qs c.1 a.0 (λ x h k. Rattle.page_laws.proofs.Ownership.Runs.get_enters_still p (Reads source demanded) v x o k h))
+    (Rattle.page_laws.proofs.Lists.Runs.each_page_both (CanEnter p) (λ r. r ≢ v) (CanEnter (get_one p (Reads source demanded) v)) qs c.1 a.0
+    (λ x h k. Rattle.page_laws.proofs.Ownership.Runs.get_enters_still p (Reads source demanded) v x o k h))
     a.1 (Rattle.page_laws.proofs.Ownership.Runs.get_open_still p (Reads source demanded) v latest) n.1)
 
 -- The beginning of a read leaves each page that isn't of its run the same.
@@ -88,7 +89,8 @@ pub filled_same : (p : Placement) (v : Page) (f : ℕ) (rest : List ℕ) (b : By
     → w ≢ v → SamePage p (filled p v) b (with_frame b f bytes) w
 filled_same p v f rest b bytes w o e n = record {
   frames = λ g h a k.
-      let now : frame_of (state_of (evict p f) w) ≡ Some h = ap frame_of (sym (put_other_state (evict p f) v (Valid f) true w n)) ∙ subst (λ (fr : List ℕ). frame_of (state_of (fill_at p v fr) w) ≡ Some h) e k in
+      let now : frame_of (state_of (evict p f) w) ≡ Some h =
+      ap frame_of (sym (put_other_state (evict p f) v (Valid f) true w n)) ∙ subst (λ (fr : List ℕ). frame_of (state_of (fill_at p v fr) w) ≡ Some h) e k in
       let same : h ≡ g = elim (evict_lasts p f w o) [
         | inl l ↦ same_Some h g (sym now ∙ l ∙ a)
         | inr l ↦ none_some h (sym l ∙ now)
@@ -152,7 +154,8 @@ done_same p t ts b c w o h s n = by t.errand refl
         let is : bytes_read b source t.parts ≡ c = subst (λ (x : Errand). BytesBy b x t.parts c) e s in
         let k = read_swap t.parts b source w in
         record {
-          frames = λ f g a i. ap (λ (x : Bytes). bytes_in x g) (sym is) ∙ ap (bytes_in (bytes_read b source t.parts)) (same_Some g f (sym i ∙ st.frames w ∙ a)) ∙ read_frames t.parts b source f (other_frames p t.errand t.parts w f o moves n a);
+          frames = λ f g a i. ap (λ (x : Bytes). bytes_in x g) (sym is) ∙ ap (bytes_in (bytes_read b source t.parts)) (same_Some g f (sym i ∙ st.frames w ∙ a))
+              ∙ read_frames t.parts b source f (other_frames p t.errand t.parts w f o moves n a);
           swap = ap (λ (x : Bytes). x.swap w) (sym is) ∙ k.0;
           start = ap (λ (x : Bytes). x.start w) (sym is) ∙ k.1;
         }
@@ -253,7 +256,8 @@ unnamed_rests p test q o t n = go (state_of p q) refl
 -- What the test of settling tells: no page of the space is in flight.
 pub settled_rests : (p : Placement) (sid : ℕ) → OwnsFrames p → is_settled p sid ≡ true → IsSettled p sid
 settled_rests p sid o e =
-    let k = not-true (names_page (is_of_space sid) (parts_of p.transfers)) (and_parts (not (names_page (is_of_space sid) (parts_of p.transfers))) (not ((sharers p (image_of p sid) == 1) && names_page (is_of_text (image_of p sid)) (parts_of p.transfers))) e).0 in
+    let k = not-true (names_page (is_of_space sid) (parts_of p.transfers))
+    (and_parts (not (names_page (is_of_space sid) (parts_of p.transfers))) (not ((sharers p (image_of p sid) == 1) && names_page (is_of_text (image_of p sid)) (parts_of p.transfers))) e).0 in
     record {
       data_rests = λ v. unnamed_rests p (is_of_space sid) (Data sid v) o (eq_self sid) k;
       stack_rests = λ v. unnamed_rests p (is_of_space sid) (Stack sid v) o (eq_self sid) k;

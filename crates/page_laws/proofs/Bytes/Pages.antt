@@ -140,7 +140,17 @@ filled_coupled p v f rest b bytes o c fr tokens w is k =
     let q : Placement = record (enter (evict p f) v f (Valid f) true p.transfers) { due = due_after p.due v } in
     let l : Local (evict p f) q v f =
     let x : Local (evict p f) (enter (evict p f) v f (Valid f) true p.transfers) v f = enter_local (evict p f) v f (Valid f) true p.transfers (evict_owner p f o some) t in
-    record { sizes = x.sizes; frames = x.frames; frame_in = x.frame_in; other_slots = x.other_slots; other_pages = x.other_pages; other_free = x.other_free; other_flying = x.other_flying; old_frame = x.old_frame; old_page = x.old_page } in
+    record {
+      sizes = x.sizes;
+      frames = x.frames;
+      frame_in = x.frame_in;
+      other_slots = x.other_slots;
+      other_pages = x.other_pages;
+      other_free = x.other_free;
+      other_flying = x.other_flying;
+      old_frame = x.old_frame;
+      old_page = x.old_page;
+    } in
     let sd : Beside (evict p f) q v f b (with_frame b f bytes) = record {
       frames = λ g n. at_set_other b.frames f g bytes [] n;
       swap = λ x n. refl;
@@ -186,11 +196,13 @@ get_coupled p source demanded v b o c latest h k = go p.free refl
         let r : EvictRest p (evict p f) = evict_rest p f in
         let q : Placement = enter (evict p f) v f (Coming f) (mark_of p v) (join_last p.transfers (Reads source demanded) x) in
         local_coupled (evict p f) q v f b b (evict_owner p f o some) (enter_local (evict p f) v f (Coming f) (mark_of p v) (join_last p.transfers (Reads source demanded) x) (evict_owner p f o some) t)
-        (beside_still (evict p f) q v f b refl (λ g n. ap (λ (ms : List Moving). errand_at ms g) (parts_join p.transfers (Reads source demanded) x latest) ∙ errand_push_other (parts_of p.transfers) (moving (Reads source demanded) x) g n ∙ ap (λ (ts : List Transfer). errand_at (parts_of ts) g) (sym r.transfers)))
+        (beside_still (evict p f) q v f b refl (λ g n. ap (λ (ms : List Moving). errand_at ms g) (parts_join p.transfers (Reads source demanded) x latest)
+        ∙ errand_push_other (parts_of p.transfers) (moving (Reads source demanded) x) g n ∙ ap (λ (ts : List Transfer). errand_at (parts_of ts) g) (sym r.transfers)))
         (evict_coupled p f b o some k)
         (λ _. subst (KeepsBy q b v) (sym (put_state (evict p f) v (Coming f) (mark_of p v) t.page_in))
         (subst (λ (m : Bool). KeepsComing b v m (errand_at (parts_of q.transfers) f)) (sym (put_mark (evict p f) v (Coming f) (mark_of p v) t.page_in))
-        (subst (KeepsComing b v (mark_of p v)) (sym (ap (λ (ms : List Moving). errand_at ms f) (parts_join p.transfers (Reads source demanded) x latest) ∙ errand_push_same (parts_of p.transfers) (moving (Reads source demanded) x) (none_flying p f o some)))
+        (subst (KeepsComing b v (mark_of p v)) (sym (ap (λ (ms : List Moving). errand_at ms f) (parts_join p.transfers (Reads source demanded) x latest)
+        ∙ errand_push_same (parts_of p.transfers) (moving (Reads source demanded) x) (none_flying p f o some)))
         (coming_keeps p b source demanded v k c.there h))))
 
 -- Moving on in a frame.
@@ -199,7 +211,8 @@ pub reclaim_coupled : (p : Placement) (v : Page) (b : Bytes) → OwnsFrames p �
 reclaim_coupled p v b o k = go (state_of p v) refl
   where
     go : (s : PageState) → state_of p v ≡ s → CouplesPages (reclaim_to p v s) b
-    go (Invalid f) e = let there = page_in p v f (ap frame_of e) in turn_coupled p v f (Valid f) (mark_of p v) (without f p.free) p.transfers b b o (reclaim_turns p v f o e) (beside_still p (turn p v (Valid f) (mark_of p v) (without f p.free) p.transfers) v f b refl (λ g n. refl)) k
+    go (Invalid f) e = let there = page_in p v f (ap frame_of e) in turn_coupled p v f (Valid f) (mark_of p v) (without f p.free) p.transfers b b o (reclaim_turns p v f o e)
+        (beside_still p (turn p v (Valid f) (mark_of p v) (without f p.free) p.transfers) v f b refl (λ g n. refl)) k
         (marked p v f (Valid f) (mark_of p v) (without f p.free) p.transfers b there (keeps_at p b v (Invalid f) k there e))
     go Unfilled e = k
     go (Valid f) e = k
@@ -211,7 +224,9 @@ pub expire_coupled : (p : Placement) (locked : List Page) (b : Bytes) → OwnsFr
 expire_coupled p locked b o k = go (page_of p p.front)
   where
     to : (v : Page) (s : PageState) → state_of p v ≡ s → CouplesPages (expire_to p v s) b
-    to v (Valid f) e = let there = page_in p v f (ap frame_of e) in turn_coupled p v f (Invalid f) (mark_of p v) p.free p.transfers b b o (expire_turns p v f o e) (beside_still p (turn p v (Invalid f) (mark_of p v) p.free p.transfers) v f b refl (λ g n. refl)) k
+    to v (Valid f) e = let there = page_in p v f (ap frame_of e) in
+        turn_coupled p v f (Invalid f) (mark_of p v) p.free p.transfers b b o (expire_turns p v f o e)
+        (beside_still p (turn p v (Invalid f) (mark_of p v) p.free p.transfers) v f b refl (λ g n. refl)) k
         (marked p v f (Invalid f) (mark_of p v) p.free p.transfers b there (keeps_at p b v (Valid f) k there e))
     to v Unfilled e = k
     to v (Invalid f) e = k
@@ -250,7 +265,8 @@ launch_coupled p v f b o c latest k =
     let x : Part = record { page = v; frame = f } in
     let there : CouplesPages (turn p v (Going f) (mark_of p v) p.free (join_last p.transfers Writes x)) b =
     turn_coupled p v f (Going f) (mark_of p v) p.free (join_last p.transfers Writes x) b b o (launch_turns p v f o c latest)
-    (beside_still p (turn p v (Going f) (mark_of p v) p.free (join_last p.transfers Writes x)) v f b refl (λ g n. ap (λ (ms : List Moving). errand_at ms g) (parts_join p.transfers Writes x latest) ∙ errand_push_other (parts_of p.transfers) (moving Writes x) g n))
+    (beside_still p (turn p v (Going f) (mark_of p v) p.free (join_last p.transfers Writes x)) v f b refl
+    (λ g n. ap (λ (ms : List Moving). errand_at ms g) (parts_join p.transfers Writes x latest) ∙ errand_push_other (parts_of p.transfers) (moving Writes x) g n))
     k (let i : IsInFrame b (is_dirty p v) f v = seated_keeps p b v f k c in
     (i.here, subst (IfSaved b v) (sym (put_mark p v (Going f) (mark_of p v) (seated_there p v f c))) (saved_there b v (mark_of p v) i.there))) in
     elim c.state [
@@ -338,7 +354,8 @@ land_read_coupled p source demanded x rest b o l tokens k = go (same_page x.page
     c = with_frame b x.frame (source_bytes b source x.page)
 
     was : KeepsComing b x.page (mark_of p x.page) (Some (Reads source demanded))
-    was = subst (KeepsComing b x.page (mark_of p x.page)) (landing_errand p (Reads source demanded) x rest l) (keeps_at p b x.page (Coming x.frame) k there (landing_state p (Reads source demanded) x rest o l))
+    was = subst (KeepsComing b x.page (mark_of p x.page)) (landing_errand p (Reads source demanded) x rest l)
+        (keeps_at p b x.page (Coming x.frame) k there (landing_state p (Reads source demanded) x rest o l))
 
     here : bytes_in c x.frame ≡ c.memory x.page
     here = at_set_same b.frames x.frame (source_bytes b source x.page) [] frame.0 (let h = frame.1 in omega arith) ∙ came b source demanded x.page (mark_of p x.page) was
@@ -347,13 +364,18 @@ land_read_coupled p source demanded x rest b o l tokens k = go (same_page x.page
     apart e h = absurd (let i : true ≡ false = sym (Rattle.flat_state.proofs.PageNames.same_page_self demanded) ∙ ap (λ (w : Page). same_page w demanded) (sym h) ∙ e in cc)
 
     go : (d : Bool) → same_page x.page demanded ≡ d → CouplesPages (land_read p source x rest d) c
-    go true e = turn_coupled p x.page x.frame (Valid x.frame) (arrived_mark source x.page (mark_of p x.page)) p.free rest b c o (valid_turns p (Reads source demanded) x rest (arrived_mark source x.page (mark_of p x.page)) o l)
-        (beside_frame p (turn p x.page (Valid x.frame) (arrived_mark source x.page (mark_of p x.page)) p.free rest) x.page x.frame b (source_bytes b source x.page) refl (landing_errands p (Reads source demanded) x rest l)) k
-        (marked p x.page x.frame (Valid x.frame) (arrived_mark source x.page (mark_of p x.page)) p.free rest c there (record { here = here; there = λ h. arrived_there b source demanded x.page (mark_of p x.page) was h }))
+    go true e = turn_coupled p x.page x.frame (Valid x.frame) (arrived_mark source x.page (mark_of p x.page)) p.free rest b c o
+        (valid_turns p (Reads source demanded) x rest (arrived_mark source x.page (mark_of p x.page)) o l)
+        (beside_frame p (turn p x.page (Valid x.frame) (arrived_mark source x.page (mark_of p x.page)) p.free rest) x.page x.frame b (source_bytes b source x.page) refl
+        (landing_errands p (Reads source demanded) x rest l)) k
+        (marked p x.page x.frame (Valid x.frame) (arrived_mark source x.page (mark_of p x.page)) p.free rest c there
+        (record { here = here; there = λ h. arrived_there b source demanded x.page (mark_of p x.page) was h }))
     go false e = turn_coupled p x.page x.frame (Invalid x.frame) (mark_of p x.page) (p.free ++ x.frame ∷ []) rest b c o
         (tail_turns p (Reads source demanded) x rest (mark_of p x.page) o l (coming_clean p x.page x.frame o (landing_state p (Reads source demanded) x rest o l)))
-        (beside_frame p (turn p x.page (Invalid x.frame) (mark_of p x.page) (p.free ++ x.frame ∷ []) rest) x.page x.frame b (source_bytes b source x.page) refl (landing_errands p (Reads source demanded) x rest l)) k
-        (marked p x.page x.frame (Invalid x.frame) (mark_of p x.page) (p.free ++ x.frame ∷ []) rest c there (record { here = here; there = λ h. beside_there b source demanded x.page (mark_of p x.page) (apart e) was h }))
+        (beside_frame p (turn p x.page (Invalid x.frame) (mark_of p x.page) (p.free ++ x.frame ∷ []) rest) x.page x.frame b (source_bytes b source x.page) refl
+        (landing_errands p (Reads source demanded) x rest l)) k
+        (marked p x.page x.frame (Invalid x.frame) (mark_of p x.page) (p.free ++ x.frame ∷ []) rest c there
+        (record { here = here; there = λ h. beside_there b source demanded x.page (mark_of p x.page) (apart e) was h }))
 
 -- A user write.
 
@@ -391,6 +413,8 @@ touch_coupled p v f b c bytes o e w due tokens wr k = go v w refl
         }))
 
     go : (u : Page) → IsWritable u → v ≡ u → CouplesPages (touch p v) c
-    go (Data sid n) u h = subst (λ (s : PageState). CouplesPages (touch_to p v s) c) (sym e) (subst (λ (x : Page). CouplesPages (touch_to p x (Valid f)) c) (sym h) (subst (λ (x : Page). CouplesPages (turn p x (Valid f) true p.free p.transfers) c) h turned))
-    go (Stack sid n) u h = subst (λ (s : PageState). CouplesPages (touch_to p v s) c) (sym e) (subst (λ (x : Page). CouplesPages (touch_to p x (Valid f)) c) (sym h) (subst (λ (x : Page). CouplesPages (turn p x (Valid f) true p.free p.transfers) c) h turned))
+    go (Data sid n) u h = subst (λ (s : PageState). CouplesPages (touch_to p v s) c) (sym e)
+        (subst (λ (x : Page). CouplesPages (touch_to p x (Valid f)) c) (sym h) (subst (λ (x : Page). CouplesPages (turn p x (Valid f) true p.free p.transfers) c) h turned))
+    go (Stack sid n) u h = subst (λ (s : PageState). CouplesPages (touch_to p v s) c) (sym e)
+        (subst (λ (x : Page). CouplesPages (touch_to p x (Valid f)) c) (sym h) (subst (λ (x : Page). CouplesPages (turn p x (Valid f) true p.free p.transfers) c) h turned))
     go (Text image n) u h = absurd u

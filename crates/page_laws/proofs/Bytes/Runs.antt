@@ -193,7 +193,8 @@ landed_reads [] p source demanded ts b o h tokens k = still_coupled p (record p 
 landed_reads (x ∷ xs) p source demanded ts b o h tokens k =
     let l : Landing p (Reads source demanded) x (record { errand = Reads source demanded; parts = xs } ∷ ts) = record { parts = ap parts_of h } in
     landed_reads xs (land p (Reads source demanded) x (record { errand = Reads source demanded; parts = xs } ∷ ts)) source demanded ts (with_frame b x.frame (source_bytes b source x.page))
-    (land_owner p (Reads source demanded) x (record { errand = Reads source demanded; parts = xs } ∷ ts) o l) (land_transfers p (Reads source demanded) x (record { errand = Reads source demanded; parts = xs } ∷ ts))
+    (land_owner p (Reads source demanded) x (record { errand = Reads source demanded; parts = xs } ∷ ts) o l)
+    (land_transfers p (Reads source demanded) x (record { errand = Reads source demanded; parts = xs } ∷ ts))
     (length_set_frame b.frames x.frame (source_bytes b source x.page) ∙ tokens ∙ ap length (sym (land_holds p source demanded x (record { errand = Reads source demanded; parts = xs } ∷ ts))))
     (land_read_coupled p source demanded x (record { errand = Reads source demanded; parts = xs } ∷ ts) b o l tokens k)
 
@@ -227,22 +228,32 @@ run_in_reads p b q k h = go q (state_of p q) (spare_frames p) h
     swap q w e = on_swap_is (state_of p (beside q w)) (and_parts (is_on_swap (state_of p (beside q w))) (is_near q w) e).0
 
     file : (image v w : ℕ) → comes_from_file p (Text image v) w ≡ true → ReadsFrom p FromFile (Text image v) (Text image w)
-    file image v w e = (unfilled_is (state_of p (Text image w)) (and_parts (Rattle.std.specs.Prelude.nat_lt w (length (slots_of p (Text image v)))) (is_unfilled (state_of p (Text image w))) e).1, refl, k.text_due image w, λ x. absurd x)
+    file image v w e = (
+      unfilled_is (state_of p (Text image w)) (and_parts (Rattle.std.specs.Prelude.nat_lt w (length (slots_of p (Text image v))))
+          (is_unfilled (state_of p (Text image w))) e).1,
+      refl,
+      k.text_due image w,
+      λ x. absurd x,
+    )
 
     go : (q : Page) (s : PageState) (spare : ℕ) → ReadsFrom p (source_for s) q q → EachPage (ReadsFrom p (source_for s) q) (pages_of_run q (run_in_by p q s spare))
-    go (Text image v) OnSwap spare h = run_each (ReadsFrom p FromSwap (Text image v)) (comes_from_swap p (Text image v)) (Text image v) (run_up (comes_from_swap p (Text image v)) v (min 2 spare)) (run_up_in (comes_from_swap p (Text image v)) v (min 2 spare)) h (swap (Text image v))
-    go (Text image v) Unfilled spare h = run_each (ReadsFrom p FromFile (Text image v)) (comes_from_file p (Text image v)) (Text image v) (run_up (comes_from_file p (Text image v)) v (min 2 spare)) (run_up_in (comes_from_file p (Text image v)) v (min 2 spare)) h (file image v)
+    go (Text image v) OnSwap spare h = run_each (ReadsFrom p FromSwap (Text image v)) (comes_from_swap p (Text image v)) (Text image v) (run_up (comes_from_swap p (Text image v)) v (min 2 spare))
+        (run_up_in (comes_from_swap p (Text image v)) v (min 2 spare)) h (swap (Text image v))
+    go (Text image v) Unfilled spare h = run_each (ReadsFrom p FromFile (Text image v)) (comes_from_file p (Text image v)) (Text image v) (run_up (comes_from_file p (Text image v)) v (min 2 spare))
+        (run_up_in (comes_from_file p (Text image v)) v (min 2 spare)) h (file image v)
     go (Text image v) (Valid f) spare h = alone (Text image v) FromFile h
     go (Text image v) (Invalid f) spare h = alone (Text image v) FromFile h
     go (Text image v) (Coming f) spare h = alone (Text image v) FromFile h
     go (Text image v) (Going f) spare h = alone (Text image v) FromFile h
-    go (Data sid v) OnSwap spare h = run_each (ReadsFrom p FromSwap (Data sid v)) (comes_from_swap p (Data sid v)) (Data sid v) (run_both (comes_from_swap p (Data sid v)) v (min 4 spare)) (run_both_in (comes_from_swap p (Data sid v)) v (min 4 spare)) h (swap (Data sid v))
+    go (Data sid v) OnSwap spare h = run_each (ReadsFrom p FromSwap (Data sid v)) (comes_from_swap p (Data sid v)) (Data sid v) (run_both (comes_from_swap p (Data sid v)) v (min 4 spare))
+        (run_both_in (comes_from_swap p (Data sid v)) v (min 4 spare)) h (swap (Data sid v))
     go (Data sid v) Unfilled spare h = alone (Data sid v) FromFile h
     go (Data sid v) (Valid f) spare h = alone (Data sid v) FromFile h
     go (Data sid v) (Invalid f) spare h = alone (Data sid v) FromFile h
     go (Data sid v) (Coming f) spare h = alone (Data sid v) FromFile h
     go (Data sid v) (Going f) spare h = alone (Data sid v) FromFile h
-    go (Stack sid v) OnSwap spare h = run_each (ReadsFrom p FromSwap (Stack sid v)) (comes_from_swap p (Stack sid v)) (Stack sid v) (run_both (comes_from_swap p (Stack sid v)) v (min 4 spare)) (run_both_in (comes_from_swap p (Stack sid v)) v (min 4 spare)) h (swap (Stack sid v))
+    go (Stack sid v) OnSwap spare h = run_each (ReadsFrom p FromSwap (Stack sid v)) (comes_from_swap p (Stack sid v)) (Stack sid v) (run_both (comes_from_swap p (Stack sid v)) v (min 4 spare))
+        (run_both_in (comes_from_swap p (Stack sid v)) v (min 4 spare)) h (swap (Stack sid v))
     go (Stack sid v) Unfilled spare h = alone (Stack sid v) FromFile h
     go (Stack sid v) (Valid f) spare h = alone (Stack sid v) FromFile h
     go (Stack sid v) (Invalid f) spare h = alone (Stack sid v) FromFile h
@@ -252,5 +263,6 @@ run_in_reads p b q k h = go q (state_of p q) (spare_frames p) h
 pub read_coupled : (p : Placement) (q : Page) (b : Bytes) → OwnsFrames p → CanEnter p q → ReadsFrom p (source_for (state_of p q)) q q
     → CouplesPages p b → CouplesPages (read_step p q) b
 read_coupled p q b o c h k = get_run_coupled p (source_for (state_of p q)) q (pages_of_run q (run_in p q)) b o
-    (each_both (CanEnter p) (ReadsFrom p (source_for (state_of p q)) q) (Reading p (source_for (state_of p q)) q) (pages_of_run q (run_in p q)) (run_in_enters p q c) (run_in_reads p b q k h) (λ r a d. record { enters = a; from = d }))
+    (each_both (CanEnter p) (ReadsFrom p (source_for (state_of p q)) q) (Reading p (source_for (state_of p q)) q) (pages_of_run q (run_in p q)) (run_in_enters p q c) (run_in_reads p b q k h)
+    (λ r a d. record { enters = a; from = d }))
     (run_apart q (run_in p q)) k

@@ -31,7 +31,8 @@ use Rattle.page_laws.proofs.Bytes.Changes.{still_unmoved, changed_coupled, due_n
 
 forgotten_coupled : (p : Placement) (image n : ℕ) (b : Bytes) → CouplesPages p b → CouplesPages (put p (Text image n) Unfilled false) b
 forgotten_coupled p image n b k =
-    let one : (w : Page) → IsThere (put p (Text image n) Unfilled false) w → (IsThere p w × Unmoved p (put p (Text image n) Unfilled false) b b w) ⊎ Keeps (put p (Text image n) Unfilled false) b w = λ w there.
+    let one : (w : Page) → IsThere (put p (Text image n) Unfilled false) w → (IsThere p w × Unmoved p (put p (Text image n) Unfilled false) b b w)
+    ⊎ Keeps (put p (Text image n) Unfilled false) b w = λ w there.
     let was : IsThere p w = (let h = put_length p (Text image n) Unfilled false w in omega arith) in
     elim (page_cases w (Text image n)) [
       | inl e ↦ inr (subst (Keeps (put p (Text image n) Unfilled false) b) (sym e)
@@ -59,7 +60,8 @@ leave_page_coupled p image n b o k = go (state_of p (Text image n)) (listed p (T
     unsaved : (f : ℕ) → bytes_in b f ≡ b.memory (Text image n) → IsInFrame b (is_dirty_by (Text image n) false) f (Text image n)
     unsaved f h = record { here = h; there = λ e. absurd cc }
 
-    seat : (f : ℕ) → (state_of p (Text image n) ≡ Valid f) ⊎ ((state_of p (Text image n) ≡ Invalid f) × (times f p.free ≡ 0)) → frame_of (state_of p (Text image n)) ≡ Some f → CouplesPages (turn p (Text image n) (Invalid f) false (p.free ++ f ∷ []) p.transfers) b
+    seat : (f : ℕ) → (state_of p (Text image n) ≡ Valid f) ⊎ ((state_of p (Text image n) ≡ Invalid f) × (times f p.free ≡ 0)) → frame_of (state_of p (Text image n)) ≡ Some f
+        → CouplesPages (turn p (Text image n) (Invalid f) false (p.free ++ f ∷ []) p.transfers) b
     seat f s e = turn_coupled p (Text image n) f (Invalid f) false (p.free ++ f ∷ []) p.transfers b b o (retire_turns p (Text image n) f false o (record { state = s }) refl)
         (beside_still p (turn p (Text image n) (Invalid f) false (p.free ++ f ∷ []) p.transfers) (Text image n) f b refl (λ g x. refl)) k
         (marked p (Text image n) f (Invalid f) false (p.free ++ f ∷ []) p.transfers b (page_in p (Text image n) f e)
@@ -192,7 +194,8 @@ pub copies_at : (child parent : ℕ → Page) → Numbers child → (xs : List S
     → due_at (copies_from child parent v xs) (child (v + i)) ≡ DueOf (child (v + i)) (parent (v + i)) (get_or xs i no_slot).state
 copies_at child parent num [] v i l = absurd (omega arith)
 copies_at child parent num (x ∷ xs) v zero l = let e : v + 0 ≡ v = omega arith in
-    subst (λ (w : ℕ). due_at (copies_from child parent v (x ∷ xs)) (child w) ≡ DueOf (child w) (parent w) x.state) (sym e) (copies_here child parent x.state v (copies_from child parent (v + 1) xs) (copies_later child parent num (v + 1) v xs (omega arith)))
+    subst (λ (w : ℕ). due_at (copies_from child parent v (x ∷ xs)) (child w) ≡ DueOf (child w) (parent w) x.state) (sym e)
+    (copies_here child parent x.state v (copies_from child parent (v + 1) xs) (copies_later child parent num (v + 1) v xs (omega arith)))
 copies_at child parent num (x ∷ xs) v (suc i) l = let e : (v + 1) + i ≡ v + suc i = omega arith in
     copies_skip child parent num x.state v (v + suc i) (copies_from child parent (v + 1) xs) (λ h. absurd (omega arith))
     ∙ subst (λ (w : ℕ). due_at (copies_from child parent (v + 1) xs) (child w) ≡ DueOf (child w) (parent w) (get_or xs i no_slot).state) e (copies_at child parent num xs (v + 1) i (omega arith))
@@ -274,34 +277,42 @@ fork_coupled p parent child b c k new none same datas stacks text =
     let ss : List Due = copies_from (Stack child) (Stack parent) 0 (slots_of p (Stack parent 0)) in
     let data_keeps : (v : ℕ) → v < length x.data_pages → Keeps q c (Data child v) = λ v l.
     let within : v < length (slots_of p (Data parent 0)) = (let h = map_length (slots_of p (Data parent 0)) in omega arith) in
-    let slot : slot_of q (Data child v) ≡ child_slot (slot_of p (Data parent v)) = ap (λ (o : Option SpacePages). get_or (data_in o) v no_slot) (added_same child p.spaces x refl new) ∙ map_at (slots_of p (Data parent 0)) v within in
+    let slot : slot_of q (Data child v) ≡ child_slot (slot_of p (Data parent v)) =
+    ap (λ (o : Option SpacePages). get_or (data_in o) v no_slot) (added_same child p.spaces x refl new) ∙ map_at (slots_of p (Data parent 0)) v within in
     let due : due_at q.due (Data child v) ≡ DueOf (Data child v) (Data parent v) (state_of p (Data parent v)) =
-    due_first ds ss (Data child v) (copies_apart (Stack child) (Stack parent) (Data child v) (λ n e. absurd cc) 0 (slots_of p (Stack parent 0))) ∙ copies_start (Data child) (Data parent) (data_numbers child) (slots_of p (Data parent 0)) v within in
+    due_first ds ss (Data child v) (copies_apart (Stack child) (Stack parent) (Data child v) (λ n e. absurd cc) 0 (slots_of p (Stack parent 0)))
+    ∙ copies_start (Data child) (Data parent) (data_numbers child) (slots_of p (Data parent 0)) v within in
     subst (KeepsBy q c (Data child v)) (sym (ap (λ (y : Slot). y.state) slot ∙ child_state (slot_of p (Data parent v)) (state_of p (Data parent v)))) (
       subst (λ (o : Option Due). KeepsUnfilled c (Data child v) o (filling_of q (Data child v))) (sym due)
           (subst (KeepsUnfilled c (Data child v) (DueOf (Data child v) (Data parent v) (state_of p (Data parent v)))) (sym (ap (λ (y : Slot). y.filling) slot))
-          (child_keeps b c (Data child v) (Data parent v) (slot_of p (Data parent v)) (state_of p (Data parent v)) (datas v) (let z : SameBytes b c (Data parent v) = same (Data parent v) within in z.memory)
+          (child_keeps b c (Data child v) (Data parent v) (slot_of p (Data parent v)) (state_of p (Data parent v)) (datas v)
+          (let z : SameBytes b c (Data parent v) = same (Data parent v) within in z.memory)
           (λ e. let y : KeepsUnfilled b (Data parent v) (due_at p.due (Data parent v)) (filling_of p (Data parent v)) × Unit {0} = keeps_at p b (Data parent v) Unfilled k within e in
           subst (λ (o : Option Due). KeepsUnfilled b (Data parent v) o (filling_of p (Data parent v))) (due_none p.due (Data parent v) none) y.0))),
       tt,
     ) in
     let stack_keeps : (v : ℕ) → v < length x.stack_pages → Keeps q c (Stack child v) = λ v l.
     let within : v < length (slots_of p (Stack parent 0)) = (let h = map_length (slots_of p (Stack parent 0)) in omega arith) in
-    let slot : slot_of q (Stack child v) ≡ child_slot (slot_of p (Stack parent v)) = ap (λ (o : Option SpacePages). get_or (stack_in o) v no_slot) (added_same child p.spaces x refl new) ∙ map_at (slots_of p (Stack parent 0)) v within in
+    let slot : slot_of q (Stack child v) ≡ child_slot (slot_of p (Stack parent v)) =
+    ap (λ (o : Option SpacePages). get_or (stack_in o) v no_slot) (added_same child p.spaces x refl new) ∙ map_at (slots_of p (Stack parent 0)) v within in
     let due : due_at q.due (Stack child v) ≡ DueOf (Stack child v) (Stack parent v) (state_of p (Stack parent v)) =
-    due_skip ds ss (Stack child v) (copies_apart (Data child) (Data parent) (Stack child v) (λ n e. absurd cc) 0 (slots_of p (Data parent 0))) ∙ copies_start (Stack child) (Stack parent) (stack_numbers child) (slots_of p (Stack parent 0)) v within in
+    due_skip ds ss (Stack child v) (copies_apart (Data child) (Data parent) (Stack child v) (λ n e. absurd cc) 0 (slots_of p (Data parent 0)))
+    ∙ copies_start (Stack child) (Stack parent) (stack_numbers child) (slots_of p (Stack parent 0)) v within in
     subst (KeepsBy q c (Stack child v)) (sym (ap (λ (y : Slot). y.state) slot ∙ child_state (slot_of p (Stack parent v)) (state_of p (Stack parent v)))) (
       subst (λ (o : Option Due). KeepsUnfilled c (Stack child v) o (filling_of q (Stack child v))) (sym due)
           (subst (KeepsUnfilled c (Stack child v) (DueOf (Stack child v) (Stack parent v) (state_of p (Stack parent v)))) (sym (ap (λ (y : Slot). y.filling) slot))
-          (child_keeps b c (Stack child v) (Stack parent v) (slot_of p (Stack parent v)) (state_of p (Stack parent v)) (stacks v) (let z : SameBytes b c (Stack parent v) = same (Stack parent v) within in z.memory)
+          (child_keeps b c (Stack child v) (Stack parent v) (slot_of p (Stack parent v)) (state_of p (Stack parent v)) (stacks v)
+          (let z : SameBytes b c (Stack parent v) = same (Stack parent v) within in z.memory)
           (λ e. let y : KeepsUnfilled b (Stack parent v) (due_at p.due (Stack parent v)) (filling_of p (Stack parent v)) × Unit {0} = keeps_at p b (Stack parent v) Unfilled k within e in
           subst (λ (o : Option Due). KeepsUnfilled b (Stack parent v) o (filling_of p (Stack parent v))) (due_none p.due (Stack parent v) none) y.0))),
       tt,
     ) in
     added_coupled p x (q.due) b c k new none
-    (λ w there. let n = not_new p child w new there in (same w there, due_both ds ss w (copies_apart (Data child) (Data parent) w n.0 0 (slots_of p (Data parent 0))) (copies_apart (Stack child) (Stack parent) w n.1 0 (slots_of p (Stack parent 0)))))
+    (λ w there. let n = not_new p child w new there in
+    (same w there, due_both ds ss w (copies_apart (Data child) (Data parent) w n.0 0 (slots_of p (Data parent 0))) (copies_apart (Stack child) (Stack parent) w n.1 0 (slots_of p (Stack parent 0)))))
     data_keeps stack_keeps text
-    (λ i v. due_both ds ss (Text i v) (copies_apart (Data child) (Data parent) (Text i v) (λ n e. absurd cc) 0 (slots_of p (Data parent 0))) (copies_apart (Stack child) (Stack parent) (Text i v) (λ n e. absurd cc) 0 (slots_of p (Stack parent 0))))
+    (λ i v. due_both ds ss (Text i v) (copies_apart (Data child) (Data parent) (Text i v) (λ n e. absurd cc) 0 (slots_of p (Data parent 0)))
+    (copies_apart (Stack child) (Stack parent) (Text i v) (λ n e. absurd cc) 0 (slots_of p (Stack parent 0))))
 
 -- A new image.
 
@@ -348,6 +359,9 @@ enter_coupled p sid image facts b c k new none same datas start text =
     stack_slot (suc v) l = absurd (omega arith)
 
     stack_keeps : (v : ℕ) → v < length (new_pages sid image facts).stack_pages → Keeps q c (Stack sid v)
-    stack_keeps zero l = subst (KeepsBy q c (Stack sid 0)) (sym (ap (λ (y : Slot). y.state) (stack_slot 0 l)))
-        (subst (λ (o : Option Due). KeepsUnfilled c (Stack sid 0) o (filling_of q (Stack sid 0))) (sym (ap (λ (y : Bool). cond y (Some (Start (Stack sid 0))) None) (same_page_self (Stack sid 0)))) start, tt)
+    stack_keeps zero l = subst (KeepsBy q c (Stack sid 0)) (sym (ap (λ (y : Slot). y.state) (stack_slot 0 l))) (
+      subst (λ (o : Option Due).
+          KeepsUnfilled c (Stack sid 0) o (filling_of q (Stack sid 0))) (sym (ap (λ (y : Bool). cond y (Some (Start (Stack sid 0))) None) (same_page_self (Stack sid 0)))) start,
+      tt,
+    )
     stack_keeps (suc v) l = absurd (omega arith)

@@ -72,7 +72,8 @@ remove_slots p sid (Text j v) i n = absurd i
 pub give_up_slot : (p : Placement) (sid : ℕ) (w : Page) → IsWritable w → space_in w ≢ sid → slot_of (give_up p sid) w ≡ slot_of p w
 give_up_slot p sid w i n =
     let d : Placement = drop_all p (pages_of_space p sid) in
-    leave_text_other (remove_space d sid) (image_of p sid) w i ∙ ap (λ (xs : List Slot). get_or xs (number_of w) no_slot) (remove_slots d sid w i n) ∙ drop_all_other (pages_of_space p sid) p w (not_of_space w sid (data_count p sid) (stack_count p sid) n)
+    leave_text_other (remove_space d sid) (image_of p sid) w i ∙ ap (λ (xs : List Slot). get_or xs (number_of w) no_slot) (remove_slots d sid w i n)
+    ∙ drop_all_other (pages_of_space p sid) p w (not_of_space w sid (data_count p sid) (stack_count p sid) n)
 
 pub give_up_length : (p : Placement) (sid : ℕ) (w : Page) → IsWritable w → space_in w ≢ sid → length (slots_of (give_up p sid) w) ≡ length (slots_of p w)
 give_up_length p sid w i n =

@@ -125,7 +125,8 @@ get_fills D p e v o c n = go p.free
     go : (fr : List ℕ) → KeepsFills D p (get_at p e v fr)
     go [] = fills_self D p
     go (f ∷ rest) =
-        let t = fills_both D p (evict p f) (put (evict p f) v (Coming f) (mark_of p v)) (evict_fills D p f o) (enter_fills D (evict p f) v (Coming f) (mark_of p v) (evict_enters p f v o c) n (λ h. absurd cc)) in
+        let t = fills_both D p (evict p f) (put (evict p f) v (Coming f) (mark_of p v)) (evict_fills D p f o)
+        (enter_fills D (evict p f) v (Coming f) (mark_of p v) (evict_enters p f v o c) n (λ h. absurd cc)) in
         record { sizes = t.sizes; slots = t.slots; fills = t.fills }
 
 get_all_fills : (D : Page → Type 0) (qs : List Page) (p : Placement) (source : Source) (demanded : Page) → OwnsFrames p → EachPage (CanEnter p) qs
@@ -191,7 +192,8 @@ get_run_due p source demanded qs o c a n =
     let same : (get_run p (Reads source demanded) qs).due ≡ p.due = get_due_list qs (begin p (Reads source demanded)) (Reads source demanded) in
     due_still p (get_run p (Reads source demanded) qs)
     (get_run_fills (Waits (get_run p (Reads source demanded) qs).due) p source demanded qs o c a
-    (each_page_imp (NotDue p.due) (λ r. Waits (get_run p (Reads source demanded) qs).due r → ⊥) qs n (λ r h. not_waiting (get_run p (Reads source demanded) qs).due r (ap (λ (ds : List Due). due_at ds r) same ∙ h))))
+    (each_page_imp (NotDue p.due) (λ r. Waits (get_run p (Reads source demanded) qs).due r → ⊥) qs n
+    (λ r h. not_waiting (get_run p (Reads source demanded) qs).due r (ap (λ (ds : List Due). due_at ds r) same ∙ h))))
     (λ w d e. ap (λ (ds : List Due). due_at ds w) (sym same) ∙ e)
 
 moves_due : (n : ℕ) (p : Placement) (locked : List Page) → DueStand p → DueStand (hand_moves p locked n)
@@ -213,7 +215,8 @@ entry_due locked at p (entries.Get q lo n) o c l s = get_run_due p (source_for (
 entry_due locked at p (entries.Copy q) o c n s = filled_due p q o c n s
 entry_due locked at p (entries.Reclaim q) o c n s = stays_due p (reclaim p q) (steady_stays p (reclaim p q) (reclaim_steady p q)) s
 entry_due locked at p (entries.Hands n) o c l s = moves_due n p locked s
-entry_due locked at p (entries.Put q n) o c l s = stays_due p (put_step p q (pages_from q (number_of q) n)) (steady_stays p (put_step p q (pages_from q (number_of q) n)) (put_steady p q (pages_from q (number_of q) n))) s
+entry_due locked at p (entries.Put q n) o c l s =
+    stays_due p (put_step p q (pages_from q (number_of q) n)) (steady_stays p (put_step p q (pages_from q (number_of q) n)) (put_steady p q (pages_from q (number_of q) n))) s
 entry_due locked at p entries.Done o c n s = stays_due p (done p) (steady_stays p (done p) (done_steady p o)) s
 entry_due locked at p (entries.SwapOut pid) o c n s = resident_due p (place_entry locked at p (entries.SwapOut pid)).residents s
 entry_due locked at p (entries.SwapIn pid) o c n s = resident_due p (place_entry locked at p (entries.SwapIn pid)).residents s
@@ -248,19 +251,23 @@ run_in_due p q s n = go q n (state_of p q) (spare_frames p)
     text image w = not_due_by p (Text image w) s (λ i e. absurd i)
 
     go : (q : Page) → NotDue p.due q → (t : PageState) (spare : ℕ) → EachPage (NotDue p.due) (pages_of_run q (run_in_by p q t spare))
-    go (Text image v) n OnSwap spare = run_each (NotDue p.due) (comes_from_swap p (Text image v)) (Text image v) (run_up (comes_from_swap p (Text image v)) v (min 2 spare)) (run_up_in (comes_from_swap p (Text image v)) v (min 2 spare)) n (λ w e. text image w)
-    go (Text image v) n Unfilled spare = run_each (NotDue p.due) (comes_from_file p (Text image v)) (Text image v) (run_up (comes_from_file p (Text image v)) v (min 2 spare)) (run_up_in (comes_from_file p (Text image v)) v (min 2 spare)) n (λ w e. text image w)
+    go (Text image v) n OnSwap spare = run_each (NotDue p.due) (comes_from_swap p (Text image v)) (Text image v) (run_up (comes_from_swap p (Text image v)) v (min 2 spare))
+        (run_up_in (comes_from_swap p (Text image v)) v (min 2 spare)) n (λ w e. text image w)
+    go (Text image v) n Unfilled spare = run_each (NotDue p.due) (comes_from_file p (Text image v)) (Text image v) (run_up (comes_from_file p (Text image v)) v (min 2 spare))
+        (run_up_in (comes_from_file p (Text image v)) v (min 2 spare)) n (λ w e. text image w)
     go (Text image v) n (Valid f) spare = alone (Text image v) n
     go (Text image v) n (Invalid f) spare = alone (Text image v) n
     go (Text image v) n (Coming f) spare = alone (Text image v) n
     go (Text image v) n (Going f) spare = alone (Text image v) n
-    go (Data sid v) n OnSwap spare = run_each (NotDue p.due) (comes_from_swap p (Data sid v)) (Data sid v) (run_both (comes_from_swap p (Data sid v)) v (min 4 spare)) (run_both_in (comes_from_swap p (Data sid v)) v (min 4 spare)) n (swap (Data sid v))
+    go (Data sid v) n OnSwap spare = run_each (NotDue p.due) (comes_from_swap p (Data sid v)) (Data sid v) (run_both (comes_from_swap p (Data sid v)) v (min 4 spare))
+        (run_both_in (comes_from_swap p (Data sid v)) v (min 4 spare)) n (swap (Data sid v))
     go (Data sid v) n Unfilled spare = alone (Data sid v) n
     go (Data sid v) n (Valid f) spare = alone (Data sid v) n
     go (Data sid v) n (Invalid f) spare = alone (Data sid v) n
     go (Data sid v) n (Coming f) spare = alone (Data sid v) n
     go (Data sid v) n (Going f) spare = alone (Data sid v) n
-    go (Stack sid v) n OnSwap spare = run_each (NotDue p.due) (comes_from_swap p (Stack sid v)) (Stack sid v) (run_both (comes_from_swap p (Stack sid v)) v (min 4 spare)) (run_both_in (comes_from_swap p (Stack sid v)) v (min 4 spare)) n (swap (Stack sid v))
+    go (Stack sid v) n OnSwap spare = run_each (NotDue p.due) (comes_from_swap p (Stack sid v)) (Stack sid v) (run_both (comes_from_swap p (Stack sid v)) v (min 4 spare))
+        (run_both_in (comes_from_swap p (Stack sid v)) v (min 4 spare)) n (swap (Stack sid v))
     go (Stack sid v) n Unfilled spare = alone (Stack sid v) n
     go (Stack sid v) n (Valid f) spare = alone (Stack sid v) n
     go (Stack sid v) n (Invalid f) spare = alone (Stack sid v) n
@@ -321,7 +328,8 @@ starts_at : (first : List Starting) (n : ℕ) (w : Page) (d : Due) → due_at (d
 starts_at [] n w d e = none_some d e
 starts_at (a ∷ more) n w d e = go (same_page (Stack n 0) w) refl e (starts_at more (n + 1) w d)
   where
-    go : (b : Bool) → same_page (Stack n 0) w ≡ b → cond b (Some (Start (Stack n 0))) (due_at (due_from (n + 1) more) w) ≡ Some d → (due_at (due_from (n + 1) more) w ≡ Some d → StartsAt more (n + 1) w d) → StartsAt (a ∷ more) n w d
+    go : (b : Bool) → same_page (Stack n 0) w ≡ b → cond b (Some (Start (Stack n 0))) (due_at (due_from (n + 1) more) w) ≡ Some d
+        → (due_at (due_from (n + 1) more) w ≡ Some d → StartsAt more (n + 1) w d) → StartsAt (a ∷ more) n w d
     go true h k ih = record {
       sid = n;
       page = sym (same_page_is (Stack n 0) w h);

@@ -60,7 +60,8 @@ pub due_either : (ds es : List Due) (w : Page) (d : Due) → due_at (ds ++ es) w
 due_either [] es w d e = inr e
 due_either (c ∷ ds) es w d e = go (same_page (due_page c) w) e (due_either ds es w d)
   where
-    go : (b : Bool) → cond b (Some c) (due_at (ds ++ es) w) ≡ Some d → (due_at (ds ++ es) w ≡ Some d → (due_at ds w ≡ Some d) ⊎ (due_at es w ≡ Some d)) → (cond b (Some c) (due_at ds w) ≡ Some d) ⊎ (due_at es w ≡ Some d)
+    go : (b : Bool) → cond b (Some c) (due_at (ds ++ es) w) ≡ Some d → (due_at (ds ++ es) w ≡ Some d → (due_at ds w ≡ Some d) ⊎ (due_at es w ≡ Some d))
+        → (cond b (Some c) (due_at ds w) ≡ Some d) ⊎ (due_at es w ≡ Some d)
     go true k later = inl k
     go false k later = later k
 
@@ -79,7 +80,8 @@ fork_due p parent child new w d e =
     let i : ℕ = r.at in
     let z : 0 + i ≡ i = omega arith in
     let slots : slots_of q (Data child i) ≡ map child_slot (slots_of p (Data parent 0)) = ap data_in (added_same child p.spaces x refl new) in
-    let slot : slot_of q (Data child i) ≡ unfilled Zeros = ap (λ (xs : List Slot). get_or xs i no_slot) slots ∙ map_at (slots_of p (Data parent 0)) i r.within ∙ child_zeros (slot_of p (Data parent i)) (state_of p (Data parent i)) r.filled in
+    let slot : slot_of q (Data child i) ≡ unfilled Zeros =
+    ap (λ (xs : List Slot). get_or xs i no_slot) slots ∙ map_at (slots_of p (Data parent 0)) i r.within ∙ child_zeros (slot_of p (Data parent i)) (state_of p (Data parent i)) r.filled in
     let due : d ≡ CopyOf (Data child i) (Data parent i) = r.due ∙ ap (λ (k : ℕ). CopyOf (Data child k) (Data parent k)) z in
     subst (λ (y : Page). IsDue q y d) (sym (r.page ∙ ap (Data child) z)) (record {
       writable = tt;
@@ -92,7 +94,8 @@ fork_due p parent child new w d e =
     let i : ℕ = r.at in
     let z : 0 + i ≡ i = omega arith in
     let slots : slots_of q (Stack child i) ≡ map child_slot (slots_of p (Stack parent 0)) = ap stack_in (added_same child p.spaces x refl new) in
-    let slot : slot_of q (Stack child i) ≡ unfilled Zeros = ap (λ (xs : List Slot). get_or xs i no_slot) slots ∙ map_at (slots_of p (Stack parent 0)) i r.within ∙ child_zeros (slot_of p (Stack parent i)) (state_of p (Stack parent i)) r.filled in
+    let slot : slot_of q (Stack child i) ≡ unfilled Zeros =
+    ap (λ (xs : List Slot). get_or xs i no_slot) slots ∙ map_at (slots_of p (Stack parent 0)) i r.within ∙ child_zeros (slot_of p (Stack parent i)) (state_of p (Stack parent i)) r.filled in
     let due : d ≡ CopyOf (Stack child i) (Stack parent i) = r.due ∙ ap (λ (k : ℕ). CopyOf (Stack child k) (Stack parent k)) z in
     subst (λ (y : Page). IsDue q y d) (sym (r.page ∙ ap (Stack child) z)) (record {
       writable = tt;

@@ -84,8 +84,10 @@ reach_found p locked d o e t low high enough =
     let whole : (k : ℕ) → k < length p.holds - d → Full p (frame k) = λ k b. full_at p (frame k) o e t (walk_in (length p.holds) (d + k) p.back low high (omega arith)) in
     elim (lt_or (reach p locked (length p.holds) d p.back) (length p.holds) (reach_le p locked (length p.holds) d p.back)) [
       | inl l ↦ l
-      | inr h ↦ absurd (let k = pigeons (length p.holds - d) at locked (λ k b. closed_locked p locked (frame k) (whole k b) (reach_none p locked (length p.holds) d p.back (d + k) h (omega arith) (omega arith)))
-          (λ i j b c. pages_differ p (frame i) (frame j) o (whole i (omega arith)) (whole j c) (walk_apart (length p.holds) (d + i) (d + j) p.back low high (omega arith) (omega arith))) in omega arith)
+      | inr h ↦ absurd
+          (let k = pigeons (length p.holds - d) at locked (λ k b. closed_locked p locked (frame k) (whole k b) (reach_none p locked (length p.holds) d p.back (d + k) h (omega arith) (omega arith)))
+          (λ i j b c. pages_differ p (frame i) (frame j) o (whole i (omega arith)) (whole j c) (walk_apart (length p.holds) (d + i) (d + j) p.back low high (omega arith) (omega arith))) in
+          omega arith)
     ]
 
 -- The front hand.
@@ -115,7 +117,8 @@ invalid_kept p locked q i = go (page_of p p.front)
 front_invalid : (p : Placement) (locked : List Page) (u : Full p p.front) → is_among u.page locked ≡ false
     → is_invalid (state_of (expire p locked) u.page) ≡ true
 front_invalid p locked u n = subst (λ (r : Placement). is_invalid (state_of r u.page) ≡ true) (sym (ap (expire_of p locked) u.held ∙ ap (expire_if p u.page) n)) (elim u.state [
-  | inl e ↦ subst (λ (s : PageState). is_invalid (state_of (expire_to p u.page s) u.page) ≡ true) (sym e) (ap is_invalid (put_state p u.page (Invalid p.front) (mark_of p u.page) (page_in p u.page p.front (ap frame_of e))))
+  | inl e ↦ subst (λ (s : PageState). is_invalid (state_of (expire_to p u.page s) u.page) ≡ true) (sym e)
+      (ap is_invalid (put_state p u.page (Invalid p.front) (mark_of p u.page) (page_in p u.page p.front (ap frame_of e))))
   | inr e ↦ subst (λ (s : PageState). is_invalid (state_of (expire_to p u.page s) u.page) ≡ true) (sym e) (ap is_invalid e)
 ])
 
@@ -128,7 +131,8 @@ passed p locked o u = record {
   opens = λ g e. ap (is_open_page locked) (page g) ∙ e;
   usables = λ g e. usable g (page_of p g) refl e;
   here = λ e. ap (is_usable_page (expire p locked) locked) (page p.front ∙ u.held)
-      ∙ and_from (is_invalid (state_of (expire p locked) u.page)) (not (is_among u.page locked)) (front_invalid p locked u (not-true (is_among u.page locked) (ap (is_open_page locked) (sym u.held) ∙ e))) (ap (is_open_page locked) (sym u.held) ∙ e);
+      ∙ and_from (is_invalid (state_of (expire p locked) u.page)) (not (is_among u.page locked))
+      (front_invalid p locked u (not-true (is_among u.page locked) (ap (is_open_page locked) (sym u.held) ∙ e))) (ap (is_open_page locked) (sym u.held) ∙ e);
 }
   where
     s : Steady p (expire p locked)
@@ -196,7 +200,8 @@ pub sweep_frees : (p : Placement) (locked : List Page) → OwnsFrames p → p.fr
 sweep_frees p locked o fr t e = go (page_of p p.back) refl e
   where
     by : (q : Page) (f : ℕ) (d : Bool) → state_of p q ≡ Invalid f → times f p.free ≡ 0 → Freed (sweep_by p locked q d)
-    by q f true h z = inr (run_first p (pages_of_run q (run_out p locked q)) t (run_out_seats p locked q (record { frame = f; seat = record { state = inr (h, z) } })) (some_pages q (run_out p locked q).lo (run_out p locked q).n (omega arith)))
+    by q f true h z = inr (run_first p (pages_of_run q (run_out p locked q)) t (run_out_seats p locked q (record { frame = f; seat = record { state = inr (h, z) } }))
+        (some_pages q (run_out p locked q).lo (run_out p locked q).n (omega arith)))
     by q f false h z = subst (λ (s : PageState). Freed (retire_to p q s)) (sym h) (inl (not_empty p.free f))
       where
         not_empty : (xs : List ℕ) (x : ℕ) → xs ++ x ∷ [] ≡ [] → ⊥
@@ -310,7 +315,8 @@ move_falls p locked o h r e t =
     transfers_still = Rattle.page_laws.proofs.Moves.Stays.expire_transfers p locked ∙ t
 
     unused : is_usable (expire p locked) locked (expire p locked).back ≡ false → is_usable p locked p.back ≡ true → ⊥
-    unused i j = absurd (let a : is_usable (expire p locked) locked p.back ≡ true = k.usables p.back j in let b : is_usable (expire p locked) locked p.back ≡ false = ap (is_usable (expire p locked) locked) (sym s.back) ∙ i in let c : true ≡ false = sym a ∙ b in cc)
+    unused i j = absurd (let a : is_usable (expire p locked) locked p.back ≡ true = k.usables p.back j in
+        let b : is_usable (expire p locked) locked p.back ≡ false = ap (is_usable (expire p locked) locked) (sym s.back) ∙ i in let c : true ≡ false = sym a ∙ b in cc)
 
     go : (b : Bool) → is_usable (expire p locked) locked (expire p locked).back ≡ b → far (hand_move p locked) locked < far p locked
     go true i =
@@ -324,7 +330,8 @@ move_falls p locked o h r e t =
         ∙ ap (λ (l : List (Option Page)). 2 + reach (advance (expire p locked)) locked (length l) (length l / 4) (next_frame (length l) (expire p locked).back)) s.holds
         ∙ ap (λ (f : ℕ). 2 + reach (advance (expire p locked)) locked (length p.holds) (length p.holds / 4) (next_frame (length p.holds) f)) s.back in
         let step = step_by p locked (length p.holds) (length p.holds / 4) (is_usable p locked p.back) (omega (arith, r.rest)) r.quarter refl (unused i) in
-        let less : reach (advance (expire p locked)) locked (length p.holds) (length p.holds / 4) (next_frame (length p.holds) p.back) ≤ reach p locked (length p.holds - 1) (length p.holds / 4 - 1) (next_frame (length p.holds) p.back) =
+        let less : reach (advance (expire p locked)) locked (length p.holds) (length p.holds / 4) (next_frame (length p.holds) p.back)
+        ≤ reach p locked (length p.holds - 1) (length p.holds / 4 - 1) (next_frame (length p.holds) p.back) =
         shifted p (advance (expire p locked)) locked (length p.holds) (length p.holds / 4) (next_frame (length p.holds) p.back) k (omega (arith, r.rest)) r.quarter
         (walk_back (length p.holds) (length p.holds / 4) p.back r.quarter ∙ sym h.ahead) (omega (arith, found, step)) in
         let all : far (hand_move p locked) locked ≡ far (advance (expire p locked)) locked = ap (λ (q : Placement). far q locked) same in
@@ -348,6 +355,7 @@ move_stands p locked h =
     record {
       low = let k = next_in (length q.holds) q.back (subst (λ (f : ℕ). 0 < f) (sym s.back) h.low) back_high in k.0;
       high = let k = next_in (length q.holds) q.back (subst (λ (f : ℕ). 0 < f) (sym s.back) h.low) back_high in k.1;
-      ahead = ap (next_frame (length q.holds)) (s.front ∙ h.ahead ∙ ap (λ (l : List (Option Page)). walk (length l) (length l / 4) p.back) (sym s.holds) ∙ ap (walk (length q.holds) (length q.holds / 4)) (sym s.back))
+      ahead = ap (next_frame (length q.holds))
+          (s.front ∙ h.ahead ∙ ap (λ (l : List (Option Page)). walk (length l) (length l / 4) p.back) (sym s.holds) ∙ ap (walk (length q.holds) (length q.holds / 4)) (sym s.back))
           ∙ sym (walk_next (length q.holds) (length q.holds / 4) q.back);
     }

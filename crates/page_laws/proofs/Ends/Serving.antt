@@ -187,7 +187,8 @@ get_all_comes (v ∷ qs) p source demanded q o c a latest l h =
     let latest2 = get_open_still p (Reads source demanded) v latest in
     elim (or_cases (same_page q v) (is_among q qs) h) [
       | inl e ↦ get_all_still qs (get_one p (Reads source demanded) v) source demanded q o2 c2 a.1 latest2
-          (subst (λ (x : Page). is_coming (state_of (get_one p (Reads source demanded) v) x) ≡ true) (sym (Rattle.flat_state.proofs.PageNames.same_page_is q v e)) (get_comes p (Reads source demanded) v c.0 (omega arith)))
+          (subst (λ (x : Page). is_coming (state_of (get_one p (Reads source demanded) v) x) ≡ true) (sym (Rattle.flat_state.proofs.PageNames.same_page_is q v e))
+          (get_comes p (Reads source demanded) v c.0 (omega arith)))
       | inr e ↦ get_all_comes qs (get_one p (Reads source demanded) v) source demanded q o2 c2 a.1 latest2 (let k = get_takes p (Reads source demanded) v o in omega arith) e
     ]
 
@@ -236,7 +237,8 @@ pages_length q lo (suc n) = ap suc (pages_length q (lo + 1) n)
 pages_among : (q : Page) (lo n w : ℕ) → lo ≤ w → w < lo + n → is_among (beside q w) (pages_from q lo n) ≡ true
 pages_among q lo zero w l m = absurd (omega arith)
 pages_among q lo (suc n) w l m = elim (cases_eq w lo) [
-  | inl e ↦ or_left (same_page (beside q w) (beside q lo)) (is_among (beside q w) (pages_from q (lo + 1) n)) (subst (λ (x : ℕ). same_page (beside q w) (beside q x) ≡ true) e (same_page_self (beside q w)))
+  | inl e ↦ or_left (same_page (beside q w) (beside q lo)) (is_among (beside q w) (pages_from q (lo + 1) n))
+      (subst (λ (x : ℕ). same_page (beside q w) (beside q x) ≡ true) e (same_page_self (beside q w)))
   | inr k ↦ or_right (same_page (beside q w) (beside q lo)) (is_among (beside q w) (pages_from q (lo + 1) n)) (pages_among q (lo + 1) n w (omega arith) (omega arith))
 ]
 
@@ -251,7 +253,8 @@ read_comes p q o c l =
     (subst (λ (x : Page). is_among x (pages_of_run q (run_in p q)) ≡ true) (beside_self q) (pages_among q (run_in p q).lo (run_in p q).n (number_of q) f.0 f.1))
 
 pub read_length : (p : Placement) (q : Page) → length (read_step p q).transfers ≡ length p.transfers + 1
-read_length p q = get_all_length (pages_of_run q (run_in p q)) (begin p (read_errand p q)) (read_errand p q) (begin_open p.transfers (read_errand p q)) ∙ length_push p.transfers (record { errand = read_errand p q; parts = [] })
+read_length p q = get_all_length (pages_of_run q (run_in p q)) (begin p (read_errand p q)) (read_errand p q) (begin_open p.transfers (read_errand p q))
+    ∙ length_push p.transfers (record { errand = read_errand p q; parts = [] })
 
 -- Serving.
 
@@ -420,7 +423,8 @@ serve_falls p locked q o h r there nv = go (state_of p q) refl nv
     go (Valid f) e n = absurd cc
     go (Invalid f) e n = subst (λ (s : PageState). rank (reclaim_to p q s) locked q < 1) (sym e)
         (subst (λ (s : PageState). rank_by (reclaim_to p q (Invalid f)) locked (filling_of (reclaim_to p q (Invalid f)) q) s < 1) (sym (put_state p q (Valid f) (mark_of p q) there)) (omega arith))
-    go (Coming f) e n = done_rank p locked q there (in_flight p q f o (ap frame_of e) (λ k. absurd (let z : Coming f ≡ Invalid f = sym e ∙ k in cc)) (ap (seats 0) e)) (λ z x. ap (rank_by z locked x) e)
+    go (Coming f) e n =
+        done_rank p locked q there (in_flight p q f o (ap frame_of e) (λ k. absurd (let z : Coming f ≡ Invalid f = sym e ∙ k in cc)) (ap (seats 0) e)) (λ z x. ap (rank_by z locked x) e)
     go (Going f) e n = done_rank p locked q there (in_flight p q f o (ap frame_of e) (λ k. absurd (let z : Going f ≡ Invalid f = sym e ∙ k in cc)) (ap (seats 0) e)) (λ z x. ap (rank_by z locked x) e)
     go Unfilled e n = unfilled (filling_of p q) p.free e refl refl
     go OnSwap e n = swapped p.free e refl

@@ -92,10 +92,13 @@ cut_alike p sid d s (Data t v) k =
       | inr l ↦ l
     ] in
     elim (cases_eq t sid) [
-      | inl e ↦ subst (λ (x : ℕ). Alike (get_or (data_in (numbered space_number x (changed space_number sid (cut d s) p.spaces))) v no_slot) (get_or (data_in (numbered space_number x p.spaces)) v no_slot)) (sym e)
-          (subst (λ (y : Option SpacePages). Alike (get_or (data_in y) v no_slot) (get_or (data_in (numbered space_number sid p.spaces)) v no_slot)) (sym (changed_same space_number sid (cut d s) (λ x. refl) p.spaces))
+      | inl e ↦ subst (λ (x : ℕ). Alike (get_or (data_in (numbered space_number x (changed space_number sid (cut d s) p.spaces))) v no_slot)
+          (get_or (data_in (numbered space_number x p.spaces)) v no_slot)) (sym e)
+          (subst (λ (y : Option SpacePages). Alike (get_or (data_in y) v no_slot) (get_or (data_in (numbered space_number sid p.spaces)) v no_slot))
+          (sym (changed_same space_number sid (cut d s) (λ x. refl) p.spaces))
           (data_within d s v (numbered space_number sid p.spaces) (below e)))
-      | inr n ↦ subst (λ (y : Option SpacePages). Alike (get_or (data_in y) v no_slot) (get_or (data_in (numbered space_number t p.spaces)) v no_slot)) (sym (changed_other space_number sid t (cut d s) (λ x. refl) n p.spaces)) (refl, refl)
+      | inr n ↦ subst (λ (y : Option SpacePages). Alike (get_or (data_in y) v no_slot) (get_or (data_in (numbered space_number t p.spaces)) v no_slot))
+          (sym (changed_other space_number sid t (cut d s) (λ x. refl) n p.spaces)) (refl, refl)
     ]
 cut_alike p sid d s (Stack t v) k =
     let below : t ≡ sid → v < s = λ e. elim (cases_le s v) [
@@ -103,10 +106,13 @@ cut_alike p sid d s (Stack t v) k =
       | inr l ↦ l
     ] in
     elim (cases_eq t sid) [
-      | inl e ↦ subst (λ (x : ℕ). Alike (get_or (stack_in (numbered space_number x (changed space_number sid (cut d s) p.spaces))) v no_slot) (get_or (stack_in (numbered space_number x p.spaces)) v no_slot)) (sym e)
-          (subst (λ (y : Option SpacePages). Alike (get_or (stack_in y) v no_slot) (get_or (stack_in (numbered space_number sid p.spaces)) v no_slot)) (sym (changed_same space_number sid (cut d s) (λ x. refl) p.spaces))
+      | inl e ↦ subst (λ (x : ℕ). Alike (get_or (stack_in (numbered space_number x (changed space_number sid (cut d s) p.spaces))) v no_slot)
+          (get_or (stack_in (numbered space_number x p.spaces)) v no_slot)) (sym e)
+          (subst (λ (y : Option SpacePages). Alike (get_or (stack_in y) v no_slot) (get_or (stack_in (numbered space_number sid p.spaces)) v no_slot))
+          (sym (changed_same space_number sid (cut d s) (λ x. refl) p.spaces))
           (stack_within d s v (numbered space_number sid p.spaces) (below e)))
-      | inr n ↦ subst (λ (y : Option SpacePages). Alike (get_or (stack_in y) v no_slot) (get_or (stack_in (numbered space_number t p.spaces)) v no_slot)) (sym (changed_other space_number sid t (cut d s) (λ x. refl) n p.spaces)) (refl, refl)
+      | inr n ↦ subst (λ (y : Option SpacePages). Alike (get_or (stack_in y) v no_slot) (get_or (stack_in (numbered space_number t p.spaces)) v no_slot))
+          (sym (changed_other space_number sid t (cut d s) (λ x. refl) n p.spaces)) (refl, refl)
     ]
 cut_alike p sid d s (Text image v) k = (refl, refl)
 
@@ -122,7 +128,8 @@ StaysOrGoes p r w why = (page_frame r w ≡ page_frame p w) ⊎ ((page_frame r w
 resize_frame : (p : Placement) (sid d s : ℕ) (w : Page) → StaysOrGoes p (resize p sid d s) w (IsCutOff sid d s w)
 resize_frame p sid d s w = elim (cut_or sid d s w) [
   | inl k ↦ inr (cut_past (drop_all p (dropped_pages p sid d s)) sid d s w k, k)
-  | inr k ↦ inl (ap frame_of (cut_alike (drop_all p (dropped_pages p sid d s)) sid d s w k).0 ∙ slot_frame p (drop_all p (dropped_pages p sid d s)) w (drop_all_other (dropped_pages p sid d s) p w (not_dropped p sid d s w k)))
+  | inr k ↦ inl (ap frame_of (cut_alike (drop_all p (dropped_pages p sid d s)) sid d s w k).0
+      ∙ slot_frame p (drop_all p (dropped_pages p sid d s)) w (drop_all_other (dropped_pages p sid d s) p w (not_dropped p sid d s w k)))
 ]
 
 -- A space that goes.

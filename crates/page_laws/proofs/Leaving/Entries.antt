@@ -164,7 +164,8 @@ get_all_kept (v ∷ qs) p source demanded w f r e =
           left = h.left ∙ ap (λ (x : Slot). left_state w x.mark) k;
         })
       ]
-      | inr k ↦ inr (later p q (get_all q (Reads source demanded) qs) w f (get_all_frameless qs q source demanded w on (entering_others qs p w f r.enter.1 e) (left_none w (state_of q w) (mark_of p w) k.left)) k)
+      | inr k ↦ inr (later p q (get_all q (Reads source demanded) qs) w f
+          (get_all_frameless qs q source demanded w on (entering_others qs p w f r.enter.1 e) (left_none w (state_of q w) (mark_of p w) k.left)) k)
     ]
 
 pub reading : (p : Placement) (q : Page) (lo n : ℕ) → OwnsFrames p → EachPage (CanEnter p) (pages_from q lo n)
@@ -178,7 +179,8 @@ reading p q lo n o c = record {
 
 read_kept : (p : Placement) (q : Page) (lo n : ℕ) (w : Page) (f : ℕ) → OwnsFrames p → EachPage (CanEnter p) (pages_from q lo n)
     → frame_of (state_of p w) ≡ Some f
-    → (slot_of (get_all (begin p (read_errand p q)) (read_errand p q) (pages_from q lo n)) w ≡ slot_of p w) ⊎ IsTaken p (get_all (begin p (read_errand p q)) (read_errand p q) (pages_from q lo n)) w f
+    → (slot_of (get_all (begin p (read_errand p q)) (read_errand p q) (pages_from q lo n)) w ≡ slot_of p w)
+    ⊎ IsTaken p (get_all (begin p (read_errand p q)) (read_errand p q) (pages_from q lo n)) w f
 read_kept p q lo n w f o c e = elim (get_all_kept (pages_from q lo n) (begin p (read_errand p q)) (source_for (state_of p q)) q w f (reading p q lo n o c) e) [
   | inl h ↦ inl h
   | inr h ↦ inr (record { state = h.state; free = h.free; clean = h.clean; left = h.left })

@@ -133,7 +133,8 @@ reclaim_held p v w f u = go (state_of p v) refl
         let there = page_in p v g (ap frame_of e) in
         let same : g ≡ f = same_Some g f (sym (ap frame_of e) ∙ ap (λ (x : Page). frame_of (state_of p x)) (sym s) ∙ held_frame p w f u) in
         record {
-          dirty = subst (λ (x : Page). is_dirty (reclaim_to p v (Invalid g)) x ≡ true) (sym s) (ap (is_dirty_by v) (put_mark p v (Valid g) (mark_of p v) there) ∙ subst (λ (x : Page). is_dirty p x ≡ true) s u.dirty);
+          dirty = subst (λ (x : Page). is_dirty (reclaim_to p v (Invalid g)) x ≡ true) (sym s)
+              (ap (is_dirty_by v) (put_mark p v (Valid g) (mark_of p v) there) ∙ subst (λ (x : Page). is_dirty p x ≡ true) s u.dirty);
           held = inl (ap (state_of (reclaim_to p v (Invalid g))) s ∙ put_state p v (Valid g) (mark_of p v) there ∙ ap Valid same);
         }
 
@@ -159,7 +160,8 @@ expire_held p locked w f o u = of (page_of p p.front)
         let one : seats (times g p.free) (state_of p v) ≡ 1 = ap (seats (times g p.free)) e in
         let off : times g p.free ≡ 0 = omega arith in
         record {
-          dirty = subst (λ (x : Page). is_dirty (expire_to p v (Valid g)) x ≡ true) (sym s) (ap (is_dirty_by v) (put_mark p v (Invalid g) (mark_of p v) there) ∙ subst (λ (x : Page). is_dirty p x ≡ true) s u.dirty);
+          dirty = subst (λ (x : Page). is_dirty (expire_to p v (Valid g)) x ≡ true) (sym s)
+              (ap (is_dirty_by v) (put_mark p v (Invalid g) (mark_of p v) there) ∙ subst (λ (x : Page). is_dirty p x ≡ true) s u.dirty);
           held = inr (inl (ap (state_of (expire_to p v (Valid g))) s ∙ put_state p v (Invalid g) (mark_of p v) there ∙ ap Invalid same, ap (λ (x : ℕ). times x p.free) (sym same) ∙ off));
         }
 
@@ -209,7 +211,8 @@ launch_held p v w f u = go (state_of p v) refl
         let there = page_in p v g e in
         let same : g ≡ f = same_Some g f (sym e ∙ ap (λ (x : Page). frame_of (state_of p x)) (sym s) ∙ held_frame p w f u) in
         record {
-          dirty = subst (λ (x : Page). is_dirty (turn p v (Going g) (mark_of p v) p.free ts) x ≡ true) (sym s) (ap (is_dirty_by v) (put_mark p v (Going g) (mark_of p v) there) ∙ subst (λ (x : Page). is_dirty p x ≡ true) s u.dirty);
+          dirty = subst (λ (x : Page). is_dirty (turn p v (Going g) (mark_of p v) p.free ts) x ≡ true) (sym s)
+              (ap (is_dirty_by v) (put_mark p v (Going g) (mark_of p v) there) ∙ subst (λ (x : Page). is_dirty p x ≡ true) s u.dirty);
           held = inr (inr (ap (state_of (turn p v (Going g) (mark_of p v) p.free ts)) s ∙ put_state p v (Going g) (mark_of p v) there ∙ ap Going same));
         }
 
@@ -336,7 +339,8 @@ land_all_clean (x ∷ xs) p e ts w f o h c =
     let l = landing_at x xs p e ts h in
     let n : w ≢ x.page = λ s. absurd (not_moving e x.frame f (sym (landing_state p e x (record { errand = e; parts = xs } ∷ ts) o l) ∙ ap (state_of p) (sym s) ∙ c.state)) in
     let k = land_other p e x (record { errand = e; parts = xs } ∷ ts) w n in
-    land_all_clean xs (land p e x (record { errand = e; parts = xs } ∷ ts)) e ts w f (land_owner p e x (record { errand = e; parts = xs } ∷ ts) o l) (land_transfers p e x (record { errand = e; parts = xs } ∷ ts))
+    land_all_clean xs (land p e x (record { errand = e; parts = xs } ∷ ts)) e ts w f (land_owner p e x (record { errand = e; parts = xs } ∷ ts) o l)
+    (land_transfers p e x (record { errand = e; parts = xs } ∷ ts))
     (record { state = ap (λ (y : Slot). y.state) k ∙ c.state; clean = ap (λ (y : Slot). is_dirty_by w y.mark) k ∙ c.clean })
 
 land_all_held : (xs : List Part) (p : Placement) (e : Errand) (ts : List Transfer) (w : Page) (f : ℕ) → OwnsFrames p

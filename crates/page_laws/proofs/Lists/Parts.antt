@@ -73,7 +73,11 @@ all_push P (m ∷ ms) u h k = (h.0, all_push P ms u h.1 k)
 -- the others have another frame
 pub all_absent : (P Q : Moving → Type 0) (f : ℕ) (ms : List Moving) → times f (flying ms) ≡ 0 → Each P ms → ((m : Moving) → m.frame ≢ f → P m → Q m) → Each Q ms
 all_absent P Q f [] z h k = tt
-all_absent P Q f (m ∷ ms) z h k = (k m (λ e. absurd (let n : times f (f ∷ flying ms) ≡ 0 = subst (λ (x : ℕ). times f (x ∷ flying ms) ≡ 0) e z in omega (arith, times_head f (flying ms)))) h.0, all_absent P Q f ms (omega arith) h.1 k)
+all_absent P Q f (m ∷ ms) z h k = (
+  k m (λ e.
+      absurd (let n : times f (f ∷ flying ms) ≡ 0 = subst (λ (x : ℕ). times f (x ∷ flying ms) ≡ 0) e z in omega (arith, times_head f (flying ms)))) h.0,
+  all_absent P Q f ms (omega arith) h.1 k,
+)
 
 -- What a transfer is for, by its frame.
 

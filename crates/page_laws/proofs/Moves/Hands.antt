@@ -119,8 +119,10 @@ cond_le false x m l = l
 
 pub reach_le : (p : Placement) (locked : List Page) (m d f : ℕ) → reach p locked m d f ≤ m
 reach_le p locked zero d f = omega arith
-reach_le p locked (suc m) zero f = cond_le (is_open p locked f) (1 + reach p locked m zero (next_frame (length p.holds) f)) (suc m) (omega (arith, reach_le p locked m zero (next_frame (length p.holds) f)))
-reach_le p locked (suc m) (suc d) f = cond_le (is_usable p locked f) (1 + reach p locked m d (next_frame (length p.holds) f)) (suc m) (omega (arith, reach_le p locked m d (next_frame (length p.holds) f)))
+reach_le p locked (suc m) zero f =
+    cond_le (is_open p locked f) (1 + reach p locked m zero (next_frame (length p.holds) f)) (suc m) (omega (arith, reach_le p locked m zero (next_frame (length p.holds) f)))
+reach_le p locked (suc m) (suc d) f =
+    cond_le (is_usable p locked f) (1 + reach p locked m d (next_frame (length p.holds) f)) (suc m) (omega (arith, reach_le p locked m d (next_frame (length p.holds) f)))
 
 none_by : (b : Bool) (x m : ℕ) → cond b 0 (1 + x) ≡ suc m → (b ≡ false) × (x ≡ m)
 none_by true x m e = absurd (omega arith)
@@ -131,9 +133,11 @@ pub reach_none : (p : Placement) (locked : List Page) (m d f k : ℕ) → reach 
     → is_open p locked (walk (length p.holds) k f) ≡ false
 reach_none p locked zero d f k e l h = absurd (omega arith)
 reach_none p locked (suc m) zero f zero e l h = (none_by (is_open p locked f) (reach p locked m zero (next_frame (length p.holds) f)) m e).0
-reach_none p locked (suc m) zero f (suc k) e l h = reach_none p locked m zero (next_frame (length p.holds) f) k (none_by (is_open p locked f) (reach p locked m zero (next_frame (length p.holds) f)) m e).1 (omega arith) (omega arith)
+reach_none p locked (suc m) zero f (suc k) e l h =
+    reach_none p locked m zero (next_frame (length p.holds) f) k (none_by (is_open p locked f) (reach p locked m zero (next_frame (length p.holds) f)) m e).1 (omega arith) (omega arith)
 reach_none p locked (suc m) (suc d) f zero e l h = absurd (omega arith)
-reach_none p locked (suc m) (suc d) f (suc k) e l h = reach_none p locked m d (next_frame (length p.holds) f) k (none_by (is_usable p locked f) (reach p locked m d (next_frame (length p.holds) f)) m e).1 (omega arith) (omega arith)
+reach_none p locked (suc m) (suc d) f (suc k) e l h =
+    reach_none p locked m d (next_frame (length p.holds) f) k (none_by (is_usable p locked f) (reach p locked m d (next_frame (length p.holds) f)) m e).1 (omega arith) (omega arith)
 
 -- What a move that finds nothing leaves: the same frames, what was usable usable, and so the open frame of the front hand.
 pub record Passed (p q : Placement) (locked : List Page) (front : ℕ) : Type 0 where
@@ -151,13 +155,17 @@ shift_by false false x y m h l k = let j = k (omega arith) in omega arith
 pub reach_shift : (p q : Placement) (locked : List Page) (front m d f : ℕ) → Passed p q locked front → walk (length p.holds) d f ≡ front
     → reach p locked m d f < m → reach q locked (suc m) (suc d) f ≤ reach p locked m d f
 reach_shift p q locked front zero d f s e l = absurd (omega arith)
-reach_shift p q locked front (suc m) zero f s e l = shift_by (is_open p locked f) (is_usable q locked f) (reach p locked m zero (next_frame (length p.holds) f)) (reach q locked (suc m) zero (next_frame (length q.holds) f)) m
+reach_shift p q locked front (suc m) zero f s e l =
+    shift_by (is_open p locked f) (is_usable q locked f) (reach p locked m zero (next_frame (length p.holds) f)) (reach q locked (suc m) zero (next_frame (length q.holds) f)) m
     (λ h. subst (λ (g : ℕ). is_usable q locked g ≡ true) (sym e) (s.here (subst (λ (g : ℕ). is_open p locked g ≡ true) e h))) l
     (λ h. subst (λ (n : ℕ). reach q locked (suc m) zero (next_frame n f) ≤ reach p locked m zero (next_frame (length p.holds) f)) (sym s.frames) (opened m (next_frame (length p.holds) f) h))
   where
     opened : (m f : ℕ) → reach p locked m zero f < m → reach q locked (suc m) zero f ≤ reach p locked m zero f
     opened zero f l = absurd (omega arith)
-    opened (suc m) f l = shift_by (is_open p locked f) (is_open q locked f) (reach p locked m zero (next_frame (length p.holds) f)) (reach q locked (suc m) zero (next_frame (length q.holds) f)) m (s.opens f) l
+    opened (suc m) f l =
+        shift_by (is_open p locked f) (is_open q locked f) (reach p locked m zero (next_frame (length p.holds) f)) (reach q locked (suc m) zero (next_frame (length q.holds) f)) m (s.opens f) l
         (λ h. subst (λ (n : ℕ). reach q locked (suc m) zero (next_frame n f) ≤ reach p locked m zero (next_frame (length p.holds) f)) (sym s.frames) (opened m (next_frame (length p.holds) f) h))
-reach_shift p q locked front (suc m) (suc d) f s e l = shift_by (is_usable p locked f) (is_usable q locked f) (reach p locked m d (next_frame (length p.holds) f)) (reach q locked (suc m) (suc d) (next_frame (length q.holds) f)) m (s.usables f) l
-    (λ h. subst (λ (n : ℕ). reach q locked (suc m) (suc d) (next_frame n f) ≤ reach p locked m d (next_frame (length p.holds) f)) (sym s.frames) (reach_shift p q locked front m d (next_frame (length p.holds) f) s e h))
+reach_shift p q locked front (suc m) (suc d) f s e l =
+    shift_by (is_usable p locked f) (is_usable q locked f) (reach p locked m d (next_frame (length p.holds) f)) (reach q locked (suc m) (suc d) (next_frame (length q.holds) f)) m (s.usables f) l
+    (λ h. subst (λ (n : ℕ). reach q locked (suc m) (suc d) (next_frame n f) ≤ reach p locked m d (next_frame (length p.holds) f)) (sym s.frames)
+    (reach_shift p q locked front m d (next_frame (length p.holds) f) s e h))

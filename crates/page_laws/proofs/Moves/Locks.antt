@@ -147,7 +147,8 @@ launch_all_spares : (qs : List Page) (p : Placement) (locked : List Page) → Ea
     → Spares p (launch_all p qs) locked
 launch_all_spares [] p locked n a = λ w i h. h
 launch_all_spares (v ∷ qs) p locked n a = spares_both p (launch p v) (launch_all (launch p v) qs) locked (launch_spares p v locked n.0)
-    (launch_all_spares qs (launch p v) locked (each_page_both (λ q. is_valid (state_of p q) ≡ false) (λ r. r ≢ v) (λ q. is_valid (state_of (launch p v) q) ≡ false) qs n.1 a.0 (λ w e d. ap is_valid (launch_still p v w d) ∙ e)) a.1)
+    (launch_all_spares qs (launch p v) locked
+    (each_page_both (λ q. is_valid (state_of p q) ≡ false) (λ r. r ≢ v) (λ q. is_valid (state_of (launch p v) q) ≡ false) qs n.1 a.0 (λ w e d. ap is_valid (launch_still p v w d) ∙ e)) a.1)
 
 idle_not : (p : Placement) (s : PageState) → is_idle_by p s ≡ true → is_valid s ≡ false
 idle_not p (Valid f) e = absurd cc
@@ -160,7 +161,8 @@ sweep_spares p locked = go (page_of p p.back)
     by q f true e = λ w i h. launch_all_spares (pages_of_run q (run_out p locked q)) (begin p Writes) locked
         (run_each (λ r. is_valid (state_of p r) ≡ false) (λ x. goes_along p locked (beside q x) && is_near q x) q (run_out p locked q)
         (run_both_in (λ x. goes_along p locked (beside q x) && is_near q x) (number_of q) most_written) (ap is_valid e)
-        (λ x k. idle_not p (state_of p (beside q x)) (and_parts (is_idle p (beside q x)) (is_dirty p (beside q x) && not (is_among (beside q x) locked)) (and_parts (goes_along p locked (beside q x)) (is_near q x) k).0).0))
+        (λ x k. idle_not p (state_of p (beside q x))
+        (and_parts (is_idle p (beside q x)) (is_dirty p (beside q x) && not (is_among (beside q x) locked)) (and_parts (goes_along p locked (beside q x)) (is_near q x) k).0).0))
         (run_apart q (run_out p locked q)) w i h
     by q f false e = subst (λ (s : PageState). Spares p (retire_to p q s) locked) (sym e) (λ w i h. put_invalid p q (Invalid f) (mark_of p q) locked (ap is_valid e) w i h)
 
@@ -203,7 +205,8 @@ land_all_spares (x ∷ xs) p e ts locked o h =
     let l : Landing p e x (record { errand = e; parts = xs } ∷ ts) = record { parts = ap Rattle.page_model.specs.Placement.parts_of h } in
     spares_both p (land p e x (record { errand = e; parts = xs } ∷ ts)) (land_all (land p e x (record { errand = e; parts = xs } ∷ ts)) e xs ts) locked
     (land_spares p e x (record { errand = e; parts = xs } ∷ ts) locked (ap is_valid (landing_state p e x (record { errand = e; parts = xs } ∷ ts) o l) ∙ moving_not e x.frame))
-    (land_all_spares xs (land p e x (record { errand = e; parts = xs } ∷ ts)) e ts locked (land_owner p e x (record { errand = e; parts = xs } ∷ ts) o l) (land_transfers p e x (record { errand = e; parts = xs } ∷ ts)))
+    (land_all_spares xs (land p e x (record { errand = e; parts = xs } ∷ ts)) e ts locked (land_owner p e x (record { errand = e; parts = xs } ∷ ts) o l)
+    (land_transfers p e x (record { errand = e; parts = xs } ∷ ts)))
 
 pub done_spares : (p : Placement) (locked : List Page) → OwnsFrames p → Spares p (done p) locked
 done_spares p locked o = go p.transfers refl

@@ -283,7 +283,8 @@ touch_all_kept k (v ∷ qs) p = k.both p (touch p v) (touch_all p (v ∷ qs)) (t
 -- Entries: beside the moves, a process goes out or comes in.
 pub entry_kept : {R : Placement → Placement → Type 0} → KeptByPuts R → ((p : Placement) (ds : List Due) → R p (record p { due = ds }))
     → ((p : Placement) → R p (advance p))
-    → ((p : Placement) (pid : ℕ) (out : Bool) (at : ℕ) → R p (moved p pid out at)) → (locked : List Page) (at : ℕ) (p : Placement) (e : Entry) → R p (place_entry locked at p e)
+    → ((p : Placement) (pid : ℕ) (out : Bool) (at : ℕ) → R p (moved p pid out at)) → (locked : List Page) (at : ℕ) (p : Placement) (e : Entry)
+    → R p (place_entry locked at p e)
 entry_kept k d g m locked at p (entries.Zero q) = filled_kept k d p q
 entry_kept k d g m locked at p (entries.Get q lo n) = get_run_kept k p (read_errand p q) (pages_from q lo n)
 entry_kept k d g m locked at p (entries.Copy q) = filled_kept k d p q

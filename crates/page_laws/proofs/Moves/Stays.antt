@@ -184,7 +184,8 @@ pub swept_steady : (p : Placement) (locked : List Page) → Steady p (sweep (exp
 swept_steady p locked = steady_both p (expire p locked) (sweep (expire p locked) locked) (expire_steady p locked) (sweep_steady (expire p locked) locked)
 
 pub move_stays : (p : Placement) (locked : List Page) → Stays p (hand_move p locked)
-move_stays p locked = let s : Steady p (sweep (expire p locked) locked) = swept_steady p locked in record { sizes = s.sizes; holds = s.holds; frames = s.frames; others = s.others; due = s.due; sharing = s.sharing }
+move_stays p locked =
+    let s : Steady p (sweep (expire p locked) locked) = swept_steady p locked in record { sizes = s.sizes; holds = s.holds; frames = s.frames; others = s.others; due = s.due; sharing = s.sharing }
 
 land_steady : (p : Placement) (e : Errand) (x : Part) (rest : List Transfer) → frame_of (state_of p x.page) ≡ Some x.frame → Steady p (land p e x rest)
 land_steady p Writes x rest h = turn_steady p x.page x.frame (Invalid x.frame) (written_mark x.page) (p.free ++ x.frame ∷ []) rest h refl
@@ -201,7 +202,8 @@ land_all_steady (x ∷ xs) p e ts o h =
     let l : Landing p e x (record { errand = e; parts = xs } ∷ ts) = record { parts = ap parts_of h } in
     steady_both p (land p e x (record { errand = e; parts = xs } ∷ ts)) (land_all (land p e x (record { errand = e; parts = xs } ∷ ts)) e xs ts)
     (land_steady p e x (record { errand = e; parts = xs } ∷ ts) (landing_frame p e x (record { errand = e; parts = xs } ∷ ts) o l))
-    (land_all_steady xs (land p e x (record { errand = e; parts = xs } ∷ ts)) e ts (land_owner p e x (record { errand = e; parts = xs } ∷ ts) o l) (land_transfers p e x (record { errand = e; parts = xs } ∷ ts)))
+    (land_all_steady xs (land p e x (record { errand = e; parts = xs } ∷ ts)) e ts (land_owner p e x (record { errand = e; parts = xs } ∷ ts) o l)
+    (land_transfers p e x (record { errand = e; parts = xs } ∷ ts)))
 
 pub done_steady : (p : Placement) → OwnsFrames p → Steady p (done p)
 done_steady p o = go p.transfers refl

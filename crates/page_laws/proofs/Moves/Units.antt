@@ -57,7 +57,8 @@ entry_steps locked at p q n due = go (state_of p q) n
       where
         same_due : (fr : List ℕ) → record (Rattle.page_model.specs.Moves.fill_at p q fr) { due = p.due } ≡ Rattle.page_model.specs.Moves.fill_at p q fr
         same_due [] = refl
-        same_due (f ∷ rest) = ap (λ (ds : List Due). record (Rattle.page_model.specs.Moves.fill_at p q (f ∷ rest)) { due = ds }) (sym (let r : Rattle.page_laws.proofs.Moves.Steps.EvictRest p (Rattle.page_model.specs.Moves.evict p f) = Rattle.page_laws.proofs.Moves.Steps.evict_rest p f in r.due))
+        same_due (f ∷ rest) = ap (λ (ds : List Due). record (Rattle.page_model.specs.Moves.fill_at p q (f ∷ rest)) { due = ds })
+            (sym (let r : Rattle.page_laws.proofs.Moves.Steps.EvictRest p (Rattle.page_model.specs.Moves.evict p f) = Rattle.page_laws.proofs.Moves.Steps.evict_rest p f in r.due))
 
     forced : (ts : List Transfer) → place_entry locked at p (force_entry ts) ≡ force_by p locked ts
     forced [] = refl

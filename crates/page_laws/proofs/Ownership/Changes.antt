@@ -80,16 +80,22 @@ cut_owner p sid d s o c = alike_owner p (cut_space p sid d s) o refl refl refl a
   where
     alike : (w : Page) → Alike (slot_of (cut_space p sid d s) w) (slot_of p w)
     alike (Data t w) = elim (cases_eq t sid) [
-      | inl e ↦ subst (λ (x : ℕ). Alike (get_or (data_in (numbered space_number x (changed space_number sid (cut d s) p.spaces))) w no_slot) (get_or (data_in (numbered space_number x p.spaces)) w no_slot)) (sym e)
-          (subst (λ (y : Option SpacePages). Alike (get_or (data_in y) w no_slot) (get_or (data_in (numbered space_number sid p.spaces)) w no_slot)) (sym (changed_same space_number sid (cut d s) (λ x. refl) p.spaces))
+      | inl e ↦ subst (λ (x : ℕ). Alike (get_or (data_in (numbered space_number x (changed space_number sid (cut d s) p.spaces))) w no_slot)
+          (get_or (data_in (numbered space_number x p.spaces)) w no_slot)) (sym e)
+          (subst (λ (y : Option SpacePages). Alike (get_or (data_in y) w no_slot) (get_or (data_in (numbered space_number sid p.spaces)) w no_slot))
+          (sym (changed_same space_number sid (cut d s) (λ x. refl) p.spaces))
           (data_cut d s w (numbered space_number sid p.spaces) (c.data_blank w)))
-      | inr n ↦ subst (λ (y : Option SpacePages). Alike (get_or (data_in y) w no_slot) (get_or (data_in (numbered space_number t p.spaces)) w no_slot)) (sym (changed_other space_number sid t (cut d s) (λ x. refl) n p.spaces)) (refl, refl)
+      | inr n ↦ subst (λ (y : Option SpacePages). Alike (get_or (data_in y) w no_slot) (get_or (data_in (numbered space_number t p.spaces)) w no_slot))
+          (sym (changed_other space_number sid t (cut d s) (λ x. refl) n p.spaces)) (refl, refl)
     ]
     alike (Stack t w) = elim (cases_eq t sid) [
-      | inl e ↦ subst (λ (x : ℕ). Alike (get_or (stack_in (numbered space_number x (changed space_number sid (cut d s) p.spaces))) w no_slot) (get_or (stack_in (numbered space_number x p.spaces)) w no_slot)) (sym e)
-          (subst (λ (y : Option SpacePages). Alike (get_or (stack_in y) w no_slot) (get_or (stack_in (numbered space_number sid p.spaces)) w no_slot)) (sym (changed_same space_number sid (cut d s) (λ x. refl) p.spaces))
+      | inl e ↦ subst (λ (x : ℕ). Alike (get_or (stack_in (numbered space_number x (changed space_number sid (cut d s) p.spaces))) w no_slot)
+          (get_or (stack_in (numbered space_number x p.spaces)) w no_slot)) (sym e)
+          (subst (λ (y : Option SpacePages). Alike (get_or (stack_in y) w no_slot) (get_or (stack_in (numbered space_number sid p.spaces)) w no_slot))
+          (sym (changed_same space_number sid (cut d s) (λ x. refl) p.spaces))
           (stack_cut d s w (numbered space_number sid p.spaces) (c.stack_blank w)))
-      | inr n ↦ subst (λ (y : Option SpacePages). Alike (get_or (stack_in y) w no_slot) (get_or (stack_in (numbered space_number t p.spaces)) w no_slot)) (sym (changed_other space_number sid t (cut d s) (λ x. refl) n p.spaces)) (refl, refl)
+      | inr n ↦ subst (λ (y : Option SpacePages). Alike (get_or (stack_in y) w no_slot) (get_or (stack_in (numbered space_number t p.spaces)) w no_slot))
+          (sym (changed_other space_number sid t (cut d s) (λ x. refl) n p.spaces)) (refl, refl)
     ]
     alike (Text i w) = (refl, refl)
 
@@ -117,7 +123,8 @@ blank_from p q lo n h past num w l =
     let le_or : (a b : ℕ) → (a < b) ⊎ (b ≤ a) = λ a b. grind arith in
     elim (le_or w (lo + n)) [
       | inl m ↦ let b : IsBlank p (beside q w) = each_at (IsBlank p) q lo n w h l m in (b.state, b.mark)
-      | inr m ↦ let e = get_or_past (slots_of p (beside q w)) (number_of (beside q w)) no_slot (let a = past w m in let k = num w in omega arith) in (ap (λ (x : Slot). x.state) e, ap (λ (x : Slot). x.mark) e)
+      | inr m ↦ let e =
+          get_or_past (slots_of p (beside q w)) (number_of (beside q w)) no_slot (let a = past w m in let k = num w in omega arith) in (ap (λ (x : Slot). x.state) e, ap (λ (x : Slot). x.mark) e)
     ]
 
 -- the pages that a new size drops
@@ -178,13 +185,15 @@ add_alike p x due n bd bs = alike
       | inl e ↦ subst (λ (k : ℕ). Alike (get_or (data_in (numbered space_number k (p.spaces ++ x ∷ []))) w no_slot) (get_or (data_in (numbered space_number k p.spaces)) w no_slot)) (sym e)
           (subst (λ (y : Option SpacePages). Alike (get_or (data_in (numbered space_number x.sid (p.spaces ++ x ∷ []))) w no_slot) (get_or (data_in y) w no_slot)) (sym n)
           (subst (λ (y : Option SpacePages). Alike (get_or (data_in y) w no_slot) no_slot) (sym (added_same x.sid p.spaces x refl n)) (blank_slot_at x.data_pages w bd)))
-      | inr m ↦ subst (λ (y : Option SpacePages). Alike (get_or (data_in y) w no_slot) (get_or (data_in (numbered space_number t p.spaces)) w no_slot)) (sym (added_other t p.spaces x (λ k. m (sym k)))) (refl, refl)
+      | inr m ↦ subst (λ (y : Option SpacePages). Alike (get_or (data_in y) w no_slot) (get_or (data_in (numbered space_number t p.spaces)) w no_slot))
+          (sym (added_other t p.spaces x (λ k. m (sym k)))) (refl, refl)
     ]
     alike (Stack t w) = elim (cases_eq t x.sid) [
       | inl e ↦ subst (λ (k : ℕ). Alike (get_or (stack_in (numbered space_number k (p.spaces ++ x ∷ []))) w no_slot) (get_or (stack_in (numbered space_number k p.spaces)) w no_slot)) (sym e)
           (subst (λ (y : Option SpacePages). Alike (get_or (stack_in (numbered space_number x.sid (p.spaces ++ x ∷ []))) w no_slot) (get_or (stack_in y) w no_slot)) (sym n)
           (subst (λ (y : Option SpacePages). Alike (get_or (stack_in y) w no_slot) no_slot) (sym (added_same x.sid p.spaces x refl n)) (blank_slot_at x.stack_pages w bs)))
-      | inr m ↦ subst (λ (y : Option SpacePages). Alike (get_or (stack_in y) w no_slot) (get_or (stack_in (numbered space_number t p.spaces)) w no_slot)) (sym (added_other t p.spaces x (λ k. m (sym k)))) (refl, refl)
+      | inr m ↦ subst (λ (y : Option SpacePages). Alike (get_or (stack_in y) w no_slot) (get_or (stack_in (numbered space_number t p.spaces)) w no_slot))
+          (sym (added_other t p.spaces x (λ k. m (sym k)))) (refl, refl)
     ]
     alike (Text i w) = (refl, refl)
 
@@ -254,12 +263,14 @@ remove_owner p sid o bd bs = alike_owner p (remove_space p sid) o refl refl refl
     alike : (w : Page) → Alike (slot_of (remove_space p sid) w) (slot_of p w)
     alike (Data t w) = elim (cases_eq t sid) [
       | inl e ↦ subst (λ (k : ℕ). Alike (get_or (data_in (numbered space_number k (remove_space p sid).spaces)) w no_slot) (slot_of p (Data k w))) (sym e)
-          (subst (λ (y : Option SpacePages). Alike (get_or (data_in y) w no_slot) (slot_of p (Data sid w))) (sym (removed_same sid p.spaces)) (blank_alike no_slot (slot_of p (Data sid w)) (refl, refl) (bd w)))
+          (subst (λ (y : Option SpacePages). Alike (get_or (data_in y) w no_slot) (slot_of p (Data sid w))) (sym (removed_same sid p.spaces))
+          (blank_alike no_slot (slot_of p (Data sid w)) (refl, refl) (bd w)))
       | inr n ↦ subst (λ (y : Option SpacePages). Alike (get_or (data_in y) w no_slot) (slot_of p (Data t w))) (sym (removed_other sid t p.spaces n)) (refl, refl)
     ]
     alike (Stack t w) = elim (cases_eq t sid) [
       | inl e ↦ subst (λ (k : ℕ). Alike (get_or (stack_in (numbered space_number k (remove_space p sid).spaces)) w no_slot) (slot_of p (Stack k w))) (sym e)
-          (subst (λ (y : Option SpacePages). Alike (get_or (stack_in y) w no_slot) (slot_of p (Stack sid w))) (sym (removed_same sid p.spaces)) (blank_alike no_slot (slot_of p (Stack sid w)) (refl, refl) (bs w)))
+          (subst (λ (y : Option SpacePages). Alike (get_or (stack_in y) w no_slot) (slot_of p (Stack sid w))) (sym (removed_same sid p.spaces))
+          (blank_alike no_slot (slot_of p (Stack sid w)) (refl, refl) (bs w)))
       | inr n ↦ subst (λ (y : Option SpacePages). Alike (get_or (stack_in y) w no_slot) (slot_of p (Stack t w))) (sym (removed_other sid t p.spaces n)) (refl, refl)
     ]
     alike (Text i w) = (refl, refl)

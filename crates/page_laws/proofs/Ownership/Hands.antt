@@ -21,7 +21,8 @@ use Rattle.page_laws.proofs.Ownership.Runs.{idle_seat, launch_run_owner, clean_u
 pub run_out_seats : (p : Placement) (locked : List Page) (q : Page) → HasSeat p q → EachPage (HasSeat p) (pages_of_run q (run_out p locked q))
 run_out_seats p locked q c = run_each (HasSeat p) (λ w. goes_along p locked (beside q w) && is_near q w) q (run_out p locked q)
     (run_both_in (λ w. goes_along p locked (beside q w) && is_near q w) (number_of q) most_written) c
-    (λ w e. idle_seat p (beside q w) (and_parts (is_idle p (beside q w)) (is_dirty p (beside q w) && not (is_among (beside q w) locked)) (and_parts (goes_along p locked (beside q w)) (is_near q w) e).0).0)
+    (λ w e. idle_seat p (beside q w)
+    (and_parts (is_idle p (beside q w)) (is_dirty p (beside q w) && not (is_among (beside q w) locked)) (and_parts (goes_along p locked (beside q w)) (is_near q w) e).0).0)
 
 pub sweep_owner : (p : Placement) (locked : List Page) → OwnsFrames p → OwnsFrames (sweep p locked)
 sweep_owner p locked o = go (page_of p p.back) refl

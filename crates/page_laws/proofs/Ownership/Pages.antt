@@ -181,7 +181,8 @@ seated_rest p v f c = elim c.state [
 pub seated_alone : (p : Placement) (v : Page) (f : ℕ) → OwnsFrames p → IsSeated p v f → (times f p.free ≡ 0) × (times f (flying (parts_of p.transfers)) ≡ 0)
 seated_alone p v f o c = elim c.state [
   | inl e ↦ (let a = once_at p v f o (ap frame_of e) in let b : seats (times f p.free) (state_of p v) ≡ 1 = ap (seats (times f p.free)) e in (omega arith, omega arith))
-  | inr e ↦ (let a = once_at p v f o (ap frame_of e.0) in let b : seats (times f p.free) (state_of p v) ≡ 1 - times f p.free = ap (seats (times f p.free)) e.0 in let z = e.1 in (omega arith, omega arith))
+  | inr e ↦ (let a = once_at p v f o (ap frame_of e.0) in
+      let b : seats (times f p.free) (state_of p v) ≡ 1 - times f p.free = ap (seats (times f p.free)) e.0 in let z = e.1 in (omega arith, omega arith))
 ]
 
 pub launch_turns : (p : Placement) (v : Page) (f : ℕ) → OwnsFrames p → IsSeated p v f → IsOpen p.transfers Writes
@@ -205,8 +206,10 @@ launch_turns p v f o c latest = record {
 
 pub launch_owner : (p : Placement) (v : Page) (f : ℕ) → OwnsFrames p → IsSeated p v f → IsOpen p.transfers Writes → OwnsFrames (launch p v)
 launch_owner p v f o c latest = elim c.state [
-  | inl e ↦ subst (λ (s : PageState). OwnsFrames (launch_to p v s)) (sym e) (turn_owner p v f (Going f) (mark_of p v) p.free (join_last p.transfers Writes (record { page = v; frame = f })) o (launch_turns p v f o c latest))
-  | inr e ↦ subst (λ (s : PageState). OwnsFrames (launch_to p v s)) (sym e.0) (turn_owner p v f (Going f) (mark_of p v) p.free (join_last p.transfers Writes (record { page = v; frame = f })) o (launch_turns p v f o c latest))
+  | inl e ↦ subst (λ (s : PageState). OwnsFrames (launch_to p v s)) (sym e)
+      (turn_owner p v f (Going f) (mark_of p v) p.free (join_last p.transfers Writes (record { page = v; frame = f })) o (launch_turns p v f o c latest))
+  | inr e ↦ subst (λ (s : PageState). OwnsFrames (launch_to p v s)) (sym e.0)
+      (turn_owner p v f (Going f) (mark_of p v) p.free (join_last p.transfers Writes (record { page = v; frame = f })) o (launch_turns p v f o c latest))
 ]
 
 -- a seated page's frame goes to the tail, with this mark

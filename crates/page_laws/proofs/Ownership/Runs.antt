@@ -174,13 +174,15 @@ pub landing_alone : (p : Placement) (e : Errand) (x : Part) (rest : List Transfe
     → (times x.frame p.free ≡ 0) × (times x.frame (flying (parts_of rest)) ≡ 0)
 landing_alone p e x rest o l =
     let a = once_at p x.page x.frame o (landing_frame p e x rest o l) in
-    let b : times x.frame (flying (parts_of p.transfers)) ≡ 1 + times x.frame (flying (parts_of rest)) = ap (λ (ms : List Moving). times x.frame (flying ms)) l.parts ∙ times_head x.frame (flying (parts_of rest)) in
+    let b : times x.frame (flying (parts_of p.transfers)) ≡ 1 + times x.frame (flying (parts_of rest)) =
+    ap (λ (ms : List Moving). times x.frame (flying ms)) l.parts ∙ times_head x.frame (flying (parts_of rest)) in
     (omega arith, omega arith)
 
 land_moves : (p : Placement) (e : Errand) (x : Part) (rest : List Transfer) (s : PageState) (m : Bool) → OwnsFrames p → Landing p e x rest
     → Each (IsMoving (put p x.page s m)) (parts_of rest)
 land_moves p e x rest s m o l = all_absent (IsMoving p) (IsMoving (put p x.page s m)) x.frame (parts_of rest) (landing_alone p e x rest o l).1 (landing_moves p e x rest o l).1
-    (λ y n k. put_other_state p x.page s m y.page (λ h. n (same_Some y.frame x.frame (sym (frame_of_moving y.errand y.frame) ∙ ap frame_of (sym k) ∙ ap (λ (w : Page). frame_of (state_of p w)) h ∙ landing_frame p e x rest o l))) ∙ k)
+    (λ y n k. put_other_state p x.page s m y.page
+    (λ h. n (same_Some y.frame x.frame (sym (frame_of_moving y.errand y.frame) ∙ ap frame_of (sym k) ∙ ap (λ (w : Page). frame_of (state_of p w)) h ∙ landing_frame p e x rest o l))) ∙ k)
 
 other_landing : (p : Placement) (e : Errand) (x : Part) (rest : List Transfer) → Landing p e x rest → (g : ℕ) → g ≢ x.frame
     → times g (flying (parts_of rest)) ≡ times g (flying (parts_of p.transfers))
@@ -227,11 +229,13 @@ coming_clean p v f o e = go (is_marked_dirty v (mark_of p v)) refl
     go false k = refl
 
 pub land_owner : (p : Placement) (e : Errand) (x : Part) (rest : List Transfer) → OwnsFrames p → Landing p e x rest → OwnsFrames (land p e x rest)
-land_owner p Writes x rest o l = turn_owner p x.page x.frame (Invalid x.frame) (written_mark x.page) (p.free ++ x.frame ∷ []) rest o (tail_turns p Writes x rest (written_mark x.page) o l (written_clean x.page))
+land_owner p Writes x rest o l =
+    turn_owner p x.page x.frame (Invalid x.frame) (written_mark x.page) (p.free ++ x.frame ∷ []) rest o (tail_turns p Writes x rest (written_mark x.page) o l (written_clean x.page))
 land_owner p (Reads source demanded) x rest o l = go (same_page x.page demanded)
   where
     go : (b : Bool) → OwnsFrames (land_read p source x rest b)
-    go true = turn_owner p x.page x.frame (Valid x.frame) (arrived_mark source x.page (mark_of p x.page)) p.free rest o (valid_turns p (Reads source demanded) x rest (arrived_mark source x.page (mark_of p x.page)) o l)
+    go true = turn_owner p x.page x.frame (Valid x.frame) (arrived_mark source x.page (mark_of p x.page)) p.free rest o
+        (valid_turns p (Reads source demanded) x rest (arrived_mark source x.page (mark_of p x.page)) o l)
     go false = turn_owner p x.page x.frame (Invalid x.frame) (mark_of p x.page) (p.free ++ x.frame ∷ []) rest o
         (tail_turns p (Reads source demanded) x rest (mark_of p x.page) o l (coming_clean p x.page x.frame o (landing_state p (Reads source demanded) x rest o l)))
 

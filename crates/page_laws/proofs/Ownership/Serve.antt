@@ -62,19 +62,23 @@ run_in_enters p q c = go q c (state_of p q) (spare_frames p)
     alone q c = run_each (CanEnter p) (λ w. false) q (run_alone q) (run_alone_in (λ w. false) q) c (λ w e. absurd cc)
 
     go : (q : Page) → CanEnter p q → (s : PageState) (spare : ℕ) → EachPage (CanEnter p) (pages_of_run q (run_in_by p q s spare))
-    go (Text image v) c OnSwap spare = run_each (CanEnter p) (comes_from_swap p (Text image v)) (Text image v) (run_up (comes_from_swap p (Text image v)) v (min 2 spare)) (run_up_in (comes_from_swap p (Text image v)) v (min 2 spare)) c (swap_enters p (Text image v))
-    go (Text image v) c Unfilled spare = run_each (CanEnter p) (comes_from_file p (Text image v)) (Text image v) (run_up (comes_from_file p (Text image v)) v (min 2 spare)) (run_up_in (comes_from_file p (Text image v)) v (min 2 spare)) c (file_enters p image v)
+    go (Text image v) c OnSwap spare = run_each (CanEnter p) (comes_from_swap p (Text image v)) (Text image v) (run_up (comes_from_swap p (Text image v)) v (min 2 spare))
+        (run_up_in (comes_from_swap p (Text image v)) v (min 2 spare)) c (swap_enters p (Text image v))
+    go (Text image v) c Unfilled spare = run_each (CanEnter p) (comes_from_file p (Text image v)) (Text image v) (run_up (comes_from_file p (Text image v)) v (min 2 spare))
+        (run_up_in (comes_from_file p (Text image v)) v (min 2 spare)) c (file_enters p image v)
     go (Text image v) c (Valid f) spare = alone (Text image v) c
     go (Text image v) c (Invalid f) spare = alone (Text image v) c
     go (Text image v) c (Coming f) spare = alone (Text image v) c
     go (Text image v) c (Going f) spare = alone (Text image v) c
-    go (Data sid v) c OnSwap spare = run_each (CanEnter p) (comes_from_swap p (Data sid v)) (Data sid v) (run_both (comes_from_swap p (Data sid v)) v (min 4 spare)) (run_both_in (comes_from_swap p (Data sid v)) v (min 4 spare)) c (swap_enters p (Data sid v))
+    go (Data sid v) c OnSwap spare = run_each (CanEnter p) (comes_from_swap p (Data sid v)) (Data sid v) (run_both (comes_from_swap p (Data sid v)) v (min 4 spare))
+        (run_both_in (comes_from_swap p (Data sid v)) v (min 4 spare)) c (swap_enters p (Data sid v))
     go (Data sid v) c Unfilled spare = alone (Data sid v) c
     go (Data sid v) c (Valid f) spare = alone (Data sid v) c
     go (Data sid v) c (Invalid f) spare = alone (Data sid v) c
     go (Data sid v) c (Coming f) spare = alone (Data sid v) c
     go (Data sid v) c (Going f) spare = alone (Data sid v) c
-    go (Stack sid v) c OnSwap spare = run_each (CanEnter p) (comes_from_swap p (Stack sid v)) (Stack sid v) (run_both (comes_from_swap p (Stack sid v)) v (min 4 spare)) (run_both_in (comes_from_swap p (Stack sid v)) v (min 4 spare)) c (swap_enters p (Stack sid v))
+    go (Stack sid v) c OnSwap spare = run_each (CanEnter p) (comes_from_swap p (Stack sid v)) (Stack sid v) (run_both (comes_from_swap p (Stack sid v)) v (min 4 spare))
+        (run_both_in (comes_from_swap p (Stack sid v)) v (min 4 spare)) c (swap_enters p (Stack sid v))
     go (Stack sid v) c Unfilled spare = alone (Stack sid v) c
     go (Stack sid v) c (Valid f) spare = alone (Stack sid v) c
     go (Stack sid v) c (Invalid f) spare = alone (Stack sid v) c

@@ -163,7 +163,8 @@ drop_page_owner p v o r = go (frame_of (state_of p v)) refl
 
 pub drop_rest : (p : Placement) (v w : Page) → AtRest (state_of p w) → AtRest (state_of (drop_page p v) w)
 drop_rest p v w r = elim (page_cases w v) [
-  | inl e ↦ subst (λ (x : Page). AtRest (state_of (drop_page p v) x)) (sym e) (let b : IsBlank (put p v Unfilled false) v = blank_put p v in subst AtRest (sym (ap (λ (x : Slot). x.state) (drop_slot p v v) ∙ b.state)) tt)
+  | inl e ↦ subst (λ (x : Page). AtRest (state_of (drop_page p v) x)) (sym e)
+      (let b : IsBlank (put p v Unfilled false) v = blank_put p v in subst AtRest (sym (ap (λ (x : Slot). x.state) (drop_slot p v v) ∙ b.state)) tt)
   | inr n ↦ subst AtRest (sym (ap (λ (x : Slot). x.state) (drop_other p v w n))) r
 ]
 

@@ -48,7 +48,8 @@ idle_joins p locked q w e =
     let b = and_parts (is_dirty p (beside q w)) (not (is_among (beside q w) locked)) a.1 in
     go (state_of p (beside q w)) refl a.0 b.0 (not-true (is_among (beside q w) locked) b.1) (sym (eqb-true (chunk_of q) (chunk_of (beside q w)) k.1))
   where
-    go : (s : PageState) → state_of p (beside q w) ≡ s → is_idle_by p s ≡ true → is_dirty p (beside q w) ≡ true → is_among (beside q w) locked ≡ false → chunk_of (beside q w) ≡ chunk_of q → IsIdleBeside p locked q w
+    go : (s : PageState) → state_of p (beside q w) ≡ s → is_idle_by p s ≡ true → is_dirty p (beside q w) ≡ true → is_among (beside q w) locked ≡ false → chunk_of (beside q w) ≡ chunk_of q
+        → IsIdleBeside p locked q w
     go (Invalid f) h i d u n = record { frame = f; state = h; off = eqb-true (times f p.free) 0 i; dirty = d; unlocked = u; near = n }
     go Unfilled h i d u n = absurd cc
     go (Valid f) h i d u n = absurd cc

@@ -56,7 +56,8 @@ expire_slot p locked w o = of (page_of p p.front) refl
           front = same_Some p.front f (sym (o.named p.front q e) ∙ ap frame_of h);
           unlocked = ap (λ (x : Page). is_among x locked) s ∙ n;
           behind = ap (λ (x : Placement). state_of x w) (turns f h n) ∙ ap (state_of (expire_to p q (Valid f))) s ∙ put_state p q (Invalid f) (mark_of p q) (page_in p q f (ap frame_of h));
-          mark = ap (λ (x : Placement). mark_of x w) (turns f h n) ∙ ap (mark_of (expire_to p q (Valid f))) s ∙ put_mark p q (Invalid f) (mark_of p q) (page_in p q f (ap frame_of h)) ∙ ap (mark_of p) (sym s);
+          mark = ap (λ (x : Placement). mark_of x w) (turns f h n) ∙ ap (mark_of (expire_to p q (Valid f))) s ∙ put_mark p q (Invalid f) (mark_of p q) (page_in p q f (ap frame_of h))
+              ∙ ap (mark_of p) (sym s);
         }
 
         to : (s : PageState) → state_of p q ≡ s → is_among q locked ≡ false → (slot_of (expire p locked) w ≡ slot_of p w) ⊎ Expires p locked w
@@ -204,7 +205,8 @@ retire_going : (p : Placement) (q w : Page) (g f : ℕ) → state_of p q ≡ Inv
 retire_going p q w g f e h =
     let at : state_of (retire p q) w ≡ state_of (retire_to p q (Invalid g)) w = ap (λ (s : PageState). state_of (retire_to p q s) w) e in
     elim (page_cases w q) [
-      | inl s ↦ absurd (let k : Invalid g ≡ Going f = sym (put_state p q (Invalid g) (mark_of p q) (page_in p q g (ap frame_of e))) ∙ ap (state_of (retire_to p q (Invalid g))) (sym s) ∙ sym at ∙ h in cc)
+      | inl s ↦ absurd
+          (let k : Invalid g ≡ Going f = sym (put_state p q (Invalid g) (mark_of p q) (page_in p q g (ap frame_of e))) ∙ ap (state_of (retire_to p q (Invalid g))) (sym s) ∙ sym at ∙ h in cc)
       | inr n ↦ sym (ap (λ (x : Slot). x.state) (put_other p q (Invalid g) (mark_of p q) w n)) ∙ sym at ∙ h
     ]
 
@@ -212,7 +214,8 @@ swept_going : (p : Placement) (locked : List Page) (w : Page) (f : ℕ) → Owns
     → (state_of p w ≡ Going f) ⊎ IsPicked p locked w f true
 swept_going p locked w f o l = of (page_of p p.back) refl l
   where
-    by : (q : Page) (g : ℕ) (d : Bool) → state_of p q ≡ Invalid g → times g p.free ≡ 0 → is_among q locked ≡ false → is_dirty p q ≡ d → state_of (sweep_by p locked q d) w ≡ Going f → (state_of p w ≡ Going f) ⊎ IsPicked p locked w f true
+    by : (q : Page) (g : ℕ) (d : Bool) → state_of p q ≡ Invalid g → times g p.free ≡ 0 → is_among q locked ≡ false → is_dirty p q ≡ d → state_of (sweep_by p locked q d) w ≡ Going f
+        → (state_of p w ≡ Going f) ⊎ IsPicked p locked w f true
     by q g true e n k d m = elim (going_from (TakenSome p locked) p (pages_of_run q (run_out p locked q)) w f (run_taken p locked q (g, record { state = e; off = n; unlocked = k; mark = d })) m) [
       | inl h ↦ inl h
       | inr h ↦ inr (taken_at p locked w f h.0 h.1)

@@ -244,7 +244,8 @@ may_count : (p : Placement) (x : Runner) (rs : List Runner) → larger_in p x (f
 may_count p x [] = refl
 may_count p x (r ∷ rs) = go (may_go_out p r) (may_count p x rs)
   where
-    go : (b : Bool) → larger_in p x (filter (may_go_out p) rs) ≡ larger_count p x rs → larger_in p x (cond b (r ∷ filter (may_go_out p) rs) (filter (may_go_out p) rs)) ≡ cond (b && is_larger p r x) 1 0 + larger_count p x rs
+    go : (b : Bool) → larger_in p x (filter (may_go_out p) rs) ≡ larger_count p x rs
+        → larger_in p x (cond b (r ∷ filter (may_go_out p) rs) (filter (may_go_out p) rs)) ≡ cond (b && is_larger p r x) 1 0 + larger_count p x rs
     go true ih = ap (λ (n : ℕ). cond (is_larger p r x) 1 0 + n) ih
     go false ih = omega (arith, ih)
 
@@ -343,7 +344,8 @@ large_out p rs r pid n l e m =
         (λ x o g. awake_or x c p n (one_in x (may_go_out p) rs (parts_may p x g) o)),
         subst (λ (k : ℕ). k < 4) (counted r) (taken_few p 4 (ranked p c) r (ranked_sorted p c) i.one),
         (λ x o g k.
-            let t : Taken 4 (ranked p (filter (may_go_out p) rs)) x = few_taken p 4 (ranked p c) x (ranked_sorted p c) (ranked_to p c x (one_in x (may_go_out p) rs (parts_may p x g) o)) (subst (λ (j : ℕ). j < 4) (sym (counted x)) k) in
+            let t : Taken 4 (ranked p (filter (may_go_out p) rs)) x =
+            few_taken p 4 (ranked p c) x (ranked_sorted p c) (ranked_to p c x (one_in x (may_go_out p) rs (parts_may p x g) o)) (subst (λ (j : ℕ). j < 4) (sym (counted x)) k) in
             first_as p r t.runner x t.number (i.first t.runner t.one)),
       );
       few = m;
@@ -391,7 +393,8 @@ chosen_none p rs e = go (nat_le (desired_free p) (length p.free)) refl e
     nobody_in None l k x o a true h = refl
     nobody_in None l k x o a false h = absurd (longest_none p (filter (may_come_in p) rs) x l (one_in x (may_come_in p) rs (may_from p x a h) o))
 
-    nobody_out : (o d : Option Runner) → longest p (take 4 (ranked p c)) ≡ d → out_of p c o ≡ Nothing → (o ≡ None → puts_out d ≡ Nothing) → (x : Runner) → OneOf x rs → is_out p x.pid ≡ false → (b : Bool) → x.borrowed ≡ b → b ≡ true
+    nobody_out : (o d : Option Runner) → longest p (take 4 (ranked p c)) ≡ d → out_of p c o ≡ Nothing → (o ≡ None → puts_out d ≡ Nothing) → (x : Runner) → OneOf x rs → is_out p x.pid ≡ false
+        → (b : Bool) → x.borrowed ≡ b → b ≡ true
     nobody_out (Some r) d l k j x o a b h = absurd cc
     nobody_out None (Some r) l k j x o a b h = absurd (let z = j refl in cc)
     nobody_out None None l k j x o a true h = refl

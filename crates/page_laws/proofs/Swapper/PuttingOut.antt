@@ -96,14 +96,16 @@ never : {C : Type 0} (b : Bool) → b ≡ false → b ≡ true → C
 never b e h = absurd (let z : true ≡ false = sym h ∙ e in cc)
 
 tail_calm : (p : Placement) (v : Page) (f : ℕ) (m : Bool) (ts : List Transfer) → Calmer p (turn p v (Invalid f) m (p.free ++ f ∷ []) ts)
-tail_calm p v f m ts = turn_calm p v (Invalid f) m (p.free ++ f ∷ []) ts (more_frees p f) (never (is_active_by (turn p v (Invalid f) m (p.free ++ f ∷ []) ts) (Invalid f)) (tail_idle p (turn p v (Invalid f) m (p.free ++ f ∷ []) ts) f refl))
+tail_calm p v f m ts = turn_calm p v (Invalid f) m (p.free ++ f ∷ []) ts (more_frees p f)
+    (never (is_active_by (turn p v (Invalid f) m (p.free ++ f ∷ []) ts) (Invalid f)) (tail_idle p (turn p v (Invalid f) m (p.free ++ f ∷ []) ts) f refl))
 
 land_calm : (p : Placement) (e : Errand) (x : Part) (rest : List Transfer) → OwnsFrames p → Landing p e x rest → Calmer p (land p e x rest)
 land_calm p Writes x rest o l = tail_calm p x.page x.frame (written_mark x.page) rest
 land_calm p (Reads source demanded) x rest o l = go (same_page x.page demanded)
   where
     go : (b : Bool) → Calmer p (land_read p source x rest b)
-    go true = turn_calm p x.page (Valid x.frame) (arrived_mark source x.page (mark_of p x.page)) p.free rest (same_frees p) (λ e. ap (is_active_by p) (landing_state p (Reads source demanded) x rest o l))
+    go true =
+        turn_calm p x.page (Valid x.frame) (arrived_mark source x.page (mark_of p x.page)) p.free rest (same_frees p) (λ e. ap (is_active_by p) (landing_state p (Reads source demanded) x rest o l))
     go false = tail_calm p x.page x.frame (mark_of p x.page) rest
 
 land_all_calm : (xs : List Part) (p : Placement) (e : Errand) (ts : List Transfer) → OwnsFrames p
@@ -114,7 +116,8 @@ land_all_calm (x ∷ xs) p e ts o h =
     let l : Landing p e x (record { errand = e; parts = xs } ∷ ts) = record { parts = ap parts_of h } in
     calmer_both p (land p e x (record { errand = e; parts = xs } ∷ ts)) (land_all (land p e x (record { errand = e; parts = xs } ∷ ts)) e xs ts)
     (land_calm p e x (record { errand = e; parts = xs } ∷ ts) o l)
-    (land_all_calm xs (land p e x (record { errand = e; parts = xs } ∷ ts)) e ts (land_owner p e x (record { errand = e; parts = xs } ∷ ts) o l) (land_transfers p e x (record { errand = e; parts = xs } ∷ ts)))
+    (land_all_calm xs (land p e x (record { errand = e; parts = xs } ∷ ts)) e ts (land_owner p e x (record { errand = e; parts = xs } ∷ ts) o l)
+    (land_transfers p e x (record { errand = e; parts = xs } ∷ ts)))
 
 done_calm : (p : Placement) → OwnsFrames p → Calmer p (done p)
 done_calm p o = go p.transfers refl
@@ -168,7 +171,8 @@ launched_idle p v c = elim c.seat.state [
 ]
   where
     turned : frame_of (state_of p v) ≡ Some c.frame → is_active (turn p v (Going c.frame) (mark_of p v) p.free (join_last p.transfers Writes (record { page = v; frame = c.frame }))) v ≡ false
-    turned h = ap (is_active_by (turn p v (Going c.frame) (mark_of p v) p.free (join_last p.transfers Writes (record { page = v; frame = c.frame })))) (put_state p v (Going c.frame) (mark_of p v) (page_in p v c.frame h))
+    turned h = ap (is_active_by (turn p v (Going c.frame) (mark_of p v) p.free (join_last p.transfers Writes (record { page = v; frame = c.frame }))))
+        (put_state p v (Going c.frame) (mark_of p v) (page_in p v c.frame h))
 
 retired_idle : (p : Placement) (v : Page) → HasSeat p v → is_active (retire p v) v ≡ false
 retired_idle p v c =
@@ -247,7 +251,8 @@ count_less p q (w ∷ qs) v c e i = go (is_seated p w) refl e (λ k. count_less 
     tail false true h l = omega arith
     tail false false h l = omega arith
 
-    go : (b : Bool) → is_seated p w ≡ b → cond b (Some w) (first_seated p qs) ≡ Some v → (first_seated p qs ≡ Some v → active_count q qs < active_count p qs) → active_count q (w ∷ qs) < active_count p (w ∷ qs)
+    go : (b : Bool) → is_seated p w ≡ b → cond b (Some w) (first_seated p qs) ≡ Some v → (first_seated p qs ≡ Some v → active_count q qs < active_count p qs)
+        → active_count q (w ∷ qs) < active_count p (w ∷ qs)
     go true h k ih = head (is_active q w) (is_active p w) (subst (λ (x : Page). is_active q x ≡ false) (sym (same_Some w v k)) i) (seated_active p (state_of p w) h)
     go false h k ih = tail (is_active q w) (is_active p w) (c w) (ih k)
 
@@ -323,7 +328,9 @@ unsettled_flies p sid e = go p.transfers refl
 
     go : (us : List Transfer) → p.transfers ≡ us → (t : Transfer) × (ts : List Transfer) × (p.transfers ≡ t ∷ ts)
     go [] h = absurd (
-        let k : is_settled p sid ≡ true = ap (λ (us : List Transfer). not (names_page (is_of_space sid) (parts_of us)) && not ((sharers p (image_of p sid) == 1) && names_page (is_of_text (image_of p sid)) (parts_of us))) h ∙ rests (sharers p (image_of p sid) == 1) in
+        let k : is_settled p sid ≡ true =
+        ap (λ (us : List Transfer). not (names_page (is_of_space sid) (parts_of us)) && not ((sharers p (image_of p sid) == 1) && names_page (is_of_text (image_of p sid)) (parts_of us))) h
+        ∙ rests (sharers p (image_of p sid) == 1) in
         let z : true ≡ false = sym k ∙ e in cc)
     go (t ∷ ts) h = (t, ts, h)
 
@@ -351,13 +358,16 @@ run_seats p v c = go (is_dirty p v)
     passes w = is_seated p (beside v w) && (is_dirty p (beside v w) && is_near v w)
 
     go : (b : Bool) → EachPage (HasSeat p) (pages_from v (number_of v) (run_put_by p v b).n)
-    go true = run_each (HasSeat p) passes v (run_up passes (number_of v) most_written) (run_up_in passes (number_of v) most_written) c (λ w e. seated_seat p (beside v w) (and_parts (is_seated p (beside v w)) (is_dirty p (beside v w) && is_near v w) e).0)
-    go false = run_each (HasSeat p) passes v (run_alone v) (run_alone_in passes v) c (λ w e. seated_seat p (beside v w) (and_parts (is_seated p (beside v w)) (is_dirty p (beside v w) && is_near v w) e).0)
+    go true = run_each (HasSeat p) passes v (run_up passes (number_of v) most_written) (run_up_in passes (number_of v) most_written) c
+        (λ w e. seated_seat p (beside v w) (and_parts (is_seated p (beside v w)) (is_dirty p (beside v w) && is_near v w) e).0)
+    go false =
+        run_each (HasSeat p) passes v (run_alone v) (run_alone_in passes v) c (λ w e. seated_seat p (beside v w) (and_parts (is_seated p (beside v w)) (is_dirty p (beside v w) && is_near v w) e).0)
 
 -- something is so of the unit, where it is so of each that it can be
 pub unit_case : (P : Entry → Type 0) (p : Placement) (pid sid : ℕ)
     → ((t : Transfer) (ts : List Transfer) → p.transfers ≡ t ∷ ts → P entries.Done)
-    → ((v : Page) → is_settled p sid ≡ true → first_seated p (pages_of_space p sid) ≡ Some v → (is_dirty p v && is_full p) ≡ false → P (entries.Put v (run_put p v).n))
+    → ((v : Page) → is_settled p sid ≡ true → first_seated p (pages_of_space p sid) ≡ Some v → (is_dirty p v && is_full p) ≡ false
+    → P (entries.Put v (run_put p v).n))
     → (is_settled p sid ≡ true → first_seated p (pages_of_space p sid) ≡ None → P (entries.SwapOut pid))
     → P (put_out_unit p pid sid)
 unit_case P p pid sid d u l = go (is_settled p sid) refl
@@ -435,7 +445,8 @@ put_out_within (suc n) at p pid sid o w i e l = go (unit_ends [] (at + 1) p pid 
     (let k = unit_falls [] (at + 1) p pid sid o i e in omega arith))
   where
     go : IsLast p pid sid (put_out_unit p pid sid) ⊎ ((place_entry [] (at + 1) p (put_out_unit p pid sid)).residents ≡ p.residents)
-        → ((place_entry [] (at + 1) p (put_out_unit p pid sid)).residents ≡ p.residents → EndsPuttingOut (at + 1) (place_entry [] (at + 1) p (put_out_unit p pid sid)) pid sid) → EndsPuttingOut at p pid sid
+        → ((place_entry [] (at + 1) p (put_out_unit p pid sid)).residents ≡ p.residents → EndsPuttingOut (at + 1) (place_entry [] (at + 1) p (put_out_unit p pid sid)) pid sid)
+        → EndsPuttingOut at p pid sid
     go (inl h) more = record {
       units = put_out_unit p pid sid ∷ [];
       last = moved p pid true (at + 1);

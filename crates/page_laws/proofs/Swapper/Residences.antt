@@ -26,7 +26,8 @@ other_in : (rs : List Residence) (pid n : ℕ) (out : Bool) (at : ℕ) → n ≢
 other_in [] pid n out at d = refl
 other_in (r ∷ rs) pid n out at d = go (r.pid == pid) refl (other_in rs pid n out at d)
   where
-    go : (b : Bool) → (r.pid == pid) ≡ b → residence_of (set_out rs pid out at) n ≡ residence_of rs n → residence_of (cond b (record r { out = out; since = at } ∷ rs) (r ∷ set_out rs pid out at)) n ≡ residence_of (r ∷ rs) n
+    go : (b : Bool) → (r.pid == pid) ≡ b → residence_of (set_out rs pid out at) n ≡ residence_of rs n
+        → residence_of (cond b (record r { out = out; since = at } ∷ rs) (r ∷ set_out rs pid out at)) n ≡ residence_of (r ∷ rs) n
     go true e ih =
         let m : (r.pid == n) ≡ false = ne_eqb r.pid n (λ k. d (sym k ∙ eqb-true r.pid pid e)) in
         ap (λ (b : Bool). cond b (record r { out = out; since = at }) (residence_of rs n)) m ∙ sym (ap (λ (b : Bool). cond b r (residence_of rs n)) m)

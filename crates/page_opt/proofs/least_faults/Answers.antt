@@ -12,7 +12,8 @@ pub loop-i-init : goal.loop-i-init
 loop-i-init c = record {
   stands =
       subst (λ (vs : List Victim). Stands c.args.refs.now c.args.frames 0 c.in_ok-resident.resident vs 0) (sym c.new-2.ensures.items)
-      (stands_start c.args.refs.now c.args.frames c.in_ok-resident.resident c.in_ok-resident.ensures.room c.in_ok-resident.ensures.awaited c.in_ok-resident.ensures.spent c.in_ok-resident.ensures.used);
+      (stands_start c.args.refs.now c.args.frames c.in_ok-resident.resident c.in_ok-resident.ensures.room c.in_ok-resident.ensures.awaited c.in_ok-resident.ensures.spent
+      c.in_ok-resident.ensures.used);
 }
 
 -- the victims are Belady's, and these their faults

@@ -43,7 +43,8 @@ returns c =
     on_ok c.put-2.result _
     (Stands c.args.refs.now c.args.frames (c.args.i + 1) c.put-2.new.self c.make_room.new.victims.items (c.args.plan.now.faults + 1))
     (λ put.
-    stands_miss c.args.refs.now c.args.frames c.args.i c.args.resident.now c.arrive.new.self c.make_room.new.resident c.put-2.new.self c.args.plan.now.victims.items c.make_room.new.victims.items c.args.plan.now.faults
+    stands_miss c.args.refs.now c.args.frames c.args.i c.args.resident.now c.arrive.new.self c.make_room.new.resident c.put-2.new.self c.args.plan.now.victims.items
+    c.make_room.new.victims.items c.args.plan.now.faults
     c.requires.frames c.requires.within c.requires.stands c.if-arrive.ensures c.in_ok-make_room.ensures
     (subst (λ (o : Option ℕ). Puts (get_or c.args.refs.now c.args.i 0) o c.make_room.new.resident c.put-2.new.self) c.requires.next put))
     c.put-2.ensures

@@ -29,7 +29,8 @@ returns-in-NoFit-clause-answer t c =
     let split : c.args.wants.now ≡ w ∷ ws = split_wants c.args.wants.now _ c.in-len1-up.len_at_least in
     let r : Result Holdings ℕ = growth_of c.args.book.now w.owner w.blocks in
     let no = no_fit r _ (sym c.in_ok-grow.ensures.answer ∙ c.in-NoFit.is) in
-    sym (ap (λ (xs : List Want). fits_for c.args.book.now.size c.args.book.now.holdings xs) split ∙ ap (λ (x : Result Holdings ℕ). is_ok x) (none_behind c.args.book.now.size c.args.book.now.holdings w ws _ no))
+    sym (ap (λ (xs : List Want). fits_for c.args.book.now.size c.args.book.now.holdings xs) split
+    ∙ ap (λ (x : Result Holdings ℕ). is_ok x) (none_behind c.args.book.now.size c.args.book.now.holdings w ws _ no))
 
 pub returns-in-NoFit-clause-book : goal.returns-in-NoFit-clause-book
 returns-in-NoFit-clause-book t c =
@@ -70,7 +71,8 @@ returns-then-is_kept t c =
       err = c.find_all-found.ensures.err;
     } in
     record {
-      answer = subst (λ (xs : List Want). IfOk c.find_all-found.result (λ fits. fits ≡ fits_for b.size b.holdings xs)) (sym split) (behind_answer b c.grow.new.self c.find_all-found.new.book w ws c.args.keeps c.find_all-found.result g);
+      answer = subst (λ (xs : List Want). IfOk c.find_all-found.result (λ fits. fits ≡ fits_for b.size b.holdings xs)) (sym split)
+          (behind_answer b c.grow.new.self c.find_all-found.new.book w ws c.args.keeps c.find_all-found.result g);
       book =
           subst (λ (xs : List Want). OnOk c.find_all-found.result (c.find_all-found.new.book ≡ book_asked c.args.keeps b xs)) (sym split)
           (behind_kept b c.grow.new.self c.find_all-found.new.book w ws c.args.keeps c.find_all-found.result g (sym c.is_kept.ensures ∙ c.if-is_kept.true));
@@ -119,7 +121,8 @@ returns t c =
     let back : c.give_back.new.book ≡ b = c.give_back.ensures ∙ ap (λ (n : ℕ). with_holdings c.find_all-found.new.book (kept_first w.owner n c.find_all-found.new.book.holdings)) held
     ∙ behind_back b c.grow.new.self c.find_all-found.new.book w ws c.args.keeps c.find_all-found.result g kept in
     record {
-      answer = subst (λ (xs : List Want). IfOk c.find_all-found.result (λ fits. fits ≡ fits_for b.size b.holdings xs)) (sym split) (behind_answer b c.grow.new.self c.find_all-found.new.book w ws c.args.keeps c.find_all-found.result g);
+      answer = subst (λ (xs : List Want). IfOk c.find_all-found.result (λ fits. fits ≡ fits_for b.size b.holdings xs)) (sym split)
+          (behind_answer b c.grow.new.self c.find_all-found.new.book w ws c.args.keeps c.find_all-found.result g);
       book =
           subst (λ (xs : List Want). OnOk c.find_all-found.result (c.give_back.new.book ≡ book_asked c.args.keeps b xs)) (sym split)
           (behind_not b c.grow.new.self c.find_all-found.new.book c.give_back.new.book w ws c.args.keeps c.find_all-found.result g kept back);

@@ -13,7 +13,9 @@ returns-then-keep-chunks_for c =
 
 pub returns-else-keep-chunks_for : goal.returns-else-keep-chunks_for
 returns-else-keep-chunks_for c =
-    nothing_back c.args.book.now c.args.want.owner c.args.want.blocks c.args.keep (shrinks c.args.want.owner c.in-Data.is) c.requires (let n = c.chunks_for.ensures in omega (arith, n, c.if-keep-chunks_for.false))
+    nothing_back c.args.book.now c.args.want.owner c.args.want.blocks c.args.keep (shrinks c.args.want.owner c.in-Data.is) c.requires
+    (let n = c.chunks_for.ensures in omega (arith, n, c.if-keep-chunks_for.false))
 
 pub returns-else-keep-eq0 : goal.returns-else-keep-eq0
-returns-else-keep-eq0 c = none_back c.args.book.now c.args.want.owner c.args.want.blocks c.args.keep (never_shrinks c.args.want.owner c.in-U.is) c.requires (λ e. let n = c.if-keep-eq0.false in absurd (omega (arith, n, e)))
+returns-else-keep-eq0 c =
+    none_back c.args.book.now c.args.want.owner c.args.want.blocks c.args.keep (never_shrinks c.args.want.owner c.in-U.is) c.requires (λ e. let n = c.if-keep-eq0.false in absurd (omega (arith, n, e)))

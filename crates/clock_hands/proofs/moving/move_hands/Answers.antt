@@ -109,7 +109,8 @@ returns-in_err-move_once-clause-stopped g c =
     let new = c.move_once.new.m in
     let j = g.D.SwapDev.image c.move_once.new.swap in
     rw (p.1, p.2) (so.so_far.stops stop new j
-    (stops_moving c.loop-left.left now stop new (g.F.Files.holds c.loop-left.files) (g.D.SwapDev.image c.loop-left.swap) j (omega arith) w c.in_err-move_once.ensures.params c.in_err-move_once.ensures.images
+    (stops_moving c.loop-left.left now stop new (g.F.Files.holds c.loop-left.files) (g.D.SwapDev.image c.loop-left.swap) j
+    (omega arith) w c.in_err-move_once.ensures.params c.in_err-move_once.ensures.images
     c.in_err-move_once.ensures.stopped))
 
 pub returns-clause-moved : goal.returns-clause-moved
@@ -119,7 +120,8 @@ returns-clause-moved g c =
       | then-loop-left-test+else-wants_moves w ↦ λ l. sym w.wants_moves.ensures ∙ w.if-wants_moves.false
       | else-loop-left-test w ↦ λ l. absurd (omega (arith, l, w.loop-left-test.false))
     ] in
-    moves_all c.args.n c.loop-left.left c.args.m.now c.loop-left.m (g.F.Files.holds c.args.files.now) (g.F.Files.holds c.loop-left.files) (g.D.SwapDev.image c.args.swap.now) (g.D.SwapDev.image c.loop-left.swap) over so.so_far
+    moves_all c.args.n c.loop-left.left c.args.m.now c.loop-left.m (g.F.Files.holds c.args.files.now) (g.F.Files.holds c.loop-left.files) (g.D.SwapDev.image c.args.swap.now)
+    (g.D.SwapDev.image c.loop-left.swap) over so.so_far
 
 pub returns-clause-keeps : goal.returns-clause-keeps
 returns-clause-keeps g c =

@@ -6,7 +6,8 @@ use Rattle.economy_laws.proofs.Growth.{growth_touches}
 use Rattle.economy_laws.proofs.laws.stretches_are_short.Goals as goal
 
 pub returns-clause-entries : goal.returns-clause-entries
-returns-clause-entries c = λ A s t u us journal pid images r f b cl n. let k = stretch_entries A s t u us journal pid images (few_touched A) (all_grown A (growth_touches A)) (sleep_stops A) r f b cl n in omega arith
+returns-clause-entries c =
+    λ A s t u us journal pid images r f b cl n. let k = stretch_entries A s t u us journal pid images (few_touched A) (all_grown A (growth_touches A)) (sleep_stops A) r f b cl n in omega arith
 
 pub returns-clause-takings : goal.returns-clause-takings
 returns-clause-takings c = λ A s t u us pid images r f b cl n. (whole_stretch A s t u us pid images (few_touched A) (all_grown A (growth_touches A)) (sleep_stops A) r f b cl n).1

@@ -63,5 +63,6 @@ returns-clause-stay g c =
     let i = g.D.SwapDev.image c.args.swap.now in
     let j = g.D.SwapDev.image c.serve_on.new.swap in
     let owner = c.sound.ensures.sound.owner.frames in
-    match_ok (λ a. ServesAs a q old new holds i j) (StopsServing false [] q old new holds i j) c.serve_on.result (λ a m. all_stay m.0.units old.kernel.place new.kernel.place q owner c.requires.can m.0.leads)
+    match_ok (λ a. ServesAs a q old new holds i j) (StopsServing false [] q old new holds i j) c.serve_on.result
+    (λ a m. all_stay m.0.units old.kernel.place new.kernel.place q owner c.requires.can m.0.leads)
     c.serve_on.ensures.served

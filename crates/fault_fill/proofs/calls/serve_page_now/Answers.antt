@@ -15,7 +15,8 @@ returns-clause-served g c =
     let j = g.D.SwapDev.image c.serve_now_on.new.swap in
     let owner = c.sound.ensures.sound.owner.frames in
     let locked = c.args.locked.now in
-    match_map (λ u. ServesNow locked q old new holds i j) (λ u. ServedNow locked q old new holds i j) (StopsServing true locked q old new holds i j) (StopsServing true locked q old new holds i j) c.serve_now_on.result
+    match_map (λ u. ServesNow locked q old new holds i j) (λ u. ServedNow locked q old new holds i j) (StopsServing true locked q old new holds i j)
+    (StopsServing true locked q old new holds i j) c.serve_now_on.result
     (λ u m. (record { serves = m.0; takes = serves_takings true locked q old new holds i j owner c.requires.can.there m.0 }, m.1)) (λ stop m. m)
     c.serve_now_on.ensures.served
 
@@ -29,7 +30,8 @@ returns-clause-few g c =
     let j = g.D.SwapDev.image c.serve_now_on.new.swap in
     let owner = c.sound.ensures.sound.owner.frames in
     let locked = c.args.locked.now in
-    match_ok (λ u. ServesNow locked q old new holds i j) (StopsServing true locked q old new holds i j) c.serve_now_on.result (λ u m. serves_short true locked q old new holds i j owner c.requires.can.there m.0)
+    match_ok (λ u. ServesNow locked q old new holds i j) (StopsServing true locked q old new holds i j) c.serve_now_on.result
+    (λ u m. serves_short true locked q old new holds i j owner c.requires.can.there m.0)
     c.serve_now_on.ensures.served
 
 pub returns-clause-low : goal.returns-clause-low
@@ -55,7 +57,8 @@ returns-clause-few_at_stop g c =
     let j = g.D.SwapDev.image c.serve_now_on.new.swap in
     let owner = c.sound.ensures.sound.owner.frames in
     let locked = c.args.locked.now in
-    match_err (λ u. ServesNow locked q old new holds i j) (StopsServing true locked q old new holds i j) c.serve_now_on.result (λ stop m. stops_short true locked q old new holds i j stop owner c.requires.can.there m)
+    match_err (λ u. ServesNow locked q old new holds i j) (StopsServing true locked q old new holds i j) c.serve_now_on.result
+    (λ stop m. stops_short true locked q old new holds i j stop owner c.requires.can.there m)
     c.serve_now_on.ensures.served
 
 pub returns-clause-spares : goal.returns-clause-spares
@@ -68,5 +71,6 @@ returns-clause-spares g c =
     let j = g.D.SwapDev.image c.serve_now_on.new.swap in
     let owner = c.sound.ensures.sound.owner.frames in
     let locked = c.args.locked.now in
-    match_ok (λ u. ServesNow locked q old new holds i j) (StopsServing true locked q old new holds i j) c.serve_now_on.result (λ u m. spared m.0.units old.kernel.place new.kernel.place locked q true owner c.requires.can m.0.leads)
+    match_ok (λ u. ServesNow locked q old new holds i j) (StopsServing true locked q old new holds i j) c.serve_now_on.result
+    (λ u m. spared m.0.units old.kernel.place new.kernel.place locked q true owner c.requires.can m.0.leads)
     c.serve_now_on.ensures.served

@@ -10,7 +10,8 @@ use Rattle.fault_fill.proofs.pages.serve_further.Goals as goal
 
 pub returns-in-Err-clause-made : goal.returns-in-Err-clause-made
 returns-in-Err-clause-made g c =
-    stops_here true c.args.locked.now c.args.page c.args.m.now c.serve_unit.new.m (g.F.Files.holds c.args.files.now) (g.D.SwapDev.image c.args.swap.now) (g.D.SwapDev.image c.serve_unit.new.swap) c.in-Err.stop
+    stops_here true c.args.locked.now c.args.page c.args.m.now c.serve_unit.new.m (g.F.Files.holds c.args.files.now) (g.D.SwapDev.image c.args.swap.now)
+    (g.D.SwapDev.image c.serve_unit.new.swap) c.in-Err.stop
     (c.in-Err.ensures.made true)
 
 pub finish-requires-clause-some : goal.finish-requires-clause-some

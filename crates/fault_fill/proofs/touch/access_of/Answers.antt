@@ -10,5 +10,6 @@ returns-clause-is c =
 
 pub returns-clause-can : goal.returns-clause-can
 returns-clause-can c =
-    access_asks c.args.m.now.kernel.place c.core-core.result.now c.map_of.result.now (c.map_of.ensures.shows c.core-core.result.now c.core-core.ensures) _ c.map_of.ensures.named c.map_of.ensures.of_image
+    access_asks c.args.m.now.kernel.place c.core-core.result.now c.map_of.result.now (c.map_of.ensures.shows c.core-core.result.now c.core-core.ensures) _ c.map_of.ensures.named
+    c.map_of.ensures.of_image
     (held_there c.args.m.now.kernel c.args.pid c.requires.lends) c.args.address c.args.write c.access_in.result c.access_in.ensures

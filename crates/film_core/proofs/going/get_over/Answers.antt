@@ -19,7 +19,8 @@ rest-requires-clause-under g c =
     let i = g.D.SwapDev.image c.args.swap.now in
     let h = g.D.SwapDev.image c.settle.new.swap in
     subst (λ (hs : Option (List NamedFile)). IsUnder c.settle.new.m c.args.mark c.in_ok-count.count hs h) (sym c.in_ok-count.ensures.outside.files.holds)
-    (going_under c.args.m.now c.settle.new.m c.args.mark c.args._lines.now c.args._taken c.args.counted c.in_ok-count.count holds i h c.in_ok-count.ensures.counts c.in_ok-count.ensures.settles c.requires.going)
+    (going_under c.args.m.now c.settle.new.m c.args.mark c.args._lines.now c.args._taken c.args.counted c.in_ok-count.count holds i h c.in_ok-count.ensures.counts
+    c.in_ok-count.ensures.settles c.requires.going)
 
 pub returns-clause-over : goal.returns-clause-over
 returns-clause-over g c =
@@ -30,7 +31,8 @@ returns-clause-over g c =
     let i = g.D.SwapDev.image c.args.swap.now in
     let h = g.D.SwapDev.image c.settle.new.swap in
     let j = g.D.SwapDev.image c.rest.new.swap in
-    ok_weaker c.rest.result (λ count. Rests mid new c.args.mark c.in_ok-count.count count holds h j) (λ count. GetsOver old new c.args.mark c.args._lines.now c.args._taken c.args.counted count holds i j)
+    ok_weaker c.rest.result (λ count. Rests mid new c.args.mark c.in_ok-count.count count holds h j)
+    (λ count. GetsOver old new c.args.mark c.args._lines.now c.args._taken c.args.counted count holds i j)
     (λ count f. gets_over old mid new c.args.mark c.args._lines.now c.args._taken c.args.counted c.in_ok-count.count count holds i h j c.in_ok-count.ensures.counts c.in_ok-count.ensures.settles f)
     (subst (λ (hs : Option (List NamedFile)). IfOk c.rest.result (λ count. Rests mid new c.args.mark c.in_ok-count.count count hs h j)) c.in_ok-count.ensures.outside.files.holds c.rest.ensures.rests)
 
@@ -43,6 +45,9 @@ returns-clause-stops g c =
     let i = g.D.SwapDev.image c.args.swap.now in
     let h = g.D.SwapDev.image c.settle.new.swap in
     let j = g.D.SwapDev.image c.rest.new.swap in
-    stops_weaker c.rest.result (λ stop. StopsResting mid new c.args.mark c.in_ok-count.count holds h j stop) (λ stop. StopsGoing old new c.args.mark c.args._lines.now c.args._taken c.args.counted holds i j stop)
-    (λ stop f. rest_stops_going old mid new c.args.mark c.args._lines.now c.args._taken c.args.counted c.in_ok-count.count holds i h j stop c.in_ok-count.ensures.counts c.in_ok-count.ensures.settles f)
-    (subst (λ (hs : Option (List NamedFile)). IfErr c.rest.result (λ stop. StopsResting mid new c.args.mark c.in_ok-count.count hs h j stop)) c.in_ok-count.ensures.outside.files.holds c.rest.ensures.stops)
+    stops_weaker c.rest.result (λ stop. StopsResting mid new c.args.mark c.in_ok-count.count holds h j stop)
+    (λ stop. StopsGoing old new c.args.mark c.args._lines.now c.args._taken c.args.counted holds i j stop)
+    (λ stop f. rest_stops_going old mid new c.args.mark c.args._lines.now c.args._taken c.args.counted c.in_ok-count.count holds i h j stop c.in_ok-count.ensures.counts
+    c.in_ok-count.ensures.settles f)
+    (subst (λ (hs : Option (List NamedFile)). IfErr c.rest.result (λ stop. StopsResting mid new c.args.mark c.in_ok-count.count hs h j stop))
+    c.in_ok-count.ensures.outside.files.holds c.rest.ensures.stops)

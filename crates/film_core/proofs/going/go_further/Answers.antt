@@ -7,14 +7,16 @@ use Rattle.film_core.proofs.going.go_further.Goals as goal
 
 pub pass-requires-clause-wide : goal.pass-requires-clause-wide
 pass-requires-clause-wide g c =
-    going_wide c.args.m.now c.get_over.new.m c.args.mark c.args.lines.now c.args.taken c.args.counted c.in_ok-count.count c.last_turned.result (g.F.Files.holds c.args.files.now) (g.D.SwapDev.image c.args.swap.now)
+    going_wide c.args.m.now c.get_over.new.m c.args.mark c.args.lines.now c.args.taken c.args.counted c.in_ok-count.count c.last_turned.result (g.F.Files.holds c.args.files.now)
+    (g.D.SwapDev.image c.args.swap.now)
     (g.D.SwapDev.image c.get_over.new.swap) c.in_ok-count.ensures.on c.in_ok-count.ensures.over c.last_turned.ensures c.requires.going c.requires.wide
 
 pub pass-requires-clause-past : goal.pass-requires-clause-past
 pass-requires-clause-past g c =
     let h = g.D.SwapDev.image c.get_over.new.swap in
     subst (λ (hs : Option (List NamedFile)). IsPast c.get_over.new.m c.args.lines.now c.args.taken c.in_ok-count.count c.last_turned.result hs h) (sym c.in_ok-count.ensures.outside.files.holds)
-    (going_past c.args.m.now c.get_over.new.m c.args.mark c.args.lines.now c.args.taken c.args.counted c.in_ok-count.count c.last_turned.result (g.F.Files.holds c.args.files.now) (g.D.SwapDev.image c.args.swap.now)
+    (going_past c.args.m.now c.get_over.new.m c.args.mark c.args.lines.now c.args.taken c.args.counted c.in_ok-count.count c.last_turned.result (g.F.Files.holds c.args.files.now)
+    (g.D.SwapDev.image c.args.swap.now)
     h c.in_ok-count.ensures.on c.in_ok-count.ensures.over c.last_turned.ensures c.requires.going)
 
 pub returns-clause-over : goal.returns-clause-over
@@ -26,9 +28,12 @@ returns-clause-over g c =
     let i = g.D.SwapDev.image c.args.swap.now in
     let h = g.D.SwapDev.image c.get_over.new.swap in
     let j = g.D.SwapDev.image c.pass.new.swap in
-    ok_so c.pass.result (PassesOver mid new c.args.lines.now c.args.taken c.in_ok-count.count c.last_turned.result holds h j) (GoesOver old new c.args.mark c.args.lines.now c.args.taken c.args.counted holds i j)
-    (goes_over old mid c.args.mark c.args.lines.now c.args.taken c.args.counted c.in_ok-count.count c.last_turned.result holds i h c.in_ok-count.ensures.on c.in_ok-count.ensures.over c.last_turned.ensures new j)
-    (subst (λ (hs : Option (List NamedFile)). OnOk c.pass.result (PassesOver mid new c.args.lines.now c.args.taken c.in_ok-count.count c.last_turned.result hs h j)) c.in_ok-count.ensures.outside.files.holds c.pass.ensures.over)
+    ok_so c.pass.result (PassesOver mid new c.args.lines.now c.args.taken c.in_ok-count.count c.last_turned.result holds h j)
+    (GoesOver old new c.args.mark c.args.lines.now c.args.taken c.args.counted holds i j)
+    (goes_over old mid c.args.mark c.args.lines.now c.args.taken c.args.counted c.in_ok-count.count c.last_turned.result holds i h c.in_ok-count.ensures.on c.in_ok-count.ensures.over
+    c.last_turned.ensures new j)
+    (subst (λ (hs : Option (List NamedFile)). OnOk c.pass.result (PassesOver mid new c.args.lines.now c.args.taken c.in_ok-count.count c.last_turned.result hs h j))
+    c.in_ok-count.ensures.outside.files.holds c.pass.ensures.over)
 
 pub returns-clause-stops : goal.returns-clause-stops
 returns-clause-stops g c =
@@ -41,6 +46,8 @@ returns-clause-stops g c =
     let j = g.D.SwapDev.image c.pass.new.swap in
     stops_weaker c.pass.result (λ stop. StopsPassing mid new c.args.lines.now c.args.taken c.in_ok-count.count c.last_turned.result holds h j stop)
     (λ stop. StopsGoing old new c.args.mark c.args.lines.now c.args.taken c.args.counted holds i j stop)
-    (stops_going old mid c.args.mark c.args.lines.now c.args.taken c.args.counted c.in_ok-count.count c.last_turned.result holds i h c.in_ok-count.ensures.on c.in_ok-count.ensures.over c.last_turned.ensures new j)
-    (subst (λ (hs : Option (List NamedFile)). IfErr c.pass.result (λ stop. StopsPassing mid new c.args.lines.now c.args.taken c.in_ok-count.count c.last_turned.result hs h j stop)) c.in_ok-count.ensures.outside.files.holds
+    (stops_going old mid c.args.mark c.args.lines.now c.args.taken c.args.counted c.in_ok-count.count c.last_turned.result holds i h c.in_ok-count.ensures.on c.in_ok-count.ensures.over
+    c.last_turned.ensures new j)
+    (subst (λ (hs : Option (List NamedFile)). IfErr c.pass.result (λ stop. StopsPassing mid new c.args.lines.now c.args.taken c.in_ok-count.count c.last_turned.result hs h j stop))
+    c.in_ok-count.ensures.outside.files.holds
     c.pass.ensures.stops)

@@ -8,7 +8,8 @@ use Rattle.film_core.proofs.going.one_entry.Goals as goal
 pub returns-in-Ok-clause-made : goal.returns-in-Ok-clause-made
 returns-in-Ok-clause-made g c =
     over_made c.args.m.now c.widen.new.self c.go_further-went.new.m c.args.mark c.args.lines.now c.args.taken c.args.counted (g.F.Files.holds c.args.files.now) (g.D.SwapDev.image c.args.swap.now)
-    (g.D.SwapDev.image c.go_further-went.new.swap) (widened_by c.args.m.now c.widen.new.self c.params.result.now c.params.ensures c.widen.ensures) c.always-2.ensures.within c.in-Ok.ensures.over c.in-Ok.ensures.ends
+    (g.D.SwapDev.image c.go_further-went.new.swap) (widened_by c.args.m.now c.widen.new.self c.params.result.now c.params.ensures c.widen.ensures) c.always-2.ensures.within
+    c.in-Ok.ensures.over c.in-Ok.ensures.ends
 
 pub returns-in-JournalFull-clause-made : goal.returns-in-JournalFull-clause-made
 returns-in-JournalFull-clause-made g c =
@@ -17,7 +18,8 @@ returns-in-JournalFull-clause-made g c =
     let holds = g.F.Files.holds c.args.files.now in
     let i = g.D.SwapDev.image c.args.swap.now in
     let j = g.D.SwapDev.image c.go_further-went.new.swap in
-    full_made c.args.m.now mid new c.args.mark c.args.lines.now c.args.taken c.args.counted holds i j (widened_by c.args.m.now mid c.params.result.now c.params.ensures c.widen.ensures) c.always-2.ensures.within
+    full_made c.args.m.now mid new c.args.mark c.args.lines.now c.args.taken c.args.counted holds i j
+    (widened_by c.args.m.now mid c.params.result.now c.params.ensures c.widen.ensures) c.always-2.ensures.within
     (subst (λ (x : Stop). StopsGoing mid new c.args.mark c.args.lines.now c.args.taken c.args.counted holds i j x) c.in-JournalFull.is c.in-Err.ensures.stops)
     (subst (λ (x : Stop). KeptAtStop mid new x) c.in-JournalFull.is c.in-Err.ensures.kept) c.requires.running
 
@@ -28,7 +30,8 @@ returns-in-JournalFull-clause-running g c =
     let holds = g.F.Files.holds c.args.files.now in
     let i = g.D.SwapDev.image c.args.swap.now in
     let j = g.D.SwapDev.image c.go_further-went.new.swap in
-    full_runs c.args.m.now mid new c.args.mark c.args.lines.now c.args.taken c.args.counted holds i j (widened_by c.args.m.now mid c.params.result.now c.params.ensures c.widen.ensures) c.always-2.ensures.within
+    full_runs c.args.m.now mid new c.args.mark c.args.lines.now c.args.taken c.args.counted holds i j
+    (widened_by c.args.m.now mid c.params.result.now c.params.ensures c.widen.ensures) c.always-2.ensures.within
     (subst (λ (x : Stop). StopsGoing mid new c.args.mark c.args.lines.now c.args.taken c.args.counted holds i j x) c.in-JournalFull.is c.in-Err.ensures.stops)
     (subst (λ (x : Stop). KeptAtStop mid new x) c.in-JournalFull.is c.in-Err.ensures.kept) c.requires.running c.requires.full
 

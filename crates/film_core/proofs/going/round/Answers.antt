@@ -4,7 +4,8 @@ use Rattle.film_core.proofs.going.round.Goals as goal
 
 pub returns-in-Over-clause-rounds : goal.returns-in-Over-clause-rounds
 returns-in-Over-clause-rounds g c =
-    over_rounds c.args.m.now c.rest.new.m c.args.mark c.args.lines.now c.args.taken c.args.counted c.in_ok-count.count c.last_turned.result (g.F.Files.holds c.args.files.now) (g.D.SwapDev.image c.args.swap.now)
+    over_rounds c.args.m.now c.rest.new.m c.args.mark c.args.lines.now c.args.taken c.args.counted c.in_ok-count.count c.last_turned.result (g.F.Files.holds c.args.files.now)
+    (g.D.SwapDev.image c.args.swap.now)
     (g.D.SwapDev.image c.rest.new.swap) c.in_ok-count.ensures.rests c.in_ok-count.ensures.on c.last_turned.ensures (c.next_of.ensures.over c.in-Over.is)
 
 pub returns-in-Line : goal.returns-in-Line
@@ -21,10 +22,12 @@ returns-in-Line g c =
     ] in
     record {
       rounds = tt;
-      stops = full_round old new c.args.mark c.args.lines.now c.args.taken c.args.counted c.in_ok-count.count c.last_turned.result holds i j c.in_ok-count.ensures.rests c.in_ok-count.ensures.on c.last_turned.ensures
+      stops = full_round old new c.args.mark c.args.lines.now c.args.taken c.args.counted c.in_ok-count.count c.last_turned.result holds i j c.in_ok-count.ensures.rests
+          c.in_ok-count.ensures.on c.last_turned.ensures
           c.requires.full next;
       ends = tt;
-      kept = full_kept old new c.args.mark c.args.lines.now c.args.taken c.args.counted c.in_ok-count.count c.last_turned.result holds i j c.in_ok-count.ensures.rests c.in_ok-count.ensures.on c.last_turned.ensures
+      kept = full_kept old new c.args.mark c.args.lines.now c.args.taken c.args.counted c.in_ok-count.count c.last_turned.result holds i j c.in_ok-count.ensures.rests
+          c.in_ok-count.ensures.on c.last_turned.ensures
           c.requires.full c.requires.round;
       outside = record {
         files = record { leads = o.files.leads; holds = o.files.holds; open_faults = o.files.open_faults; page_faults = o.files.page_faults };

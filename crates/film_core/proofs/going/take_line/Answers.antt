@@ -32,7 +32,8 @@ round-requires-clause-counted g c =
 
 pub round-requires-clause-round : goal.round-requires-clause-round
 round-requires-clause-round g c =
-    line_round c.args.m.now c.note.new.self c.note.new.self c.mark_of_event-mark.result c.args.lines.now c.args.taken c.args.counted c.args._last (g.F.Files.holds c.args.files.now) (g.D.SwapDev.image c.args.swap.now) (g.D.SwapDev.image c.args.swap.now)
+    line_round c.args.m.now c.note.new.self c.note.new.self c.mark_of_event-mark.result c.args.lines.now c.args.taken c.args.counted c.args._last (g.F.Files.holds c.args.files.now)
+    (g.D.SwapDev.image c.args.swap.now) (g.D.SwapDev.image c.args.swap.now)
     c.args.e c.requires.below c.requires.event c.requires.few c.requires.may c.requires.counted c.in_ok-note.ensures.step c.in_ok-note.ensures.rest c.mark_of_event-mark.ensures c.requires.past
 
 pub returns-clause-over : goal.returns-clause-over
@@ -43,8 +44,10 @@ returns-clause-over g c =
     let holds = g.F.Files.holds c.args.files.now in
     let i = g.D.SwapDev.image c.args.swap.now in
     let j = g.D.SwapDev.image c.round.new.swap in
-    ok_so c.round.result (RoundsOff mid new c.mark_of_event-mark.result c.args.lines.now (c.args.taken + 1) c.args.counted holds i j) (PassesOver old new c.args.lines.now c.args.taken c.args.counted c.args._last holds i j)
-    (line_passes old mid new c.mark_of_event-mark.result c.args.lines.now c.args.taken c.args.counted c.args._last holds i j c.args.e c.requires.below c.requires.event c.requires.few c.requires.may c.requires.counted
+    ok_so c.round.result (RoundsOff mid new c.mark_of_event-mark.result c.args.lines.now (c.args.taken + 1) c.args.counted holds i j)
+    (PassesOver old new c.args.lines.now c.args.taken c.args.counted c.args._last holds i j)
+    (line_passes old mid new c.mark_of_event-mark.result c.args.lines.now c.args.taken c.args.counted c.args._last holds i j c.args.e c.requires.below c.requires.event c.requires.few
+    c.requires.may c.requires.counted
     c.in_ok-note.ensures.step c.in_ok-note.ensures.rest c.mark_of_event-mark.ensures) c.round.ensures.rounds
 
 pub returns-clause-stops : goal.returns-clause-stops
@@ -57,5 +60,6 @@ returns-clause-stops g c =
     let j = g.D.SwapDev.image c.round.new.swap in
     stops_weaker c.round.result (λ stop. StopsRound mid new c.mark_of_event-mark.result c.args.lines.now (c.args.taken + 1) c.args.counted holds i j stop)
     (λ stop. StopsPassing old new c.args.lines.now c.args.taken c.args.counted c.args._last holds i j stop)
-    (line_stops_passing old mid new c.mark_of_event-mark.result c.args.lines.now c.args.taken c.args.counted c.args._last holds i j c.args.e c.requires.below c.requires.event c.requires.few c.requires.may c.requires.counted
+    (line_stops_passing old mid new c.mark_of_event-mark.result c.args.lines.now c.args.taken c.args.counted c.args._last holds i j c.args.e c.requires.below c.requires.event c.requires.few
+    c.requires.may c.requires.counted
     c.in_ok-note.ensures.step c.in_ok-note.ensures.rest c.mark_of_event-mark.ensures) c.round.ensures.stops

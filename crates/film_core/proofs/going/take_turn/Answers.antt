@@ -27,7 +27,8 @@ round-requires-clause-counted g c =
 
 pub round-requires-clause-round : goal.round-requires-clause-round
 round-requires-clause-round g c =
-    turn_round c.args.m.now c.note.new.self c.note.new.self c.args.lines.now c.args.taken c.args.counted c.args._last (g.F.Files.holds c.args.files.now) (g.D.SwapDev.image c.args.swap.now) (g.D.SwapDev.image c.args.swap.now)
+    turn_round c.args.m.now c.note.new.self c.note.new.self c.args.lines.now c.args.taken c.args.counted c.args._last (g.F.Files.holds c.args.files.now) (g.D.SwapDev.image c.args.swap.now)
+    (g.D.SwapDev.image c.args.swap.now)
     c.args.pid c.requires.below c.requires.behind c.requires.turned c.requires.may c.requires.counted c.in_ok-note.ensures.step c.in_ok-note.ensures.rest c.requires.past
 
 pub returns-clause-over : goal.returns-clause-over
@@ -38,7 +39,8 @@ returns-clause-over g c =
     let holds = g.F.Files.holds c.args.files.now in
     let i = g.D.SwapDev.image c.args.swap.now in
     let j = g.D.SwapDev.image c.round.new.swap in
-    ok_so c.round.result (RoundsOff mid new (marks.Turn c.args.pid c.args.counted) c.args.lines.now c.args.taken c.args.counted holds i j) (PassesOver old new c.args.lines.now c.args.taken c.args.counted c.args._last holds i j)
+    ok_so c.round.result (RoundsOff mid new (marks.Turn c.args.pid c.args.counted) c.args.lines.now c.args.taken c.args.counted holds i j)
+    (PassesOver old new c.args.lines.now c.args.taken c.args.counted c.args._last holds i j)
     (turn_passes old mid new c.args.lines.now c.args.taken c.args.counted c.args._last holds i j c.args.pid c.requires.below c.requires.behind c.requires.turned c.requires.may c.requires.counted
     c.in_ok-note.ensures.step c.in_ok-note.ensures.rest) c.round.ensures.rounds
 
@@ -52,5 +54,6 @@ returns-clause-stops g c =
     let j = g.D.SwapDev.image c.round.new.swap in
     stops_weaker c.round.result (λ stop. StopsRound mid new (marks.Turn c.args.pid c.args.counted) c.args.lines.now c.args.taken c.args.counted holds i j stop)
     (λ stop. StopsPassing old new c.args.lines.now c.args.taken c.args.counted c.args._last holds i j stop)
-    (turn_stops_passing old mid new c.args.lines.now c.args.taken c.args.counted c.args._last holds i j c.args.pid c.requires.below c.requires.behind c.requires.turned c.requires.may c.requires.counted
+    (turn_stops_passing old mid new c.args.lines.now c.args.taken c.args.counted c.args._last holds i j c.args.pid c.requires.below c.requires.behind c.requires.turned
+    c.requires.may c.requires.counted
     c.in_ok-note.ensures.step c.in_ok-note.ensures.rest) c.round.ensures.stops

@@ -41,4 +41,5 @@ returns-in_err-swap_in-clause-kept g c =
     let new = c.swap_in.new.m in
     let stop = c.in_err-swap_in.field-0.0 in
     stops_on c.from_residual.result stop (KeptAtStop old new) c.from_residual.ensures.1
-    (kept_at (entries.SwapIn c.args.pid) old.kernel (g.D.SwapDev.image c.args.swap.now) (g.D.SwapDev.image c.swap_in.new.swap) old new stop c.swap_in.ensures.params c.swap_in.ensures.images c.in_err-swap_in.ensures.stopped)
+    (kept_at (entries.SwapIn c.args.pid) old.kernel (g.D.SwapDev.image c.args.swap.now) (g.D.SwapDev.image c.swap_in.new.swap) old new stop c.swap_in.ensures.params c.swap_in.ensures.images
+    c.in_err-swap_in.ensures.stopped)

@@ -14,7 +14,8 @@ returns-clause-rests g c =
     let i = g.D.SwapDev.image c.args.swap.now in
     let j = g.D.SwapDev.image c.run.new.swap in
     let until = c.count_behind-until.result in
-    ok_weaker c.run.result (λ count. Runs old new c.args.pid false c.args.counted until holds i j count) (λ count. Rests old new (marks.Dispatch c.args.pid c.args.more c.args.since) c.args.counted count holds i j)
+    ok_weaker c.run.result (λ count. Runs old new c.args.pid false c.args.counted until holds i j count)
+    (λ count. Rests old new (marks.Dispatch c.args.pid c.args.more c.args.since) c.args.counted count holds i j)
     (λ count f. dispatch_rests old new c.args.pid c.args.more c.args.since c.args.counted until count holds i j c.count_behind-until.ensures f) c.run.ensures.runs
 
 pub returns-clause-stops : goal.returns-clause-stops

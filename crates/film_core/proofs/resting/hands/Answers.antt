@@ -16,12 +16,14 @@ move_hands-requires-clause-fits g c =
 
 pub returns-clause-rests : goal.returns-clause-rests
 returns-clause-rests g c =
-    hands_rest c.args.m.now c.move_hands.new.m c.args.left c.in_ok-move_hands.field-0 c.args.counted (g.F.Files.holds c.args.files.now) (g.D.SwapDev.image c.args.swap.now) (g.D.SwapDev.image c.move_hands.new.swap)
+    hands_rest c.args.m.now c.move_hands.new.m c.args.left c.in_ok-move_hands.field-0 c.args.counted (g.F.Files.holds c.args.files.now) (g.D.SwapDev.image c.args.swap.now)
+    (g.D.SwapDev.image c.move_hands.new.swap)
     c.in_ok-move_hands.ensures.moved
 
 pub returns-clause-on : goal.returns-clause-on
 returns-clause-on g c =
-    hands_stay c.args.m.now c.move_hands.new.m c.args.left c.in_ok-move_hands.field-0 c.args.counted (g.F.Files.holds c.args.files.now) (g.D.SwapDev.image c.args.swap.now) (g.D.SwapDev.image c.move_hands.new.swap)
+    hands_stay c.args.m.now c.move_hands.new.m c.args.left c.in_ok-move_hands.field-0 c.args.counted (g.F.Files.holds c.args.files.now) (g.D.SwapDev.image c.args.swap.now)
+    (g.D.SwapDev.image c.move_hands.new.swap)
     c.requires.steady c.requires.counted c.in_ok-move_hands.ensures.moved
 
 pub returns-in_err-move_hands-clause-stops : goal.returns-in_err-move_hands-clause-stops
@@ -39,4 +41,5 @@ pub returns-in_err-move_hands-clause-kept : goal.returns-in_err-move_hands-claus
 returns-in_err-move_hands-clause-kept g c =
     let stop = c.in_err-move_hands.field-0.0 in
     stops_on c.from_residual.result stop (KeptAtStop c.args.m.now c.move_hands.new.m) c.from_residual.ensures.1
-    (kept_moving c.args.m.now c.move_hands.new.m (g.F.Files.holds c.args.files.now) (g.D.SwapDev.image c.args.swap.now) (g.D.SwapDev.image c.move_hands.new.swap) c.args.left stop c.in_err-move_hands.ensures.stopped)
+    (kept_moving c.args.m.now c.move_hands.new.m (g.F.Files.holds c.args.files.now) (g.D.SwapDev.image c.args.swap.now)
+    (g.D.SwapDev.image c.move_hands.new.swap) c.args.left stop c.in_err-move_hands.ensures.stopped)

@@ -7,7 +7,8 @@ use Rattle.film_core.proofs.resting.wait.Goals as goal
 
 pub returns-clause-rests : goal.returns-clause-rests
 returns-clause-rests g c =
-    wait_rests c.args.m.now c.interrupt.new.m c.args.counted (g.F.Files.holds c.args.files.now) (g.D.SwapDev.image c.args.swap.now) (g.D.SwapDev.image c.interrupt.new.swap) c.in_ok-interrupt.ensures.made
+    wait_rests c.args.m.now c.interrupt.new.m c.args.counted (g.F.Files.holds c.args.files.now) (g.D.SwapDev.image c.args.swap.now)
+    (g.D.SwapDev.image c.interrupt.new.swap) c.in_ok-interrupt.ensures.made
 
 pub returns-clause-on : goal.returns-clause-on
 returns-clause-on g c = steady_stays c.args.m.now c.interrupt.new.m c.args.counted c.requires.counted c.in_ok-interrupt.ensures.steady

@@ -21,7 +21,8 @@ returns-in_err-finish_step-in-Some-clause-stops g c =
     rw (r.1, r.2) (
     finish_stops c.args.m.now c.fill_rest.new.m c.finish_step.new.m (g.F.Files.holds c.args.files.now) (g.D.SwapDev.image c.args.swap.now) (g.D.SwapDev.image c.fill_rest.new.swap)
     (g.D.SwapDev.image c.finish_step.new.swap) c.in-Some.begun c.in_err-finish_step-in-Some.field-0.0 c.in_ok-fill_rest.ensures.leads e
-    (subst (λ hs. StopsStep c.fill_rest.new.m c.finish_step.new.m c.in-Some.begun hs (g.D.SwapDev.image c.fill_rest.new.swap) (g.D.SwapDev.image c.finish_step.new.swap) c.in_err-finish_step-in-Some.field-0.0)
+    (subst (λ hs. StopsStep c.fill_rest.new.m c.finish_step.new.m c.in-Some.begun hs (g.D.SwapDev.image c.fill_rest.new.swap)
+    (g.D.SwapDev.image c.finish_step.new.swap) c.in_err-finish_step-in-Some.field-0.0)
     c.in_ok-fill_rest.ensures.outside.files.holds c.in_err-finish_step-in-Some.ensures.stops))
 
 pub returns-in_ok-finish_step-in-Some-clause-settles : goal.returns-in_ok-finish_step-in-Some-clause-settles

@@ -15,7 +15,11 @@ unfolding reply_of
 returns-in-Wait-clause-value c = λ sid.
     c.wait_reply.ensures.value
     ∙ ap (λ (pid : ℕ). wait_by (find (λ q. q.parent == pid) c.args.list.now) (find (is_zombie_child pid) c.args.list.now) c.args.regs) c.pid-in-Wait.ensures
-    ∙ sym (ap (λ (call : SystemCall). or_fault (run (answers_of c.args.space.now) (reply_of c.args.programs.now (record { processes = c.args.list.now; next_pid = c.args.next_pid; next_sid = sid }) c.args.process.now c.args.space.now call c.args.regs))) c.in-Wait.is)
+    ∙ sym (ap (λ (call : SystemCall). or_fault (run (answers_of c.args.space.now) (reply_of c.args.programs.now (record {
+      processes = c.args.list.now;
+      next_pid = c.args.next_pid;
+      next_sid = sid;
+    }) c.args.process.now c.args.space.now call c.args.regs))) c.in-Wait.is)
 
 pub returns-in-Exit-clause-sound : goal.returns-in-Exit-clause-sound
 returns-in-Exit-clause-sound c =

@@ -11,13 +11,15 @@ returns-then-image-eq0 c =
     sym (ap (λ (i : ℕ). pages_in 1 i (map (λ (n : Named). n.facts) c.args.images.now)) zero_is ∙ pages_zero 1 c.args.images.now (omega arith))
 
 pub text_pages-requires : goal.text_pages-requires
-text_pages-requires c = let a = c.in-Some.ensures.lookup in sound_item c.args.images.now (c.args.image - 1) c.in-Some.named.now c.requires (got c.args.images.now (c.args.image - 1) c.in-Some.named.now a.3.0 ∙ ap (λ (n : Named). Some n) (sym a.1))
+text_pages-requires c = let a = c.in-Some.ensures.lookup in
+    sound_item c.args.images.now (c.args.image - 1) c.in-Some.named.now c.requires (got c.args.images.now (c.args.image - 1) c.in-Some.named.now a.3.0 ∙ ap (λ (n : Named). Some n) (sym a.1))
 
 pub returns-in-Some : goal.returns-in-Some
 returns-in-Some c =
     let above : c.args.image ≡ 1 + (c.args.image - 1) = (let t = c.if-image-eq0.false in grind (arith, nat_tests)) in
     let a = c.in-Some.ensures.lookup in
-    c.text_pages.ensures.value ∙ sym (pages_item 1 (c.args.image - 1) c.args.images.now c.in-Some.named.now (got c.args.images.now (c.args.image - 1) c.in-Some.named.now a.3.0 ∙ ap (λ (n : Named). Some n) (sym a.1)))
+    c.text_pages.ensures.value
+    ∙ sym (pages_item 1 (c.args.image - 1) c.args.images.now c.in-Some.named.now (got c.args.images.now (c.args.image - 1) c.in-Some.named.now a.3.0 ∙ ap (λ (n : Named). Some n) (sym a.1)))
     ∙ ap (λ (i : ℕ). pages_in 1 i (map (λ (n : Named). n.facts) c.args.images.now)) (sym above)
 
 pub returns-in-None : goal.returns-in-None

@@ -11,7 +11,8 @@ returns g c =
     let call = c.move_hands in
     let later = Some (map named_file call.new.files.store.files.items) in
     let more = call.new.swap.store.blocks in
-    subst (λ r. OnOk r (IsReady call.new.m later more)) c.expect.ensures (moved_ready call.result c.args.n c.args.m.now call.new.m (Some (with_zeros (512 * c.args.swap.now.store.blocks) c.args.swap.now.store.written.items))
+    subst (λ r. OnOk r (IsReady call.new.m later more)) c.expect.ensures
+    (moved_ready call.result c.args.n c.args.m.now call.new.m (Some (with_zeros (512 * c.args.swap.now.store.blocks) c.args.swap.now.store.written.items))
     (Some (with_zeros (512 * call.new.swap.store.blocks) call.new.swap.store.written.items)) (Some (map named_file c.args.files.now.store.files.items)) later c.args.swap.now.store.blocks more
     call.ensures.moved call.ensures.outside.files.holds
     call.ensures.outside.swap.blocks c.requires.ready)

@@ -42,7 +42,8 @@ returns-in_err-copy_page-clause-copied g c =
     let first : IsCopyFirst now.kernel.place child c.page_in.result = copy_first now.kernel.place c.args.parent child c.page_in.result c.page_in.ensures f in
     let p = err_from_is_err_and c.from_residual.result c.from_residual.ensures.1 in
     rw (p.1, p.2) (so.so_far.stops stop new j
-    (stops_first now.kernel.place.due first.others child c.page_in.result now new (g.F.Files.holds c.loop-child.files) (g.D.SwapDev.image c.loop-child.swap) j stop first.first c.in_err-copy_page.ensures.copied))
+    (stops_first now.kernel.place.due first.others child c.page_in.result now new (g.F.Files.holds c.loop-child.files)
+    (g.D.SwapDev.image c.loop-child.swap) j stop first.first c.in_err-copy_page.ensures.copied))
 
 pub loop-child-smaller : goal.loop-child-smaller
 loop-child-smaller g c =

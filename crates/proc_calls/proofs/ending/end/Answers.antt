@@ -14,5 +14,6 @@ flat-requires-clause-can g c =
 
 pub returns-clause-stops : goal.returns-clause-stops
 returns-clause-stops g c =
-    once_left c.flat.result c.args.m.now c.leave_space.new.m c.flat.new.self c.args.pid (g.F.Files.holds c.args.files.now) (g.D.SwapDev.image c.args.swap.now) (g.D.SwapDev.image c.leave_space.new.swap)
+    once_left c.flat.result c.args.m.now c.leave_space.new.m c.flat.new.self c.args.pid (g.F.Files.holds c.args.files.now) (g.D.SwapDev.image c.args.swap.now)
+    (g.D.SwapDev.image c.leave_space.new.swap)
     c.requires.calls.whole c.in_ok-leave_space.ensures.left c.flat.ensures.stop c.flat.ensures.cause c.flat.ensures.full.0

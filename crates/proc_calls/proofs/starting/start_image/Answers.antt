@@ -30,8 +30,10 @@ fill_start-requires-clause-running g c =
     let i = g.D.SwapDev.image c.args.swap.now in
     let j = g.D.SwapDev.image c.find_space.new.swap in
     let f = found_of c.in_ok-find_space.field-0 true c.args.m.now c.find_space.new.m c.args.pid c.args.image holds i j c.if-not-branch.false c.in_ok-find_space.ensures.finds in
-    let can = can_start c.args.m.now c.find_space.new.m c.args.pid c.args.image holds i j c.requires.calls c.args.after.now c.args.top f (c.in_ok-find_space.ensures.given (ap (λ b. Ok b) c.if-not-branch.false)) c.requires.above c.requires.within c.requires.page in
-    let s = is_started c.args.m.now c.find_space.new.m c.reply.new.m c.args.pid c.args.image c.args.after.now c.args.top holds i j c.requires.above c.requires.within f can c.in_ok-called.ensures.answered in
+    let can = can_start c.args.m.now c.find_space.new.m c.args.pid c.args.image holds i j c.requires.calls c.args.after.now c.args.top f
+    (c.in_ok-find_space.ensures.given (ap (λ b. Ok b) c.if-not-branch.false)) c.requires.above c.requires.within c.requires.page in
+    let s =
+    is_started c.args.m.now c.find_space.new.m c.reply.new.m c.args.pid c.args.image c.args.after.now c.args.top holds i j c.requires.above c.requires.within f can c.in_ok-called.ensures.answered in
     s.running ∙ c.requires.calls.running
 
 pub fill_start-requires-clause-first : goal.fill_start-requires-clause-first
@@ -40,8 +42,10 @@ fill_start-requires-clause-first g c =
     let i = g.D.SwapDev.image c.args.swap.now in
     let j = g.D.SwapDev.image c.find_space.new.swap in
     let f = found_of c.in_ok-find_space.field-0 true c.args.m.now c.find_space.new.m c.args.pid c.args.image holds i j c.if-not-branch.false c.in_ok-find_space.ensures.finds in
-    let can = can_start c.args.m.now c.find_space.new.m c.args.pid c.args.image holds i j c.requires.calls c.args.after.now c.args.top f (c.in_ok-find_space.ensures.given (ap (λ b. Ok b) c.if-not-branch.false)) c.requires.above c.requires.within c.requires.page in
-    let s = is_started c.args.m.now c.find_space.new.m c.reply.new.m c.args.pid c.args.image c.args.after.now c.args.top holds i j c.requires.above c.requires.within f can c.in_ok-called.ensures.answered in
+    let can = can_start c.args.m.now c.find_space.new.m c.args.pid c.args.image holds i j c.requires.calls c.args.after.now c.args.top f
+    (c.in_ok-find_space.ensures.given (ap (λ b. Ok b) c.if-not-branch.false)) c.requires.above c.requires.within c.requires.page in
+    let s =
+    is_started c.args.m.now c.find_space.new.m c.reply.new.m c.args.pid c.args.image c.args.after.now c.args.top holds i j c.requires.above c.requires.within f can c.in_ok-called.ensures.answered in
     subst (λ (n : ℕ). IsStartFirst c.reply.new.m.kernel.place (Stack n 0)) (sym c.next_numbers.ensures.space) (start_first c.args.m.now c.reply.new.m s)
 
 pub fill_start-requires-clause-room : goal.fill_start-requires-clause-room
@@ -50,7 +54,8 @@ fill_start-requires-clause-room g c =
     let i = g.D.SwapDev.image c.args.swap.now in
     let j = g.D.SwapDev.image c.find_space.new.swap in
     let f = found_of c.in_ok-find_space.field-0 true c.args.m.now c.find_space.new.m c.args.pid c.args.image holds i j c.if-not-branch.false c.in_ok-find_space.ensures.finds in
-    let can = can_start c.args.m.now c.find_space.new.m c.args.pid c.args.image holds i j c.requires.calls c.args.after.now c.args.top f (c.in_ok-find_space.ensures.given (ap (λ b. Ok b) c.if-not-branch.false)) c.requires.above c.requires.within c.requires.page in
+    let can = can_start c.args.m.now c.find_space.new.m c.args.pid c.args.image holds i j c.requires.calls c.args.after.now c.args.top f
+    (c.in_ok-find_space.ensures.given (ap (λ b. Ok b) c.if-not-branch.false)) c.requires.above c.requires.within c.requires.page in
     room_behind c.args.m.now c.reply.new.m
     (is_started c.args.m.now c.find_space.new.m c.reply.new.m c.args.pid c.args.image c.args.after.now c.args.top holds i j c.requires.above c.requires.within f can c.in_ok-called.ensures.answered)
     c.requires.room
@@ -61,8 +66,10 @@ fill_start-requires-clause-low g c =
     let i = g.D.SwapDev.image c.args.swap.now in
     let j = g.D.SwapDev.image c.find_space.new.swap in
     let f = found_of c.in_ok-find_space.field-0 true c.args.m.now c.find_space.new.m c.args.pid c.args.image holds i j c.if-not-branch.false c.in_ok-find_space.ensures.finds in
-    let can = can_start c.args.m.now c.find_space.new.m c.args.pid c.args.image holds i j c.requires.calls c.args.after.now c.args.top f (c.in_ok-find_space.ensures.given (ap (λ b. Ok b) c.if-not-branch.false)) c.requires.above c.requires.within c.requires.page in
-    let s = is_started c.args.m.now c.find_space.new.m c.reply.new.m c.args.pid c.args.image c.args.after.now c.args.top holds i j c.requires.above c.requires.within f can c.in_ok-called.ensures.answered in
+    let can = can_start c.args.m.now c.find_space.new.m c.args.pid c.args.image holds i j c.requires.calls c.args.after.now c.args.top f
+    (c.in_ok-find_space.ensures.given (ap (λ b. Ok b) c.if-not-branch.false)) c.requires.above c.requires.within c.requires.page in
+    let s =
+    is_started c.args.m.now c.find_space.new.m c.reply.new.m c.args.pid c.args.image c.args.after.now c.args.top holds i j c.requires.above c.requires.within f can c.in_ok-called.ensures.answered in
     let zero = s.last in
     omega (arith, zero)
 

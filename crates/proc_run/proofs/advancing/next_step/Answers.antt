@@ -36,7 +36,8 @@ returns-in_err-make_room-clause-stops g c =
       | inr y ↦ inr cc
     ] in
     rw (e.1, e.2)
-    (asked_stops c.args.m.now c.make_room.new.m c.args.pid c.args.before.now c.in_err-make_room.field-0.0 (is_now c.args.patience) (g.F.Files.holds c.args.files.now) (g.D.SwapDev.image c.args.swap.now)
+    (asked_stops c.args.m.now c.make_room.new.m c.args.pid c.args.before.now c.in_err-make_room.field-0.0 (is_now c.args.patience) (g.F.Files.holds c.args.files.now)
+    (g.D.SwapDev.image c.args.swap.now)
     c.requires.registers c.in_err-make_room.ensures.stop c.requires.steady.whole cause
     (λ z. c.in_err-make_room.ensures.full (ap (λ (t : Stop). let r : Result (Unit {0}) Stop = Err t in r) z))
     (λ z. c.in_err-make_room.ensures.done (ap (λ (t : Stop). let r : Result (Unit {0}) Stop = Err t in r) z)))
@@ -114,19 +115,22 @@ pub returns-in-Call-clause-advances : goal.returns-in-Call-clause-advances
 returns-in-Call-clause-advances g c =
     let o = asked c.args.m.now c.make_room.new.m c.in_ok-make_room.ensures.only in
     let at = called_room c.args.m.now c.make_room.new.m c.attempt.new.m c.args.pid c.args.before.now o c.in-Call.ensures.wrote c.in-Call.number (sym c.in-Call.ensures.answer) in
-    later_advances c.args.m.now c.attempt.new.m c.call.new.m c.args.pid (is_now c.args.patience) (g.F.Files.holds c.args.files.now) (g.D.SwapDev.image c.args.swap.now) (g.D.SwapDev.image c.call.new.swap) at c.call.result c.call.ensures.advances
+    later_advances c.args.m.now c.attempt.new.m c.call.new.m c.args.pid (is_now c.args.patience) (g.F.Files.holds c.args.files.now) (g.D.SwapDev.image c.args.swap.now)
+    (g.D.SwapDev.image c.call.new.swap) at c.call.result c.call.ensures.advances
 
 pub returns-in-Call-clause-stops : goal.returns-in-Call-clause-stops
 returns-in-Call-clause-stops g c =
     let o = asked c.args.m.now c.make_room.new.m c.in_ok-make_room.ensures.only in
     let at = called_room c.args.m.now c.make_room.new.m c.attempt.new.m c.args.pid c.args.before.now o c.in-Call.ensures.wrote c.in-Call.number (sym c.in-Call.ensures.answer) in
-    later_stops c.args.m.now c.attempt.new.m c.call.new.m c.args.pid (is_now c.args.patience) (g.F.Files.holds c.args.files.now) (g.D.SwapDev.image c.args.swap.now) (g.D.SwapDev.image c.call.new.swap) at c.call.result c.call.ensures.stops
+    later_stops c.args.m.now c.attempt.new.m c.call.new.m c.args.pid (is_now c.args.patience) (g.F.Files.holds c.args.files.now) (g.D.SwapDev.image c.args.swap.now)
+    (g.D.SwapDev.image c.call.new.swap) at c.call.result c.call.ensures.stops
 
 pub returns-in-Call-clause-continues : goal.returns-in-Call-clause-continues
 returns-in-Call-clause-continues g c =
     let o = asked c.args.m.now c.make_room.new.m c.in_ok-make_room.ensures.only in
     let at = called_room c.args.m.now c.make_room.new.m c.attempt.new.m c.args.pid c.args.before.now o c.in-Call.ensures.wrote c.in-Call.number (sym c.in-Call.ensures.answer) in
-    later_goes_on c.args.m.now c.attempt.new.m c.call.new.m c.args.pid (is_now c.args.patience) (g.F.Files.holds c.args.files.now) (g.D.SwapDev.image c.args.swap.now) (g.D.SwapDev.image c.call.new.swap) at c.call.result c.requires.steady c.call.ensures.continues
+    later_goes_on c.args.m.now c.attempt.new.m c.call.new.m c.args.pid (is_now c.args.patience) (g.F.Files.holds c.args.files.now) (g.D.SwapDev.image c.args.swap.now)
+    (g.D.SwapDev.image c.call.new.swap) at c.call.result c.requires.steady c.call.ensures.continues
 
 -- Where it waits for a page.
 
@@ -136,7 +140,8 @@ returns-in-Miss-clause-advances g c =
     let e = missed (run (own_answers c.make_room.new.m c.args.pid) (instruction c.args.before.now)) c.in-Miss.address c.in-Miss.write (sym c.in-Miss.ensures.answer) in
     let at = refused_room c.args.m.now c.make_room.new.m c.attempt.new.m c.args.pid c.args.before.now o c.attempt.ensures.wrote (Miss c.in-Miss.address c.in-Miss.write) e in
     let again = refused_again c.args.m.now c.make_room.new.m c.attempt.new.m c.args.pid c.args.before.now o c.attempt.ensures.wrote (Miss c.in-Miss.address c.in-Miss.write) e in
-    served_advances c.args.m.now c.attempt.new.m c.serve_access.new.m c.args.pid (is_now c.args.patience) (g.F.Files.holds c.args.files.now) (g.D.SwapDev.image c.args.swap.now) (g.D.SwapDev.image c.serve_access.new.swap) at c.in-Miss.address c.in-Miss.write
+    served_advances c.args.m.now c.attempt.new.m c.serve_access.new.m c.args.pid (is_now c.args.patience) (g.F.Files.holds c.args.files.now) (g.D.SwapDev.image c.args.swap.now)
+    (g.D.SwapDev.image c.serve_access.new.swap) at c.in-Miss.address c.in-Miss.write
     (λ A s image p x r. waits_missed A s c.attempt.new.m (g.F.Files.holds c.args.files.now) (g.D.SwapDev.image c.args.swap.now) image c.args.pid (is_now c.args.patience) p x c.args.before.now r
     (room_regs c.args.m.now c.attempt.new.m c.args.pid c.args.before.now at c.requires.registers) c.in-Miss.address c.in-Miss.write again)
     c.serve_access.result c.serve_access.ensures.advances
@@ -147,7 +152,8 @@ returns-in-Miss-clause-stops g c =
     let e = missed (run (own_answers c.make_room.new.m c.args.pid) (instruction c.args.before.now)) c.in-Miss.address c.in-Miss.write (sym c.in-Miss.ensures.answer) in
     let at = refused_room c.args.m.now c.make_room.new.m c.attempt.new.m c.args.pid c.args.before.now o c.attempt.ensures.wrote (Miss c.in-Miss.address c.in-Miss.write) e in
     let again = refused_again c.args.m.now c.make_room.new.m c.attempt.new.m c.args.pid c.args.before.now o c.attempt.ensures.wrote (Miss c.in-Miss.address c.in-Miss.write) e in
-    served_stops c.args.m.now c.attempt.new.m c.serve_access.new.m c.args.pid (is_now c.args.patience) (g.F.Files.holds c.args.files.now) (g.D.SwapDev.image c.args.swap.now) (g.D.SwapDev.image c.serve_access.new.swap) at c.in-Miss.address c.in-Miss.write
+    served_stops c.args.m.now c.attempt.new.m c.serve_access.new.m c.args.pid (is_now c.args.patience) (g.F.Files.holds c.args.files.now) (g.D.SwapDev.image c.args.swap.now)
+    (g.D.SwapDev.image c.serve_access.new.swap) at c.in-Miss.address c.in-Miss.write
     (λ A s image p x r. waits_missed A s c.attempt.new.m (g.F.Files.holds c.args.files.now) (g.D.SwapDev.image c.args.swap.now) image c.args.pid (is_now c.args.patience) p x c.args.before.now r
     (room_regs c.args.m.now c.attempt.new.m c.args.pid c.args.before.now at c.requires.registers) c.in-Miss.address c.in-Miss.write again)
     c.serve_access.result c.serve_access.ensures.stops
@@ -158,7 +164,8 @@ returns-in-Below-clause-advances g c =
     let e = fell (run (own_answers c.make_room.new.m c.args.pid) (instruction c.args.before.now)) c.in-Below.address (sym c.in-Below.ensures.answer) in
     let at = refused_room c.args.m.now c.make_room.new.m c.attempt.new.m c.args.pid c.args.before.now o c.attempt.ensures.wrote (Below c.in-Below.address) e in
     let again = refused_again c.args.m.now c.make_room.new.m c.attempt.new.m c.args.pid c.args.before.now o c.attempt.ensures.wrote (Below c.in-Below.address) e in
-    served_advances c.args.m.now c.attempt.new.m c.serve_access-in-Below.new.m c.args.pid (is_now c.args.patience) (g.F.Files.holds c.args.files.now) (g.D.SwapDev.image c.args.swap.now) (g.D.SwapDev.image c.serve_access-in-Below.new.swap) at c.in-Below.address false
+    served_advances c.args.m.now c.attempt.new.m c.serve_access-in-Below.new.m c.args.pid (is_now c.args.patience) (g.F.Files.holds c.args.files.now) (g.D.SwapDev.image c.args.swap.now)
+    (g.D.SwapDev.image c.serve_access-in-Below.new.swap) at c.in-Below.address false
     (λ A s image p x r. waits_below A s c.attempt.new.m (g.F.Files.holds c.args.files.now) (g.D.SwapDev.image c.args.swap.now) image c.args.pid (is_now c.args.patience) p x c.args.before.now r
     (room_regs c.args.m.now c.attempt.new.m c.args.pid c.args.before.now at c.requires.registers) c.in-Below.address again)
     c.serve_access-in-Below.result c.serve_access-in-Below.ensures.advances
@@ -169,7 +176,8 @@ returns-in-Below-clause-stops g c =
     let e = fell (run (own_answers c.make_room.new.m c.args.pid) (instruction c.args.before.now)) c.in-Below.address (sym c.in-Below.ensures.answer) in
     let at = refused_room c.args.m.now c.make_room.new.m c.attempt.new.m c.args.pid c.args.before.now o c.attempt.ensures.wrote (Below c.in-Below.address) e in
     let again = refused_again c.args.m.now c.make_room.new.m c.attempt.new.m c.args.pid c.args.before.now o c.attempt.ensures.wrote (Below c.in-Below.address) e in
-    served_stops c.args.m.now c.attempt.new.m c.serve_access-in-Below.new.m c.args.pid (is_now c.args.patience) (g.F.Files.holds c.args.files.now) (g.D.SwapDev.image c.args.swap.now) (g.D.SwapDev.image c.serve_access-in-Below.new.swap) at c.in-Below.address false
+    served_stops c.args.m.now c.attempt.new.m c.serve_access-in-Below.new.m c.args.pid (is_now c.args.patience) (g.F.Files.holds c.args.files.now) (g.D.SwapDev.image c.args.swap.now)
+    (g.D.SwapDev.image c.serve_access-in-Below.new.swap) at c.in-Below.address false
     (λ A s image p x r. waits_below A s c.attempt.new.m (g.F.Files.holds c.args.files.now) (g.D.SwapDev.image c.args.swap.now) image c.args.pid (is_now c.args.patience) p x c.args.before.now r
     (room_regs c.args.m.now c.attempt.new.m c.args.pid c.args.before.now at c.requires.registers) c.in-Below.address again)
     c.serve_access-in-Below.result c.serve_access-in-Below.ensures.stops
@@ -184,7 +192,8 @@ returns-in_err-kill-in-Signal-clause-stops g c =
     let again = refused_again c.args.m.now c.make_room.new.m c.attempt.new.m c.args.pid c.args.before.now o c.attempt.ensures.wrote (Signal c.in-Signal.signal) e in
     let r = err_from_is_err_and c.from_residual-in_err-kill-in-Signal.result c.from_residual-in_err-kill-in-Signal.ensures.1 in
     rw (r.1, r.2) (
-    signal_halts c.args.m.now c.attempt.new.m c.kill.new.m c.args.pid (is_now c.args.patience) (g.F.Files.holds c.args.files.now) (g.D.SwapDev.image c.args.swap.now) (g.D.SwapDev.image c.kill.new.swap) at c.in-Signal.signal c.args.before.now c.requires.registers again
+    signal_halts c.args.m.now c.attempt.new.m c.kill.new.m c.args.pid (is_now c.args.patience) (g.F.Files.holds c.args.files.now) (g.D.SwapDev.image c.args.swap.now)
+    (g.D.SwapDev.image c.kill.new.swap) at c.in-Signal.signal c.args.before.now c.requires.registers again
     c.in_err-kill-in-Signal.field-0.0 c.in_err-kill-in-Signal.ensures.stops)
 
 pub returns-in_ok-kill-in-Signal-clause-advances : goal.returns-in_ok-kill-in-Signal-clause-advances
@@ -193,7 +202,8 @@ returns-in_ok-kill-in-Signal-clause-advances g c =
     let e = signalled (run (own_answers c.make_room.new.m c.args.pid) (instruction c.args.before.now)) c.in-Signal.signal (sym c.in-Signal.ensures.answer) in
     let at = refused_room c.args.m.now c.make_room.new.m c.attempt.new.m c.args.pid c.args.before.now o c.attempt.ensures.wrote (Signal c.in-Signal.signal) e in
     let again = refused_again c.args.m.now c.make_room.new.m c.attempt.new.m c.args.pid c.args.before.now o c.attempt.ensures.wrote (Signal c.in-Signal.signal) e in
-    signal_advances c.args.m.now c.attempt.new.m c.kill.new.m c.args.pid (is_now c.args.patience) (g.F.Files.holds c.args.files.now) (g.D.SwapDev.image c.args.swap.now) (g.D.SwapDev.image c.kill.new.swap) at c.in-Signal.signal c.args.before.now c.requires.registers again
+    signal_advances c.args.m.now c.attempt.new.m c.kill.new.m c.args.pid (is_now c.args.patience) (g.F.Files.holds c.args.files.now) (g.D.SwapDev.image c.args.swap.now)
+    (g.D.SwapDev.image c.kill.new.swap) at c.in-Signal.signal c.args.before.now c.requires.registers again
     c.in_ok-kill-in-Signal.ensures.ended
 
 pub returns-in_ok-kill-in-Signal-clause-continues : goal.returns-in_ok-kill-in-Signal-clause-continues
@@ -222,7 +232,8 @@ pub returns-in_err-make_room-clause-kept : goal.returns-in_err-make_room-clause-
 returns-in_err-make_room-clause-kept g c =
     let e = err_from_is_err_and c.from_residual.result c.from_residual.ensures.1 in
     let stop = c.in_err-make_room.field-0.0 in
-    rw (e.1, e.2) (kept_here c.args.m.now c.make_room.new.m stop c.in_err-make_room.ensures.stop (λ z. (c.in_err-make_room.ensures.full (ap (λ (t : Stop). let r : Result (Unit {0}) Stop = Err t in r) z)).0))
+    rw (e.1, e.2)
+    (kept_here c.args.m.now c.make_room.new.m stop c.in_err-make_room.ensures.stop (λ z. (c.in_err-make_room.ensures.full (ap (λ (t : Stop). let r : Result (Unit {0}) Stop = Err t in r) z)).0))
 
 pub returns-in-Call-clause-kept : goal.returns-in-Call-clause-kept
 returns-in-Call-clause-kept g c =
@@ -251,4 +262,5 @@ returns-in_err-kill-in-Signal-clause-kept g c =
     let at = refused_room c.args.m.now c.make_room.new.m c.attempt.new.m c.args.pid c.args.before.now o c.attempt.ensures.wrote (Signal c.in-Signal.signal) e in
     let r = err_from_is_err_and c.from_residual-in_err-kill-in-Signal.result c.from_residual-in_err-kill-in-Signal.ensures.1 in
     rw (r.1, r.2) (later_same c.args.m.now c.attempt.new.m c.kill.new.m c.in_err-kill-in-Signal.field-0.0 at
-    (alive_same c.attempt.new.m c.kill.new.m c.args.pid (g.F.Files.holds c.args.files.now) (g.D.SwapDev.image c.args.swap.now) (g.D.SwapDev.image c.kill.new.swap) c.in_err-kill-in-Signal.field-0.0 c.in_err-kill-in-Signal.ensures.stops))
+    (alive_same c.attempt.new.m c.kill.new.m c.args.pid (g.F.Files.holds c.args.files.now) (g.D.SwapDev.image c.args.swap.now)
+    (g.D.SwapDev.image c.kill.new.swap) c.in_err-kill-in-Signal.field-0.0 c.in_err-kill-in-Signal.ensures.stops))

@@ -22,12 +22,14 @@ returns-in_err-kill-clause-stops g c =
     let e = err_from_is_err_and c.from_residual.result c.from_residual.ensures.1 in
     rw (e.1, e.2) (λ A s image p x r.
     no_call_stops A s c.args.m.now (g.F.Files.holds c.args.files.now) (g.D.SwapDev.image c.args.swap.now) image c.args.pid (is_now c.args.patience) p x c.args.before.now r c.requires.registers
-    c.kill.new.m (g.D.SwapDev.image c.kill.new.swap) c.args.number c.args.regs.now c.in_err-kill.field-0.0 c.requires.made (ap call_of (sym (to_z-of_z w32 c.args.number c.ranges.number)) ∙ sym c.numbered.ensures ∙ c.in_default.is) c.in_err-kill.ensures.stops)
+    c.kill.new.m (g.D.SwapDev.image c.kill.new.swap) c.args.number c.args.regs.now c.in_err-kill.field-0.0 c.requires.made
+    (ap call_of (sym (to_z-of_z w32 c.args.number c.ranges.number)) ∙ sym c.numbered.ensures ∙ c.in_default.is) c.in_err-kill.ensures.stops)
 
 pub returns-in_default-clause-advances : goal.returns-in_default-clause-advances
 returns-in_default-clause-advances g c = λ A s image p x r.
     no_call_led A s c.args.m.now (g.F.Files.holds c.args.files.now) (g.D.SwapDev.image c.args.swap.now) image c.args.pid (is_now c.args.patience) p x c.args.before.now r c.requires.registers
-    c.kill.new.m (g.D.SwapDev.image c.kill.new.swap) c.args.number c.args.regs.now c.requires.made (ap call_of (sym (to_z-of_z w32 c.args.number c.ranges.number)) ∙ sym c.numbered.ensures ∙ c.in_default.is) c.in_ok-kill.ensures.ended
+    c.kill.new.m (g.D.SwapDev.image c.kill.new.swap) c.args.number c.args.regs.now c.requires.made
+    (ap call_of (sym (to_z-of_z w32 c.args.number c.ranges.number)) ∙ sym c.numbered.ensures ∙ c.in_default.is) c.in_ok-kill.ensures.ended
 
 pub returns-in_default-clause-continues : goal.returns-in_default-clause-continues
 returns-in_default-clause-continues g c =
@@ -46,26 +48,30 @@ returns-in_err-make-clause-stops g c =
     let e = err_from_is_err_and c.from_residual-in_err-make.result c.from_residual-in_err-make.ensures.1 in
     rw (e.1, e.2) (
     stopped c.args.m.now c.make.new.m c.args.pid c.args.before.now c.args.number c.args.regs.now c.in-Some.call (g.F.Files.holds c.args.files.now) (g.D.SwapDev.image c.args.swap.now)
-    (g.D.SwapDev.image c.make.new.swap) (is_now c.args.patience) c.requires.steady c.requires.lends c.requires.registers c.requires.made (ap call_of (sym (to_z-of_z w32 c.args.number c.ranges.number)) ∙ sym c.numbered.ensures ∙ c.in-Some.is)
+    (g.D.SwapDev.image c.make.new.swap) (is_now c.args.patience) c.requires.steady c.requires.lends c.requires.registers c.requires.made
+    (ap call_of (sym (to_z-of_z w32 c.args.number c.ranges.number)) ∙ sym c.numbered.ensures ∙ c.in-Some.is)
     c.in_err-make.field-0.0 c.in_err-make.ensures.stops)
 
 pub serve_access-requires-clause-steady : goal.serve_access-requires-clause-steady
 serve_access-requires-clause-steady g c =
     steady_again c.args.m.now c.make.new.m c.args.pid c.args.before.now c.args.number c.args.regs.now c.in-Some.call (g.F.Files.holds c.args.files.now) (g.D.SwapDev.image c.args.swap.now)
-    (g.D.SwapDev.image c.make.new.swap) (is_now c.args.patience) c.requires.steady c.requires.lends c.requires.registers c.requires.made (ap call_of (sym (to_z-of_z w32 c.args.number c.ranges.number)) ∙ sym c.numbered.ensures ∙ c.in-Some.is)
+    (g.D.SwapDev.image c.make.new.swap) (is_now c.args.patience) c.requires.steady c.requires.lends c.requires.registers c.requires.made
+    (ap call_of (sym (to_z-of_z w32 c.args.number c.ranges.number)) ∙ sym c.numbered.ensures ∙ c.in-Some.is)
     c.in-Miss.address c.in_ok-make.field-0 c.in-Miss.is c.in_ok-make.ensures.comes
 
 pub serve_access-requires-clause-lends : goal.serve_access-requires-clause-lends
 serve_access-requires-clause-lends g c =
     lends_again c.args.m.now c.make.new.m c.args.pid c.args.before.now c.args.number c.args.regs.now c.in-Some.call (g.F.Files.holds c.args.files.now) (g.D.SwapDev.image c.args.swap.now)
-    (g.D.SwapDev.image c.make.new.swap) (is_now c.args.patience) c.requires.steady c.requires.lends c.requires.registers c.requires.made (ap call_of (sym (to_z-of_z w32 c.args.number c.ranges.number)) ∙ sym c.numbered.ensures ∙ c.in-Some.is)
+    (g.D.SwapDev.image c.make.new.swap) (is_now c.args.patience) c.requires.steady c.requires.lends c.requires.registers c.requires.made
+    (ap call_of (sym (to_z-of_z w32 c.args.number c.ranges.number)) ∙ sym c.numbered.ensures ∙ c.in-Some.is)
     c.in-Miss.address c.in_ok-make.field-0 c.in-Miss.is c.in_ok-make.ensures.comes
 
 pub serve_access-requires-clause-area : goal.serve_access-requires-clause-area
 serve_access-requires-clause-area g c =
     let same =
     unchanged c.args.m.now c.make.new.m c.args.pid c.args.before.now c.args.number c.args.regs.now c.in-Some.call (g.F.Files.holds c.args.files.now) (g.D.SwapDev.image c.args.swap.now)
-    (g.D.SwapDev.image c.make.new.swap) (is_now c.args.patience) c.requires.steady c.requires.lends c.requires.registers c.requires.made (ap call_of (sym (to_z-of_z w32 c.args.number c.ranges.number)) ∙ sym c.numbered.ensures ∙ c.in-Some.is)
+    (g.D.SwapDev.image c.make.new.swap) (is_now c.args.patience) c.requires.steady c.requires.lends c.requires.registers c.requires.made
+    (ap call_of (sym (to_z-of_z w32 c.args.number c.ranges.number)) ∙ sym c.numbered.ensures ∙ c.in-Some.is)
     c.in-Miss.address c.in_ok-make.field-0 c.in-Miss.is c.in_ok-make.ensures.comes in
     rw (same, c.make.ensures.outside.swap.blocks) c.requires.area
 
@@ -73,76 +79,90 @@ pub serve_access-requires-clause-files : goal.serve_access-requires-clause-files
 serve_access-requires-clause-files g c =
     let same =
     unchanged c.args.m.now c.make.new.m c.args.pid c.args.before.now c.args.number c.args.regs.now c.in-Some.call (g.F.Files.holds c.args.files.now) (g.D.SwapDev.image c.args.swap.now)
-    (g.D.SwapDev.image c.make.new.swap) (is_now c.args.patience) c.requires.steady c.requires.lends c.requires.registers c.requires.made (ap call_of (sym (to_z-of_z w32 c.args.number c.ranges.number)) ∙ sym c.numbered.ensures ∙ c.in-Some.is)
+    (g.D.SwapDev.image c.make.new.swap) (is_now c.args.patience) c.requires.steady c.requires.lends c.requires.registers c.requires.made
+    (ap call_of (sym (to_z-of_z w32 c.args.number c.ranges.number)) ∙ sym c.numbered.ensures ∙ c.in-Some.is)
     c.in-Miss.address c.in_ok-make.field-0 c.in-Miss.is c.in_ok-make.ensures.comes in
     rw (same, c.make.ensures.outside.files.holds) c.requires.files
 
 pub serve_access-requires-clause-quiet : goal.serve_access-requires-clause-quiet
 serve_access-requires-clause-quiet g c =
     quiet c.args.m.now c.make.new.m c.args.pid c.args.before.now c.args.number c.args.regs.now c.in-Some.call (g.F.Files.holds c.args.files.now) (g.D.SwapDev.image c.args.swap.now)
-    (g.D.SwapDev.image c.make.new.swap) (is_now c.args.patience) c.requires.steady c.requires.lends c.requires.registers c.requires.made (ap call_of (sym (to_z-of_z w32 c.args.number c.ranges.number)) ∙ sym c.numbered.ensures ∙ c.in-Some.is)
+    (g.D.SwapDev.image c.make.new.swap) (is_now c.args.patience) c.requires.steady c.requires.lends c.requires.registers c.requires.made
+    (ap call_of (sym (to_z-of_z w32 c.args.number c.ranges.number)) ∙ sym c.numbered.ensures ∙ c.in-Some.is)
     c.in-Miss.address c.in_ok-make.field-0 c.in-Miss.is c.in_ok-make.ensures.comes
 
 pub serve_access-requires-clause-registers : goal.serve_access-requires-clause-registers
 serve_access-requires-clause-registers g c =
     regs_again c.args.m.now c.make.new.m c.args.pid c.args.before.now c.args.number c.args.regs.now c.in-Some.call (g.F.Files.holds c.args.files.now) (g.D.SwapDev.image c.args.swap.now)
-    (g.D.SwapDev.image c.make.new.swap) (is_now c.args.patience) c.requires.steady c.requires.lends c.requires.registers c.requires.made (ap call_of (sym (to_z-of_z w32 c.args.number c.ranges.number)) ∙ sym c.numbered.ensures ∙ c.in-Some.is)
+    (g.D.SwapDev.image c.make.new.swap) (is_now c.args.patience) c.requires.steady c.requires.lends c.requires.registers c.requires.made
+    (ap call_of (sym (to_z-of_z w32 c.args.number c.ranges.number)) ∙ sym c.numbered.ensures ∙ c.in-Some.is)
     c.in-Miss.address c.in_ok-make.field-0 c.in-Miss.is c.in_ok-make.ensures.comes
 
 pub returns-in-Ready-clause-advances : goal.returns-in-Ready-clause-advances
 returns-in-Ready-clause-advances g c =
     ready_advances c.args.m.now c.make.new.m c.args.pid c.args.before.now c.args.number c.args.regs.now c.in-Some.call (g.F.Files.holds c.args.files.now) (g.D.SwapDev.image c.args.swap.now)
-    (g.D.SwapDev.image c.make.new.swap) (is_now c.args.patience) c.requires.steady c.requires.lends c.requires.registers c.requires.made (ap call_of (sym (to_z-of_z w32 c.args.number c.ranges.number)) ∙ sym c.numbered.ensures ∙ c.in-Some.is)
+    (g.D.SwapDev.image c.make.new.swap) (is_now c.args.patience) c.requires.steady c.requires.lends c.requires.registers c.requires.made
+    (ap call_of (sym (to_z-of_z w32 c.args.number c.ranges.number)) ∙ sym c.numbered.ensures ∙ c.in-Some.is)
     c.in_ok-make.field-0 c.in-Ready.is c.in_ok-make.ensures.comes
 
 pub returns-in-Ready-clause-continues : goal.returns-in-Ready-clause-continues
 returns-in-Ready-clause-continues g c =
     ready_goes_on c.args.m.now c.make.new.m c.args.pid c.args.before.now c.args.number c.args.regs.now c.in-Some.call (g.F.Files.holds c.args.files.now) (g.D.SwapDev.image c.args.swap.now)
-    (g.D.SwapDev.image c.make.new.swap) (is_now c.args.patience) c.requires.steady c.requires.lends c.requires.registers c.requires.made (ap call_of (sym (to_z-of_z w32 c.args.number c.ranges.number)) ∙ sym c.numbered.ensures ∙ c.in-Some.is)
+    (g.D.SwapDev.image c.make.new.swap) (is_now c.args.patience) c.requires.steady c.requires.lends c.requires.registers c.requires.made
+    (ap call_of (sym (to_z-of_z w32 c.args.number c.ranges.number)) ∙ sym c.numbered.ensures ∙ c.in-Some.is)
     c.in_ok-make.field-0 c.in-Ready.is c.in_ok-make.ensures.comes
 
 pub returns-in-Ready-clause-holders : goal.returns-in-Ready-clause-holders
 returns-in-Ready-clause-holders g c =
     keeps c.args.m.now c.make.new.m c.args.pid c.args.before.now c.args.number c.args.regs.now c.in-Some.call (g.F.Files.holds c.args.files.now) (g.D.SwapDev.image c.args.swap.now)
-    (g.D.SwapDev.image c.make.new.swap) (is_now c.args.patience) c.requires.steady c.requires.lends c.requires.registers c.requires.made (ap call_of (sym (to_z-of_z w32 c.args.number c.ranges.number)) ∙ sym c.numbered.ensures ∙ c.in-Some.is)
+    (g.D.SwapDev.image c.make.new.swap) (is_now c.args.patience) c.requires.steady c.requires.lends c.requires.registers c.requires.made
+    (ap call_of (sym (to_z-of_z w32 c.args.number c.ranges.number)) ∙ sym c.numbered.ensures ∙ c.in-Some.is)
     c.in_ok-make.field-0 c.in_ok-make.ensures.comes c.sound.ensures.numbered
 
 pub returns-in-Asleep-clause-advances : goal.returns-in-Asleep-clause-advances
 returns-in-Asleep-clause-advances g c =
     asleep_advances c.args.m.now c.make.new.m c.args.pid c.args.before.now c.args.number c.args.regs.now c.in-Some.call (g.F.Files.holds c.args.files.now) (g.D.SwapDev.image c.args.swap.now)
-    (g.D.SwapDev.image c.make.new.swap) (is_now c.args.patience) c.requires.steady c.requires.lends c.requires.registers c.requires.made (ap call_of (sym (to_z-of_z w32 c.args.number c.ranges.number)) ∙ sym c.numbered.ensures ∙ c.in-Some.is)
+    (g.D.SwapDev.image c.make.new.swap) (is_now c.args.patience) c.requires.steady c.requires.lends c.requires.registers c.requires.made
+    (ap call_of (sym (to_z-of_z w32 c.args.number c.ranges.number)) ∙ sym c.numbered.ensures ∙ c.in-Some.is)
     c.in_ok-make.field-0 c.in-Asleep.is c.in_ok-make.ensures.comes
 
 pub returns-in-Asleep-clause-continues : goal.returns-in-Asleep-clause-continues
 returns-in-Asleep-clause-continues g c =
     asleep_goes_on c.args.m.now c.make.new.m c.args.pid c.args.before.now c.args.number c.args.regs.now c.in-Some.call (g.F.Files.holds c.args.files.now) (g.D.SwapDev.image c.args.swap.now)
-    (g.D.SwapDev.image c.make.new.swap) (is_now c.args.patience) c.requires.steady c.requires.lends c.requires.registers c.requires.made (ap call_of (sym (to_z-of_z w32 c.args.number c.ranges.number)) ∙ sym c.numbered.ensures ∙ c.in-Some.is)
+    (g.D.SwapDev.image c.make.new.swap) (is_now c.args.patience) c.requires.steady c.requires.lends c.requires.registers c.requires.made
+    (ap call_of (sym (to_z-of_z w32 c.args.number c.ranges.number)) ∙ sym c.numbered.ensures ∙ c.in-Some.is)
     c.in_ok-make.field-0 c.in-Asleep.is c.in_ok-make.ensures.comes
 
 pub returns-in-Asleep-clause-holders : goal.returns-in-Asleep-clause-holders
 returns-in-Asleep-clause-holders g c =
     keeps c.args.m.now c.make.new.m c.args.pid c.args.before.now c.args.number c.args.regs.now c.in-Some.call (g.F.Files.holds c.args.files.now) (g.D.SwapDev.image c.args.swap.now)
-    (g.D.SwapDev.image c.make.new.swap) (is_now c.args.patience) c.requires.steady c.requires.lends c.requires.registers c.requires.made (ap call_of (sym (to_z-of_z w32 c.args.number c.ranges.number)) ∙ sym c.numbered.ensures ∙ c.in-Some.is)
+    (g.D.SwapDev.image c.make.new.swap) (is_now c.args.patience) c.requires.steady c.requires.lends c.requires.registers c.requires.made
+    (ap call_of (sym (to_z-of_z w32 c.args.number c.ranges.number)) ∙ sym c.numbered.ensures ∙ c.in-Some.is)
     c.in_ok-make.field-0 c.in_ok-make.ensures.comes c.sound.ensures.numbered
 
 pub returns-in-Miss-clause-advances : goal.returns-in-Miss-clause-advances
 returns-in-Miss-clause-advances g c =
     missed_advances c.args.m.now c.make.new.m c.args.pid c.args.before.now c.args.number c.args.regs.now c.in-Some.call (g.F.Files.holds c.args.files.now) (g.D.SwapDev.image c.args.swap.now)
-    (g.D.SwapDev.image c.make.new.swap) (is_now c.args.patience) c.requires.steady c.requires.lends c.requires.registers c.requires.made (ap call_of (sym (to_z-of_z w32 c.args.number c.ranges.number)) ∙ sym c.numbered.ensures ∙ c.in-Some.is)
-    c.in-Miss.address c.in_ok-make.field-0 c.in-Miss.is c.in_ok-make.ensures.comes c.serve_access.new.m (g.F.Files.holds c.make.new.files) (g.D.SwapDev.image c.serve_access.new.swap) c.make.ensures.outside.files.holds c.serve_access.result
+    (g.D.SwapDev.image c.make.new.swap) (is_now c.args.patience) c.requires.steady c.requires.lends c.requires.registers c.requires.made
+    (ap call_of (sym (to_z-of_z w32 c.args.number c.ranges.number)) ∙ sym c.numbered.ensures ∙ c.in-Some.is)
+    c.in-Miss.address c.in_ok-make.field-0 c.in-Miss.is c.in_ok-make.ensures.comes c.serve_access.new.m (g.F.Files.holds c.make.new.files)
+    (g.D.SwapDev.image c.serve_access.new.swap) c.make.ensures.outside.files.holds c.serve_access.result
     c.serve_access.ensures.advances
 
 pub returns-in-Miss-clause-stops : goal.returns-in-Miss-clause-stops
 returns-in-Miss-clause-stops g c =
     missed_stops c.args.m.now c.make.new.m c.args.pid c.args.before.now c.args.number c.args.regs.now c.in-Some.call (g.F.Files.holds c.args.files.now) (g.D.SwapDev.image c.args.swap.now)
-    (g.D.SwapDev.image c.make.new.swap) (is_now c.args.patience) c.requires.steady c.requires.lends c.requires.registers c.requires.made (ap call_of (sym (to_z-of_z w32 c.args.number c.ranges.number)) ∙ sym c.numbered.ensures ∙ c.in-Some.is)
-    c.in-Miss.address c.in_ok-make.field-0 c.in-Miss.is c.in_ok-make.ensures.comes c.serve_access.new.m (g.F.Files.holds c.make.new.files) (g.D.SwapDev.image c.serve_access.new.swap) c.make.ensures.outside.files.holds c.serve_access.result
+    (g.D.SwapDev.image c.make.new.swap) (is_now c.args.patience) c.requires.steady c.requires.lends c.requires.registers c.requires.made
+    (ap call_of (sym (to_z-of_z w32 c.args.number c.ranges.number)) ∙ sym c.numbered.ensures ∙ c.in-Some.is)
+    c.in-Miss.address c.in_ok-make.field-0 c.in-Miss.is c.in_ok-make.ensures.comes c.serve_access.new.m (g.F.Files.holds c.make.new.files)
+    (g.D.SwapDev.image c.serve_access.new.swap) c.make.ensures.outside.files.holds c.serve_access.result
     c.serve_access.ensures.stops
 
 pub returns-in-Miss-clause-continues : goal.returns-in-Miss-clause-continues
 returns-in-Miss-clause-continues g c =
     missed_goes_on c.args.m.now c.make.new.m c.args.pid c.args.before.now c.args.number c.args.regs.now c.in-Some.call (g.F.Files.holds c.args.files.now) (g.D.SwapDev.image c.args.swap.now)
-    (g.D.SwapDev.image c.make.new.swap) (is_now c.args.patience) c.requires.steady c.requires.lends c.requires.registers c.requires.made (ap call_of (sym (to_z-of_z w32 c.args.number c.ranges.number)) ∙ sym c.numbered.ensures ∙ c.in-Some.is)
+    (g.D.SwapDev.image c.make.new.swap) (is_now c.args.patience) c.requires.steady c.requires.lends c.requires.registers c.requires.made
+    (ap call_of (sym (to_z-of_z w32 c.args.number c.ranges.number)) ∙ sym c.numbered.ensures ∙ c.in-Some.is)
     c.in-Miss.address c.in_ok-make.field-0 c.in-Miss.is c.in_ok-make.ensures.comes c.serve_access.new.m c.serve_access.result c.serve_access.ensures.continues
 
 -- Where the run stops, the sizes and images stay, and a journal is full only at its bound.
@@ -150,17 +170,20 @@ returns-in-Miss-clause-continues g c =
 pub returns-in_err-kill-clause-kept : goal.returns-in_err-kill-clause-kept
 returns-in_err-kill-clause-kept g c =
     let e = err_from_is_err_and c.from_residual.result c.from_residual.ensures.1 in
-    rw (e.1, e.2) (alive_same c.args.m.now c.kill.new.m c.args.pid (g.F.Files.holds c.args.files.now) (g.D.SwapDev.image c.args.swap.now) (g.D.SwapDev.image c.kill.new.swap) c.in_err-kill.field-0.0 c.in_err-kill.ensures.stops)
+    rw (e.1, e.2) (alive_same c.args.m.now c.kill.new.m c.args.pid (g.F.Files.holds c.args.files.now) (g.D.SwapDev.image c.args.swap.now)
+    (g.D.SwapDev.image c.kill.new.swap) c.in_err-kill.field-0.0 c.in_err-kill.ensures.stops)
 
 pub returns-in_err-make-clause-kept : goal.returns-in_err-make-clause-kept
 returns-in_err-make-clause-kept g c =
     let e = err_from_is_err_and c.from_residual-in_err-make.result c.from_residual-in_err-make.ensures.1 in
-    rw (e.1, e.2) (call_same c.in-Some.call c.args.m.now c.make.new.m c.args.pid c.args.regs.now (g.F.Files.holds c.args.files.now) (g.D.SwapDev.image c.args.swap.now) (g.D.SwapDev.image c.make.new.swap) c.in_err-make.field-0.0 c.in_err-make.ensures.stops)
+    rw (e.1, e.2) (call_same c.in-Some.call c.args.m.now c.make.new.m c.args.pid c.args.regs.now (g.F.Files.holds c.args.files.now) (g.D.SwapDev.image c.args.swap.now)
+    (g.D.SwapDev.image c.make.new.swap) c.in_err-make.field-0.0 c.in_err-make.ensures.stops)
 
 pub returns-in-Miss-clause-kept : goal.returns-in-Miss-clause-kept
 returns-in-Miss-clause-kept g c =
     let same =
     unchanged c.args.m.now c.make.new.m c.args.pid c.args.before.now c.args.number c.args.regs.now c.in-Some.call (g.F.Files.holds c.args.files.now) (g.D.SwapDev.image c.args.swap.now)
-    (g.D.SwapDev.image c.make.new.swap) (is_now c.args.patience) c.requires.steady c.requires.lends c.requires.registers c.requires.made (ap call_of (sym (to_z-of_z w32 c.args.number c.ranges.number)) ∙ sym c.numbered.ensures ∙ c.in-Some.is)
+    (g.D.SwapDev.image c.make.new.swap) (is_now c.args.patience) c.requires.steady c.requires.lends c.requires.registers c.requires.made
+    (ap call_of (sym (to_z-of_z w32 c.args.number c.ranges.number)) ∙ sym c.numbered.ensures ∙ c.in-Some.is)
     c.in-Miss.address c.in_ok-make.field-0 c.in-Miss.is c.in_ok-make.ensures.comes in
     subst (λ (m : Standing). IfErr c.serve_access.result (KeptAtStop m c.serve_access.new.m)) same c.serve_access.ensures.kept

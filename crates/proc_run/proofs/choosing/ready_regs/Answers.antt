@@ -7,7 +7,8 @@ use Rattle.proc_run.proofs.choosing.ready_regs.Goals.{else-can_step-via-then-can
 
 pub returns-in_err-process-clause-none : goal.returns-in_err-process-clause-none
 returns-in_err-process-clause-none c = λ e.
-    no_record c.args.m.now.kernel c.processes.result.now c.args.pid c.processes.ensures.processes c.processes.ensures.residents (c.processes.ensures.records c.requires) (sym c.in_err-process.ensures.value)
+    no_record c.args.m.now.kernel c.processes.result.now c.args.pid c.processes.ensures.processes c.processes.ensures.residents (c.processes.ensures.records c.requires)
+    (sym c.in_err-process.ensures.value)
 
 pub returns-then-not-process-clause-ready : goal.returns-then-not-process-clause-ready
 returns-then-not-process-clause-ready c =

@@ -23,7 +23,8 @@ loop-count-init g c = record {
 pub returns-in_default-clause-runs : goal.returns-in_default-clause-runs
 returns-in_default-clause-runs g c =
     let so = c.loop-count.invariant in
-    idle_runs c.args.m.now c.loop-count.m c.args.pid (is_now c.args.patience) c.args.counted c.args.until (g.F.Files.holds c.args.files.now) (g.D.SwapDev.image c.args.swap.now) (g.D.SwapDev.image c.loop-count.swap) c.loop-count.count c.loop-count.waits so.so_far (c.ready_regs.ensures.none c.in_default.is)
+    idle_runs c.args.m.now c.loop-count.m c.args.pid (is_now c.args.patience) c.args.counted c.args.until (g.F.Files.holds c.args.files.now) (g.D.SwapDev.image c.args.swap.now)
+    (g.D.SwapDev.image c.loop-count.swap) c.loop-count.count c.loop-count.waits so.so_far (c.ready_regs.ensures.none c.in_default.is)
 
 pub next_step-requires-clause-lends : goal.next_step-requires-clause-lends
 next_step-requires-clause-lends g c = lends_there c.loop-count.m c.args.pid c.loop-count.invariant.steady c.in-Some.ensures.ready
@@ -33,17 +34,22 @@ returns-in_err-next_step-clause-stops g c =
     let so = c.loop-count.invariant in
     let e = err_from_is_err_and c.from_residual.result c.from_residual.ensures.1 in
     rw (e.1, e.2) (
-    stops_far c.args.m.now c.loop-count.m c.next_step.new.m c.args.pid (is_now c.args.patience) c.args.counted c.args.until (g.F.Files.holds c.args.files.now) (g.D.SwapDev.image c.args.swap.now) (g.D.SwapDev.image c.loop-count.swap) (g.D.SwapDev.image c.next_step.new.swap) c.loop-count.count c.loop-count.waits so.so_far c.loop-count-test.true c.in-Some.ensures.ready c.in_err-next_step.field-0.0
-    (subst (λ hs. StopsAdvancing c.loop-count.m c.next_step.new.m c.args.pid (is_now c.args.patience) hs (g.D.SwapDev.image c.loop-count.swap) (g.D.SwapDev.image c.next_step.new.swap) c.in_err-next_step.field-0.0) so.outside.files.holds c.in_err-next_step.ensures.stops))
+    stops_far c.args.m.now c.loop-count.m c.next_step.new.m c.args.pid (is_now c.args.patience) c.args.counted c.args.until (g.F.Files.holds c.args.files.now) (g.D.SwapDev.image c.args.swap.now)
+    (g.D.SwapDev.image c.loop-count.swap) (g.D.SwapDev.image c.next_step.new.swap) c.loop-count.count c.loop-count.waits so.so_far c.loop-count-test.true c.in-Some.ensures.ready
+    c.in_err-next_step.field-0.0
+    (subst (λ hs. StopsAdvancing c.loop-count.m c.next_step.new.m c.args.pid (is_now c.args.patience) hs (g.D.SwapDev.image c.loop-count.swap)
+    (g.D.SwapDev.image c.next_step.new.swap) c.in_err-next_step.field-0.0) so.outside.files.holds c.in_err-next_step.ensures.stops))
 
 pub run_on-count-requires-clause-steady : goal.run_on-count-requires-clause-steady
 run_on-count-requires-clause-steady g c =
-    let on : Continues c.loop-count.m c.next_step.new.m (counts advances.Counted) = subst (λ a. Continues c.loop-count.m c.next_step.new.m (counts a)) c.in-Counted.is c.in_ok-next_step.ensures.continues in
+    let on : Continues c.loop-count.m c.next_step.new.m (counts advances.Counted) =
+    subst (λ a. Continues c.loop-count.m c.next_step.new.m (counts a)) c.in-Counted.is c.in_ok-next_step.ensures.continues in
     steady_on c.loop-count.m c.next_step.new.m 1 c.loop-count.invariant.steady on (c.in_ok-next_step.ensures.holders)
 
 pub run_on-count-requires-clause-fits : goal.run_on-count-requires-clause-fits
 run_on-count-requires-clause-fits g c =
-    let on : Continues c.loop-count.m c.next_step.new.m (counts advances.Counted) = subst (λ a. Continues c.loop-count.m c.next_step.new.m (counts a)) c.in-Counted.is c.in_ok-next_step.ensures.continues in
+    let on : Continues c.loop-count.m c.next_step.new.m (counts advances.Counted) =
+    subst (λ a. Continues c.loop-count.m c.next_step.new.m (counts a)) c.in-Counted.is c.in_ok-next_step.ensures.continues in
     let a = on.counted in
     let b = c.loop-count.invariant.counts in
     let room : c.loop-count.count < c.args.until = c.loop-count-test.true in
@@ -53,33 +59,45 @@ run_on-count-requires-clause-fits g c =
 pub loop-count-preserved-in-Counted : goal.loop-count-preserved-in-Counted
 loop-count-preserved-in-Counted g c =
     let so = c.loop-count.invariant in
-    let on : Continues c.loop-count.m c.next_step.new.m (counts advances.Counted) = subst (λ a. Continues c.loop-count.m c.next_step.new.m (counts a)) c.in-Counted.is c.in_ok-next_step.ensures.continues in
-    let led : Advances c.loop-count.m c.next_step.new.m c.args.pid (is_now c.args.patience) (g.F.Files.holds c.args.files.now) (g.D.SwapDev.image c.loop-count.swap) (g.D.SwapDev.image c.next_step.new.swap) advances.Counted =
-    subst (λ hs. Advances c.loop-count.m c.next_step.new.m c.args.pid (is_now c.args.patience) hs (g.D.SwapDev.image c.loop-count.swap) (g.D.SwapDev.image c.next_step.new.swap) advances.Counted) so.outside.files.holds
-    (subst (λ a. Advances c.loop-count.m c.next_step.new.m c.args.pid (is_now c.args.patience) (g.F.Files.holds c.loop-count.files) (g.D.SwapDev.image c.loop-count.swap) (g.D.SwapDev.image c.next_step.new.swap) a) c.in-Counted.is c.in_ok-next_step.ensures.advances) in
-    let one = counted_far c.args.m.now c.loop-count.m c.next_step.new.m c.args.pid (is_now c.args.patience) c.args.counted c.args.until (g.F.Files.holds c.args.files.now) (g.D.SwapDev.image c.args.swap.now) (g.D.SwapDev.image c.loop-count.swap) (g.D.SwapDev.image c.next_step.new.swap) c.loop-count.count c.loop-count.waits so.so_far c.loop-count-test.true c.in-Some.ensures.ready on.params on.images led in
+    let on : Continues c.loop-count.m c.next_step.new.m (counts advances.Counted) =
+    subst (λ a. Continues c.loop-count.m c.next_step.new.m (counts a)) c.in-Counted.is c.in_ok-next_step.ensures.continues in
+    let led : Advances c.loop-count.m c.next_step.new.m c.args.pid (is_now c.args.patience) (g.F.Files.holds c.args.files.now) (g.D.SwapDev.image c.loop-count.swap)
+    (g.D.SwapDev.image c.next_step.new.swap) advances.Counted =
+    subst (λ hs. Advances c.loop-count.m c.next_step.new.m c.args.pid (is_now c.args.patience) hs (g.D.SwapDev.image c.loop-count.swap) (g.D.SwapDev.image c.next_step.new.swap) advances.Counted)
+    so.outside.files.holds
+    (subst (λ a. Advances c.loop-count.m c.next_step.new.m c.args.pid (is_now c.args.patience) (g.F.Files.holds c.loop-count.files) (g.D.SwapDev.image c.loop-count.swap)
+    (g.D.SwapDev.image c.next_step.new.swap) a) c.in-Counted.is c.in_ok-next_step.ensures.advances) in
+    let one = counted_far c.args.m.now c.loop-count.m c.next_step.new.m c.args.pid (is_now c.args.patience) c.args.counted c.args.until (g.F.Files.holds c.args.files.now)
+    (g.D.SwapDev.image c.args.swap.now) (g.D.SwapDev.image c.loop-count.swap) (g.D.SwapDev.image c.next_step.new.swap) c.loop-count.count c.loop-count.waits so.so_far c.loop-count-test.true
+    c.in-Some.ensures.ready on.params on.images led in
     let same = ran_beside c.run_on-count.result c.args.pid c.next_step.new.m c.run_on-count.new.m c.run_on-count.ensures.ran in
     let most : c.run_on-count.result ≤ c.args.until - (c.loop-count.count + 1) = c.run_on-count.ensures.few in
     let room : c.loop-count.count < c.args.until = c.loop-count-test.true in
     let few : c.loop-count.count + 1 + c.run_on-count.result ≤ c.args.until = omega arith in
     record {
-      steady = ran_steady c.run_on-count.result c.args.pid c.next_step.new.m c.run_on-count.new.m (steady_on c.loop-count.m c.next_step.new.m 1 so.steady on (c.in_ok-next_step.ensures.holders)) c.run_on-count.ensures.ran;
+      steady = ran_steady c.run_on-count.result c.args.pid c.next_step.new.m c.run_on-count.new.m (steady_on c.loop-count.m c.next_step.new.m 1 so.steady on (c.in_ok-next_step.ensures.holders))
+          c.run_on-count.ensures.ran;
       params = same.params ∙ on.params ∙ so.params;
       images = same.images ∙ on.images ∙ so.images;
       counts = let a = on.counted in let b = so.counts in let d = same.counted in omega arith;
       more = let a = so.more in omega arith;
       few = omega arith;
-      so_far = ran_far c.run_on-count.result c.args.pid c.args.m.now c.next_step.new.m c.run_on-count.new.m (is_now c.args.patience) c.args.counted c.args.until (g.F.Files.holds c.args.files.now) (g.D.SwapDev.image c.args.swap.now) (g.D.SwapDev.image c.next_step.new.swap) (c.loop-count.count + 1) one c.run_on-count.ensures.ran few;
+      so_far = ran_far c.run_on-count.result c.args.pid c.args.m.now c.next_step.new.m c.run_on-count.new.m (is_now c.args.patience) c.args.counted c.args.until (g.F.Files.holds c.args.files.now)
+          (g.D.SwapDev.image c.args.swap.now) (g.D.SwapDev.image c.next_step.new.swap) (c.loop-count.count + 1) one c.run_on-count.ensures.ran few;
       outside = transfers_then {stop = None} g.met.F.Files.leads_through g.met.D.SwapDev.leads_through so.outside c.in_ok-next_step.ensures.outside;
     }
 
 pub loop-count-preserved : goal.loop-count-preserved
 loop-count-preserved g c =
     let so = c.loop-count.invariant in
-    let on : Continues c.loop-count.m c.next_step.new.m (counts advances.Served) = subst (λ a. Continues c.loop-count.m c.next_step.new.m (counts a)) c.in-Served.is c.in_ok-next_step.ensures.continues in
-    let led : Advances c.loop-count.m c.next_step.new.m c.args.pid (is_now c.args.patience) (g.F.Files.holds c.args.files.now) (g.D.SwapDev.image c.loop-count.swap) (g.D.SwapDev.image c.next_step.new.swap) advances.Served =
-    subst (λ hs. Advances c.loop-count.m c.next_step.new.m c.args.pid (is_now c.args.patience) hs (g.D.SwapDev.image c.loop-count.swap) (g.D.SwapDev.image c.next_step.new.swap) advances.Served) so.outside.files.holds
-    (subst (λ a. Advances c.loop-count.m c.next_step.new.m c.args.pid (is_now c.args.patience) (g.F.Files.holds c.loop-count.files) (g.D.SwapDev.image c.loop-count.swap) (g.D.SwapDev.image c.next_step.new.swap) a) c.in-Served.is c.in_ok-next_step.ensures.advances) in
+    let on : Continues c.loop-count.m c.next_step.new.m (counts advances.Served) =
+    subst (λ a. Continues c.loop-count.m c.next_step.new.m (counts a)) c.in-Served.is c.in_ok-next_step.ensures.continues in
+    let led : Advances c.loop-count.m c.next_step.new.m c.args.pid (is_now c.args.patience) (g.F.Files.holds c.args.files.now) (g.D.SwapDev.image c.loop-count.swap)
+    (g.D.SwapDev.image c.next_step.new.swap) advances.Served =
+    subst (λ hs. Advances c.loop-count.m c.next_step.new.m c.args.pid (is_now c.args.patience) hs (g.D.SwapDev.image c.loop-count.swap) (g.D.SwapDev.image c.next_step.new.swap) advances.Served)
+    so.outside.files.holds
+    (subst (λ a. Advances c.loop-count.m c.next_step.new.m c.args.pid (is_now c.args.patience) (g.F.Files.holds c.loop-count.files) (g.D.SwapDev.image c.loop-count.swap)
+    (g.D.SwapDev.image c.next_step.new.swap) a) c.in-Served.is c.in_ok-next_step.ensures.advances) in
     record {
       steady = steady_on c.loop-count.m c.next_step.new.m 0 so.steady on (c.in_ok-next_step.ensures.holders);
       params = on.params ∙ so.params;
@@ -87,28 +105,38 @@ loop-count-preserved g c =
       counts = let a = on.counted in let b = so.counts in omega arith;
       more = so.more;
       few = let w = c.if-waits-lt-MOST_WAITS.true in omega arith;
-      so_far = served_far c.args.m.now c.loop-count.m c.next_step.new.m c.args.pid (is_now c.args.patience) c.args.counted c.args.until (g.F.Files.holds c.args.files.now) (g.D.SwapDev.image c.args.swap.now) (g.D.SwapDev.image c.loop-count.swap) (g.D.SwapDev.image c.next_step.new.swap) c.loop-count.count c.loop-count.waits so.so_far c.loop-count-test.true c.in-Some.ensures.ready on.params on.images led;
+      so_far = served_far c.args.m.now c.loop-count.m c.next_step.new.m c.args.pid (is_now c.args.patience) c.args.counted c.args.until (g.F.Files.holds c.args.files.now)
+          (g.D.SwapDev.image c.args.swap.now) (g.D.SwapDev.image c.loop-count.swap) (g.D.SwapDev.image c.next_step.new.swap) c.loop-count.count c.loop-count.waits so.so_far c.loop-count-test.true
+          c.in-Some.ensures.ready on.params on.images led;
       outside = transfers_then {stop = None} g.met.F.Files.leads_through g.met.D.SwapDev.leads_through so.outside c.in_ok-next_step.ensures.outside;
     }
 
 pub returns-in-Stuck-clause-runs : goal.returns-in-Stuck-clause-runs
 returns-in-Stuck-clause-runs g c =
     let so = c.loop-count.invariant in
-    let on : Continues c.loop-count.m c.next_step.new.m (counts advances.Stuck) = subst (λ a. Continues c.loop-count.m c.next_step.new.m (counts a)) c.in-Stuck.is c.in_ok-next_step.ensures.continues in
-    let led : Advances c.loop-count.m c.next_step.new.m c.args.pid (is_now c.args.patience) (g.F.Files.holds c.args.files.now) (g.D.SwapDev.image c.loop-count.swap) (g.D.SwapDev.image c.next_step.new.swap) advances.Stuck =
-    subst (λ hs. Advances c.loop-count.m c.next_step.new.m c.args.pid (is_now c.args.patience) hs (g.D.SwapDev.image c.loop-count.swap) (g.D.SwapDev.image c.next_step.new.swap) advances.Stuck) so.outside.files.holds
-    (subst (λ a. Advances c.loop-count.m c.next_step.new.m c.args.pid (is_now c.args.patience) (g.F.Files.holds c.loop-count.files) (g.D.SwapDev.image c.loop-count.swap) (g.D.SwapDev.image c.next_step.new.swap) a) c.in-Stuck.is c.in_ok-next_step.ensures.advances) in
-    stuck_runs c.args.m.now c.loop-count.m c.next_step.new.m c.args.pid (is_now c.args.patience) c.args.counted c.args.until (g.F.Files.holds c.args.files.now) (g.D.SwapDev.image c.args.swap.now) (g.D.SwapDev.image c.loop-count.swap) (g.D.SwapDev.image c.next_step.new.swap) c.loop-count.count c.loop-count.waits so.so_far c.loop-count-test.true c.in-Some.ensures.ready on.params on.images led
+    let on : Continues c.loop-count.m c.next_step.new.m (counts advances.Stuck) =
+    subst (λ a. Continues c.loop-count.m c.next_step.new.m (counts a)) c.in-Stuck.is c.in_ok-next_step.ensures.continues in
+    let led : Advances c.loop-count.m c.next_step.new.m c.args.pid (is_now c.args.patience) (g.F.Files.holds c.args.files.now) (g.D.SwapDev.image c.loop-count.swap)
+    (g.D.SwapDev.image c.next_step.new.swap) advances.Stuck =
+    subst (λ hs. Advances c.loop-count.m c.next_step.new.m c.args.pid (is_now c.args.patience) hs (g.D.SwapDev.image c.loop-count.swap) (g.D.SwapDev.image c.next_step.new.swap) advances.Stuck)
+    so.outside.files.holds
+    (subst (λ a. Advances c.loop-count.m c.next_step.new.m c.args.pid (is_now c.args.patience) (g.F.Files.holds c.loop-count.files) (g.D.SwapDev.image c.loop-count.swap)
+    (g.D.SwapDev.image c.next_step.new.swap) a) c.in-Stuck.is c.in_ok-next_step.ensures.advances) in
+    stuck_runs c.args.m.now c.loop-count.m c.next_step.new.m c.args.pid (is_now c.args.patience) c.args.counted c.args.until (g.F.Files.holds c.args.files.now)
+    (g.D.SwapDev.image c.args.swap.now) (g.D.SwapDev.image c.loop-count.swap) (g.D.SwapDev.image c.next_step.new.swap) c.loop-count.count c.loop-count.waits so.so_far c.loop-count-test.true
+    c.in-Some.ensures.ready on.params on.images led
 
 pub returns-else-waits-lt-MOST_WAITS-clause-runs : goal.returns-else-waits-lt-MOST_WAITS-clause-runs
 returns-else-waits-lt-MOST_WAITS-clause-runs g c =
     let so = c.loop-count.invariant in
-    waited_runs c.args.m.now c.loop-count.m c.args.pid (is_now c.args.patience) c.args.counted c.args.until (g.F.Files.holds c.args.files.now) (g.D.SwapDev.image c.args.swap.now) (g.D.SwapDev.image c.loop-count.swap) c.loop-count.count c.loop-count.waits so.so_far c.if-waits-lt-MOST_WAITS.false
+    waited_runs c.args.m.now c.loop-count.m c.args.pid (is_now c.args.patience) c.args.counted c.args.until (g.F.Files.holds c.args.files.now) (g.D.SwapDev.image c.args.swap.now)
+    (g.D.SwapDev.image c.loop-count.swap) c.loop-count.count c.loop-count.waits so.so_far c.if-waits-lt-MOST_WAITS.false
 
 pub returns-after-loop-count-clause-runs : goal.returns-after-loop-count-clause-runs
 returns-after-loop-count-clause-runs g c =
     let so = c.loop-count.invariant in
-    done_runs c.args.m.now c.loop-count.m c.args.pid (is_now c.args.patience) c.args.counted c.args.until (g.F.Files.holds c.args.files.now) (g.D.SwapDev.image c.args.swap.now) (g.D.SwapDev.image c.loop-count.swap) c.loop-count.count c.loop-count.waits so.so_far c.loop-count-test.false
+    done_runs c.args.m.now c.loop-count.m c.args.pid (is_now c.args.patience) c.args.counted c.args.until (g.F.Files.holds c.args.files.now) (g.D.SwapDev.image c.args.swap.now)
+    (g.D.SwapDev.image c.loop-count.swap) c.loop-count.count c.loop-count.waits so.so_far c.loop-count-test.false
 
 pub returns-in_err-next_step-clause-kept : goal.returns-in_err-next_step-clause-kept
 returns-in_err-next_step-clause-kept g c =

@@ -160,7 +160,8 @@ returns-clause-holders g c =
 pub returns-in_err-served-clause-kept : goal.returns-in_err-served-clause-kept
 returns-in_err-served-clause-kept g c =
     let e = err_from_is_err_and c.from_residual.result c.from_residual.ensures.1 in
-    rw (e.1, e.2) (served_same (is_now c.args.patience) c.args.m.now c.serve_by.new.m c.args.pid c.args.address c.args.write (g.F.Files.holds c.args.files.now) (g.D.SwapDev.image c.args.swap.now) (g.D.SwapDev.image c.serve_by.new.swap)
+    rw (e.1, e.2) (served_same (is_now c.args.patience) c.args.m.now c.serve_by.new.m c.args.pid c.args.address c.args.write (g.F.Files.holds c.args.files.now) (g.D.SwapDev.image c.args.swap.now)
+    (g.D.SwapDev.image c.serve_by.new.swap)
     c.in_err-served.field-0.0 c.in_err-served.ensures.stops)
 
 pub returns-in_err-kill-clause-kept : goal.returns-in_err-kill-clause-kept
@@ -171,4 +172,5 @@ returns-in_err-kill-clause-kept g c =
     (g.D.SwapDev.image c.serve_by.new.swap) c.in_ok-served.served caller c.in_ok-served.ensures.served in
     let e = err_from_is_err_and c.from_residual-in_err-kill.result c.from_residual-in_err-kill.ensures.1 in
     rw (e.1, e.2) (continued_same c.args.m.now c.serve_by.new.m c.kill.new.m 0 c.in_err-kill.field-0.0 on
-    (alive_same c.serve_by.new.m c.kill.new.m c.args.pid (g.F.Files.holds c.serve_by.new.files) (g.D.SwapDev.image c.serve_by.new.swap) (g.D.SwapDev.image c.kill.new.swap) c.in_err-kill.field-0.0 c.in_err-kill.ensures.stops))
+    (alive_same c.serve_by.new.m c.kill.new.m c.args.pid (g.F.Files.holds c.serve_by.new.files) (g.D.SwapDev.image c.serve_by.new.swap)
+    (g.D.SwapDev.image c.kill.new.swap) c.in_err-kill.field-0.0 c.in_err-kill.ensures.stops))

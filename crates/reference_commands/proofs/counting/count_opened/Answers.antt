@@ -24,7 +24,8 @@ count_run-text-requires-clause-moves c = have_few_moves c.args.lines.now c.requi
 pub count_run-text-requires-clause-files : goal.count_run-text-requires-clause-files
 count_run-text-requires-clause-files c =
     subst (λ (m : Standing). AreFiles m.images (Some (map named_file c.args.files.now.files.items))) (sym c.in-Ok-film_of.ensures.machine)
-    (opened_files 0 c.args.numbers c.args.images.now c.args.opened.now c.args.first.now c.args.lines.now c.requires.opened c.requires.runnable c.requires.octets (Some (map named_file c.args.files.now.files.items)) c.requires.held)
+    (opened_files 0 c.args.numbers c.args.images.now c.args.opened.now c.args.first.now c.args.lines.now c.requires.opened c.requires.runnable c.requires.octets
+    (Some (map named_file c.args.files.now.files.items)) c.requires.held)
 
 pub count_run-text-requires-clause-asked : goal.count_run-text-requires-clause-asked
 count_run-text-requires-clause-asked c =
@@ -32,8 +33,10 @@ count_run-text-requires-clause-asked c =
     record {
       inputs = A;
       image = blank_swap c.args.numbers.swap;
-      asked = subst (λ (m : Standing). IsAskedOf A m c.args.first.now c.args.lines.now (Some (map named_file c.args.files.now.files.items)) (blank_swap c.args.numbers.swap)) (sym c.in-Ok-film_of.ensures.machine)
-          (asked 0 c.args.numbers c.args.images.now c.args.opened.now c.args.first.now c.args.lines.now c.requires.opened c.requires.runnable c.requires.octets (Some (map named_file c.args.files.now.files.items)) c.requires.held);
+      asked = subst (λ (m : Standing). IsAskedOf A m c.args.first.now c.args.lines.now (Some (map named_file c.args.files.now.files.items)) (blank_swap c.args.numbers.swap))
+          (sym c.in-Ok-film_of.ensures.machine)
+          (asked 0 c.args.numbers c.args.images.now c.args.opened.now c.args.first.now c.args.lines.now c.requires.opened c.requires.runnable c.requires.octets
+          (Some (map named_file c.args.files.now.files.items)) c.requires.held);
       told = c.in-Ok.ensures.zeros;
     }
 
@@ -41,7 +44,9 @@ pub returns : goal.returns
 returns c =
     let A : Inputs = inputs_with c.args.numbers c.args.images.now c.args.first.now c.args.lines.now in
     c.count_run-text.ensures A (blank_swap c.args.numbers.swap)
-    (subst (λ (m : Standing). IsAskedOf A m c.args.first.now c.args.lines.now (Some (map named_file c.args.files.now.files.items)) (blank_swap c.args.numbers.swap)) (sym c.in-Ok-film_of.ensures.machine)
-    (asked 0 c.args.numbers c.args.images.now c.args.opened.now c.args.first.now c.args.lines.now c.requires.opened c.requires.runnable c.requires.octets (Some (map named_file c.args.files.now.files.items)) c.requires.held))
+    (subst (λ (m : Standing). IsAskedOf A m c.args.first.now c.args.lines.now (Some (map named_file c.args.files.now.files.items)) (blank_swap c.args.numbers.swap))
+    (sym c.in-Ok-film_of.ensures.machine)
+    (asked 0 c.args.numbers c.args.images.now c.args.opened.now c.args.first.now c.args.lines.now c.requires.opened c.requires.runnable c.requires.octets
+    (Some (map named_file c.args.files.now.files.items)) c.requires.held))
     c.in-Ok.ensures.zeros
     (ap length (sym c.requires.opened.are) ∙ images_length (map file_of c.args.images.now) c.args.opened.now ∙ c.requires.opened.count)

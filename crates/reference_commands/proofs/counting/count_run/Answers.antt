@@ -13,7 +13,8 @@ start-requires-clause-numbers g c = are_among c.args.film.now.machine.images c.a
 pub count_begun-requires-clause-filming : goal.count_begun-requires-clause-filming
 count_begun-requires-clause-filming g c =
     let begun : c.start.result ≡ Ok starteds.Ok = search rules in
-    filming_begun c.args.film.now c.start.new.self c.args.first.now c.args.lines.now (g.F.Files.holds c.args.files.now) (g.F.Files.holds c.start.new.files) (g.D.SwapDev.image c.args.swap.now) (g.D.SwapDev.image c.start.new.swap)
+    filming_begun c.args.film.now c.start.new.self c.args.first.now c.args.lines.now (g.F.Files.holds c.args.files.now) (g.F.Files.holds c.start.new.files) (g.D.SwapDev.image c.args.swap.now)
+    (g.D.SwapDev.image c.start.new.swap)
     c.start.ensures.outside.files.holds c.requires.frames c.requires.asked (c.start.ensures.begins begun)
 
 pub count_begun-requires-clause-first : goal.count_begun-requires-clause-first
@@ -36,7 +37,8 @@ count_begun-requires-clause-files g c =
 pub count_begun-requires-clause-running : goal.count_begun-requires-clause-running
 count_begun-requires-clause-running g c =
     let begun : c.start.result ≡ Ok starteds.Ok = search rules in
-    (filming_begun c.args.film.now c.start.new.self c.args.first.now c.args.lines.now (g.F.Files.holds c.args.files.now) (g.F.Files.holds c.start.new.files) (g.D.SwapDev.image c.args.swap.now) (g.D.SwapDev.image c.start.new.swap)
+    (filming_begun c.args.film.now c.start.new.self c.args.first.now c.args.lines.now (g.F.Files.holds c.args.files.now) (g.F.Files.holds c.start.new.files) (g.D.SwapDev.image c.args.swap.now)
+    (g.D.SwapDev.image c.start.new.swap)
     c.start.ensures.outside.files.holds c.requires.frames c.requires.asked (c.start.ensures.begins begun)).at.running
 
 pub returns-in-Ok-Ok : goal.returns-in-Ok-Ok

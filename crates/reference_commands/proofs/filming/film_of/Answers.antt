@@ -15,5 +15,6 @@ new-requires-clause-sound c = subst AreSound (shown_facts c.args.images.now ∙ 
 pub returns-clause-machine : goal.returns-clause-machine
 returns-clause-machine c =
     if_ok c.new.result _ (λ (film : Filming). film.machine ≡ machine_up_to 0 c.args.numbers (map shown_as c.args.images.now))
-    (λ film is. is ∙ fresh_machine 0 c.args.numbers (map (λ (image : Named). image.facts) c.in-Ok.named.items) (map image_shown c.in-Ok.named.items) c.args.images.now c.in-Ok.ensures.facts c.in-Ok.ensures.shown)
+    (λ film is. is
+    ∙ fresh_machine 0 c.args.numbers (map (λ (image : Named). image.facts) c.in-Ok.named.items) (map image_shown c.in-Ok.named.items) c.args.images.now c.in-Ok.ensures.facts c.in-Ok.ensures.shown)
     c.new.ensures.machine

@@ -9,7 +9,8 @@ pub loop-alloc-init : goal.loop-alloc-init
 loop-alloc-init g c = record {
   filming = c.requires.filming;
   so_far = λ A image are begun.
-      filmed_first A c.args.steps begun.state c.args.film.now (g.F.Files.holds c.args.files.now) (g.D.SwapDev.image c.args.swap.now) image c.new-text.result.items c.put_step_if.new.text.items begun.at begun.first
+      filmed_first A c.args.steps begun.state c.args.film.now (g.F.Files.holds c.args.files.now)
+      (g.D.SwapDev.image c.args.swap.now) image c.new-text.result.items c.put_step_if.new.text.items begun.at begun.first
       (search rules) c.in_ok-put_step_if.ensures;
   within = let empty = ap length c.requires.first in omega (arith, empty);
   area = c.requires.area;

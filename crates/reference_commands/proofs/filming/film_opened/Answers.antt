@@ -24,7 +24,8 @@ film_run-text-requires-clause-moves c = have_few_moves c.args.lines.now c.requir
 pub film_run-text-requires-clause-files : goal.film_run-text-requires-clause-files
 film_run-text-requires-clause-files c =
     subst (λ (m : Standing). AreFiles m.images (Some (map named_file c.args.files.now.files.items))) (sym c.in-Ok-film_of.ensures.machine)
-    (opened_files 0 c.args.numbers c.args.images.now c.args.opened.now c.args.first.now c.args.lines.now c.requires.opened c.requires.runnable c.requires.octets (Some (map named_file c.args.files.now.files.items)) c.requires.held)
+    (opened_files 0 c.args.numbers c.args.images.now c.args.opened.now c.args.first.now c.args.lines.now c.requires.opened c.requires.runnable c.requires.octets
+    (Some (map named_file c.args.files.now.files.items)) c.requires.held)
 
 pub film_run-text-requires-clause-asked : goal.film_run-text-requires-clause-asked
 film_run-text-requires-clause-asked c =
@@ -32,8 +33,10 @@ film_run-text-requires-clause-asked c =
     record {
       inputs = A;
       image = blank_swap c.args.numbers.swap;
-      asked = subst (λ (m : Standing). IsAskedOf A m c.args.first.now c.args.lines.now (Some (map named_file c.args.files.now.files.items)) (blank_swap c.args.numbers.swap)) (sym c.in-Ok-film_of.ensures.machine)
-          (asked 0 c.args.numbers c.args.images.now c.args.opened.now c.args.first.now c.args.lines.now c.requires.opened c.requires.runnable c.requires.octets (Some (map named_file c.args.files.now.files.items)) c.requires.held);
+      asked = subst (λ (m : Standing). IsAskedOf A m c.args.first.now c.args.lines.now (Some (map named_file c.args.files.now.files.items)) (blank_swap c.args.numbers.swap))
+          (sym c.in-Ok-film_of.ensures.machine)
+          (asked 0 c.args.numbers c.args.images.now c.args.opened.now c.args.first.now c.args.lines.now c.requires.opened c.requires.runnable c.requires.octets
+          (Some (map named_file c.args.files.now.files.items)) c.requires.held);
       told = c.in-Ok.ensures.zeros;
     }
 
@@ -41,6 +44,8 @@ pub returns : goal.returns
 returns c =
     let A : Inputs = inputs_with c.args.numbers c.args.images.now c.args.first.now c.args.lines.now in
     c.film_run-text.ensures A (blank_swap c.args.numbers.swap)
-    (subst (λ (m : Standing). IsAskedOf A m c.args.first.now c.args.lines.now (Some (map named_file c.args.files.now.files.items)) (blank_swap c.args.numbers.swap)) (sym c.in-Ok-film_of.ensures.machine)
-    (asked 0 c.args.numbers c.args.images.now c.args.opened.now c.args.first.now c.args.lines.now c.requires.opened c.requires.runnable c.requires.octets (Some (map named_file c.args.files.now.files.items)) c.requires.held))
+    (subst (λ (m : Standing). IsAskedOf A m c.args.first.now c.args.lines.now (Some (map named_file c.args.files.now.files.items)) (blank_swap c.args.numbers.swap))
+    (sym c.in-Ok-film_of.ensures.machine)
+    (asked 0 c.args.numbers c.args.images.now c.args.opened.now c.args.first.now c.args.lines.now c.requires.opened c.requires.runnable c.requires.octets
+    (Some (map named_file c.args.files.now.files.items)) c.requires.held))
     c.in-Ok.ensures.zeros

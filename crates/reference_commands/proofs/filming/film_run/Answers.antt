@@ -13,7 +13,8 @@ start-requires-clause-numbers g c = are_among c.args.film.now.machine.images c.a
 pub film_on-requires-clause-filming : goal.film_on-requires-clause-filming
 film_on-requires-clause-filming g c =
     let begun : c.start.result ≡ Ok starteds.Ok = search rules in
-    filming_begun c.args.film.now c.start.new.self c.args.first.now c.args.lines.now (g.F.Files.holds c.args.files.now) (g.F.Files.holds c.start.new.files) (g.D.SwapDev.image c.args.swap.now) (g.D.SwapDev.image c.start.new.swap)
+    filming_begun c.args.film.now c.start.new.self c.args.first.now c.args.lines.now (g.F.Files.holds c.args.files.now) (g.F.Files.holds c.start.new.files) (g.D.SwapDev.image c.args.swap.now)
+    (g.D.SwapDev.image c.start.new.swap)
     c.start.ensures.outside.files.holds c.requires.frames c.requires.asked (c.start.ensures.begins begun)
 
 pub film_on-requires-clause-first : goal.film_on-requires-clause-first

@@ -9,5 +9,6 @@ returns-clause-opened c =
     let holds : Option (List NamedFile) = Some (map named_file c.new-files.result.files.items) in
     let told : holds ≡ Some (map file_of c.args.images.now) = c.new-files.ensures ∙ ap (λ (files : List NamedFile). Some files) c.in-Ok.ensures.files in
     are_opened c.args.images.now c.in-Ok-open_images.opened.items c.args.names.now holds told
-    (c.in-Ok-open_images.ensures.answers (map file_of c.args.images.now) told) (c.in-Ok-open_images.ensures.are_in (map file_of c.args.images.now) told) c.in-Ok-open_images.ensures.sound c.in-Ok-open_images.ensures.ranges
+    (c.in-Ok-open_images.ensures.answers (map file_of c.args.images.now) told) (c.in-Ok-open_images.ensures.are_in (map file_of c.args.images.now) told) c.in-Ok-open_images.ensures.sound
+    c.in-Ok-open_images.ensures.ranges
     c.in-Ok-open_images.ensures.names c.requires.named c.requires.differ c.requires.images.images c.requires.short c.requires.few

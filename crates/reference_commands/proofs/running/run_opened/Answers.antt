@@ -27,14 +27,16 @@ run_schedule-end-requires-clause-moves c = have_few_moves c.args.lines.now c.req
 pub run_schedule-end-requires-clause-files : goal.run_schedule-end-requires-clause-files
 run_schedule-end-requires-clause-files c =
     subst (λ (m : Standing). AreFiles m.images (Some (map named_file c.args.files.now.files.items))) (sym c.in_ok-core.ensures.machine)
-    (opened_files c.args.entries c.args.numbers c.args.images.now c.args.opened.now c.args.first.now c.args.lines.now c.requires.opened c.requires.runnable c.requires.octets (Some (map named_file c.args.files.now.files.items)) c.requires.held)
+    (opened_files c.args.entries c.args.numbers c.args.images.now c.args.opened.now c.args.first.now c.args.lines.now c.requires.opened c.requires.runnable c.requires.octets
+    (Some (map named_file c.args.files.now.files.items)) c.requires.held)
 
 pub returns : goal.returns
 returns c =
     let A = inputs_with c.args.numbers c.args.images.now c.args.first.now c.args.lines.now in
     let is_asked : IsAskedOf A c.in_ok-core.core.machine c.args.first.now c.args.lines.now (Some (map named_file c.args.files.now.files.items)) (blank_swap c.args.numbers.swap)
     = subst (λ (m : Standing). IsAskedOf A m c.args.first.now c.args.lines.now (Some (map named_file c.args.files.now.files.items)) (blank_swap c.args.numbers.swap)) (sym c.in_ok-core.ensures.machine)
-    (asked c.args.entries c.args.numbers c.args.images.now c.args.opened.now c.args.first.now c.args.lines.now c.requires.opened c.requires.runnable c.requires.octets (Some (map named_file c.args.files.now.files.items)) c.requires.held) in
+    (asked c.args.entries c.args.numbers c.args.images.now c.args.opened.now c.args.first.now c.args.lines.now c.requires.opened c.requires.runnable c.requires.octets
+    (Some (map named_file c.args.files.now.files.items)) c.requires.held) in
     record {
       journal = ap (λ (p : Params). p.journal) c.run_schedule-end.ensures.params ∙ ap (λ (m : Standing). m.params.journal) c.in_ok-core.ensures.machine;
       blocks = ap (λ (p : Params). p.swap_blocks) c.run_schedule-end.ensures.params ∙ ap (λ (m : Standing). m.params.swap_blocks) c.in_ok-core.ensures.machine;
@@ -42,7 +44,8 @@ returns c =
       ends = c.run_schedule-end.ensures.ends A (blank_swap c.args.numbers.swap) is_asked c.in_ok-swap.ensures.zeros;
       full = c.run_schedule-end.ensures.full A (blank_swap c.args.numbers.swap) is_asked c.in_ok-swap.ensures.zeros;
       over = on_ok_so c.run_schedule-end.result
-          ((B : Inputs) (image : List ℕ) → IsAskedOf B c.in_ok-core.core.machine c.args.first.now c.args.lines.now (Some (map named_file c.args.files.now.files.items)) image → Some (with_zeros (512 * c.in_ok-swap.swap.blocks) c.in_ok-swap.swap.written.items) ≡ Some image
+          ((B : Inputs) (image : List ℕ) → IsAskedOf B c.in_ok-core.core.machine c.args.first.now c.args.lines.now (Some (map named_file c.args.files.now.files.items)) image
+          → Some (with_zeros (512 * c.in_ok-swap.swap.blocks) c.in_ok-swap.swap.written.items) ≡ Some image
           → RunOver B c.run_schedule-end.new.core.machine image)
           (RunOver A c.run_schedule-end.new.core.machine (blank_swap c.args.numbers.swap))
           (λ told. told A (blank_swap c.args.numbers.swap) is_asked c.in_ok-swap.ensures.zeros) c.run_schedule-end.ensures.over;

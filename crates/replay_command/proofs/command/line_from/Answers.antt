@@ -61,7 +61,8 @@ returns-clause-made g c =
     let words = map (λ (word : Bor (List ℕ)). word.now) c.args.words.now in
     let names : map (λ (name : Bor (List ℕ)). name.now) c.as_slice.result.now ≡ image_names words
     = ap (map (λ (name : Bor (List ℕ)). name.now)) c.as_slice.ensures.value ∙ c.in_ok-naming.ensures.names in
-    judged_ends c.args.transcript.now words (g.F.Files.holds c.args.files.now) _ _ _ _ _ _ c.in_ok-entries.entries.items c.in_ok-images.images.items (ending_of c.judge.result) c.in_ok-entries.ensures.ends
+    judged_ends c.args.transcript.now words (g.F.Files.holds c.args.files.now) _ _ _ _ _ _ c.in_ok-entries.entries.items c.in_ok-images.images.items
+    (ending_of c.judge.result) c.in_ok-entries.ensures.ends
     (λ list told. subst (λ (xs : List (List ℕ)). images_told list xs ≡ Ok c.in_ok-images.images.items) names
     (c.in_ok-images.ensures.answers list (c.read_entries.ensures.kept.holds ∙ told)))
     c.in_ok-images.ensures.faults

@@ -29,7 +29,8 @@ returns-in-Ok-clause-explains g c =
       are = refl;
       explained = λ A images first.
           subst (λ (entries : List Entry). Explained A entries (option_map (λ (line : Vec ℕ Global). line.items) c.in-Ok.text)) c.as_slice-4.ensures.value
-          (subst (λ (r : Result (Option (Vec ℕ Global)) NoMemory). IfOk r (λ (text : Option (Vec ℕ Global)). Explained A c.as_slice-4.result.now (option_map (λ (line : Vec ℕ Global). line.items) text))) c.in-Ok.is
+          (subst (λ (r : Result (Option (Vec ℕ Global)) NoMemory).
+          IfOk r (λ (text : Option (Vec ℕ Global)). Explained A c.as_slice-4.result.now (option_map (λ (line : Vec ℕ Global). line.items) text))) c.in-Ok.is
           (c.explained.ensures A (images ∙ ap images_of (sym c.as_slice-2.ensures.value)) (first ∙ sym (c.as_slice-3.ensures.value ∙ c.in_ok-naming.ensures.first))));
     }
 

@@ -26,7 +26,9 @@ returns-in-Err-clause-ends g c =
       page_before = g.F.Files.page_faults c.args.files.now;
       page_after = g.F.Files.page_faults c.read_whole.new.files;
     } in
-    subst (λ (e : Fault). Made {E = Result (List Entry) Fault} (EndsTranscript c.args.name.now) (λ (list : List NamedFile). whole_told list c.args.name.now 67108864) (g.F.Files.holds c.args.files.now) f (Err e))
+    subst (λ (e : Fault). Made {E = Result (List Entry) Fault} (EndsTranscript c.args.name.now) (λ (list : List NamedFile). whole_told list c.args.name.now 67108864)
+    (g.F.Files.holds c.args.files.now) f (Err e))
     (sym c.of_unread.ensures)
-    (unread_transcript {A = Option (Vec ℕ Global)} (option_map (λ (bytes : Vec ℕ Global). bytes.items)) c.args.name (λ (list : List NamedFile). whole_told list c.args.name.now 67108864) (g.F.Files.holds c.args.files.now) f c.in-Err.unread
+    (unread_transcript {A = Option (Vec ℕ Global)} (option_map (λ (bytes : Vec ℕ Global). bytes.items)) c.args.name (λ (list : List NamedFile). whole_told list c.args.name.now 67108864)
+    (g.F.Files.holds c.args.files.now) f c.in-Err.unread
     c.in-Err.ensures.answers c.in-Err.ensures.error c.in-Err.ensures.open_faults c.in-Err.ensures.page_faults)

@@ -54,7 +54,8 @@ at_found c =
     (p.0, leb-true c.args.n (get_or c.self.inside.extents.items c.in-Some.at none_here).length p.1)
 
 cut : (c : goal.After-self-1)
-    → c.take_front-start.new.extents.items ≡ cut_front c.self.inside.extents.items c.in-Some.at c.args.n (get_or c.self.inside.extents.items c.in-Some.at none_here) ((get_or c.self.inside.extents.items c.in-Some.at none_here).length == c.args.n)
+    → c.take_front-start.new.extents.items ≡ cut_front c.self.inside.extents.items c.in-Some.at c.args.n
+    (get_or c.self.inside.extents.items c.in-Some.at none_here) ((get_or c.self.inside.extents.items c.in-Some.at none_here).length == c.args.n)
 cut c =
     c.take_front-start.ensures.cut none_here ∙
     ap (λ (fs : List Extent). cut_front fs c.in-Some.at c.args.n (get_or fs c.in-Some.at none_here) ((get_or fs c.in-Some.at none_here).length == c.args.n)) c.reserve.ensures.items

@@ -15,5 +15,6 @@ new-requires-clause-sound c = subst AreSound (shown_facts c.args.images.now ∙ 
 pub returns-clause-machine : goal.returns-clause-machine
 returns-clause-machine c =
     if_ok c.new.result _ (λ (core : Underway). core.machine ≡ machine_up_to c.args.entries c.args.numbers (map shown_as c.args.images.now))
-    (λ core is. is ∙ fresh_machine c.args.entries c.args.numbers (map (λ (image : Named). image.facts) c.in-Ok.named.items) (map image_shown c.in-Ok.named.items) c.args.images.now c.in-Ok.ensures.facts c.in-Ok.ensures.shown)
+    (λ core is. is ∙ fresh_machine c.args.entries c.args.numbers (map (λ (image : Named). image.facts) c.in-Ok.named.items)
+    (map image_shown c.in-Ok.named.items) c.args.images.now c.in-Ok.ensures.facts c.in-Ok.ensures.shown)
     c.new.ensures.machine

@@ -57,20 +57,32 @@ returns-clause-runs g c =
       one_blocks = g.E.SwapDev.blocks one;
       swap_before = image_together (g.D.SwapDev.blocks zero) (g.E.SwapDev.blocks one) (g.D.SwapDev.image zero) (g.E.SwapDev.image one);
       swap_after = image_together (g.D.SwapDev.blocks zero_after) (g.E.SwapDev.blocks one_after) (g.D.SwapDev.image zero_after) (g.E.SwapDev.image one_after);
-      reads = record { zero_before = g.D.SwapDev.read_faults zero; zero_after = g.D.SwapDev.read_faults zero_after; one_before = g.E.SwapDev.read_faults one; one_after = g.E.SwapDev.read_faults one_after };
-      writes = record { zero_before = g.D.SwapDev.write_faults zero; zero_after = g.D.SwapDev.write_faults zero_after; one_before = g.E.SwapDev.write_faults one; one_after = g.E.SwapDev.write_faults one_after };
+      reads = record {
+        zero_before = g.D.SwapDev.read_faults zero;
+        zero_after = g.D.SwapDev.read_faults zero_after;
+        one_before = g.E.SwapDev.read_faults one;
+        one_after = g.E.SwapDev.read_faults one_after;
+      };
+      writes = record {
+        zero_before = g.D.SwapDev.write_faults zero;
+        zero_after = g.D.SwapDev.write_faults zero_after;
+        one_before = g.E.SwapDev.write_faults one;
+        one_after = g.E.SwapDev.write_faults one_after;
+      };
       written_before = g.S.Sink.written c.args.sink.now;
       written_after = g.S.Sink.written c.write_run-status.new.sink;
       sink_faults_before = g.S.Sink.faults c.args.sink.now;
       sink_faults_after = g.S.Sink.faults c.write_run-status.new.sink;
     } in
     let written : WritesSome c.args.traced es r seen.written_before seen.written_after seen.sink_faults_before seen.sink_faults_after c.write_run-status.result
-    = subst (λ (entries : List Entry). WritesSome c.args.traced entries r seen.written_before seen.written_after seen.sink_faults_before seen.sink_faults_after c.write_run-status.result) c.journal.ensures c.write_run-status.ensures.writes in
+    = subst (λ (entries : List Entry). WritesSome c.args.traced entries r seen.written_before seen.written_after seen.sink_faults_before seen.sink_faults_after c.write_run-status.result)
+    c.journal.ensures c.write_run-status.ensures.writes in
     let machine = c.in-Ok.ensures.machine ∙ ap (λ (images : List OpenedImage). machine_of c.args.numbers (map shown_as images)) c.as_slice.ensures.value in
     let caused : StopCaused seen es r = run_caused seen es r ran.kind ran.files_read.open_faults ran.files_read.page_faults ran.reads ran.writes ran.none_made ran.untouched
     (subst (λ (m : Standing). r ≡ Err JournalFull → length es ≡ m.params.journal) machine ran.full) in
     let within : length es ≤ journal_entries = subst (λ (m : Standing). length es ≤ m.params.journal) machine ran.within in
-    opened_runs (IsOfOpening c.args.numbers c.args.opening.now (g.F.Files.holds files)) c.args.traced seen es r c.write_run-status.result written (subst HaveNumbers c.journal.ensures c.write_run-status.ensures.numbers) within caused ran.kind
+    opened_runs (IsOfOpening c.args.numbers c.args.opening.now (g.F.Files.holds files)) c.args.traced seen es r c.write_run-status.result written
+    (subst HaveNumbers c.journal.ensures c.write_run-status.ensures.numbers) within caused ran.kind
     (λ A image is told.
     run_ended seen A es image r ran.kind caused
     (ran.ends A image

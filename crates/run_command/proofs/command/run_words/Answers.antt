@@ -55,8 +55,18 @@ returns-in-Ok-clause-runs g c =
       one_blocks = g.E.SwapDev.blocks one;
       swap_before = image_together (g.D.SwapDev.blocks zero) (g.E.SwapDev.blocks one) (g.D.SwapDev.image zero) (g.E.SwapDev.image one);
       swap_after = image_together (g.D.SwapDev.blocks zero_after) (g.E.SwapDev.blocks one_after) (g.D.SwapDev.image zero_after) (g.E.SwapDev.image one_after);
-      reads = record { zero_before = g.D.SwapDev.read_faults zero; zero_after = g.D.SwapDev.read_faults zero_after; one_before = g.E.SwapDev.read_faults one; one_after = g.E.SwapDev.read_faults one_after };
-      writes = record { zero_before = g.D.SwapDev.write_faults zero; zero_after = g.D.SwapDev.write_faults zero_after; one_before = g.E.SwapDev.write_faults one; one_after = g.E.SwapDev.write_faults one_after };
+      reads = record {
+        zero_before = g.D.SwapDev.read_faults zero;
+        zero_after = g.D.SwapDev.read_faults zero_after;
+        one_before = g.E.SwapDev.read_faults one;
+        one_after = g.E.SwapDev.read_faults one_after;
+      };
+      writes = record {
+        zero_before = g.D.SwapDev.write_faults zero;
+        zero_after = g.D.SwapDev.write_faults zero_after;
+        one_before = g.E.SwapDev.write_faults one;
+        one_after = g.E.SwapDev.write_faults one_after;
+      };
       written_before = g.S.Sink.written c.args.sink.now;
       written_after = g.S.Sink.written c.run_opened.new.sink;
       sink_faults_before = g.S.Sink.faults c.args.sink.now;
@@ -69,7 +79,8 @@ returns-in-Ok-clause-runs g c =
     let runs : RunsOpened (IsOfOpening c.args.numbers opening holds) c.args.traced seen status
     = subst (λ (p : ℕ). RunsOpened (IsOfOpening c.args.numbers opening holds) c.args.traced (seen_by holds opens p) status) c.open_run-opened.ensures.page_faults
     (subst (λ (o : ℕ). RunsOpened (IsOfOpening c.args.numbers opening holds) c.args.traced (seen_by holds o (g.F.Files.page_faults opened)) status) said.open_faults
-    (subst (λ (h : Option (List NamedFile)). RunsOpened (IsOfOpening c.args.numbers opening h) c.args.traced (seen_by h (g.F.Files.open_faults opened) (g.F.Files.page_faults opened)) status) c.open_run-opened.ensures.kept.holds
+    (subst (λ (h : Option (List NamedFile)). RunsOpened (IsOfOpening c.args.numbers opening h) c.args.traced (seen_by h (g.F.Files.open_faults opened) (g.F.Files.page_faults opened)) status)
+    c.open_run-opened.ensures.kept.holds
     c.run_opened.ensures.runs)) in
     let opening_of : ℕ → ℕ → Type 0
     = λ z o.
@@ -120,7 +131,8 @@ returns-in-Err-clause-runs g c =
     let reads : NoneFailed seen.reads = record { zero = refl; one = refl } in
     let writes : NoneFailed seen.writes = record { zero = refl; one = refl } in
     let opening_of : ℕ → ℕ → Type 0
-    = λ z o. Made (EndsOpening request.schedule request.words request.numbers.swap z o) (found_told request.schedule request.words) seen.files seen.faults (let r : Result Opening Fault = Err c.in-Err.fault in r) in
+    = λ z o. Made (EndsOpening request.schedule request.words request.numbers.swap z o) (found_told request.schedule request.words) seen.files seen.faults
+    (let r : Result Opening Fault = Err c.in-Err.fault in r) in
     let made : opening_of (g.D.SwapDev.blocks zero) (g.E.SwapDev.blocks one)
     = subst (opening_of (g.D.SwapDev.blocks zero)) c.blocks-3.ensures (subst (λ (z : ℕ). opening_of z c.blocks-3.result) c.blocks-2.ensures c.in-Err.ensures.ends) in
     unopened_runs request seen refl reads writes c.open_run-opened.ensures.page_faults c.in-Err.fault c.write_run.result c.write_run.ensures.writes made c.in-Err.ensures.open_faults

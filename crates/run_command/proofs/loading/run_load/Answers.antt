@@ -18,13 +18,15 @@ pub returns-clause-runs : goal.returns-clause-runs
 returns-clause-runs g c = λ told opens pages.
     let ran = c.run_paired-ending in
     let journal = ran.new.core.machine.kernel.journal in
-    load_ran _ _ c.args.number _ c.write_counts-status.result journal ran.result ran.ensures.kind ran.ensures.files_read.page_faults (record { open_same = refl; page_same = refl }) ran.ensures.reads ran.ensures.writes
+    load_ran _ _ c.args.number _ c.write_counts-status.result journal ran.result ran.ensures.kind ran.ensures.files_read.page_faults
+    (record { open_same = refl; page_same = refl }) ran.ensures.reads ran.ensures.writes
     ran.ensures.none_made ran.ensures.untouched
     (subst (λ (m : Standing). ran.result ≡ Err JournalFull → length journal ≡ m.params.journal) c.in-Ok.ensures.machine ran.ensures.full)
     (subst (λ (m : Standing). length journal ≤ m.params.journal) c.in-Ok.ensures.machine ran.ensures.within)
     (λ A starts. ran.ensures.no_space A (subst (λ (m : Standing). StartsFrom A m load_first) (sym c.in-Ok.ensures.machine) starts))
     (λ A image is before.
-    ran.ensures.ends A image (subst (λ (m : Standing). IsAskedOf A m load_first c.args.lines.now (Some (map (named_file {A = Global} {B = Global}) c.args.files.now.files.items)) image) (sym c.in-Ok.ensures.machine) is) before)
+    ran.ensures.ends A image (subst (λ (m : Standing). IsAskedOf A m load_first c.args.lines.now (Some (map (named_file {A = Global} {B = Global}) c.args.files.now.files.items)) image)
+    (sym c.in-Ok.ensures.machine) is) before)
     (subst
     (λ (j : List Entry). WritesCounts c.args.number j ran.result (g.S.Sink.written c.args.sink.now) (g.S.Sink.written c.write_counts-status.new.sink) (g.S.Sink.faults c.args.sink.now)
     (g.S.Sink.faults c.write_counts-status.new.sink) c.write_counts-status.result)

@@ -27,12 +27,14 @@ loop-word-preserved c =
                 All-same (λ (other : Bor (List ℕ)). length other.now < most) c.if-not-is_among.names.items _ pushed
                 (All-push (λ (other : Bor (List ℕ)). length other.now < most) names name (c.loop-word.invariant.short most each)
                 (subst (λ (xs : List ℕ). length xs < most) (sym c.name_in-name.ensures) (each c.loop-word.word-index _ c.loop-word-test.true)));
-            exact = names_grow names c.if-not-is_among.names.items c.args.words.now c.loop-word.word-index _ name false c.loop-word-test.true c.name_in-name.ensures (sym w.if-not-is_among.true ∙ among) pushed c.loop-word.invariant.exact;
+            exact = names_grow names c.if-not-is_among.names.items c.args.words.now c.loop-word.word-index _ name false c.loop-word-test.true c.name_in-name.ensures
+                (sym w.if-not-is_among.true ∙ among) pushed c.loop-word.invariant.exact;
           }
       | else-not-is_among w ↦
           let kept = ap (λ (v : Vec (Bor (List ℕ)) Global). v.items) w.names-is in record {
             few = omega (arith, ap length kept, c.loop-word.invariant.few);
             short = λ most each. All-same (λ (other : Bor (List ℕ)). length other.now < most) c.if-not-is_among.names.items names kept (c.loop-word.invariant.short most each);
-            exact = names_grow names c.if-not-is_among.names.items c.args.words.now c.loop-word.word-index _ name true c.loop-word-test.true c.name_in-name.ensures (sym w.if-not-is_among.false ∙ among) kept c.loop-word.invariant.exact;
+            exact = names_grow names c.if-not-is_among.names.items c.args.words.now c.loop-word.word-index _ name true c.loop-word-test.true c.name_in-name.ensures
+                (sym w.if-not-is_among.false ∙ among) kept c.loop-word.invariant.exact;
           }
     ]

@@ -27,7 +27,8 @@ returns-clause-image g c =
     let headed = c.in_ok-headed.headed in
     image_of_front headed.image c.args.len c.file_length.result headed.header.items c.in_ok-bytes.bytes.items
     (λ whole begins long. c.in_ok-headed.ensures.judged whole begins long)
-    c.file_length.ensures.enough (omega (arith, c.file_length.ensures.value, c.in_ok-headed.ensures.whole)) (omega (arith, c.file_length.ensures.value, above_header headed.image)) c.in_ok-bytes.ensures.size c.in_ok-bytes.ensures.head
+    c.file_length.ensures.enough (omega (arith, c.file_length.ensures.value, c.in_ok-headed.ensures.whole))
+    (omega (arith, c.file_length.ensures.value, above_header headed.image)) c.in_ok-bytes.ensures.size c.in_ok-bytes.ensures.head
 
 pub returns-in_err-headed-clause-answers : goal.returns-in_err-headed-clause-answers
 returns-in_err-headed-clause-answers g c = λ list told size.

@@ -22,7 +22,8 @@ returns-in-Err-clause-ends g c =
       page_before = g.F.Files.page_faults c.args.files.now;
       page_after = g.F.Files.page_faults c.read_file.new.files;
     } in
-    subst (λ (e : Fault). Made {E = Result (Vec Event Global) Fault} (EndsSchedule c.args.name.now) (λ (files : List NamedFile). schedule_found files c.args.name.now) (g.F.Files.holds c.args.files.now) f (Err e))
+    subst (λ (e : Fault). Made {E = Result (Vec Event Global) Fault} (EndsSchedule c.args.name.now) (λ (files : List NamedFile). schedule_found files c.args.name.now)
+    (g.F.Files.holds c.args.files.now) f (Err e))
     (sym c.of_unread.ensures)
     (schedule_unread {A = Vec ℕ Global} (λ (bytes : Vec ℕ Global). bytes.items) c.args.name (g.F.Files.holds c.args.files.now) f c.in-Err.unread
     c.in-Err.ensures.answers c.in-Err.ensures.error c.in-Err.ensures.open_faults c.in-Err.ensures.page_faults)

@@ -25,7 +25,8 @@ pub fill_first-requires-clause-first : goal.fill_first-requires-clause-first
 fill_first-requires-clause-first g c = first_of c.loop-page.m.kernel.place c.in-Some.page c.in-Some.parent (sym c.due_at.ensures ∙ c.in-Some.is)
 
 pub fill_first-requires-clause-room : goal.fill_first-requires-clause-room
-fill_first-requires-clause-room g c = λ q. room_one c.loop-page.m.kernel.place q (let so = c.loop-page.invariant.so_far in let same = so.on.frames in let many = c.requires.frames in omega (arith, same, many))
+fill_first-requires-clause-room g c =
+    λ q. room_one c.loop-page.m.kernel.place q (let so = c.loop-page.invariant.so_far in let same = so.on.frames in let many = c.requires.frames in omega (arith, same, many))
 
 pub fill_first-requires-clause-low : goal.fill_first-requires-clause-low
 fill_first-requires-clause-low g c = let so = c.loop-page.invariant.so_far in let few = so.low in let low = c.requires.low in omega (arith, few, low)
@@ -36,12 +37,14 @@ returns-in_err-fill_first-clause-stops g c =
     let first : IsDueFirst now.kernel.place (due_of c.in-Some.page c.in-Some.parent) = first_of now.kernel.place c.in-Some.page c.in-Some.parent (sym c.due_at.ensures ∙ c.in-Some.is) in
     let p = err_from_is_err_and c.from_residual.result c.from_residual.ensures.1 in
     rw (p.1, p.2) (filled_stops c.args.m.now now (g.F.Files.holds c.args.files.now) (g.F.Files.holds c.loop-page.files) (g.D.SwapDev.image c.args.swap.now) (g.D.SwapDev.image c.loop-page.swap)
-    c.loop-page.invariant.so_far c.fill_first.new.m (g.D.SwapDev.image c.fill_first.new.swap) (due_of c.in-Some.page c.in-Some.parent) c.in_err-fill_first.field-0.0 first c.in_err-fill_first.ensures.filled)
+    c.loop-page.invariant.so_far c.fill_first.new.m (g.D.SwapDev.image c.fill_first.new.swap) (due_of c.in-Some.page c.in-Some.parent) c.in_err-fill_first.field-0.0 first
+    c.in_err-fill_first.ensures.filled)
 
 pub returns-in_err-fill_first-clause-kept : goal.returns-in_err-fill_first-clause-kept
 returns-in_err-fill_first-clause-kept g c =
     let p = err_from_is_err_and c.from_residual.result c.from_residual.ensures.1 in
-    rw (p.1, p.2) (filled_kept c.args.m.now c.loop-page.m (g.F.Files.holds c.args.files.now) (g.F.Files.holds c.loop-page.files) (g.D.SwapDev.image c.args.swap.now) (g.D.SwapDev.image c.loop-page.swap)
+    rw (p.1, p.2)
+    (filled_kept c.args.m.now c.loop-page.m (g.F.Files.holds c.args.files.now) (g.F.Files.holds c.loop-page.files) (g.D.SwapDev.image c.args.swap.now) (g.D.SwapDev.image c.loop-page.swap)
     c.loop-page.invariant.so_far c.fill_first.new.m (g.D.SwapDev.image c.fill_first.new.swap) (due_of c.in-Some.page c.in-Some.parent) c.in_err-fill_first.field-0.0 c.in_err-fill_first.ensures.filled)
 
 pub loop-page-smaller : goal.loop-page-smaller
@@ -52,7 +55,8 @@ loop-page-smaller g c =
     let first : IsDueFirst now.kernel.place d = first_of now.kernel.place c.in-Some.page c.in-Some.parent (sym c.due_at.ensures ∙ c.in-Some.is) in
     let on : IsRunning now = record { running = c.loop-page.invariant.so_far.on.running; whole = c.loop-page.invariant.so_far.on.whole } in
     fewer now next d first
-    (due_filled d first.others now next (g.F.Files.holds c.loop-page.files) (g.D.SwapDev.image c.loop-page.swap) (g.D.SwapDev.image c.fill_first.new.swap) on first.first c.in_ok-fill_first.ensures.filled)
+    (due_filled d first.others now next (g.F.Files.holds c.loop-page.files) (g.D.SwapDev.image c.loop-page.swap)
+    (g.D.SwapDev.image c.fill_first.new.swap) on first.first c.in_ok-fill_first.ensures.filled)
 
 pub loop-page-preserved : goal.loop-page-preserved
 loop-page-preserved g c =
@@ -62,10 +66,12 @@ loop-page-preserved g c =
     let first : IsDueFirst now.kernel.place d = first_of now.kernel.place c.in-Some.page c.in-Some.parent (sym c.due_at.ensures ∙ c.in-Some.is) in
     let on : IsRunning now = record { running = c.loop-page.invariant.so_far.on.running; whole = c.loop-page.invariant.so_far.on.whole } in
     let one : RunsDue now next 0 first.others =
-    due_filled d first.others now next (g.F.Files.holds c.loop-page.files) (g.D.SwapDev.image c.loop-page.swap) (g.D.SwapDev.image c.fill_first.new.swap) on first.first c.in_ok-fill_first.ensures.filled in
+    due_filled d first.others now next (g.F.Files.holds c.loop-page.files) (g.D.SwapDev.image c.loop-page.swap)
+    (g.D.SwapDev.image c.fill_first.new.swap) on first.first c.in_ok-fill_first.ensures.filled in
     record {
       so_far = filled_one c.args.m.now now (g.F.Files.holds c.args.files.now) (g.F.Files.holds c.loop-page.files) (g.D.SwapDev.image c.args.swap.now) (g.D.SwapDev.image c.loop-page.swap)
-          c.loop-page.invariant.so_far next (g.F.Files.holds c.fill_first.new.files) (g.D.SwapDev.image c.fill_first.new.swap) d first c.in_ok-fill_first.ensures.outside.files.holds c.in_ok-fill_first.ensures.filled;
+          c.loop-page.invariant.so_far next (g.F.Files.holds c.fill_first.new.files) (g.D.SwapDev.image c.fill_first.new.swap) d first c.in_ok-fill_first.ensures.outside.files.holds
+          c.in_ok-fill_first.ensures.filled;
       area = area_next now next _ _ one.on.params c.in_ok-fill_first.ensures.outside.swap.blocks c.loop-page.invariant.area;
       files = files_next now next (g.F.Files.holds c.loop-page.files) _ one.on.images c.in_ok-fill_first.ensures.outside.files.holds c.loop-page.invariant.files;
       outside = transfers_then {stop = None} g.met.F.Files.leads_through g.met.D.SwapDev.leads_through c.loop-page.invariant.outside c.in_ok-fill_first.ensures.outside;

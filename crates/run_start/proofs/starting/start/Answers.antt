@@ -56,19 +56,22 @@ pub returns-in_ok-fill_rest-in-Ok-clause-leads : goal.returns-in_ok-fill_rest-in
 returns-in_ok-fill_rest-in-Ok-clause-leads g c A image told e _ =
     let b : AllBegan c.args.first.now c.args.m.now c.begin_all.new.m =
     all_began c.in_ok-started.started c.args.first.now c.args.m.now c.begin_all.new.m c.requires.new c.sound.ensures.numbered c.in-Ok.is c.in_ok-started.ensures.began in
-    start_leads A c.args.first.now c.args.m.now c.begin_all.new.m (g.F.Files.holds c.args.files.now) image c.requires.new c.requires.frames told b.all b.on c.fill_rest.new.m (g.D.SwapDev.image c.args.swap.now) (g.D.SwapDev.image c.fill_rest.new.swap) e c.in_ok-fill_rest-in-Ok.ensures.leads
+    start_leads A c.args.first.now c.args.m.now c.begin_all.new.m (g.F.Files.holds c.args.files.now) image c.requires.new c.requires.frames told b.all b.on c.fill_rest.new.m
+    (g.D.SwapDev.image c.args.swap.now) (g.D.SwapDev.image c.fill_rest.new.swap) e c.in_ok-fill_rest-in-Ok.ensures.leads
 
 pub returns-in_err-fill_rest-in-Ok-clause-stops : goal.returns-in_err-fill_rest-in-Ok-clause-stops
 returns-in_err-fill_rest-in-Ok-clause-stops g c A image told e =
     let b : AllBegan c.args.first.now c.args.m.now c.begin_all.new.m =
     all_began c.in_ok-started.started c.args.first.now c.args.m.now c.begin_all.new.m c.requires.new c.sound.ensures.numbered c.in-Ok.is c.in_ok-started.ensures.began in
     let p = err_from_is_err_and c.from_residual-in_err-fill_rest-in-Ok.result c.from_residual-in_err-fill_rest-in-Ok.ensures.1 in
-    rw (p.1, p.2) (start_stops A c.args.first.now c.args.m.now c.begin_all.new.m (g.F.Files.holds c.args.files.now) image c.requires.new c.requires.frames told b.all b.on c.fill_rest.new.m (g.D.SwapDev.image c.args.swap.now) (g.D.SwapDev.image c.fill_rest.new.swap) c.in_err-fill_rest-in-Ok.field-0.0 e c.in_err-fill_rest-in-Ok.ensures.stops)
+    rw (p.1, p.2) (start_stops A c.args.first.now c.args.m.now c.begin_all.new.m (g.F.Files.holds c.args.files.now) image c.requires.new c.requires.frames told b.all b.on c.fill_rest.new.m
+    (g.D.SwapDev.image c.args.swap.now) (g.D.SwapDev.image c.fill_rest.new.swap) c.in_err-fill_rest-in-Ok.field-0.0 e c.in_err-fill_rest-in-Ok.ensures.stops)
 
 pub returns-in_err-started-clause-stops : goal.returns-in_err-started-clause-stops
 returns-in_err-started-clause-stops g c A image told e =
     let p = err_from_is_err_and c.from_residual.result c.from_residual.ensures.1 in
-    rw (p.1, p.2) (begin_stops A c.begin_all.new.m image c.in_err-started.field-0.0 (g.D.SwapDev.image c.args.swap.now) c.in_err-started.ensures.cause c.in_err-started.ensures.stopped c.begin_all.ensures.journal e)
+    rw (p.1, p.2)
+    (begin_stops A c.begin_all.new.m image c.in_err-started.field-0.0 (g.D.SwapDev.image c.args.swap.now) c.in_err-started.ensures.cause c.in_err-started.ensures.stopped c.begin_all.ensures.journal e)
 
 pub returns-in-NoSpace-clause-none_made : goal.returns-in-NoSpace-clause-none_made
 returns-in-NoSpace-clause-none_made g c pid e = c.begin_all.ensures.journal
@@ -100,7 +103,10 @@ returns-in_ok-fill_rest-in-Ok-clause-kept_running g c pid e = never_both c.in_ok
 pub returns-in_err-started-clause-kept : goal.returns-in_err-started-clause-kept
 returns-in_err-started-clause-kept g c =
     let p = err_from_is_err_and c.from_residual.result c.from_residual.ensures.1 in
-    rw (p.1, p.2) (record { sizes = c.in_err-started.ensures.sizes; full = λ e. never_full c.in_err-started.field-0.0 (c.begin_all.new.m.params.journal ≤ length c.begin_all.new.m.kernel.journal) c.in_err-started.ensures.cause e })
+    rw (p.1, p.2) (record {
+      sizes = c.in_err-started.ensures.sizes;
+      full = λ e. never_full c.in_err-started.field-0.0 (c.begin_all.new.m.params.journal ≤ length c.begin_all.new.m.kernel.journal) c.in_err-started.ensures.cause e;
+    })
 
 pub returns-in_err-fill_rest-in-Ok-clause-kept : goal.returns-in_err-fill_rest-in-Ok-clause-kept
 returns-in_err-fill_rest-in-Ok-clause-kept g c =

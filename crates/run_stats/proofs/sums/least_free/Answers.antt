@@ -6,7 +6,8 @@ use Rattle.run_stats.proofs.sums.least_free.Goals as goal
 
 pub loop-note-preserved : goal.loop-note-preserved
 loop-note-preserved c = record {
-  left = least_more c.args.notes.now c.loop-note.note-index c.loop-note.least c.smaller-least.result (least_free c.args.first c.args.notes.now) _ c.loop-note-test.true c.smaller-least.ensures c.loop-note.invariant.left;
+  left = least_more c.args.notes.now c.loop-note.note-index c.loop-note.least c.smaller-least.result
+      (least_free c.args.first c.args.notes.now) _ c.loop-note-test.true c.smaller-least.ensures c.loop-note.invariant.left;
 }
 
 pub returns : goal.returns

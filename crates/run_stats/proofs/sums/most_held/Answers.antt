@@ -6,7 +6,8 @@ use Rattle.run_stats.proofs.sums.most_held.Goals as goal
 
 pub loop-note-preserved : goal.loop-note-preserved
 loop-note-preserved c = record {
-  left = most_more c.args.notes.now c.loop-note.note-index c.loop-note.most c.larger-most.result (most_held c.args.first c.args.notes.now) _ c.loop-note-test.true c.larger-most.ensures c.loop-note.invariant.left;
+  left = most_more c.args.notes.now c.loop-note.note-index c.loop-note.most c.larger-most.result (most_held c.args.first c.args.notes.now) _ c.loop-note-test.true c.larger-most.ensures
+      c.loop-note.invariant.left;
 }
 
 pub returns : goal.returns

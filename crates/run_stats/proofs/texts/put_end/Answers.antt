@@ -11,7 +11,8 @@ loop-entry-preserved c =
     let xs = c.args.journal.now in
     record {
       text =
-          text_more (ended_row c.args.pid) xs c.loop-entry.entry-index c.entry-item.result c.loop-entry.text.items c.put_ended.new.text.items (c.args.text.now.items ++ flat_map (ended_row c.args.pid) xs) c.loop-entry-test.true c.loop-entry.invariant.text
+          text_more (ended_row c.args.pid) xs c.loop-entry.entry-index c.entry-item.result c.loop-entry.text.items c.put_ended.new.text.items
+          (c.args.text.now.items ++ flat_map (ended_row c.args.pid) xs) c.loop-entry-test.true c.loop-entry.invariant.text
           (c.in_ok-put_ended.ensures ∙ ap (λ (x : Entry). c.loop-entry.text.items ++ ended_row c.args.pid x) c.entry-item.is);
     }
 

@@ -11,12 +11,14 @@ loop-head-preserved c =
     let heads = c.run_heads-heads.result.now in
     record {
       text =
-          text_more (run_row c.args.notes.now) heads c.loop-head.head-index HandMoves c.loop-head.text.items c.put_plain.new.text.items (c.args.text.now.items ++ flat_map (run_row c.args.notes.now) heads) c.loop-head-test.true c.loop-head.invariant.text
+          text_more (run_row c.args.notes.now) heads c.loop-head.head-index HandMoves c.loop-head.text.items c.put_plain.new.text.items
+          (c.args.text.now.items ++ flat_map (run_row c.args.notes.now) heads) c.loop-head-test.true c.loop-head.invariant.text
           (plain_put c.loop-head.text.items c.put_plain.new.text.items c.run_words.result.now _ c.sum_of.result _ c.in_ok-put_plain.ensures c.run_words.ensures c.sum_of.ensures);
     }
 
 pub returns : goal.returns
 returns c =
     let heads = c.run_heads-heads.result.now in
-    text_all (run_row c.args.notes.now) heads c.loop-head.head-index c.loop-head.text.items (c.args.text.now.items ++ flat_map (run_row c.args.notes.now) heads) (omega arith) c.loop-head.invariant.text
+    text_all (run_row c.args.notes.now) heads c.loop-head.head-index c.loop-head.text.items (c.args.text.now.items ++ flat_map (run_row c.args.notes.now) heads)
+    (omega arith) c.loop-head.invariant.text
     ∙ ap (λ t. c.args.text.now.items ++ flat_map (run_row c.args.notes.now) t) c.run_heads-heads.ensures

@@ -16,10 +16,12 @@ pub returns-then-is_empty : goal.returns-then-is_empty
 returns-then-is_empty c pid bytes small some below is =
     let none : length c.in-Some-strip_front.digits.now ≡ 0 = search rules in
     no_bytes c.in-Some-strip_front.digits.now bytes none some
-    (same_rest 32 c.in-Some-strip_front.digits.now (hex_text bytes) (sym c.in-Some-strip_front.ensures ∙ behind_process c.args.rest.now c.in-Some.behind.now c.in-Some.pid c.in-Some.ensures.0 c.in-Some.ensures.1 c.in-Some.ensures.2 pid bytes small is))
+    (same_rest 32 c.in-Some-strip_front.digits.now (hex_text bytes)
+    (sym c.in-Some-strip_front.ensures ∙ behind_process c.args.rest.now c.in-Some.behind.now c.in-Some.pid c.in-Some.ensures.0 c.in-Some.ensures.1 c.in-Some.ensures.2 pid bytes small is))
 
 pub returns-in-Ok-None : goal.returns-in-Ok-None
 returns-in-Ok-None c pid bytes small some below is =
     let none = rw c.in-Ok-None.field-0-is at c.in-Ok-None.ensures in
     none bytes below
-    (same_rest 32 c.in-Some-strip_front.digits.now (hex_text bytes) (sym c.in-Some-strip_front.ensures ∙ behind_process c.args.rest.now c.in-Some.behind.now c.in-Some.pid c.in-Some.ensures.0 c.in-Some.ensures.1 c.in-Some.ensures.2 pid bytes small is))
+    (same_rest 32 c.in-Some-strip_front.digits.now (hex_text bytes)
+    (sym c.in-Some-strip_front.ensures ∙ behind_process c.args.rest.now c.in-Some.behind.now c.in-Some.pid c.in-Some.ensures.0 c.in-Some.ensures.1 c.in-Some.ensures.2 pid bytes small is))

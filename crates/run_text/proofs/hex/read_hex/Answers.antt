@@ -10,7 +10,8 @@ returns-in_default c =
 
 pub loop-rest-preserved : goal.loop-rest-preserved
 loop-rest-preserved c =
-    hex_push c.args.text.now c.loop-rest.bytes.items c.push.new.self.items c.loop-rest.rest.now c.in-Some.more.now c.in-Some.byte c.in-Ok.ensures.items c.in-Some.ensures.1 c.in-Some.ensures.0 c.loop-rest.invariant
+    hex_push c.args.text.now c.loop-rest.bytes.items c.push.new.self.items c.loop-rest.rest.now c.in-Some.more.now c.in-Some.byte c.in-Ok.ensures.items c.in-Some.ensures.1
+    c.in-Some.ensures.0 c.loop-rest.invariant
 
 pub returns : goal.returns
 returns c =

@@ -12,11 +12,13 @@ returns-in_default c ns few below is =
 pub returns-then-is_full : goal.returns-then-is_full
 returns-then-is_full c ns few below is =
     let five : length c.loop-rest.numbers ≡ 5 = grind (arith, nat_tests) in
-    row_full c.args.text.now c.loop-rest.numbers c.loop-rest.rest.now c.in-Some.more.now c.in-Some.number five c.in-Some.ensures.2 c.in-Some.ensures.0 c.in-Some.ensures.1 c.loop-rest.invariant ns few below is
+    row_full c.args.text.now c.loop-rest.numbers c.loop-rest.rest.now c.in-Some.more.now c.in-Some.number five c.in-Some.ensures.2 c.in-Some.ensures.0 c.in-Some.ensures.1
+    c.loop-rest.invariant ns few below is
 
 pub loop-rest-preserved : goal.loop-rest-preserved
 loop-rest-preserved c =
-    row_push c.args.text.now c.loop-rest.numbers c.push.new.self c.loop-rest.rest.now c.in-Some.more.now c.in-Some.number c.push.ensures c.in-Some.ensures.2 c.in-Some.ensures.0 c.in-Some.ensures.1 c.loop-rest.invariant
+    row_push c.args.text.now c.loop-rest.numbers c.push.new.self c.loop-rest.rest.now c.in-Some.more.now c.in-Some.number c.push.ensures c.in-Some.ensures.2 c.in-Some.ensures.0
+    c.in-Some.ensures.1 c.loop-rest.invariant
 
 pub returns : goal.returns
 returns c =

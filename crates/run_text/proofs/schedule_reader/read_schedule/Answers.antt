@@ -19,7 +19,8 @@ returns-in_default-clause-exact c =
 
 pub loop-rest-preserved : goal.loop-rest-preserved
 loop-rest-preserved c = (
-  read_push IsEventLine c.loop-rest.events.items c.push.new.self.items c.args.bytes.now c.loop-rest.rest.now c.first_line.result.0.now c.first_line.result.1.now c.loop-rest.line c.in-Some.event (omega (arith, c.first_line.ensures.shorter))
+  read_push IsEventLine c.loop-rest.events.items c.push.new.self.items c.args.bytes.now c.loop-rest.rest.now c.first_line.result.0.now c.first_line.result.1.now c.loop-rest.line c.in-Some.event
+      (omega (arith, c.first_line.ensures.shorter))
       c.first_line.ensures.line c.first_line.ensures.rest c.in-Ok.ensures.items c.in-Some.ensures c.loop-rest.invariant.0,
   omega arith,
 )

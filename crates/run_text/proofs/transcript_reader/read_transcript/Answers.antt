@@ -20,7 +20,8 @@ returns-in-Ok-None-clause-written c es within is =
 
 pub loop-rest-preserved : goal.loop-rest-preserved
 loop-rest-preserved c = (
-  read_push IsEntryLine c.loop-rest.entries.items c.push.new.self.items c.args.bytes.now c.loop-rest.rest.now c.first_line.result.0.now c.first_line.result.1.now (c.loop-rest.line + 1) c.in-Ok-Some.entry (omega (arith, c.first_line.ensures.shorter))
+  read_push IsEntryLine c.loop-rest.entries.items c.push.new.self.items c.args.bytes.now c.loop-rest.rest.now c.first_line.result.0.now c.first_line.result.1.now
+      (c.loop-rest.line + 1) c.in-Ok-Some.entry (omega (arith, c.first_line.ensures.shorter))
       c.first_line.ensures.line c.first_line.ensures.rest c.in-Ok.ensures.items (rw c.in-Ok-Some.field-0-is at c.in-Ok-Some.ensures) c.loop-rest.invariant.0,
   omega (arith, c.first_line.ensures.shorter, c.loop-rest.invariant.1),
 )

@@ -21,13 +21,15 @@ returns-in-Err-clause-made g c =
       page_after = g.F.Files.page_faults c.load_image.new.files;
     } in
     subst (λ (e : Fault). Made (EndsListing c.args.name.now) (λ (list : List NamedFile). image_told list c.args.name.now) (g.F.Files.holds c.args.files.now) f (Err e)) (sym c.of_unread.ensures)
-    (unread_image {A = Loaded} (λ loaded. (loaded.image, loaded.bytes.items)) c.args.name (λ (list : List NamedFile). image_told list c.args.name.now) (g.F.Files.holds c.args.files.now) f c.in-Err.unread
+    (unread_image {A = Loaded} (λ loaded. (loaded.image, loaded.bytes.items)) c.args.name (λ (list : List NamedFile). image_told list c.args.name.now)
+    (g.F.Files.holds c.args.files.now) f c.in-Err.unread
     c.in-Err.ensures.answers c.in-Err.ensures.faults c.in-Err.ensures.order)
 
 pub returns-in-Ok-listing_of-clause-made : goal.returns-in-Ok-listing_of-clause-made
 returns-in-Ok-listing_of-clause-made g c =
     let image = c.in-Ok.loaded.image in
-    made_by (EndsListing c.args.name.now) (λ (list : List NamedFile). image_told list c.args.name.now) (g.F.Files.holds c.args.files.now) _ (Ok c.in-Ok-listing_of.listing.items) (Ok (image, c.in-Ok.loaded.bytes.items))
+    made_by (EndsListing c.args.name.now) (λ (list : List NamedFile). image_told list c.args.name.now) (g.F.Files.holds c.args.files.now) _ (Ok c.in-Ok-listing_of.listing.items)
+    (Ok (image, c.in-Ok.loaded.bytes.items))
     c.in-Ok.ensures.answers (
       record { open_same = c.in-Ok.ensures.faults.0; page_same = c.in-Ok.ensures.faults.1 },
       subst (λ (code : List ℕ). IsListing (image.entry + 2) code c.in-Ok-listing_of.listing.items)

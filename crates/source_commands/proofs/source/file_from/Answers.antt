@@ -20,7 +20,8 @@ returns-in-Err-clause-made g c =
       page_before = g.F.Files.page_faults c.args.files.now;
       page_after = g.F.Files.page_faults c.read_file.new.files;
     } in
-    subst (λ (e : Fault). Made (EndsAssembly c.args.name.now) (λ (list : List NamedFile). bytes_told list c.args.name.now 495617) (g.F.Files.holds c.args.files.now) f (Err e)) (sym c.of_unread.ensures)
+    subst (λ (e : Fault). Made (EndsAssembly c.args.name.now) (λ (list : List NamedFile). bytes_told list c.args.name.now 495617) (g.F.Files.holds c.args.files.now) f (Err e))
+    (sym c.of_unread.ensures)
     (unread_source {A = Vec ℕ Global} (λ bytes. bytes.items) c.args.name (λ (list : List NamedFile). bytes_told list c.args.name.now 495617) (g.F.Files.holds c.args.files.now) f c.in-Err.unread
     c.in-Err.ensures.answers c.in-Err.ensures.error c.in-Err.ensures.open_faults c.in-Err.ensures.page_faults)
 
@@ -29,7 +30,8 @@ file_of-requires g c = program_limit c.as_slice.result.now c.in-Ok-Is.program.by
 
 pub returns-in-Ok-file_of-clause-made : goal.returns-in-Ok-file_of-clause-made
 returns-in-Ok-file_of-clause-made g c =
-    made_by (EndsAssembly c.args.name.now) (λ (list : List NamedFile). bytes_told list c.args.name.now 495617) (g.F.Files.holds c.args.files.now) _ (Ok c.in-Ok-file_of.file.items) (Ok c.in-Ok.source.items)
+    made_by (EndsAssembly c.args.name.now) (λ (list : List NamedFile). bytes_told list c.args.name.now 495617) (g.F.Files.holds c.args.files.now) _ (Ok c.in-Ok-file_of.file.items)
+    (Ok c.in-Ok.source.items)
     c.in-Ok.ensures.answers (
       record { open_same = c.in-Ok.ensures.open_faults; page_same = c.in-Ok.ensures.page_faults },
       record {
@@ -43,14 +45,17 @@ returns-in-Ok-file_of-clause-made g c =
 
 pub returns-in-Ok-Is-clause-made : goal.returns-in-Ok-Is-clause-made
 returns-in-Ok-Is-clause-made g c =
-    made_nothing (EndsAssembly c.args.name.now) (Err unreads.NoMemory) (λ (list : List NamedFile). bytes_told list c.args.name.now 495617) (g.F.Files.holds c.args.files.now) _ (Err NoMemory) (λ read. tt)
+    made_nothing (EndsAssembly c.args.name.now) (Err unreads.NoMemory) (λ (list : List NamedFile). bytes_told list c.args.name.now 495617) (g.F.Files.holds c.args.files.now) _
+    (Err NoMemory) (λ read. tt)
 
 pub returns-in-Ok-BadLine-clause-made : goal.returns-in-Ok-BadLine-clause-made
 returns-in-Ok-BadLine-clause-made g c =
-    made_by (EndsAssembly c.args.name.now) (λ (list : List NamedFile). bytes_told list c.args.name.now 495617) (g.F.Files.holds c.args.files.now) _ (Err (BadSource c.in-Ok-BadLine.line)) (Ok c.in-Ok.source.items)
+    made_by (EndsAssembly c.args.name.now) (λ (list : List NamedFile). bytes_told list c.args.name.now 495617) (g.F.Files.holds c.args.files.now) _ (Err (BadSource c.in-Ok-BadLine.line))
+    (Ok c.in-Ok.source.items)
     c.in-Ok.ensures.answers (subst (λ (source : List ℕ). IsFirstBad source c.in-Ok-BadLine.line) c.as_slice.ensures.value
     (subst (AssemblesAs c.as_slice.result.now) c.in-Ok-BadLine.field-0-is c.in-Ok-BadLine.ensures))
 
 pub returns-clause-made : goal.returns-clause-made
 returns-clause-made g c =
-    made_nothing (EndsAssembly c.args.name.now) (Err unreads.NoMemory) (λ (list : List NamedFile). bytes_told list c.args.name.now 495617) (g.F.Files.holds c.args.files.now) _ (Err NoMemory) (λ read. tt)
+    made_nothing (EndsAssembly c.args.name.now) (Err unreads.NoMemory) (λ (list : List NamedFile). bytes_told list c.args.name.now 495617) (g.F.Files.holds c.args.files.now) _
+    (Err NoMemory) (λ read. tt)

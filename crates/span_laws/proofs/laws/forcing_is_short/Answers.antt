@@ -4,7 +4,8 @@ use Rattle.span_laws.proofs.Forcing.{Short, forced_short, forced_moves}
 use Rattle.span_laws.proofs.laws.forcing_is_short.Goals as goal
 
 pub returns-clause-few : goal.returns-clause-few
-returns-clause-few c = λ p r locked journal us o h. let k : Short false us r (length p.transfers + 2) (length p.transfers) (length us) = forced_short false us p r locked o h in let a = k.few in omega (arith, units_added_false journal us)
+returns-clause-few c = λ p r locked journal us o h. let k : Short false us r (length p.transfers + 2) (length p.transfers) (length us) =
+    forced_short false us p r locked o h in let a = k.few in omega (arith, units_added_false journal us)
 
 pub returns-clause-flights : goal.returns-clause-flights
 returns-clause-flights c = λ p r locked us o h. let k : Short false us r (length p.transfers + 2) (length p.transfers) (length us) = forced_short false us p r locked o h in k.rest

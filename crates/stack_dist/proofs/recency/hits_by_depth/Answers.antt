@@ -63,7 +63,8 @@ leave_gap-depth-requires-clause-fits c =
     omega (arith, c.loop-before-test.true, c.deref-before-items.ensures.len, c.in_ok-last.ensures.len)
     in
     let few =
-    few_gaps (after (take c.loop-before.before-index c.args.refs.now) []) (last_of c.loop-before.place (after (take c.loop-before.before-index c.args.refs.now) [])) c.loop-before.place c.loop-before.gaps c.loop-before.hits.items
+    few_gaps (after (take c.loop-before.before-index c.args.refs.now) []) (last_of c.loop-before.place (after (take c.loop-before.before-index c.args.refs.now) [])) c.loop-before.place
+    c.loop-before.gaps c.loop-before.hits.items
     c.loop-before.invariant.follows
     in
     let less = few.1 in
@@ -82,7 +83,8 @@ count-requires-clause-within c depth is =
     in
     let d =
     depth_counts (after (take c.loop-before.before-index c.args.refs.now) []) (last_of c.loop-before.place (after (take c.loop-before.before-index c.args.refs.now) [])) c.loop-before.place
-    (get_or c.args.refs.now c.loop-before.before-index 0) depth c.loop-before.gaps c.loop-before.hits.items (get_or c.deref-before-items.result.now c.loop-before.before-index None) c.loop-before.invariant.follows
+    (get_or c.args.refs.now c.loop-before.before-index 0) depth c.loop-before.gaps c.loop-before.hits.items
+    (get_or c.deref-before-items.result.now c.loop-before.before-index None) c.loop-before.invariant.follows
     was (sym c.leave_gap-depth.ensures.depth ∙ is)
     in
     let counted = d.0 in
@@ -100,7 +102,8 @@ count-requires-clause-fits c depth is =
     in
     let d =
     depth_counts (after (take c.loop-before.before-index c.args.refs.now) []) (last_of c.loop-before.place (after (take c.loop-before.before-index c.args.refs.now) [])) c.loop-before.place
-    (get_or c.args.refs.now c.loop-before.before-index 0) depth c.loop-before.gaps c.loop-before.hits.items (get_or c.deref-before-items.result.now c.loop-before.before-index None) c.loop-before.invariant.follows
+    (get_or c.args.refs.now c.loop-before.before-index 0) depth c.loop-before.gaps c.loop-before.hits.items
+    (get_or c.deref-before-items.result.now c.loop-before.before-index None) c.loop-before.invariant.follows
     was (sym c.leave_gap-depth.ensures.depth ∙ is)
     in
     let counted = d.1 in
@@ -138,7 +141,8 @@ loop-before-preserved c =
 pub returns-clause-depths : goal.returns-clause-depths
 returns-clause-depths c =
     let all =
-    all_followed c.args.refs.now c.loop-before.before-index (last_of c.loop-before.place (after (take c.loop-before.before-index c.args.refs.now) [])) c.loop-before.place c.loop-before.gaps c.loop-before.hits.items
+    all_followed c.args.refs.now c.loop-before.before-index (last_of c.loop-before.place (after (take c.loop-before.before-index c.args.refs.now) [])) c.loop-before.place c.loop-before.gaps
+    c.loop-before.hits.items
     (omega (arith, c.loop-before-test.false, c.deref-before-items.ensures.len, c.in_ok-last.ensures.len)) c.loop-before.invariant.follows
     in
     let ok = c.loop-before.hits.ok in
@@ -149,7 +153,8 @@ returns-clause-depths c =
 pub returns-clause-hits : goal.returns-clause-hits
 returns-clause-hits c n =
     let all =
-    all_followed c.args.refs.now c.loop-before.before-index (last_of c.loop-before.place (after (take c.loop-before.before-index c.args.refs.now) [])) c.loop-before.place c.loop-before.gaps c.loop-before.hits.items
+    all_followed c.args.refs.now c.loop-before.before-index (last_of c.loop-before.place (after (take c.loop-before.before-index c.args.refs.now) [])) c.loop-before.place c.loop-before.gaps
+    c.loop-before.hits.items
     (omega (arith, c.loop-before-test.false, c.deref-before-items.ensures.len, c.in_ok-last.ensures.len)) c.loop-before.invariant.follows
     in
     let hits = all.counts n in

@@ -47,7 +47,8 @@ returns-in_err-put_once-clause-stopped g c =
     let now = c.loop-step.m in
     let new = c.put_once.new.m in
     let j = g.D.SwapDev.image c.put_once.new.swap in
-    let here = if_err c.put_once.result (λ stop s. so.so_far.stops stop new j (stops_here c.args.pid c.args.sid now stop new (g.F.Files.holds c.loop-step.files) (g.D.SwapDev.image c.loop-step.swap) j so.puts.resident
+    let here = if_err c.put_once.result
+    (λ stop s. so.so_far.stops stop new j (stops_here c.args.pid c.args.sid now stop new (g.F.Files.holds c.loop-step.files) (g.D.SwapDev.image c.loop-step.swap) j so.puts.resident
     c.put_once.ensures.params c.put_once.ensures.images s)) c.put_once.ensures.stopped in
     search (here, rules)
 

@@ -22,7 +22,8 @@ put_page-requires-clause-seated g c =
 pub returns-in-Wait-clause-made : goal.returns-in-Wait-clause-made
 returns-in-Wait-clause-made g c =
     let s : IsStep c.args.m.now.kernel.place c.args.sid steps.Wait = subst (IsStep c.args.m.now.kernel.place c.args.sid) c.in-Wait.is c.requires.step in
-    subst (λ (e : Entry). OnOk c.complete.result (MakesUnit (ground c.args.m.now (g.F.Files.holds c.args.files.now) []) e c.args.m.now c.complete.new.m (g.D.SwapDev.image c.args.swap.now) (g.D.SwapDev.image c.complete.new.swap)))
+    subst (λ (e : Entry). OnOk c.complete.result
+    (MakesUnit (ground c.args.m.now (g.F.Files.holds c.args.files.now) []) e c.args.m.now c.complete.new.m (g.D.SwapDev.image c.args.swap.now) (g.D.SwapDev.image c.complete.new.swap)))
     (sym (s.1 c.args._pid)) c.complete.ensures.made
 
 pub returns-in-Wait-clause-stopped : goal.returns-in-Wait-clause-stopped

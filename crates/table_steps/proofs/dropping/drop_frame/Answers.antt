@@ -16,7 +16,8 @@ returns-in-Resident-clause-free c =
     let number : c.release-token.result.number ≡ f = ap (λ (x : Frame). x.number) c.release-token.ensures ∙ c.lift.ensures.number in
     c.give_head.ensures.free
     ∙ ap (λ (n : ℕ). n ∷ c.lift.new.self.free) number
-    ∙ ap (λ (fs : List ℕ). f ∷ fs) (c.lift.ensures.free ∙ sym (without_absent f c.args.core.now.free (c.frames-frames.ensures.sound.listed f ∙ unlisted (slot_at c.args.core.now.slots f) c.in-Resident.ensures.slot.0)))
+    ∙ ap (λ (fs : List ℕ). f ∷ fs)
+    (c.lift.ensures.free ∙ sym (without_absent f c.args.core.now.free (c.frames-frames.ensures.sound.listed f ∙ unlisted (slot_at c.args.core.now.slots f) c.in-Resident.ensures.slot.0)))
 
 pub returns-in-Resident-clause-slots : goal.returns-in-Resident-clause-slots
 returns-in-Resident-clause-slots c =

@@ -13,13 +13,15 @@ use Rattle.table_steps.proofs.dropping.drop_pages.Goals as goal
 pub drop_page-requires-clause-there : goal.drop_page-requires-clause-there
 drop_page-requires-clause-there c =
     let m : MayForgetPage (lists_of c.loop-v.tables) (beside c.args.page c.loop-v.v) =
-    next_may c.args.tables.now c.loop-v.tables c.args.page c.args.from c.args.to c.loop-v.v c.loop-v.invariant.dropped (omega arith) (omega arith) c.requires.writable c.requires.there c.requires.rest in
+    next_may c.args.tables.now c.loop-v.tables c.args.page c.args.from c.args.to c.loop-v.v c.loop-v.invariant.dropped (omega arith)
+    (omega arith) c.requires.writable c.requires.there c.requires.rest in
     subst (IsThere (placement_of (lists_of c.loop-v.tables))) (sym c.beside.ensures) m.there
 
 pub drop_page-requires-clause-rests : goal.drop_page-requires-clause-rests
 drop_page-requires-clause-rests c =
     let m : MayForgetPage (lists_of c.loop-v.tables) (beside c.args.page c.loop-v.v) =
-    next_may c.args.tables.now c.loop-v.tables c.args.page c.args.from c.args.to c.loop-v.v c.loop-v.invariant.dropped (omega arith) (omega arith) c.requires.writable c.requires.there c.requires.rest in
+    next_may c.args.tables.now c.loop-v.tables c.args.page c.args.from c.args.to c.loop-v.v c.loop-v.invariant.dropped (omega arith)
+    (omega arith) c.requires.writable c.requires.there c.requires.rest in
     subst (λ (q : Page). AtRest (state_of (placement_of (lists_of c.loop-v.tables)) q)) (sym c.beside.ensures) m.rests
 
 pub loop-v-preserved : goal.loop-v-preserved

@@ -20,37 +20,68 @@ unreachable-requires c = no_space (lists_of c.args.tables.now) c.args.sid c.requ
 pub drop_pages-requires-clause-there : goal.drop_pages-requires-clause-there
 drop_pages-requires-clause-there c =
     let z : Sizing c.args.tables.now c.in-Some.index c.args.sid c.args.data_pages c.args.stack_pages c.sizes_at-data.result.0 c.sizes_at-data.result.1 =
-    record { known = c.requires.known; stands = c.in-Some.ensures.found; data_has = c.sizes_at-data.ensures.data_pages; stack_has = c.sizes_at-data.ensures.stack_pages; settled = c.requires.settled } in
+    record {
+      known = c.requires.known;
+      stands = c.in-Some.ensures.found;
+      data_has = c.sizes_at-data.ensures.data_pages;
+      stack_has = c.sizes_at-data.ensures.stack_pages;
+      settled = c.requires.settled;
+    } in
     data_go c.args.tables.now c.in-Some.index c.args.sid c.args.data_pages c.args.stack_pages c.sizes_at-data.result.0 c.sizes_at-data.result.1 z
 
 pub drop_pages-requires-clause-rest : goal.drop_pages-requires-clause-rest
 drop_pages-requires-clause-rest c =
     let z : Sizing c.args.tables.now c.in-Some.index c.args.sid c.args.data_pages c.args.stack_pages c.sizes_at-data.result.0 c.sizes_at-data.result.1 =
-    record { known = c.requires.known; stands = c.in-Some.ensures.found; data_has = c.sizes_at-data.ensures.data_pages; stack_has = c.sizes_at-data.ensures.stack_pages; settled = c.requires.settled } in
+    record {
+      known = c.requires.known;
+      stands = c.in-Some.ensures.found;
+      data_has = c.sizes_at-data.ensures.data_pages;
+      stack_has = c.sizes_at-data.ensures.stack_pages;
+      settled = c.requires.settled;
+    } in
     data_rest c.args.tables.now c.in-Some.index c.args.sid c.args.data_pages c.args.stack_pages c.sizes_at-data.result.0 c.sizes_at-data.result.1 z
 
 pub drop_pages-requires-2-clause-there : goal.drop_pages-requires-2-clause-there
 drop_pages-requires-2-clause-there c =
     let z : Sizing c.args.tables.now c.in-Some.index c.args.sid c.args.data_pages c.args.stack_pages c.sizes_at-data.result.0 c.sizes_at-data.result.1 =
-    record { known = c.requires.known; stands = c.in-Some.ensures.found; data_has = c.sizes_at-data.ensures.data_pages; stack_has = c.sizes_at-data.ensures.stack_pages; settled = c.requires.settled } in
+    record {
+      known = c.requires.known;
+      stands = c.in-Some.ensures.found;
+      data_has = c.sizes_at-data.ensures.data_pages;
+      stack_has = c.sizes_at-data.ensures.stack_pages;
+      settled = c.requires.settled;
+    } in
     stack_go c.args.tables.now c.drop_pages.new.tables c.in-Some.index c.args.sid c.args.data_pages c.args.stack_pages c.sizes_at-data.result.0 c.sizes_at-data.result.1
     (pages_from (Data c.args.sid 0) c.args.data_pages (c.sizes_at-data.result.0 - c.args.data_pages)) z c.drop_pages.ensures
 
 pub drop_pages-requires-2-clause-rest : goal.drop_pages-requires-2-clause-rest
 drop_pages-requires-2-clause-rest c =
     let z : Sizing c.args.tables.now c.in-Some.index c.args.sid c.args.data_pages c.args.stack_pages c.sizes_at-data.result.0 c.sizes_at-data.result.1 =
-    record { known = c.requires.known; stands = c.in-Some.ensures.found; data_has = c.sizes_at-data.ensures.data_pages; stack_has = c.sizes_at-data.ensures.stack_pages; settled = c.requires.settled } in
+    record {
+      known = c.requires.known;
+      stands = c.in-Some.ensures.found;
+      data_has = c.sizes_at-data.ensures.data_pages;
+      stack_has = c.sizes_at-data.ensures.stack_pages;
+      settled = c.requires.settled;
+    } in
     stack_still c.args.tables.now c.drop_pages.new.tables c.in-Some.index c.args.sid c.args.data_pages c.args.stack_pages c.sizes_at-data.result.0 c.sizes_at-data.result.1
     (pages_from (Data c.args.sid 0) c.args.data_pages (c.sizes_at-data.result.0 - c.args.data_pages)) z c.drop_pages.ensures
 
 pub resize_at-requires-clause-in_range : goal.resize_at-requires-clause-in_range
 resize_at-requires-clause-in_range c =
     let z : Sizing c.args.tables.now c.in-Some.index c.args.sid c.args.data_pages c.args.stack_pages c.sizes_at-data.result.0 c.sizes_at-data.result.1 =
-    record { known = c.requires.known; stands = c.in-Some.ensures.found; data_has = c.sizes_at-data.ensures.data_pages; stack_has = c.sizes_at-data.ensures.stack_pages; settled = c.requires.settled } in
+    record {
+      known = c.requires.known;
+      stands = c.in-Some.ensures.found;
+      data_has = c.sizes_at-data.ensures.data_pages;
+      stack_has = c.sizes_at-data.ensures.stack_pages;
+      settled = c.requires.settled;
+    } in
     let h : Dropped c.args.tables.now c.drop_pages-2.new.tables (dropped_pages (placement_of (lists_of c.args.tables.now)) c.args.sid c.args.data_pages c.args.stack_pages) =
     both_dropped c.args.tables.now c.drop_pages.new.tables c.drop_pages-2.new.tables c.in-Some.index c.args.sid c.args.data_pages c.args.stack_pages
     c.sizes_at-data.result.0 c.sizes_at-data.result.1 z c.drop_pages.ensures c.drop_pages-2.ensures in
-    (dropped_stands c.args.tables.now c.drop_pages-2.new.tables (dropped_pages (placement_of (lists_of c.args.tables.now)) c.args.sid c.args.data_pages c.args.stack_pages) c.args.sid c.in-Some.index h c.in-Some.ensures.found).in_range
+    (dropped_stands c.args.tables.now c.drop_pages-2.new.tables (dropped_pages (placement_of (lists_of c.args.tables.now)) c.args.sid c.args.data_pages c.args.stack_pages) c.args.sid c.in-Some.index h
+    c.in-Some.ensures.found).in_range
 
 pub returns-clause-resized : goal.returns-clause-resized
 returns-clause-resized c =
@@ -62,8 +93,15 @@ returns-clause-resized c =
     let d : ℕ = c.args.data_pages in
     let s : ℕ = c.args.stack_pages in
     let z : Sizing t i sid d s c.sizes_at-data.result.0 c.sizes_at-data.result.1 =
-    record { known = c.requires.known; stands = c.in-Some.ensures.found; data_has = c.sizes_at-data.ensures.data_pages; stack_has = c.sizes_at-data.ensures.stack_pages; settled = c.requires.settled } in
-    let h : Dropped t v (dropped_pages (placement_of (lists_of t)) sid d s) = both_dropped t c.drop_pages.new.tables v i sid d s c.sizes_at-data.result.0 c.sizes_at-data.result.1 z c.drop_pages.ensures c.drop_pages-2.ensures in
+    record {
+      known = c.requires.known;
+      stands = c.in-Some.ensures.found;
+      data_has = c.sizes_at-data.ensures.data_pages;
+      stack_has = c.sizes_at-data.ensures.stack_pages;
+      settled = c.requires.settled;
+    } in
+    let h : Dropped t v (dropped_pages (placement_of (lists_of t)) sid d s) =
+    both_dropped t c.drop_pages.new.tables v i sid d s c.sizes_at-data.result.0 c.sizes_at-data.result.1 z c.drop_pages.ensures c.drop_pages-2.ensures in
     let is : lists_of w ≡ cut_lists (lists_of v) i d s = ap (λ (ss : List Places). record (lists_of v) { spaces = ss }) c.in_ok-resize_at.ensures.ok in
     let ns : ℕ = length (pieces (2 * s)) in
     let nd : ℕ = length (pieces (2 * d)) in

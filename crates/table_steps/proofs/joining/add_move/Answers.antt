@@ -15,4 +15,5 @@ returns-in-Some c =
 pub returns-in-None : goal.returns-in-None
 returns-in-None c =
     let items : List Entry = c.args.journal.now.items in
-    c.push_reserved.ensures.items ∙ sym (counts_alone moves_in (λ (count : ℕ). entries.Hands count) moves_kind items (sym (ap (last_says moves_in) c.as_slice.ensures.value) ∙ sym c.last_moves.ensures ∙ c.in-None.is))
+    c.push_reserved.ensures.items
+    ∙ sym (counts_alone moves_in (λ (count : ℕ). entries.Hands count) moves_kind items (sym (ap (last_says moves_in) c.as_slice.ensures.value) ∙ sym c.last_moves.ensures ∙ c.in-None.is))

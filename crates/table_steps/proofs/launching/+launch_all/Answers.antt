@@ -46,7 +46,8 @@ launch_all-requires t c =
     let m : ℕ = c.args.n - 1 in
     let e : c.args.n ≡ suc m = omega arith in
     let b : Launched c.args.tables.now c.launch-part.new.tables c.args.parts.now.items c.args.page c.launch-part.result c.args.lo m =
-    launched_first c.args.tables.now c.launch-part.new.tables c.args.parts.now.items c.args.page c.beside.result c.launch-part.result c.args.lo c.args.n m e c.beside.ensures c.requires.may c.launch-part.ensures c.frames-frames.ensures.sound in (
+    launched_first c.args.tables.now c.launch-part.new.tables c.args.parts.now.items c.args.page c.beside.result c.launch-part.result c.args.lo c.args.n m e c.beside.ensures c.requires.may
+    c.launch-part.ensures c.frames-frames.ensures.sound in (
       omega (arith, c.decreases),
       (
         subst (λ (ys : List Outbound). MayLaunch (launching c.launch-part.new.tables ys) c.args.page (c.args.lo + 1) m) (sym c.push_reserved.ensures.items) b.may,
@@ -63,7 +64,8 @@ returns t c =
     let m : ℕ = c.args.n - 1 in
     let e : c.args.n ≡ suc m = omega arith in
     let b : Launched c.args.tables.now c.launch-part.new.tables c.args.parts.now.items c.args.page c.launch-part.result c.args.lo m =
-    launched_first c.args.tables.now c.launch-part.new.tables c.args.parts.now.items c.args.page c.beside.result c.launch-part.result c.args.lo c.args.n m e c.beside.ensures c.requires.may c.launch-part.ensures c.frames-frames.ensures.sound in
+    launched_first c.args.tables.now c.launch-part.new.tables c.args.parts.now.items c.args.page c.beside.result c.launch-part.result c.args.lo c.args.n m e c.beside.ensures c.requires.may
+    c.launch-part.ensures c.frames-frames.ensures.sound in
     record {
       place =
           c.launch_all.ensures.place

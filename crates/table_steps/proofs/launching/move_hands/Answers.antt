@@ -31,13 +31,16 @@ advance-requires c =
     let v : Tables = c.sweep.new.tables in
     record {
       front =
-          let e : v.front ≡ t.front = ap (λ (q : Placement). q.front) (c.sweep.ensures.place ∙ ap (λ (q : Placement). sweep q c.args.locked.now) r.place) ∙ (swept_steady (placement_of (lists_of t)) c.args.locked.now).front in
+          let e : v.front ≡ t.front = ap (λ (q : Placement). q.front) (c.sweep.ensures.place ∙ ap (λ (q : Placement). sweep q c.args.locked.now) r.place)
+          ∙ (swept_steady (placement_of (lists_of t)) c.args.locked.now).front in
           subst (λ (f : ℕ). f < length v.core.slots) (sym e) (hand_within t v t.front (c.sweep.ensures.frames ∙ r.frames) c.requires.front.0 c.requires.front.1);
       back =
-          let e : v.back ≡ t.back = ap (λ (q : Placement). q.back) (c.sweep.ensures.place ∙ ap (λ (q : Placement). sweep q c.args.locked.now) r.place) ∙ (swept_steady (placement_of (lists_of t)) c.args.locked.now).back in
+          let e : v.back ≡ t.back =
+          ap (λ (q : Placement). q.back) (c.sweep.ensures.place ∙ ap (λ (q : Placement). sweep q c.args.locked.now) r.place) ∙ (swept_steady (placement_of (lists_of t)) c.args.locked.now).back in
           subst (λ (f : ℕ). f < length v.core.slots) (sym e) (hand_within t v t.back (c.sweep.ensures.frames ∙ r.frames) c.requires.back.0 c.requires.back.1);
     }
 
 pub returns : goal.returns
 returns c =
-    moved_hands c.args.tables.now c.expire.new.tables c.sweep.new.tables c.advance.new.tables c.args.locked.now c.requires.known c.expire.ensures.lists c.expire.ensures.rest c.sweep.ensures c.advance.ensures.front c.advance.ensures.back c.advance.ensures.rest
+    moved_hands c.args.tables.now c.expire.new.tables c.sweep.new.tables c.advance.new.tables c.args.locked.now c.requires.known c.expire.ensures.lists c.expire.ensures.rest c.sweep.ensures
+    c.advance.ensures.front c.advance.ensures.back c.advance.ensures.rest

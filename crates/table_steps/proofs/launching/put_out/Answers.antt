@@ -42,5 +42,6 @@ returns-else-n-gt0 c =
     let t : Tables = c.args.tables.now in
     let may : MayRetire (placement_of (lists_of t)) c.args.page = may_retire (placement_of (lists_of t)) c.args.page c.args.lo c.args.n (omega arith) c.requires.may in
     let r = seat_named (lists_of t) c.args.page c.requires.known may.seat in
-    moved_as t c.retire.new.tables (retire (placement_of (lists_of t)) c.args.page) (put_out (placement_of (lists_of t)) c.args.page c.args.lo c.args.n) (sym (put_none (placement_of (lists_of t)) c.args.page c.args.lo c.args.n (omega arith)))
+    moved_as t c.retire.new.tables (retire (placement_of (lists_of t)) c.args.page) (put_out (placement_of (lists_of t)) c.args.page c.args.lo c.args.n)
+    (sym (put_none (placement_of (lists_of t)) c.args.page c.args.lo c.args.n (omega arith)))
     (retire_moves t c.retire.new.tables c.args.page (frame_named (entry_in t.spaces c.args.page)) c.requires.known r may.clean c.retire.ensures)

@@ -33,9 +33,11 @@ returns-in-Some-default-false c =
 pub returns-in-Some-default-true : goal.returns-in-Some-default-true
 returns-in-Some-default-true c =
     let t : Tables = c.args.tables.now in
-    moved_none t (sweep (placement_of (lists_of t)) c.args.locked.now) c.requires.known (sweep_rests (lists_of t) c.args.locked.now c.requires.known (λ q e. valid_not _ q _ (sym c.in-Some-default-true.is ∙ c.page_under.ensures ∙ e) c.in-Some-default-true.field-0-1-test))
+    moved_none t (sweep (placement_of (lists_of t)) c.args.locked.now) c.requires.known
+    (sweep_rests (lists_of t) c.args.locked.now c.requires.known (λ q e. valid_not _ q _ (sym c.in-Some-default-true.is ∙ c.page_under.ensures ∙ e) c.in-Some-default-true.field-0-1-test))
 
 pub returns-in-None : goal.returns-in-None
 returns-in-None c =
     let t : Tables = c.args.tables.now in
-    moved_none t (sweep (placement_of (lists_of t)) c.args.locked.now) c.requires.known (sweep_rests (lists_of t) c.args.locked.now c.requires.known (λ q e. none_some (q, false) (sym c.in-None.is ∙ c.page_under.ensures ∙ e)))
+    moved_none t (sweep (placement_of (lists_of t)) c.args.locked.now) c.requires.known
+    (sweep_rests (lists_of t) c.args.locked.now c.requires.known (λ q e. none_some (q, false) (sym c.in-None.is ∙ c.page_under.ensures ∙ e)))

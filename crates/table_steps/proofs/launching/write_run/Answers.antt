@@ -18,7 +18,8 @@ use Rattle.table_steps.proofs.launching.write_run.Goals as goal
 
 pub launch_all-requires-clause-may : goal.launch_all-requires-clause-may
 launch_all-requires-clause-may c =
-    subst (λ (ys : List Outbound). MayLaunch (launching c.args.tables.now ys) c.args.page c.args.lo c.args.n) (sym c.requires.empty) (may_begin c.args.tables.now c.args.page c.args.lo c.args.n c.requires.may)
+    subst (λ (ys : List Outbound). MayLaunch (launching c.args.tables.now ys) c.args.page c.args.lo c.args.n) (sym c.requires.empty)
+    (may_begin c.args.tables.now c.args.page c.args.lo c.args.n c.requires.may)
 
 pub launch_all-requires-clause-fits : goal.launch_all-requires-clause-fits
 launch_all-requires-clause-fits c =
@@ -30,7 +31,8 @@ launch_all-requires-clause-fits c =
 
 pub begin_write-requires : goal.begin_write-requires
 begin_write-requires c =
-    subst IsRun (sym (c.launch_all.ensures.pages ∙ ap (λ (ys : List Outbound). outbound_pages ys ++ pages_from c.args.page c.args.lo c.args.n) c.requires.empty)) (run_rises c.args.page c.args.lo c.args.n c.requires.some c.requires.most)
+    subst IsRun (sym (c.launch_all.ensures.pages ∙ ap (λ (ys : List Outbound). outbound_pages ys ++ pages_from c.args.page c.args.lo c.args.n) c.requires.empty))
+    (run_rises c.args.page c.args.lo c.args.n c.requires.some c.requires.most)
 
 pub returns : goal.returns
 returns c =

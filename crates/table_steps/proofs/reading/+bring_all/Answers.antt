@@ -39,7 +39,8 @@ step t u xs b q v x lo n m e is d core may =
 same : (t u : Tables) (v : Page) (b : Bool) (x : Inbound) → BroughtPage t u v b x → SameSources t u
 same t u v b x d = record {
   images = ap (λ (y : Tables). map image_shown y.images.items) d.rest;
-  spaces = images_heads t u (ap (map head_of) d.spaces ∙ placed_heads (evicted t.texts (token_page (slot_at t.core.slots x.token.number)) t.spaces) _ _ ∙ evicted_heads t.texts (token_page (slot_at t.core.slots x.token.number)) t.spaces);
+  spaces = images_heads t u (ap (map head_of) d.spaces ∙ placed_heads (evicted t.texts (token_page (slot_at t.core.slots x.token.number)) t.spaces) _ _
+      ∙ evicted_heads t.texts (token_page (slot_at t.core.slots x.token.number)) t.spaces);
   book = ap (λ (y : Tables). y.book) d.rest;
 }
 
@@ -49,21 +50,24 @@ bring_all-requires t c =
     let e : c.args.n ≡ suc m = omega arith in
     let from : Source = source_by c.args.from_file in
     let b : Brings c.args.tables.now c.bring-part.new.tables c.args.parts.now.items from c.args.page c.bring-part.result c.args.lo m =
-    step c.args.tables.now c.bring-part.new.tables c.args.parts.now.items c.args.from_file c.args.page c.beside.result c.bring-part.result c.args.lo c.args.n m e c.beside.ensures c.bring-part.ensures c.frames-frames.ensures.sound c.requires.may in
+    step c.args.tables.now c.bring-part.new.tables c.args.parts.now.items c.args.from_file c.args.page c.beside.result c.bring-part.result c.args.lo c.args.n m e c.beside.ensures c.bring-part.ensures
+    c.frames-frames.ensures.sound c.requires.may in
     let s : SameSources c.args.tables.now c.bring-part.new.tables = same c.args.tables.now c.bring-part.new.tables c.beside.result c.args.from_file c.bring-part.result c.bring-part.ensures in
     let all = subst (λ (k : ℕ). EachPage (HasSource c.args.tables.now c.args.from_file) (pages_from c.args.page c.args.lo k)) e c.requires.has in (
       omega (arith, c.decreases),
       (
         subst (λ (ys : List Inbound). MayBring (opened c.bring-part.new.tables ys from c.args.page) c.args.page (c.args.lo + 1) m) (sym c.push_reserved.ensures.items) b.may,
         (
-          each_page_imp (HasSource c.args.tables.now c.args.from_file) (HasSource c.bring-part.new.tables c.args.from_file) (pages_from c.args.page (c.args.lo + 1) m) all.1 (λ w h. has_still c.args.tables.now c.bring-part.new.tables c.args.from_file w s h),
+          each_page_imp (HasSource c.args.tables.now c.args.from_file) (HasSource c.bring-part.new.tables c.args.from_file) (pages_from c.args.page (c.args.lo + 1) m) all.1
+              (λ w h. has_still c.args.tables.now c.bring-part.new.tables c.args.from_file w s h),
           (
             subst (λ (k : Book). IsBook k.size k.holdings) (sym s.book) c.requires.book,
             (
               subst (AreFrom c.bring-part.new.tables c.args.from_file) (sym c.push_reserved.ensures.items)
                   (from_still c.args.tables.now c.bring-part.new.tables c.args.from_file (c.args.parts.now.items ++ c.bring-part.result ∷ []) s
                   (from_snoc c.args.tables.now c.args.from_file c.args.parts.now.items c.bring-part.result c.requires.from c.bring-part.ensures.kind c.bring-part.ensures.range
-                  (subst (λ (w : Page). IsSourced (images_of c.args.tables.now) (image_at c.args.tables.now) c.args.tables.now.book.holdings c.args.tables.now.book.size w c.bring-part.result.source) (sym c.bring-part.ensures.page) c.bring-part.ensures.own))),
+                  (subst (λ (w : Page). IsSourced (images_of c.args.tables.now) (image_at c.args.tables.now) c.args.tables.now.book.holdings c.args.tables.now.book.size w c.bring-part.result.source)
+                  (sym c.bring-part.ensures.page) c.bring-part.ensures.own))),
               (omega (arith, c.push_reserved.ensures.len, c.push_reserved.ensures.capacity, c.requires.room), omega (arith, c.requires.fits)),
             ),
           ),
@@ -77,11 +81,13 @@ returns t c =
     let e : c.args.n ≡ suc m = omega arith in
     let from : Source = source_by c.args.from_file in
     let b : Brings c.args.tables.now c.bring-part.new.tables c.args.parts.now.items from c.args.page c.bring-part.result c.args.lo m =
-    step c.args.tables.now c.bring-part.new.tables c.args.parts.now.items c.args.from_file c.args.page c.beside.result c.bring-part.result c.args.lo c.args.n m e c.beside.ensures c.bring-part.ensures c.frames-frames.ensures.sound c.requires.may in
+    step c.args.tables.now c.bring-part.new.tables c.args.parts.now.items c.args.from_file c.args.page c.beside.result c.bring-part.result c.args.lo c.args.n m e c.beside.ensures c.bring-part.ensures
+    c.frames-frames.ensures.sound c.requires.may in
     record {
       place =
           c.bring_all.ensures.place
-          ∙ ap (λ (ys : List Inbound). get_all (placement_of (opened c.bring-part.new.tables ys from c.args.page)) (Reads from c.args.page) (pages_from c.args.page (c.args.lo + 1) m)) c.push_reserved.ensures.items
+          ∙ ap (λ (ys : List Inbound). get_all (placement_of (opened c.bring-part.new.tables ys from c.args.page)) (Reads from c.args.page) (pages_from c.args.page (c.args.lo + 1) m))
+          c.push_reserved.ensures.items
           ∙ ap (λ (p : Placement). get_all p (Reads from c.args.page) (pages_from c.args.page (c.args.lo + 1) m)) b.place
           ∙ ap (λ (k : ℕ). get_all (placement_of (opened c.args.tables.now c.args.parts.now.items from c.args.page)) (Reads from c.args.page) (pages_from c.args.page c.args.lo k)) (sym e);
       frames = c.bring_all.ensures.frames ∙ ap (λ (ys : List Inbound). frames_of (opened c.bring-part.new.tables ys from c.args.page)) c.push_reserved.ensures.items ∙ b.frames;
@@ -96,7 +102,8 @@ returns t c =
           ∙ ap (λ (k : ℕ). inbound_pages c.args.parts.now.items ++ pages_from c.args.page c.args.lo k) (sym e);
       from =
           from_still c.bring-part.new.tables c.args.tables.now c.args.from_file c.bring_all.new.parts.items
-          (back_sources c.args.tables.now c.bring-part.new.tables (same c.args.tables.now c.bring-part.new.tables c.beside.result c.args.from_file c.bring-part.result c.bring-part.ensures)) c.bring_all.ensures.from;
+          (back_sources c.args.tables.now c.bring-part.new.tables (same c.args.tables.now c.bring-part.new.tables c.beside.result c.args.from_file c.bring-part.result c.bring-part.ensures))
+          c.bring_all.ensures.from;
       images = λ sid.
           let s : SameSources c.args.tables.now c.bring-part.new.tables = same c.args.tables.now c.bring-part.new.tables c.beside.result c.args.from_file c.bring-part.result c.bring-part.ensures in
           c.bring_all.ensures.images sid ∙ s.spaces sid;

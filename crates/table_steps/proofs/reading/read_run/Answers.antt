@@ -50,7 +50,8 @@ returns c =
     shown_source (images_of t) (image_at t) t.book.holdings t.book.size (source_by b) ps c.args.page c.args.lo c.args.n c.requires.can.some pages c.bring_all.ensures.from.sourced in
     let g : Getting t u w ps x b c.args.page c.args.lo c.args.n = record {
       from = from;
-      place = c.bring_all.ensures.place ∙ ap (λ (ys : List Inbound). get_all (placement_of (opened t ys (source_by b) c.args.page)) (Reads (source_by b) c.args.page) (pages_from c.args.page c.args.lo c.args.n)) c.requires.none;
+      place = c.bring_all.ensures.place
+          ∙ ap (λ (ys : List Inbound). get_all (placement_of (opened t ys (source_by b) c.args.page)) (Reads (source_by b) c.args.page) (pages_from c.args.page c.args.lo c.args.n)) c.requires.none;
       frames = c.bring_all.ensures.frames ∙ ap (λ (ys : List Inbound). frames_of (opened t ys (source_by b) c.args.page)) c.requires.none;
       known = c.bring_all.ensures.known;
       images = c.bring_all.ensures.images;

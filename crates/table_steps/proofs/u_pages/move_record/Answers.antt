@@ -10,7 +10,8 @@ returns c =
     record {
       was = c.record_of-process.result;
       found = c.record_of-process.ensures.found;
-      changes = subst (λ (n : ℕ). Changes c.args.processes.now c.set-known.new.self n (Some (record c.record_of-process.result { regs = c.args.regs; out = c.args.out; since = c.args.since }))) at (c.set-known.ensures.records known);
+      changes = subst (λ (n : ℕ). Changes c.args.processes.now c.set-known.new.self n (Some (record c.record_of-process.result { regs = c.args.regs; out = c.args.out; since = c.args.since }))) at
+          (c.set-known.ensures.records known);
       before = c.record_of-process.ensures.table;
       after = c.set-known.ensures.sound;
     }

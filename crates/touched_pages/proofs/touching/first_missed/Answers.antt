@@ -19,6 +19,7 @@ returns-in-Call-clause-value c = λ known F p s named.
     let names : c.numbered.result ≡ call_of c.in-Call.number = search rules in
     call_missed known F p s (shown_in c.args.m.now.kernel (space_held c.args.m.now.kernel c.args.pid) c.args.pages.now) c.args.regs.now c.in-Call.number c.numbered.result c.try_step.new.regs
     c.missed_by_call.result (sym c.in-Call.is ∙ c.try_step.ensures.answer) c.try_step.ensures.registers names
-    (subst (λ (m : Standing). IfOk c.missed_by_call.result (λ byte. byte ≡ missed_by_call known F p s (shown_in m.kernel (space_held m.kernel c.args.pid) c.args.pages.now) c.try_step.new.regs c.numbered.result))
+    (subst (λ (m : Standing).
+    IfOk c.missed_by_call.result (λ byte. byte ≡ missed_by_call known F p s (shown_in m.kernel (space_held m.kernel c.args.pid) c.args.pages.now) c.try_step.new.regs c.numbered.result))
     c.try_step.ensures.same
     (c.missed_by_call.ensures.value known F p s (subst (AreNamed known) (sym (ap (λ (m : Standing). m.images) c.try_step.ensures.same)) named)))

@@ -17,7 +17,8 @@ loop-alloc-preserved c = record {
       subst (AreSoFar A s now c.args.m.now c.args.pid c.args.regs.now r) (sym c.push.ensures)
       (more_so_far A s now c.args.m.now c.args.pid c.args.regs.now r c.loop-alloc.touched c.in-Some.page (c.loop-alloc.invariant.so_far A s now r)
       (sym c.in-Some.is
-      ∙ found_so_far A s now c.args.m.now c.args.pid c.args.regs.now r c.loop-alloc.m c.loop-alloc.touched c.as_slice.result.now c.in_ok-page.field-0 c.loop-alloc.invariant.same c.as_slice.ensures.value
+      ∙ found_so_far A s now c.args.m.now c.args.pid c.args.regs.now r c.loop-alloc.m c.loop-alloc.touched c.as_slice.result.now c.in_ok-page.field-0 c.loop-alloc.invariant.same
+      c.as_slice.ensures.value
       (λ F y z named. c.in_ok-page.ensures.value A.images F y z named)));
 }
 

@@ -21,4 +21,5 @@ returns-in-Some-lone_bytes c =
 
 pub returns-in-None : goal.returns-in-None
 returns-in-None c =
-    no_bytes_is_none c.args.line.now [] c.args.at c.in-Some.sentence (sym c.is_short.ensures ∙ c.if-not-is_short.false) (sym c.sentence_of.ensures ∙ c.in-Some.is) (sym c.lone_bytes.ensures.value ∙ c.in-None.is)
+    no_bytes_is_none c.args.line.now [] c.args.at c.in-Some.sentence (sym c.is_short.ensures ∙ c.if-not-is_short.false) (sym c.sentence_of.ensures ∙ c.in-Some.is)
+    (sym c.lone_bytes.ensures.value ∙ c.in-None.is)

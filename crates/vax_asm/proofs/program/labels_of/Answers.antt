@@ -13,7 +13,8 @@ loop-left-init c = record { labels = ap (λ (l : List Definition). l ++ definiti
 
 pub loop-left-preserved : goal.loop-left-preserved
 loop-left-preserved c = record {
-  labels = labels_step c.loop-left.labels c.in_ok-labels.labels c.loop-left.at c.loop-left.left c.item_size-at.result c.loop-left.rest.now c.next_item-item.result.1.now c.next_item-item.result.0 (labels_of c.args.source.now) c.in_ok-labels.ensures c.item_size-at.ensures.value (search rules) c.next_item-item.ensures.item c.loop-left.invariant.labels;
+  labels = labels_step c.loop-left.labels c.in_ok-labels.labels c.loop-left.at c.loop-left.left c.item_size-at.result c.loop-left.rest.now c.next_item-item.result.1.now c.next_item-item.result.0
+      (labels_of c.args.source.now) c.in_ok-labels.ensures c.item_size-at.ensures.value (search rules) c.next_item-item.ensures.item c.loop-left.invariant.labels;
   room = omega (arith, c.item_size-at.ensures.few);
 }
 

@@ -41,4 +41,5 @@ loop-rest-preserved c = record {
 pub returns : goal.returns
 returns c =
     let none : length c.loop-rest.rest.now ≡ 0 = grind (arith, nat_tests, c.is_empty.ensures, c.loop-rest-test.false) in
-    walked_end c.args.labels.now c.args.source.now c.loop-rest.rest.now c.loop-rest.number c.loop-rest.at c.loop-rest.earlier c.loop-rest.bss c.requires c.loop-rest.invariant.walked none c.loop-rest.invariant.few
+    walked_end c.args.labels.now c.args.source.now c.loop-rest.rest.now c.loop-rest.number c.loop-rest.at c.loop-rest.earlier c.loop-rest.bss c.requires c.loop-rest.invariant.walked none
+    c.loop-rest.invariant.few

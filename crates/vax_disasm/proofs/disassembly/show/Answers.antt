@@ -12,6 +12,7 @@ pub returns : goal.returns
 returns c =
     let few : length c.text_of.result ≤ 120 = omega (arith, c.into_parts-length.ensures.length, c.into_parts-length.ensures.few) in (
       subst (λ (l : List ℕ). IsTextOf c.args.bytes.now c.args.at l (length c.args.bytes.now - length c.in-Some.rest.now)) (sym c.into_parts-length.ensures.line)
-          (shown_text c.args.bytes.now c.in-Some.rest.now c.args.at c.in-Some.sentence c.text_of.result (length c.args.bytes.now - length c.in-Some.rest.now) (slice_octets c.args.bytes.now c.type_inv.bytes) c.in-Some.ensures.value c.text_of.ensures few refl),
+          (shown_text c.args.bytes.now c.in-Some.rest.now c.args.at c.in-Some.sentence c.text_of.result (length c.args.bytes.now - length c.in-Some.rest.now)
+          (slice_octets c.args.bytes.now c.type_inv.bytes) c.in-Some.ensures.value c.text_of.ensures few refl),
       c.into_parts-length.ensures.few,
     )

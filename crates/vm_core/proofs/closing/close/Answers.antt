@@ -28,7 +28,8 @@ returns-in_err-more-clause-stops g c =
     let j = g.D.SwapDev.image c.turn.new.swap in
     let stop = c.in_err-more.field-0.0 in
     stops_on c.from_residual.result stop (StopsClosing old c.turn.new.m c.args.counted holds i j) c.from_residual.ensures.1
-    (closing_stops old c.loop-pid.m c.turn.new.m holds i h j c.args.counted c.loop-pid.count c.loop-pid.last c.loop-pid.idle c.in-Some.pid stop c.loop-pid.invariant.closes c.in-Some.ensures.some c.in-Some.ensures.below
+    (closing_stops old c.loop-pid.m c.turn.new.m holds i h j c.args.counted c.loop-pid.count c.loop-pid.last c.loop-pid.idle c.in-Some.pid stop c.loop-pid.invariant.closes
+    c.in-Some.ensures.some c.in-Some.ensures.below
     (subst (λ hs. StopsTurn c.loop-pid.m c.turn.new.m c.in-Some.pid c.loop-pid.count hs h j stop) c.loop-pid.invariant.outside.files.holds c.in_err-more.ensures.stops))
 
 pub loop-pid-preserved : goal.loop-pid-preserved

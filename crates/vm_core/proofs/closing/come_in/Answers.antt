@@ -29,7 +29,8 @@ returns-clause-comes g c =
     let new : Standing = c.swap_in.new.m in
     let j = g.D.SwapDev.image c.swap_in.new.swap in
     ok_both c.swap_in.result (IsIn old.kernel new.kernel c.args.pid i) (IsSameBeside old new) ((counted since : ℕ) → ComesIn old new c.args.pid counted since holds i j)
-    (λ h b counted since. in_comes old new c.args.pid counted since holds i j (c.is_out.ensures.out c.if-not-is_out.false) h b.params b.images c.swap_in.ensures.image) c.swap_in.ensures.step c.swap_in.ensures.beside
+    (λ h b counted since. in_comes old new c.args.pid counted since holds i j (c.is_out.ensures.out c.if-not-is_out.false) h b.params b.images c.swap_in.ensures.image) c.swap_in.ensures.step
+    c.swap_in.ensures.beside
 
 pub returns-clause-stops : goal.returns-clause-stops
 returns-clause-stops g c =

@@ -4,7 +4,8 @@ use Rattle.vm_core.proofs.closing.is_out.Goals as goal
 
 pub returns-in_default-clause-resident : goal.returns-in_default-clause-resident
 returns-in_default-clause-resident c = λ e.
-    none_there c.args.m.now.kernel c.processes.result.now c.args.pid c.processes.ensures.processes c.processes.ensures.residents (c.processes.ensures.records c.requires) (sym c.in_default.ensures.value)
+    none_there c.args.m.now.kernel c.processes.result.now c.args.pid c.processes.ensures.processes c.processes.ensures.residents (c.processes.ensures.records c.requires)
+    (sym c.in_default.ensures.value)
 
 pub returns-in_default-state-clause-resident : goal.returns-in_default-state-clause-resident
 returns-in_default-state-clause-resident c = λ e.

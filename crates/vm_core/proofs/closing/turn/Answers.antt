@@ -32,7 +32,8 @@ returns-in_err-come_in-clause-stops g c =
     let i = g.D.SwapDev.image c.args.swap.now in
     let j = g.D.SwapDev.image c.come_in.new.swap in
     stops_on c.from_residual-in_err-come_in.result c.in_err-come_in.field-0.0 (StopsTurn old c.come_in.new.m c.args.pid c.args.counted holds i j) c.from_residual-in_err-come_in.ensures.1
-    (turn_coming_stops old c.note.new.self c.come_in.new.m c.args.pid c.args.counted holds i j c.in_err-come_in.field-0.0 (noted_steady old c.note.new.self (entries.Turn c.args.pid) c.requires.steady tt c.in_ok-note.ensures.step c.in_ok-note.ensures.rest) c.in_ok-note.ensures.step
+    (turn_coming_stops old c.note.new.self c.come_in.new.m c.args.pid c.args.counted holds i j c.in_err-come_in.field-0.0
+    (noted_steady old c.note.new.self (entries.Turn c.args.pid) c.requires.steady tt c.in_ok-note.ensures.step c.in_ok-note.ensures.rest) c.in_ok-note.ensures.step
     (c.in_err-come_in.ensures.stops c.args.counted c.args.counted))
 
 pub finish-requires-clause-counted : goal.finish-requires-clause-counted
@@ -54,7 +55,8 @@ returns-clause-had g c =
     let j = g.D.SwapDev.image c.finish.new.swap in
     ok_two c.finish.result (λ count. FinishesTurn in_ new c.args.pid c.args.counted c.args.counted count holds h j) (λ count. CountsTo in_ new c.args.counted count)
     (λ count. HasTurn old new c.args.pid c.args.counted count holds i j)
-    (λ count f to. has_turn old c.note.new.self in_ new c.args.pid c.args.counted count holds i h j (noted_steady old c.note.new.self (entries.Turn c.args.pid) c.requires.steady tt c.in_ok-note.ensures.step c.in_ok-note.ensures.rest) c.in_ok-note.ensures.step (c.in_ok-come_in.ensures.comes c.args.counted c.args.counted) f to)
+    (λ count f to. has_turn old c.note.new.self in_ new c.args.pid c.args.counted count holds i h j (noted_steady old c.note.new.self
+    (entries.Turn c.args.pid) c.requires.steady tt c.in_ok-note.ensures.step c.in_ok-note.ensures.rest) c.in_ok-note.ensures.step (c.in_ok-come_in.ensures.comes c.args.counted c.args.counted) f to)
     (subst (λ hs. IfOk c.finish.result (λ count. FinishesTurn in_ new c.args.pid c.args.counted c.args.counted count hs h j))
     c.in_ok-come_in.ensures.outside.files.holds c.finish.ensures.done) c.finish.ensures.counts
 
@@ -68,7 +70,8 @@ returns-clause-stops g c =
     let h = g.D.SwapDev.image c.come_in.new.swap in
     let j = g.D.SwapDev.image c.finish.new.swap in
     stops_weaker c.finish.result (λ stop. StopsFinishing in_ new c.args.pid c.args.counted c.args.counted holds h j stop) (λ stop. StopsTurn old new c.args.pid c.args.counted holds i j stop)
-    (λ stop f. turn_finish_stops old c.note.new.self in_ new c.args.pid c.args.counted holds i h j stop (noted_steady old c.note.new.self (entries.Turn c.args.pid) c.requires.steady tt c.in_ok-note.ensures.step c.in_ok-note.ensures.rest) c.in_ok-note.ensures.step (c.in_ok-come_in.ensures.comes c.args.counted c.args.counted) f)
+    (λ stop f. turn_finish_stops old c.note.new.self in_ new c.args.pid c.args.counted holds i h j stop (noted_steady old c.note.new.self
+    (entries.Turn c.args.pid) c.requires.steady tt c.in_ok-note.ensures.step c.in_ok-note.ensures.rest) c.in_ok-note.ensures.step (c.in_ok-come_in.ensures.comes c.args.counted c.args.counted) f)
     (subst (λ hs. IfErr c.finish.result (λ stop. StopsFinishing in_ new c.args.pid c.args.counted c.args.counted hs h j stop))
     c.in_ok-come_in.ensures.outside.files.holds c.finish.ensures.stops)
 
@@ -76,7 +79,8 @@ pub returns-in_err-note-clause-kept : goal.returns-in_err-note-clause-kept
 returns-in_err-note-clause-kept g c =
     let stop = c.in_err-note.field-0.0 in
     stops_on c.from_residual.result stop (KeptAtStop c.args.m.now c.note.new.self) c.from_residual.ensures.1
-    (kept_noting c.args.m.now c.note.new.self stop (noted_stop stop c.args.m.now c.note.new.self c.requires.steady.whole c.in_err-note.ensures.stop c.in_err-note.ensures.cause c.in_err-note.ensures.full))
+    (kept_noting c.args.m.now c.note.new.self stop
+    (noted_stop stop c.args.m.now c.note.new.self c.requires.steady.whole c.in_err-note.ensures.stop c.in_err-note.ensures.cause c.in_err-note.ensures.full))
 
 pub returns-in_err-come_in-clause-kept : goal.returns-in_err-come_in-clause-kept
 returns-in_err-come_in-clause-kept g c =

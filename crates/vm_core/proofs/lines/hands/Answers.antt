@@ -27,4 +27,5 @@ returns-in_err-move_hands-clause-stops g c =
 pub returns-in_err-move_hands-clause-kept : goal.returns-in_err-move_hands-clause-kept
 returns-in_err-move_hands-clause-kept g c =
     stops_on c.from_residual.result c.in_err-move_hands.field-0.0 (KeptAtStop c.args.m.now c.move_hands.new.m) c.from_residual.ensures.1
-    (kept_moving c.args.m.now c.move_hands.new.m (g.F.Files.holds c.args.files.now) (g.D.SwapDev.image c.args.swap.now) (g.D.SwapDev.image c.move_hands.new.swap) c.args.count c.in_err-move_hands.field-0.0 c.in_err-move_hands.ensures.stopped)
+    (kept_moving c.args.m.now c.move_hands.new.m (g.F.Files.holds c.args.files.now) (g.D.SwapDev.image c.args.swap.now)
+    (g.D.SwapDev.image c.move_hands.new.swap) c.args.count c.in_err-move_hands.field-0.0 c.in_err-move_hands.ensures.stopped)

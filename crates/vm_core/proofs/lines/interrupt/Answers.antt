@@ -22,7 +22,8 @@ returns-in_err-done-clause-stops g c =
     let i = g.D.SwapDev.image c.args.swap.now in
     let j = g.D.SwapDev.image c.done.new.swap in
     stops_on c.from_residual.result c.in_err-done.field-0.0 (StopsLine events.Interrupt c.args.m.now c.done.new.self holds i j) c.from_residual.ensures.1
-    (interrupt_halts c.args.m.now c.done.new.self holds i j c.in_err-done.field-0.0 c.requires.steady.whole c.in_err-done.ensures.stop c.in_err-done.ensures.cause c.in_err-done.ensures.full c.in_err-done.ensures.lost c.in_err-done.ensures.spoiled)
+    (interrupt_halts c.args.m.now c.done.new.self holds i j c.in_err-done.field-0.0 c.requires.steady.whole c.in_err-done.ensures.stop c.in_err-done.ensures.cause c.in_err-done.ensures.full
+    c.in_err-done.ensures.lost c.in_err-done.ensures.spoiled)
 
 pub returns-in_err-done-clause-kept : goal.returns-in_err-done-clause-kept
 returns-in_err-done-clause-kept g c =

@@ -21,7 +21,8 @@ returns-in-Next-clause-finishes g c =
     let i = g.D.SwapDev.image c.args.swap.now in
     let h = g.D.SwapDev.image c.take_lines.new.swap in
     let j = g.D.SwapDev.image c.close_run.new.swap in
-    ok_so c.close_run.result (ClosesRun c.take_lines.new.core c.close_run.new.self (g.F.Files.holds c.take_lines.new.files) h j) (FinishesLines c.args.core.now c.close_run.new.self c.args.lines.now holds i j)
+    ok_so c.close_run.result (ClosesRun c.take_lines.new.core c.close_run.new.self (g.F.Files.holds c.take_lines.new.files) h j)
+    (FinishesLines c.args.core.now c.close_run.new.self c.args.lines.now holds i j)
     (λ x. closing_finishes c.args.core.now c.take_lines.new.core c.close_run.new.self c.args.lines.now holds i h j
     (subst (λ went. TakesLines c.args.core.now c.take_lines.new.core went c.args.lines.now holds i h) c.in-Next.is c.in_ok-take_lines.ensures.takes)
     (subst (λ hs. ClosesRun c.take_lines.new.core c.close_run.new.self hs h j) c.take_lines.ensures.outside.files.holds x))
@@ -33,7 +34,8 @@ returns-in-Next-clause-stops g c =
     let i = g.D.SwapDev.image c.args.swap.now in
     let h = g.D.SwapDev.image c.take_lines.new.swap in
     let j = g.D.SwapDev.image c.close_run.new.swap in
-    stops_weaker c.close_run.result (StopsClosingRun c.take_lines.new.core c.close_run.new.self (g.F.Files.holds c.take_lines.new.files) h j) (StopsLines c.args.core.now c.close_run.new.self c.args.lines.now holds i j)
+    stops_weaker c.close_run.result (StopsClosingRun c.take_lines.new.core c.close_run.new.self (g.F.Files.holds c.take_lines.new.files) h j)
+    (StopsLines c.args.core.now c.close_run.new.self c.args.lines.now holds i j)
     (λ stop x. closing_stops c.args.core.now c.take_lines.new.core c.close_run.new.self c.args.lines.now holds i h j stop
     (subst (λ went. TakesLines c.args.core.now c.take_lines.new.core went c.args.lines.now holds i h) c.in-Next.is c.in_ok-take_lines.ensures.takes)
     (subst (λ hs. StopsClosingRun c.take_lines.new.core c.close_run.new.self hs h j stop) c.take_lines.ensures.outside.files.holds x))
@@ -46,4 +48,5 @@ returns-in_err-take_lines-clause-kept g c =
 pub returns-in-Next-clause-kept : goal.returns-in-Next-clause-kept
 returns-in-Next-clause-kept g c =
     stops_weaker c.close_run.result (KeptAtStop c.take_lines.new.core.machine c.close_run.new.self.machine) (KeptAtStop c.args.core.now.machine c.close_run.new.self.machine)
-    (λ stop k. kept_through c.args.core.now.machine c.take_lines.new.core.machine c.close_run.new.self.machine stop (record { params = c.in_ok-take_lines.ensures.params; images = c.in_ok-take_lines.ensures.images }) k) c.close_run.ensures.kept
+    (λ stop k. kept_through c.args.core.now.machine c.take_lines.new.core.machine c.close_run.new.self.machine stop
+    (record { params = c.in_ok-take_lines.ensures.params; images = c.in_ok-take_lines.ensures.images }) k) c.close_run.ensures.kept

@@ -23,7 +23,8 @@ loop-e-init g c = record {
 
 pub event-requires-clause-few : goal.event-requires-clause-few
 event-requires-clause-few g c =
-    few_at c.args.lines.now c.loop-e.e-index (slice_index_or c.args.lines.now c.loop-e.e-index (Dispatch 0 0)) c.requires.few (slice_get-get_or c.args.lines.now c.loop-e.e-index (Dispatch 0 0) c.loop-e-test.true)
+    few_at c.args.lines.now c.loop-e.e-index (slice_index_or c.args.lines.now c.loop-e.e-index (Dispatch 0 0)) c.requires.few
+    (slice_get-get_or c.args.lines.now c.loop-e.e-index (Dispatch 0 0) c.loop-e-test.true)
 
 pub returns-in_err-event-clause-stops : goal.returns-in_err-event-clause-stops
 returns-in_err-event-clause-stops g c =

@@ -16,9 +16,12 @@ returns c =
     let files : List NamedFile = map named_file c.args.files.items in
     let zero : Option (List ℕ) = Some (with_zeros (512 * c.vmrun-status.new.zero.blocks) c.vmrun-status.new.zero.written.items) in
     let one : Option (List ℕ) = Some (with_zeros (512 * c.vmrun-status.new.one.blocks) c.vmrun-status.new.one.written.items) in
-    let before = together c.in_ok-zero.zero.blocks c.in_ok-one.one.blocks c.args.zero_blocks c.args.one_blocks _ _ (Some (blank_device c.args.zero_blocks)) (Some (blank_device c.args.one_blocks)) c.in_ok-zero.ensures.blocks c.in_ok-one.ensures.blocks c.in_ok-zero.ensures.zeros c.in_ok-one.ensures.zeros in
-    let after = together c.vmrun-status.new.zero.blocks c.vmrun-status.new.one.blocks c.args.zero_blocks c.args.one_blocks zero one zero one (c.vmrun-status.ensures.kept.devices.zero.blocks ∙ c.in_ok-zero.ensures.blocks) (c.vmrun-status.ensures.kept.devices.one.blocks ∙ c.in_ok-one.ensures.blocks) refl refl in
-    let seen = same_seen _ files _ _ c.args.zero_blocks c.args.one_blocks _ _ (image_together c.args.zero_blocks c.args.one_blocks zero one) _ _ _ _ c.new-files.ensures c.in_ok-zero.ensures.blocks c.in_ok-one.ensures.blocks before after c.in_ok-output.ensures.written c.in_ok-output.ensures.faults in
+    let before = together c.in_ok-zero.zero.blocks c.in_ok-one.one.blocks c.args.zero_blocks c.args.one_blocks _ _ (Some (blank_device c.args.zero_blocks))
+    (Some (blank_device c.args.one_blocks)) c.in_ok-zero.ensures.blocks c.in_ok-one.ensures.blocks c.in_ok-zero.ensures.zeros c.in_ok-one.ensures.zeros in
+    let after = together c.vmrun-status.new.zero.blocks c.vmrun-status.new.one.blocks c.args.zero_blocks c.args.one_blocks zero one zero one
+    (c.vmrun-status.ensures.kept.devices.zero.blocks ∙ c.in_ok-zero.ensures.blocks) (c.vmrun-status.ensures.kept.devices.one.blocks ∙ c.in_ok-one.ensures.blocks) refl refl in
+    let seen = same_seen _ files _ _ c.args.zero_blocks c.args.one_blocks _ _ (image_together c.args.zero_blocks c.args.one_blocks zero one) _ _ _ _ c.new-files.ensures c.in_ok-zero.ensures.blocks
+    c.in_ok-one.ensures.blocks before after c.in_ok-output.ensures.written c.in_ok-output.ensures.faults in
     let octets : AreOctetFiles files = subst (λ xs. AreOctetFiles (map named_file xs)) c.as_slice.ensures.value c.are_octet_files.ensures in
     obeys_told asked _ files (blank_pair c.args.zero_blocks c.args.one_blocks) c.vmrun-status.result refl octets refl
     (subst (λ (s : Seen). Obeys asked s c.vmrun-status.result) seen c.vmrun-status.ensures.obeys)

@@ -14,5 +14,6 @@ returns-clause-none c = none c.find.result c.find.ensures.none where
   none (Some f) h = tt
   none None h = λ f e.
       let a = c.self.inside in
-      let page : page_of (slot_at a.slots.items f) ≡ Some (Text c.args.image c.args.v) = subst (λ (o : Frames). page_of (slot_at o.slots f) ≡ Some (Text c.args.image c.args.v)) (sym c.self.view_is) e in
+      let page : page_of (slot_at a.slots.items f) ≡ Some (Text c.args.image c.args.v) =
+      subst (λ (o : Frames). page_of (slot_at o.slots f) ≡ Some (Text c.args.image c.args.v)) (sym c.self.view_is) e in
       h f (ap (λ (t : List (Option TextKey)). key_at t f) c.self.invariant.text ∙ key_at_map a.slots.items f ∙ ap key_of page)

@@ -25,4 +25,5 @@ returns-clause-gone c =
     let was : is_resident (slot_at a.slots.items f) ≡ true = subst (λ (o : Frames). is_resident (slot_at o.slots f) ≡ true) (sym c.self.view_is) c.requires in
     let before = page_gone a.free.frames a.slots.items f c.self.invariant.sound (resident_below a.slots.items f was) (page_of (slot_at a.slots.items f)) refl in
     let now = subst (λ (o : Frames). IfSome (page_of (slot_at o.slots f)) (λ p. (g : ℕ) → page_of (slot_at (set o.slots f Away) g) ≢ Some p)) c.self.view_is before in
-    subst (λ (k : List Slot). IfSome (page_of (slot_at c.args.self.now.slots f)) (λ p. (g : ℕ) → page_of (slot_at k g) ≢ Some p)) (sym (c.take_resident-token.ensures.after ∙ ap (λ (o : Frames). set o.slots f Away) c.self.view_is)) now
+    subst (λ (k : List Slot). IfSome (page_of (slot_at c.args.self.now.slots f)) (λ p. (g : ℕ) → page_of (slot_at k g) ≢ Some p))
+    (sym (c.take_resident-token.ensures.after ∙ ap (λ (o : Frames). set o.slots f Away) c.self.view_is)) now

@@ -19,5 +19,6 @@ invariant_of-self c =
       bound = grind (arith, common_steps);
       text = rw (c.enter.ensures, c.put.ensures, c.number-frame.ensures.value) (text_change a.text a.slots.items f s c.self.invariant.text);
       sound = rw (c.put.ensures, c.number-frame.ensures.value)
-          (sound_same a.free.frames a.slots.items f s c.self.invariant.sound c.requires.away.above_zero low refl c.number-frame.ensures.whole (sym (ap listings away)) (held_by_none a.slots.items f s c.args.page refl not_held));
+          (sound_same a.free.frames a.slots.items f s c.self.invariant.sound c.requires.away.above_zero low refl c.number-frame.ensures.whole (sym (ap listings away))
+          (held_by_none a.slots.items f s c.args.page refl not_held));
     }

@@ -25,5 +25,6 @@ invariant_of-self c =
     let low : c.args.frame < length a.links.items = omega (arith, keyed_below a.keys.items c.args.frame c.args.key held, c.self.invariant.links_length) in
     let after : c.index-after.result.now ≡ slice_index a.links.items c.args.frame = get_or_read a.links.items c.args.frame c.index-after.result.now low c.index-after.ensures 0 in
     let within : c.before-at.result < length a.links.items = subst (λ (l : List ℕ). c.before-at.result < length l) c.deref.ensures.value c.before-at.ensures.within in
-    let before : IsBefore a.links.items start c.args.frame c.before-at.result = subst (λ (l : List ℕ). IsBefore l start c.args.frame c.before-at.result) c.deref.ensures.value c.before-at.ensures.before in
+    let before : IsBefore a.links.items start c.args.frame c.before-at.result =
+    subst (λ (l : List ℕ). IsBefore l start c.args.frame c.before-at.result) c.deref.ensures.value c.before-at.ensures.before in
     remove_indexed a.chains a.links.items a.keys.items c.args.frame c.before-at.result c.index-after.result.now start c.args.key c.self.invariant held (omega arith) here before within after

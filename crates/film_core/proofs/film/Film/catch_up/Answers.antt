@@ -23,6 +23,7 @@ returns c e h =
     ap (λ (f : Filming). last_entry f.machine.kernel.journal) (sym c.self.view_is) ∙ ap last_entry (sym c.journal.ensures) ∙ sym (c.in-Some.ensures.value ∙ last_got c.journal.result.now) in
     let same : c.in-Some.e.now ≡ e = same_Some c.in-Some.e.now e (sym last ∙ h) in
     let f : Filming = record { machine = c.self.inside.machine; lines = c.self.inside.lines; mark = c.self.inside.mark; counted = c.self.inside.counted; over = c.self.inside.over } in
-    caught f c.args.lines.now c.in-Some.e.now c.lines_after-taken.result c.counted_by.result (c.self.inside.counted + c.counted_by.result) c.mark_after-mark.result c.copied-event.result c.counted_by.ensures
+    caught f c.args.lines.now c.in-Some.e.now c.lines_after-taken.result c.counted_by.result (c.self.inside.counted + c.counted_by.result) c.mark_after-mark.result
+    c.copied-event.result c.counted_by.ensures
     (c.copied-event.ensures ∙ got c.get.result c.args.lines.now c.self.inside.lines c.get.ensures.lookup.1 c.get.ensures.lookup.3) c.lines_after-taken.ensures c.mark_after-mark.ensures refl
     ∙ ap (λ (g : Filming). caught_up g c.args.lines.now c.in-Some.e.now) c.self.view_is ∙ ap (caught_up c.args.self.now c.args.lines.now) same

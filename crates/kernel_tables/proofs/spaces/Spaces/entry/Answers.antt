@@ -13,4 +13,5 @@ pub returns-in_ok-find-in-Some : goal.returns-in_ok-find-in-Some
 returns-in_ok-find-in-Some c =
     let rising = subst (λ (ss : List Places). AreRising (sids_of ss)) c.self.view_is c.self.invariant in
     c.place.ensures
-    ∙ sym (found_entry c.args.page c.in-Some.sid (of_space c.args.page c.in-Some.sid (sym c.in-Some.ensures)) c.args.self.now c.in_ok-find-in-Some.field-0.now rising (sym c.in_ok-find-in-Some.ensures))
+    ∙ sym (found_entry c.args.page c.in-Some.sid (of_space c.args.page c.in-Some.sid (sym c.in-Some.ensures)) c.args.self.now c.in_ok-find-in-Some.field-0.now rising
+    (sym c.in_ok-find-in-Some.ensures))

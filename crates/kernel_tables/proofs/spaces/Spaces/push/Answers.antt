@@ -8,7 +8,8 @@ pub invariant_of-self-2 : goal.invariant_of-self-2
 invariant_of-self-2 c =
     let is = c.in_ok-push.ensures.items in
     subst (λ (ss : List Places). AreRising (sids_of ss)) (sym is)
-    (spaces_rise c.self.inside.maps.items c.args.space c.self.invariant (subst (λ (ss : List Places). Rattle.flat_state.specs.Numbers.AllBelow c.args.space.sid (sids_of ss)) (sym c.self.view_is) c.requires.above))
+    (spaces_rise c.self.inside.maps.items c.args.space c.self.invariant
+    (subst (λ (ss : List Places). Rattle.flat_state.specs.Numbers.AllBelow c.args.space.sid (sids_of ss)) (sym c.self.view_is) c.requires.above))
 
 pub returns-clause-few : goal.returns-clause-few
 returns-clause-few c =

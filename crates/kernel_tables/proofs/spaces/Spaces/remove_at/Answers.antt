@@ -22,5 +22,6 @@ returns c =
           let at = subst (λ (ss : List Places). StandsAt ss sid c.args.index) (sym c.self.view_is) h in
           c.remove-space.ensures.items ∙ removed_is c.self.inside.maps.items sid c.args.index c.self.invariant at.number ∙ ap (without_space sid) c.self.view_is;
       image = ap (λ (n : ℕ). Some n) c.image.ensures ∙ sym (ap (option_map (λ (s : Places). s.image)) (ap (λ (ss : List Places). slice_get ss c.args.index) (sym c.self.view_is) ∙ there));
-      pages = ap (λ (n : ℕ). Some n) c.text_pages.ensures.of_image ∙ sym (ap (option_map (λ (s : Places). text_pages_of s.facts)) (ap (λ (ss : List Places). slice_get ss c.args.index) (sym c.self.view_is) ∙ there));
+      pages = ap (λ (n : ℕ). Some n) c.text_pages.ensures.of_image
+          ∙ sym (ap (option_map (λ (s : Places). text_pages_of s.facts)) (ap (λ (ss : List Places). slice_get ss c.args.index) (sym c.self.view_is) ∙ there));
     }

@@ -27,6 +27,7 @@ returns-clause-ok c =
     let s : ℕ = c.args.stack_pages in
     let in_range : c.args.index < length maps = subst (λ (ss : List Places). c.args.index < length ss) (sym c.self.view_is) c.requires.in_range in
     elim c.resize.result as (λ r. OnOk r (now ≡ with_sizes d s was) → OnOk r (set maps c.args.index now ≡ with_sizes_at c.args.self.now c.args.index d s)) [
-      | Ok v ↦ λ ok. ap (set maps c.args.index) (ok ∙ ap (with_sizes d s) c.index_mut.ensures.value) ∙ sizes_set maps c.args.index d s was in_range ∙ ap (λ (ss : List Places). with_sizes_at ss c.args.index d s) c.self.view_is
+      | Ok v ↦ λ ok. ap (set maps c.args.index) (ok ∙ ap (with_sizes d s) c.index_mut.ensures.value) ∙ sizes_set maps c.args.index d s was in_range
+          ∙ ap (λ (ss : List Places). with_sizes_at ss c.args.index d s) c.self.view_is
       | Err e ↦ λ ok. tt
     ] c.resize.ensures.ok

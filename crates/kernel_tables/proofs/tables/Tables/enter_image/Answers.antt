@@ -45,7 +45,8 @@ returns-clause-entered c = λ facts is.
     let u : Tables = record m { fills = c.push_back_reserved.new.self } in
     let a : AddedSpace (record t { fills = c.reserve.new.self }) m c.in_ok-space.space = c.in_ok-add_space.ensures.added in
     let space : c.in_ok-space.space ≡ image_space t.next_sid c.args.image c.index.result.now.facts =
-    c.in_ok-space.ensures ∙ ap (λ (n : ℕ). record (image_space t.next_sid c.args.image c.index.result.now.facts) { «data» = first_places c.index.result.now.facts false n }) c.data_pages.ensures.value in
+    c.in_ok-space.ensures
+    ∙ ap (λ (n : ℕ). record (image_space t.next_sid c.args.image c.index.result.now.facts) { «data» = first_places c.index.result.now.facts false n }) c.data_pages.ensures.value in
     let e : Entering t u c.args.image c.index.result.now.facts c.args.top = record {
       known = c.requires.known;
       below = c.requires.below;

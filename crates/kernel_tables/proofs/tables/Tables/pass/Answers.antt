@@ -23,7 +23,8 @@ lend-requires-clause-borrower c = found_own c.args.to c.args.self.now.processes 
 
 pub lend-requires-clause-apart : goal.lend-requires-clause-apart
 lend-requires-clause-apart c =
-    let apart : c.args.from ≢ c.args.to = two_apart c.args.self.now.processes c.args.from c.args.to c.process-giver.result c.process-taker.result c.process-giver.ensures.record c.process-taker.ensures.record
+    let apart : c.args.from ≢ c.args.to =
+    two_apart c.args.self.now.processes c.args.from c.args.to c.process-giver.result c.process-taker.result c.process-giver.ensures.record c.process-taker.ensures.record
     (λ e. let x : lives.Holds c.in-Holds.sid ≡ lives.New = sym c.in-Holds.is ∙ e ∙ c.in-New.is in cc) in
     pids_apart c.args.self.now.processes c.args.from c.args.to c.process-giver.result c.process-taker.result c.process-giver.ensures.record c.process-taker.ensures.record apart
 
@@ -35,7 +36,8 @@ give_back-requires-clause-lender c = found_own c.args.to c.args.self.now.process
 
 pub give_back-requires-clause-apart : goal.give_back-requires-clause-apart
 give_back-requires-clause-apart c =
-    let apart : c.args.from ≢ c.args.to = two_apart c.args.self.now.processes c.args.from c.args.to c.process-giver.result c.process-taker.result c.process-giver.ensures.record c.process-taker.ensures.record
+    let apart : c.args.from ≢ c.args.to =
+    two_apart c.args.self.now.processes c.args.from c.args.to c.process-giver.result c.process-taker.result c.process-giver.ensures.record c.process-taker.ensures.record
     (λ e. let x : lives.Holds c.in-Holds.sid ≡ lives.Lends c.in-Lends.sid c.in-Lends.child = sym c.in-Holds.is ∙ e ∙ c.in-Lends.is in cc) in
     pids_apart c.args.self.now.processes c.args.from c.args.to c.process-giver.result c.process-taker.result c.process-giver.ensures.record c.process-taker.ensures.record apart
 
@@ -46,14 +48,17 @@ unreachable-requires-in-Holds-state c =
 
 pub returns-in-New : goal.returns-in-New
 returns-in-New c =
-    let apart : c.args.from ≢ c.args.to = two_apart c.args.self.now.processes c.args.from c.args.to c.process-giver.result c.process-taker.result c.process-giver.ensures.record c.process-taker.ensures.record
+    let apart : c.args.from ≢ c.args.to =
+    two_apart c.args.self.now.processes c.args.from c.args.to c.process-giver.result c.process-taker.result c.process-giver.ensures.record c.process-taker.ensures.record
     (λ e. let x : lives.Holds c.in-Holds.sid ≡ lives.New = sym c.in-Holds.is ∙ e ∙ c.in-New.is in cc) in
-    has_lent c.args.self.now c.lend.new.self c.args.from c.args.to c.in-Holds.sid c.process-giver.result c.process-taker.result c.requires.records c.process-giver.ensures.record c.process-taker.ensures.record apart
+    has_lent c.args.self.now c.lend.new.self c.args.from c.args.to c.in-Holds.sid c.process-giver.result c.process-taker.result c.requires.records c.process-giver.ensures.record
+    c.process-taker.ensures.record apart
     c.in-Holds.is c.in-New.is c.lend.ensures
 
 pub returns-in-Lends : goal.returns-in-Lends
 returns-in-Lends c =
-    let apart : c.args.from ≢ c.args.to = two_apart c.args.self.now.processes c.args.from c.args.to c.process-giver.result c.process-taker.result c.process-giver.ensures.record c.process-taker.ensures.record
+    let apart : c.args.from ≢ c.args.to =
+    two_apart c.args.self.now.processes c.args.from c.args.to c.process-giver.result c.process-taker.result c.process-giver.ensures.record c.process-taker.ensures.record
     (λ e. let x : lives.Holds c.in-Holds.sid ≡ lives.Lends c.in-Lends.sid c.in-Lends.child = sym c.in-Holds.is ∙ e ∙ c.in-Lends.is in cc) in
     has_returned c.args.self.now c.give_back.new.self c.args.from c.args.to c.in-Holds.sid c.in-Lends.sid c.in-Lends.child c.process-giver.result c.process-taker.result c.requires.records
     c.process-giver.ensures.record c.process-taker.ensures.record apart c.in-Holds.is c.in-Lends.is

@@ -13,7 +13,8 @@ pub returns : goal.returns
 returns c = record {
   was = c.process-process.result;
   there = c.process-process.ensures.record;
-  changes = subst (λ (k : ℕ). Changes c.args.self.now.processes c.set_process.new.self.processes k (Some (record c.process-process.result { regs = c.args.regs.now }))) (found_pid c.args.pid c.args.self.now.processes c.process-process.result c.process-process.ensures.record) c.set_process.ensures.record;
+  changes = subst (λ (k : ℕ). Changes c.args.self.now.processes c.set_process.new.self.processes k (Some (record c.process-process.result { regs = c.args.regs.now })))
+      (found_pid c.args.pid c.args.self.now.processes c.process-process.result c.process-process.ensures.record) c.set_process.ensures.record;
   sound = c.process-process.ensures.sound;
   still_sound = c.set_process.ensures.sound;
   rest = c.set_process.ensures.rest;

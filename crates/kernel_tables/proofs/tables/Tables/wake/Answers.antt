@@ -17,7 +17,8 @@ returns-in-Some c =
     let f : find c.args.pid c.args.self.now.processes ≡ Some was = sym c.get.ensures.value ∙ ap (λ o. option_copied o) c.in-Some.is in
     subst (λ (n : ℕ). HasProcesses c.args.self.now c.set_process.new.self c.args.self.now.next_pid (woken_procs (processes_in c.args.self.now) n) (residents_in c.args.self.now))
     (found_pid c.args.pid c.args.self.now.processes was f)
-    (has_woken c.args.self.now c.set_process.new.self was c.requires (found_own c.args.pid c.args.self.now.processes was f) c.set_process.ensures.record c.set_process.ensures.sound c.set_process.ensures.rest)
+    (has_woken c.args.self.now c.set_process.new.self was c.requires (found_own c.args.pid c.args.self.now.processes was f) c.set_process.ensures.record c.set_process.ensures.sound
+    c.set_process.ensures.rest)
 
 pub returns-in_default : goal.returns-in_default
 returns-in_default c = none_woken c.args.self.now c.args.pid c.requires (sym c.get.ensures.value ∙ ap (λ o. option_copied o) c.in_default.is)

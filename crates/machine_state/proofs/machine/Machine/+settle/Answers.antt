@@ -15,7 +15,8 @@ returns-in_err-done-clause-stops g t c =
     let p = err_from_is_err_and c.from_residual.result c.from_residual.ensures.1 in
     rw (p.1, p.2)
     (stopped_first c.args.sid c.args.self.now c.done.new.self (g.F.Files.holds c.args.files.now) (g.D.SwapDev.image c.args.swap.now) (g.D.SwapDev.image c.done.new.swap) c.in_err-done.field-0.0
-    (sym c.settled.ensures ∙ c.if-settled.false) c.in_err-done.ensures.stop c.requires.whole c.in_err-done.ensures.cause c.in_err-done.ensures.full c.in_err-done.ensures.lost c.in_err-done.ensures.spoiled)
+    (sym c.settled.ensures ∙ c.if-settled.false) c.in_err-done.ensures.stop c.requires.whole c.in_err-done.ensures.cause c.in_err-done.ensures.full c.in_err-done.ensures.lost
+    c.in_err-done.ensures.spoiled)
 
 pub settle-requires : goal.settle-requires
 settle-requires g t c κs out =
@@ -28,7 +29,8 @@ settle-requires g t c κs out =
     let size = ap (λ (x : Params). x.swap_blocks) o.params in
     let blocks = c.in_ok-done.ensures.outside.swap.blocks in
     let files : AreFiles c.done.new.self.images (g.F.Files.holds c.done.new.files) =
-    subst (λ (ns : List ImageNamed). AreFiles ns (g.F.Files.holds c.done.new.files)) (sym o.images) (subst (λ (h : Option (List NamedFile)). AreFiles c.args.self.now.images h) (sym c.in_ok-done.ensures.outside.files.holds) c.requires.files) in
+    subst (λ (ns : List ImageNamed). AreFiles ns (g.F.Files.holds c.done.new.files)) (sym o.images)
+    (subst (λ (h : Option (List NamedFile)). AreFiles c.args.self.now.images h) (sym c.in_ok-done.ensures.outside.files.holds) c.requires.files) in
     let less = o.fewer in
     (omega (arith, c.decreases, less), (out.0, (out.1, (o.stopped ∙ c.requires.running, (o.whole, (omega (arith, area, size, blocks), files))))))
 
@@ -40,8 +42,10 @@ returns-then-branch-clause-settled g t c =
     let from : Sources = sources old (g.F.Files.holds c.args.files.now) in
     let d : IsDone from i old.kernel c.done.new.self.kernel = c.in_ok-done.ensures.step yes in
     on_ok c.settle.result
-    (one_more from (sources c.done.new.self (g.F.Files.holds c.done.new.files)) c.args.sid old.kernel c.done.new.self.kernel c.settle.new.self.kernel i (g.D.SwapDev.image c.done.new.swap) (g.D.SwapDev.image c.settle.new.swap)
-    (same_sources old c.done.new.self (g.F.Files.holds c.args.files.now) (g.F.Files.holds c.done.new.files) c.in_ok-done.ensures.outside.files.holds (beside_done old c.done.new.self (c.in_ok-done.ensures.rest yes)))
+    (one_more from (sources c.done.new.self (g.F.Files.holds c.done.new.files)) c.args.sid old.kernel c.done.new.self.kernel c.settle.new.self.kernel i (g.D.SwapDev.image c.done.new.swap)
+    (g.D.SwapDev.image c.settle.new.swap)
+    (same_sources old c.done.new.self (g.F.Files.holds c.args.files.now) (g.F.Files.holds c.done.new.files) c.in_ok-done.ensures.outside.files.holds
+    (beside_done old c.done.new.self (c.in_ok-done.ensures.rest yes)))
     (sym c.settled.ensures ∙ c.if-settled.false) d c.in_ok-done.ensures.swapped) c.settle.ensures.settled
 
 pub returns-then-branch-clause-keeps : goal.returns-then-branch-clause-keeps
@@ -51,7 +55,8 @@ returns-then-branch-clause-keeps g t c =
     let from : Sources = sources c.args.self.now (g.F.Files.holds c.args.files.now) in
     let d : IsDone from i c.args.self.now.kernel c.done.new.self.kernel = c.in_ok-done.ensures.step yes in
     let o : GoesOn c.args.self.now c.done.new.self = goes_on c.args.self.now c.done.new.self from i c.requires.whole d (c.in_ok-done.ensures.rest yes) in
-    on_ok c.settle.result (through c.args.self.now c.done.new.self c.settle.new.self (g.F.Files.holds c.args.files.now) (g.F.Files.holds c.done.new.files) (g.D.SwapDev.image c.args.swap.now) (g.D.SwapDev.image c.done.new.swap) (g.D.SwapDev.image c.settle.new.swap) o
+    on_ok c.settle.result (through c.args.self.now c.done.new.self c.settle.new.self (g.F.Files.holds c.args.files.now) (g.F.Files.holds c.done.new.files) (g.D.SwapDev.image c.args.swap.now)
+    (g.D.SwapDev.image c.done.new.swap) (g.D.SwapDev.image c.settle.new.swap) o
     c.in_ok-done.ensures.outside.files.holds c.in_ok-done.ensures.keeps) c.settle.ensures.keeps
 
 pub returns-then-branch-clause-stops : goal.returns-then-branch-clause-stops

@@ -40,7 +40,8 @@ invariant_of-self-then-branch c =
       whole = c.requires.whole;
       placed = f.1;
       book = f.2;
-      count = ap (λ (hs : Holdings). length hs - length c.holdings-before.result.now) c.holdings.ensures ∙ ap (λ (hs : Holdings). length c.find_all-found.new.book.holdings - length hs) c.holdings-before.ensures;
+      count = ap (λ (hs : Holdings). length hs - length c.holdings-before.result.now) c.holdings.ensures
+          ∙ ap (λ (hs : Holdings). length c.find_all-found.new.book.holdings - length hs) c.holdings-before.ensures;
     } in
     asked_stands c.self.inside c.args.self.now c.find_all-found.new.book found (wanted_of b.holdings c.args.wants.now) f.0 a c.self.invariant c.requires.running)
 
@@ -56,12 +57,14 @@ returns-then-branch-clause-found c _ =
       whole = c.requires.whole;
       placed = f.1;
       book = f.2;
-      count = ap (λ (hs : Holdings). length hs - length c.holdings-before.result.now) c.holdings.ensures ∙ ap (λ (hs : Holdings). length c.find_all-found.new.book.holdings - length hs) c.holdings-before.ensures;
+      count = ap (λ (hs : Holdings). length hs - length c.holdings-before.result.now) c.holdings.ensures
+          ∙ ap (λ (hs : Holdings). length c.find_all-found.new.book.holdings - length hs) c.holdings-before.ensures;
     } in
     let n : RunsNow c.self.inside = stands_now c.self.inside c.args.self.now c.self.invariant view c.requires.running in
     let is : found_for c.self.inside.tables.params.swap_blocks b.holdings c.args.wants.now ≡ Ok f.0 = ap (λ (size : ℕ). found_for size b.holdings c.args.wants.now) (sym n.stands.book) ∙ f.1 in
     let z = asked_standing c.self.inside c.args.self.now c.find_all-found.new.book found (wanted_of b.holdings c.args.wants.now) f.0 a in
-    subst (λ (s : Standing). (hs : Holdings) × (found_for s.params.swap_blocks s.kernel.holdings c.args.wants.now ≡ Ok hs) × (standing_of (booked c.self.inside c.find_all-found.new.book found) ≡ record s { kernel = record s.kernel { holdings = hs } })) view
+    subst (λ (s : Standing). (hs : Holdings) × (found_for s.params.swap_blocks s.kernel.holdings c.args.wants.now ≡ Ok hs)
+    × (standing_of (booked c.self.inside c.find_all-found.new.book found) ≡ record s { kernel = record s.kernel { holdings = hs } })) view
     (f.0, is, z)
 
 pub invariant_of-self-else-branch : goal.invariant_of-self-else-branch

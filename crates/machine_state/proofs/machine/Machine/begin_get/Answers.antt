@@ -30,8 +30,10 @@ pub read_run-requires-clause-has : goal.read_run-requires-clause-has
 read_run-requires-clause-has c b e =
     let t : Tables = c.self.inside.tables in
     let r = running c.self.inside c.args.self.now c.self.invariant c.self.view_is c.requires.running c.requires.whole in
-    let can : CanBringIn (placement_of (lists_of t)) c.args.page c.args.lo c.args.n = subst (λ (s : Standing). CanBringIn s.kernel.place c.args.page c.args.lo c.args.n) (sym c.self.view_is) c.requires.can in
-    run_sources t (kernel_by t c.self.inside.journal.items c.self.inside.stopped) b c.args.page (pages_from c.args.page c.args.lo c.args.n) (known_of c.self.inside c.frames-frames.ensures.sound r) r.sound refl refl can.enter
+    let can : CanBringIn (placement_of (lists_of t)) c.args.page c.args.lo c.args.n =
+    subst (λ (s : Standing). CanBringIn s.kernel.place c.args.page c.args.lo c.args.n) (sym c.self.view_is) c.requires.can in
+    run_sources t (kernel_by t c.self.inside.journal.items c.self.inside.stopped) b c.args.page (pages_from c.args.page c.args.lo c.args.n)
+    (known_of c.self.inside c.frames-frames.ensures.sound r) r.sound refl refl can.enter
     (subst (λ (s : Source). EachPage (ReadsFrom (placement_of (lists_of t)) s c.args.page) (pages_from c.args.page c.args.lo c.args.n)) (sym e) can.reads)
 
 pub invariant_of-self-2 : goal.invariant_of-self-2
@@ -39,7 +41,8 @@ invariant_of-self-2 c =
     runs_within _ (runs_by c.self.inside c.args.self.now c.self.view_is c.requires.running) (λ _.
     let t : Tables = c.self.inside.tables in
     let r = running c.self.inside c.args.self.now c.self.invariant c.self.view_is c.requires.running c.requires.whole in
-    let can : CanBringIn (placement_of (lists_of t)) c.args.page c.args.lo c.args.n = subst (λ (s : Standing). CanBringIn s.kernel.place c.args.page c.args.lo c.args.n) (sym c.self.view_is) c.requires.can in
+    let can : CanBringIn (placement_of (lists_of t)) c.args.page c.args.lo c.args.n =
+    subst (λ (s : Standing). CanBringIn s.kernel.place c.args.page c.args.lo c.args.n) (sym c.self.view_is) c.requires.can in
     let w : Tables = c.read_run.new.tables in
     let now = stands_now c.self.inside c.args.self.now c.self.invariant c.self.view_is c.requires.running in
     let whole = whole_now c.self.inside c.args.self.now c.self.view_is c.requires.whole in
@@ -52,7 +55,8 @@ invariant_of-self-2 c =
           (get_runs c.self.inside w c.args.page c.args.lo c.args.n c.make_room.new.journal.items c.self.inside.stopped r can c.read_run.ensures c.make_room.ensures.same refl))
           (subst (AreSourced (images_of t) (image_at t) (before_of t) t.book.size) (sym c.read_run.ensures.ring)
           (sourced_more (images_of t) (image_at t) (before_of t) t.book.size t.ring c.read_run.ensures.flight now.stands.ring own))
-          c.read_run.ensures.images (pushed c.self.inside.journal.items c.make_room.new.journal.items c.push_reserved.new.self.items _ t.params.journal c.make_room.ensures.same c.push_reserved.ensures.items c.in_ok-make_room.ensures.ok.0);
+          c.read_run.ensures.images (pushed c.self.inside.journal.items c.make_room.new.journal.items c.push_reserved.new.self.items _ t.params.journal c.make_room.ensures.same
+          c.push_reserved.ensures.items c.in_ok-make_room.ensures.ok.0);
       none_lost = now.none_lost;
       room = no_room _ _ _ c.make_room.ensures.room;
     })
@@ -67,17 +71,20 @@ returns c =
     ∙ get_kernel t w c.args.page c.args.lo c.args.n c.make_room.new.journal.items c.self.inside.stopped c.read_run.ensures
     ∙ ap (λ (j : List Entry). get_step (kernel_by t j c.self.inside.stopped) c.args.page c.args.lo c.args.n) c.make_room.ensures.same in
     let r = running c.self.inside c.args.self.now c.self.invariant c.self.view_is c.requires.running c.requires.whole in
-    let can : CanBringIn (placement_of (lists_of t)) c.args.page c.args.lo c.args.n = subst (λ (s : Standing). CanBringIn s.kernel.place c.args.page c.args.lo c.args.n) (sym c.self.view_is) c.requires.can in
+    let can : CanBringIn (placement_of (lists_of t)) c.args.page c.args.lo c.args.n =
+    subst (λ (s : Standing). CanBringIn s.kernel.place c.args.page c.args.lo c.args.n) (sym c.self.view_is) c.requires.can in
     record {
       step = is ∙ ap (λ (s : Standing). get_step s.kernel c.args.page c.args.lo c.args.n) c.self.view_is;
       rest =
           let e = c.read_run.ensures.rest in
           let s : Still t w = still_along _ _ _ e (record { params = refl; images = refl; book = refl; found = refl; processes = refl; next_pid = refl; next_sid = refl }) in
           rest_of c.self.inside c.args.self.now w _ _ _ c.self.view_is s c.make_room.ensures.room;
-      keeps = subst (KeepsFlat c.args.self.now.kernel) (sym is) (subst (λ (s : Standing). KeepsFlat s.kernel (get_step k c.args.page c.args.lo c.args.n)) c.self.view_is (get_keeps t.book.size k c.args.page c.args.lo c.args.n r.sound can));
+      keeps = subst (KeepsFlat c.args.self.now.kernel) (sym is)
+          (subst (λ (s : Standing). KeepsFlat s.kernel (get_step k c.args.page c.args.lo c.args.n)) c.self.view_is (get_keeps t.book.size k c.args.page c.args.lo c.args.n r.sound can));
       same =
           subst (λ (y : Kernel). SameOutside c.args.self.now.kernel y (pages_from c.args.page c.args.lo c.args.n)) (sym is)
-          (subst (λ (s : Standing). SameOutside s.kernel (get_step k c.args.page c.args.lo c.args.n) (pages_from c.args.page c.args.lo c.args.n)) c.self.view_is (get_same t.book.size k c.args.page c.args.lo c.args.n r.sound can));
+          (subst (λ (s : Standing). SameOutside s.kernel (get_step k c.args.page c.args.lo c.args.n) (pages_from c.args.page c.args.lo c.args.n)) c.self.view_is
+          (get_same t.book.size k c.args.page c.args.lo c.args.n r.sound can));
       stop = search rules;
       cause = search rules;
       full = search rules;

@@ -33,7 +33,8 @@ copy_frame-copy-requires c =
       frame = subst (λ (o : Option Place). IsTrue (is_frame o)) (sym e.entry) refl;
       resident = subst (λ (n : ℕ). IsTrue (is_resident (slot_at t.core.slots n))) (sym (ap frame_named e.entry)) (subst (λ (s : Token). IsTrue (is_resident s)) (sym e.slot) refl);
       free = search rules;
-      texts = texts_here (lists_of c.self.inside.tables) (known_of c.self.inside c.frames-frames.ensures.sound (running c.self.inside c.args.self.now c.self.invariant c.self.view_is c.requires.running c.requires.whole));
+      texts = texts_here (lists_of c.self.inside.tables)
+          (known_of c.self.inside c.frames-frames.ensures.sound (running c.self.inside c.args.self.now c.self.invariant c.self.view_is c.requires.running c.requires.whole));
     }
 
 pub seat-requires-clause-not_held : goal.seat-requires-clause-not_held
@@ -73,13 +74,16 @@ invariant_of-self-2 c =
     let s : Still t c.finish_fill.new.self = still_along _ _ _ e2 (record { params = refl; images = refl; book = refl; found = refl; processes = refl; next_pid = refl; next_sid = refl }) in
     let now = stands_now c.self.inside c.args.self.now c.self.invariant c.self.view_is c.requires.running in
     let whole = whole_now c.self.inside c.args.self.now c.self.view_is c.requires.whole in
-    let ties = copy_ties t c.copy_frame-copy.new.tables c.seat.new.self c.finish_fill.new.self m.token c.copy_frame-copy.result c.args.child c.args.parent can.frame can.others z (ap frame_of can.unfilled) in
+    let ties =
+    copy_ties t c.copy_frame-copy.new.tables c.seat.new.self c.finish_fill.new.self m.token c.copy_frame-copy.result c.args.child c.args.parent can.frame can.others z (ap frame_of can.unfilled) in
     record {
       stands = stands_same c.self.inside c.finish_fill.new.self c.push_reserved.new.self.items c.self.inside.stopped now.stands whole s
-          (subst (λ (j : List Entry). Runs (kernel_by c.finish_fill.new.self j c.self.inside.stopped) (lists_of c.finish_fill.new.self) c.finish_fill.new.self.book.size) (sym c.push_reserved.ensures.items)
+          (subst (λ (j : List Entry). Runs (kernel_by c.finish_fill.new.self j c.self.inside.stopped) (lists_of c.finish_fill.new.self) c.finish_fill.new.self.book.size)
+          (sym c.push_reserved.ensures.items)
           (copy_runs c.self.inside c.copy_frame-copy.new.tables c.seat.new.self c.finish_fill.new.self m.token c.copy_frame-copy.result c.args.child c.args.parent can.frame can.others
           c.make_room.new.journal.items c.self.inside.stopped r can z c.make_room.ensures.same refl))
-          (ap (λ (x : Tables). x.ring) e2) ties.heads (pushed c.self.inside.journal.items c.make_room.new.journal.items c.push_reserved.new.self.items _ c.self.inside.tables.params.journal c.make_room.ensures.same c.push_reserved.ensures.items c.in_ok-make_room.ensures.ok.0);
+          (ap (λ (x : Tables). x.ring) e2) ties.heads (pushed c.self.inside.journal.items c.make_room.new.journal.items c.push_reserved.new.self.items _ c.self.inside.tables.params.journal
+          c.make_room.ensures.same c.push_reserved.ensures.items c.in_ok-make_room.ensures.ok.0);
       none_lost = now.none_lost;
       room = no_room _ _ _ c.make_room.ensures.room;
     })
@@ -108,7 +112,8 @@ returns c =
     let b : Kernel = kernel_by t c.self.inside.journal.items c.self.inside.stopped in
     let is : kernel_by c.finish_fill.new.self c.push_reserved.new.self.items c.self.inside.stopped ≡ copy_step b c.args.child =
     ap (λ (j : List Entry). kernel_by c.finish_fill.new.self j c.self.inside.stopped) c.push_reserved.ensures.items
-    ∙ copy_kernel t c.copy_frame-copy.new.tables c.seat.new.self c.finish_fill.new.self m.token c.copy_frame-copy.result c.args.child c.args.parent can.frame can.others c.make_room.new.journal.items c.self.inside.stopped z
+    ∙ copy_kernel t c.copy_frame-copy.new.tables c.seat.new.self c.finish_fill.new.self m.token c.copy_frame-copy.result c.args.child c.args.parent can.frame can.others
+    c.make_room.new.journal.items c.self.inside.stopped z
     ∙ ap (λ (j : List Entry). copy_step (kernel_by t j c.self.inside.stopped) c.args.child) c.make_room.ensures.same in
     record {
       step = is ∙ ap (λ (s : Standing). copy_step s.kernel c.args.child) c.self.view_is;
@@ -116,7 +121,8 @@ returns c =
           let e2 = copying_rest t c.copy_frame-copy.new.tables c.seat.new.self c.finish_fill.new.self m.token c.copy_frame-copy.result c.args.child c.args.parent can.frame can.others z in
           let s : Still t c.finish_fill.new.self = still_along _ _ _ e2 (record { params = refl; images = refl; book = refl; found = refl; processes = refl; next_pid = refl; next_sid = refl }) in
           rest_of c.self.inside c.args.self.now c.finish_fill.new.self _ _ _ c.self.view_is s c.make_room.ensures.room;
-      keeps = subst (KeepsFlat c.args.self.now.kernel) (sym is) (subst (λ (s : Standing). KeepsFlat s.kernel (copy_step b c.args.child)) c.self.view_is (copy_keeps t.book.size b c.args.child c.args.parent r.sound can));
+      keeps = subst (KeepsFlat c.args.self.now.kernel) (sym is)
+          (subst (λ (s : Standing). KeepsFlat s.kernel (copy_step b c.args.child)) c.self.view_is (copy_keeps t.book.size b c.args.child c.args.parent r.sound can));
       same =
           subst (λ (x : Kernel). SameElsewhere c.args.self.now.kernel x c.args.child) (sym is)
           (subst (λ (s : Standing). SameElsewhere s.kernel (copy_step b c.args.child) c.args.child) c.self.view_is (copy_same t.book.size b c.args.child c.args.parent r.sound can));

@@ -39,7 +39,8 @@ land-requires g c =
     let r = running c.self.inside c.args.self.now c.self.invariant c.self.view_is c.requires.running c.requires.whole in
     let k = known_of c.self.inside c.frames-frames.ensures.sound r in
     let e = came t.ring (g.F.Files.holds c.args.files.now) (g.D.SwapDev.image c.args.swap.now) (g.D.SwapDev.image c.complete_oldest.new.swap) _ c.in-Done.ensures.ends (λ i. let x = i in cc) in
-    back_known t c.complete_oldest.new.self e.oldest c.in-Done.transfer (was_lists t c.complete_oldest.new.self e.rest e.oldest e.ring_is c.in-Done.ensures.rest) (done_back e.oldest c.in-Done.transfer _ _ _ e.ends) k
+    back_known t c.complete_oldest.new.self e.oldest c.in-Done.transfer (was_lists t c.complete_oldest.new.self e.rest e.oldest e.ring_is c.in-Done.ensures.rest)
+    (done_back e.oldest c.in-Done.transfer _ _ _ e.ends) k
 
 pub invariant_of-self-in-Done : goal.invariant_of-self-in-Done
 invariant_of-self-in-Done g c =
@@ -49,7 +50,9 @@ invariant_of-self-in-Done g c =
     let k : Known (lists_of t) = known_of c.self.inside c.frames-frames.ensures.sound r in
     let now = stands_now c.self.inside c.args.self.now c.self.invariant c.self.view_is c.requires.running in
     let whole = whole_now c.self.inside c.args.self.now c.self.view_is c.requires.whole in
-    let e : Came t.ring (g.F.Files.holds c.args.files.now) (g.D.SwapDev.image c.args.swap.now) (g.D.SwapDev.image c.complete_oldest.new.swap) (answers.Done c.in-Done.transfer) = came t.ring (g.F.Files.holds c.args.files.now) (g.D.SwapDev.image c.args.swap.now) (g.D.SwapDev.image c.complete_oldest.new.swap) (answers.Done c.in-Done.transfer) c.in-Done.ensures.ends (λ i. let x = i in cc) in
+    let e : Came t.ring (g.F.Files.holds c.args.files.now) (g.D.SwapDev.image c.args.swap.now) (g.D.SwapDev.image c.complete_oldest.new.swap) (answers.Done c.in-Done.transfer) =
+    came t.ring (g.F.Files.holds c.args.files.now) (g.D.SwapDev.image c.args.swap.now) (g.D.SwapDev.image c.complete_oldest.new.swap) (answers.Done c.in-Done.transfer) c.in-Done.ensures.ends
+    (λ i. let x = i in cc) in
     let n : Flight = c.in-Done.transfer in
     let w : Tables = c.land.new.tables in
     let l : List Flight = c.complete_oldest.new.self in
@@ -71,9 +74,11 @@ invariant_of-self-in-Done g c =
     record {
       stands = stands_on c.self.inside w c.push_reserved.new.self.items c.self.inside.stopped now.stands whole s
           (done_runs t w l e.oldest n b (kernel_by w c.push_reserved.new.self.items c.self.inside.stopped) d refl is r)
-          (subst (AreSourced (images_of t) (image_at t) (before_of t) t.book.size) (sym left) (rest_sourced (images_of t) (image_at t) (before_of t) t.book.size t.ring e.rest e.oldest e.ring_is now.stands.ring))
+          (subst (AreSourced (images_of t) (image_at t) (before_of t) t.book.size) (sym left)
+          (rest_sourced (images_of t) (image_at t) (before_of t) t.book.size t.ring e.rest e.oldest e.ring_is now.stands.ring))
           d.all.images
-          (pushed c.self.inside.journal.items c.make_room.new.journal.items c.push_reserved.new.self.items _ t.params.journal c.make_room.ensures.same c.push_reserved.ensures.items c.in_ok-make_room.ensures.ok.0);
+          (pushed c.self.inside.journal.items c.make_room.new.journal.items c.push_reserved.new.self.items _ t.params.journal c.make_room.ensures.same c.push_reserved.ensures.items
+          c.in_ok-make_room.ensures.ok.0);
       none_lost = now.none_lost;
       room = no_room _ _ _ c.make_room.ensures.room;
     })
@@ -85,7 +90,9 @@ returns-in-Done g c =
     let k : Known (lists_of t) = known_of c.self.inside c.frames-frames.ensures.sound r in
     let now = stands_now c.self.inside c.args.self.now c.self.invariant c.self.view_is c.requires.running in
     let whole = whole_now c.self.inside c.args.self.now c.self.view_is c.requires.whole in
-    let e : Came t.ring (g.F.Files.holds c.args.files.now) (g.D.SwapDev.image c.args.swap.now) (g.D.SwapDev.image c.complete_oldest.new.swap) (answers.Done c.in-Done.transfer) = came t.ring (g.F.Files.holds c.args.files.now) (g.D.SwapDev.image c.args.swap.now) (g.D.SwapDev.image c.complete_oldest.new.swap) (answers.Done c.in-Done.transfer) c.in-Done.ensures.ends (λ i. let x = i in cc) in
+    let e : Came t.ring (g.F.Files.holds c.args.files.now) (g.D.SwapDev.image c.args.swap.now) (g.D.SwapDev.image c.complete_oldest.new.swap) (answers.Done c.in-Done.transfer) =
+    came t.ring (g.F.Files.holds c.args.files.now) (g.D.SwapDev.image c.args.swap.now) (g.D.SwapDev.image c.complete_oldest.new.swap) (answers.Done c.in-Done.transfer) c.in-Done.ensures.ends
+    (λ i. let x = i in cc) in
     let n : Flight = c.in-Done.transfer in
     let w : Tables = c.land.new.tables in
     let l : List Flight = c.complete_oldest.new.self in
@@ -106,7 +113,8 @@ returns-in-Done g c =
       frames = refl;
       ring = e.ring_is;
       known = k;
-      sourced = head_sourced (images_of t) (image_at t) t.book.holdings t.book.size t.ring e.rest e.oldest e.ring_is (subst (λ (hs : Holdings). AreSourced (images_of t) (image_at t) hs t.book.size t.ring) whole now.stands.ring);
+      sourced = head_sourced (images_of t) (image_at t) t.book.holdings t.book.size t.ring e.rest e.oldest e.ring_is
+          (subst (λ (hs : Holdings). AreSourced (images_of t) (image_at t) hs t.book.size t.ring) whole now.stands.ring);
     } in
     record {
       idle = search rules;
@@ -117,7 +125,8 @@ returns-in-Done g c =
             read = brought n;
             step = is ∙ ap (λ (s : Standing). done_step s.kernel (brought n)) c.self.view_is;
             told = subst (λ (s : Standing). ReadsTold (sources s (g.F.Files.holds c.args.files.now)) (g.D.SwapDev.image c.args.swap.now) s.kernel (brought n)) c.self.view_is
-                (done_told t (images_of t) b e.oldest n e.rest t.book.size (g.F.Files.holds c.args.files.now) (g.D.SwapDev.image c.args.swap.now) (g.D.SwapDev.image c.complete_oldest.new.swap) f e.ends
+                (done_told t (images_of t) b e.oldest n e.rest t.book.size (g.F.Files.holds c.args.files.now) (g.D.SwapDev.image c.args.swap.now)
+                (g.D.SwapDev.image c.complete_oldest.new.swap) f e.ends
                 (subst (λ (s : Standing). AreFiles s.images (g.F.Files.holds c.args.files.now)) (sym c.self.view_is) c.requires.files) c.look.ensures);
           };
       rest = search rules;
@@ -125,16 +134,19 @@ returns-in-Done g c =
           let area = c.requires.area in
           let size = now.stands.book in
           let p = ap (λ (s : Standing). s.params.swap_blocks) c.self.view_is in
-          let long : (image : List ℕ) → (g.D.SwapDev.image c.args.swap.now) ≡ Some image → 512 * t.book.size ≤ length image = λ image i. let m = g.met.D.SwapDev.whole c.args.swap.now image i in omega arith in
+          let long : (image : List ℕ) → (g.D.SwapDev.image c.args.swap.now) ≡ Some image → 512 * t.book.size ≤ length image =
+          λ image i. let m = g.met.D.SwapDev.whole c.args.swap.now image i in omega arith in
           subst (λ (x : Kernel). StandsTold x images (g.D.SwapDev.image c.complete_oldest.new.swap) flat) (sym is)
-          (done_keeps t (images_of t) b e.oldest n e.rest t.book.size (g.F.Files.holds c.args.files.now) (g.D.SwapDev.image c.args.swap.now) (g.D.SwapDev.image c.complete_oldest.new.swap) images flat f e.ends r.sound
+          (done_keeps t (images_of t) b e.oldest n e.rest t.book.size (g.F.Files.holds c.args.files.now) (g.D.SwapDev.image c.args.swap.now)
+          (g.D.SwapDev.image c.complete_oldest.new.swap) images flat f e.ends r.sound
           (subst (λ (s : Standing). AreFiles s.images (g.F.Files.holds c.args.files.now)) (sym c.self.view_is) c.requires.files)
           (subst (λ (s : Standing). AreImages s.images (g.F.Files.holds c.args.files.now) images) (sym c.self.view_is) loads)
           c.look.ensures
           (subst (λ (s : Standing). TextFits images s.kernel.place) (sym c.self.view_is) fits)
           long
           (subst (λ (s : Standing). StandsTold s.kernel images (g.D.SwapDev.image c.args.swap.now) flat) (sym c.self.view_is) stands));
-      swapped = subst (λ (s : Standing). ImageAfter s.kernel (g.D.SwapDev.image c.args.swap.now) (g.D.SwapDev.image c.complete_oldest.new.swap)) c.self.view_is (done_image t (images_of t) b e.oldest c.in-Done.transfer e.rest t.book.size (g.F.Files.holds c.args.files.now) (g.D.SwapDev.image c.args.swap.now) (g.D.SwapDev.image c.complete_oldest.new.swap) f e.ends);
+      swapped = subst (λ (s : Standing). ImageAfter s.kernel (g.D.SwapDev.image c.args.swap.now) (g.D.SwapDev.image c.complete_oldest.new.swap)) c.self.view_is (done_image t (images_of t) b e.oldest
+          c.in-Done.transfer e.rest t.book.size (g.F.Files.holds c.args.files.now) (g.D.SwapDev.image c.args.swap.now) (g.D.SwapDev.image c.complete_oldest.new.swap) f e.ends);
       spoiled = search rules;
       stop = search rules;
       cause = search rules;
@@ -153,16 +165,20 @@ returns-in-SwapWriteFault-clause-spoiled g c =
     let k : Known (lists_of t) = known_of c.self.inside c.frames-frames.ensures.sound r in
     let now = stands_now c.self.inside c.args.self.now c.self.invariant c.self.view_is c.requires.running in
     let whole = whole_now c.self.inside c.args.self.now c.self.view_is c.requires.whole in
-    let e : Came t.ring (g.F.Files.holds c.args.files.now) (g.D.SwapDev.image c.args.swap.now) (g.D.SwapDev.image c.complete_oldest.new.swap) (answers.SwapWriteFault c.in-SwapWriteFault.transfer) = came t.ring (g.F.Files.holds c.args.files.now) (g.D.SwapDev.image c.args.swap.now) (g.D.SwapDev.image c.complete_oldest.new.swap) (answers.SwapWriteFault c.in-SwapWriteFault.transfer) c.in-SwapWriteFault.ensures.ends (λ i. let x = i in cc) in
+    let e : Came t.ring (g.F.Files.holds c.args.files.now) (g.D.SwapDev.image c.args.swap.now) (g.D.SwapDev.image c.complete_oldest.new.swap) (answers.SwapWriteFault c.in-SwapWriteFault.transfer) =
+    came t.ring (g.F.Files.holds c.args.files.now) (g.D.SwapDev.image c.args.swap.now) (g.D.SwapDev.image c.complete_oldest.new.swap)
+    (answers.SwapWriteFault c.in-SwapWriteFault.transfer) c.in-SwapWriteFault.ensures.ends (λ i. let x = i in cc) in
     let b : Kernel = kernel_by t c.self.inside.journal.items c.self.inside.stopped in
     let f : Before t (images_of t) b e.oldest e.rest t.book.size = record {
       place = refl;
       frames = refl;
       ring = e.ring_is;
       known = k;
-      sourced = head_sourced (images_of t) (image_at t) t.book.holdings t.book.size t.ring e.rest e.oldest e.ring_is (subst (λ (hs : Holdings). AreSourced (images_of t) (image_at t) hs t.book.size t.ring) whole now.stands.ring);
+      sourced = head_sourced (images_of t) (image_at t) t.book.holdings t.book.size t.ring e.rest e.oldest e.ring_is
+          (subst (λ (hs : Holdings). AreSourced (images_of t) (image_at t) hs t.book.size t.ring) whole now.stands.ring);
     } in
-    subst (λ (s : Standing). SpoilsAfter s.kernel (g.D.SwapDev.image c.args.swap.now) (g.D.SwapDev.image c.complete_oldest.new.swap)) c.self.view_is (spoiled_image t (images_of t) b e.oldest c.in-SwapWriteFault.transfer e.rest t.book.size (g.F.Files.holds c.args.files.now) (g.D.SwapDev.image c.args.swap.now) (g.D.SwapDev.image c.complete_oldest.new.swap) f e.ends)
+    subst (λ (s : Standing). SpoilsAfter s.kernel (g.D.SwapDev.image c.args.swap.now) (g.D.SwapDev.image c.complete_oldest.new.swap)) c.self.view_is (spoiled_image t (images_of t) b e.oldest
+    c.in-SwapWriteFault.transfer e.rest t.book.size (g.F.Files.holds c.args.files.now) (g.D.SwapDev.image c.args.swap.now) (g.D.SwapDev.image c.complete_oldest.new.swap) f e.ends)
 
 pub returns-in-FileFault-clause-cause : goal.returns-in-FileFault-clause-cause
 returns-in-FileFault-clause-cause g c =
@@ -184,22 +200,31 @@ pub returns-in-FileFault-clause-lost : goal.returns-in-FileFault-clause-lost
 returns-in-FileFault-clause-lost g c =
     let t : Tables = c.self.inside.tables in
     let r = running c.self.inside c.args.self.now c.self.invariant c.self.view_is c.requires.running c.requires.whole in
-    let e : Came t.ring (g.F.Files.holds c.args.files.now) (g.D.SwapDev.image c.args.swap.now) (g.D.SwapDev.image c.complete_oldest.new.swap) (answers.FileFault c.in-FileFault.transfer) = came t.ring (g.F.Files.holds c.args.files.now) (g.D.SwapDev.image c.args.swap.now) (g.D.SwapDev.image c.complete_oldest.new.swap) (answers.FileFault c.in-FileFault.transfer) c.in-FileFault.ensures.ends (λ i. let x = i in cc) in
-    lost c.self.inside c.complete_oldest.new.self e.rest e.oldest c.args.self.now c.make_room.new.journal.items c.lose.new.stopped _ e.ring_is c.in-FileFault.ensures.rest (known_of c.self.inside c.frames-frames.ensures.sound r) c.self.view_is
+    let e : Came t.ring (g.F.Files.holds c.args.files.now) (g.D.SwapDev.image c.args.swap.now) (g.D.SwapDev.image c.complete_oldest.new.swap) (answers.FileFault c.in-FileFault.transfer) =
+    came t.ring (g.F.Files.holds c.args.files.now) (g.D.SwapDev.image c.args.swap.now) (g.D.SwapDev.image c.complete_oldest.new.swap)
+    (answers.FileFault c.in-FileFault.transfer) c.in-FileFault.ensures.ends (λ i. let x = i in cc) in
+    lost c.self.inside c.complete_oldest.new.self e.rest e.oldest c.args.self.now c.make_room.new.journal.items c.lose.new.stopped _ e.ring_is c.in-FileFault.ensures.rest
+    (known_of c.self.inside c.frames-frames.ensures.sound r) c.self.view_is
     c.make_room.ensures.same c.lose.ensures
 
 pub returns-in-SwapReadFault-clause-lost : goal.returns-in-SwapReadFault-clause-lost
 returns-in-SwapReadFault-clause-lost g c =
     let t : Tables = c.self.inside.tables in
     let r = running c.self.inside c.args.self.now c.self.invariant c.self.view_is c.requires.running c.requires.whole in
-    let e : Came t.ring (g.F.Files.holds c.args.files.now) (g.D.SwapDev.image c.args.swap.now) (g.D.SwapDev.image c.complete_oldest.new.swap) (answers.SwapReadFault c.in-SwapReadFault.transfer) = came t.ring (g.F.Files.holds c.args.files.now) (g.D.SwapDev.image c.args.swap.now) (g.D.SwapDev.image c.complete_oldest.new.swap) (answers.SwapReadFault c.in-SwapReadFault.transfer) c.in-SwapReadFault.ensures.ends (λ i. let x = i in cc) in
-    lost c.self.inside c.complete_oldest.new.self e.rest e.oldest c.args.self.now c.make_room.new.journal.items c.lose-in-SwapReadFault.new.stopped _ e.ring_is c.in-SwapReadFault.ensures.rest (known_of c.self.inside c.frames-frames.ensures.sound r) c.self.view_is
+    let e : Came t.ring (g.F.Files.holds c.args.files.now) (g.D.SwapDev.image c.args.swap.now) (g.D.SwapDev.image c.complete_oldest.new.swap) (answers.SwapReadFault c.in-SwapReadFault.transfer) =
+    came t.ring (g.F.Files.holds c.args.files.now) (g.D.SwapDev.image c.args.swap.now) (g.D.SwapDev.image c.complete_oldest.new.swap)
+    (answers.SwapReadFault c.in-SwapReadFault.transfer) c.in-SwapReadFault.ensures.ends (λ i. let x = i in cc) in
+    lost c.self.inside c.complete_oldest.new.self e.rest e.oldest c.args.self.now c.make_room.new.journal.items c.lose-in-SwapReadFault.new.stopped _ e.ring_is c.in-SwapReadFault.ensures.rest
+    (known_of c.self.inside c.frames-frames.ensures.sound r) c.self.view_is
     c.make_room.ensures.same c.lose-in-SwapReadFault.ensures
 
 pub returns-in-SwapWriteFault-clause-lost : goal.returns-in-SwapWriteFault-clause-lost
 returns-in-SwapWriteFault-clause-lost g c =
     let t : Tables = c.self.inside.tables in
     let r = running c.self.inside c.args.self.now c.self.invariant c.self.view_is c.requires.running c.requires.whole in
-    let e : Came t.ring (g.F.Files.holds c.args.files.now) (g.D.SwapDev.image c.args.swap.now) (g.D.SwapDev.image c.complete_oldest.new.swap) (answers.SwapWriteFault c.in-SwapWriteFault.transfer) = came t.ring (g.F.Files.holds c.args.files.now) (g.D.SwapDev.image c.args.swap.now) (g.D.SwapDev.image c.complete_oldest.new.swap) (answers.SwapWriteFault c.in-SwapWriteFault.transfer) c.in-SwapWriteFault.ensures.ends (λ i. let x = i in cc) in
-    lost c.self.inside c.complete_oldest.new.self e.rest e.oldest c.args.self.now c.make_room.new.journal.items c.lose-in-SwapWriteFault.new.stopped _ e.ring_is c.in-SwapWriteFault.ensures.rest (known_of c.self.inside c.frames-frames.ensures.sound r) c.self.view_is
+    let e : Came t.ring (g.F.Files.holds c.args.files.now) (g.D.SwapDev.image c.args.swap.now) (g.D.SwapDev.image c.complete_oldest.new.swap) (answers.SwapWriteFault c.in-SwapWriteFault.transfer) =
+    came t.ring (g.F.Files.holds c.args.files.now) (g.D.SwapDev.image c.args.swap.now) (g.D.SwapDev.image c.complete_oldest.new.swap)
+    (answers.SwapWriteFault c.in-SwapWriteFault.transfer) c.in-SwapWriteFault.ensures.ends (λ i. let x = i in cc) in
+    lost c.self.inside c.complete_oldest.new.self e.rest e.oldest c.args.self.now c.make_room.new.journal.items c.lose-in-SwapWriteFault.new.stopped _ e.ring_is c.in-SwapWriteFault.ensures.rest
+    (known_of c.self.inside c.frames-frames.ensures.sound r) c.self.view_is
     c.make_room.ensures.same c.lose-in-SwapWriteFault.ensures

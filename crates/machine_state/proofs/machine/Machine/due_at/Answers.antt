@@ -16,8 +16,10 @@ shown_at ds place = sym (ap (λ (o : Option Due). option_map due_and_parent o) (
 pub returns : goal.returns
 returns c =
     let ds = c.self.inside.tables.fills.items in
-    let some : slice_get ds c.args.place ≡ Some c.in_ok-fill.fill.now = slice_get_read ds (length ds) c.args.place c.in_ok-fill.fill.now refl c.in_ok-fill.ensures.item.3.0 c.in_ok-fill.ensures.lookup in
-    let pair : (c.page.result, c.parent.result) ≡ due_and_parent (due_shown c.in_ok-fill.fill.now) = ap₂ (λ (q : Page) (r : Option Page). let z : Page × Option Page = (q, r) in z) c.page.ensures c.parent.ensures in
+    let some : slice_get ds c.args.place ≡ Some c.in_ok-fill.fill.now =
+    slice_get_read ds (length ds) c.args.place c.in_ok-fill.fill.now refl c.in_ok-fill.ensures.item.3.0 c.in_ok-fill.ensures.lookup in
+    let pair : (c.page.result, c.parent.result) ≡ due_and_parent (due_shown c.in_ok-fill.fill.now) =
+    ap₂ (λ (q : Page) (r : Option Page). let z : Page × Option Page = (q, r) in z) c.page.ensures c.parent.ensures in
     ap (λ (z : Page × Option Page). Some z) pair
     ∙ sym (ap (λ (o : Option DueFill). option_map due_and_parent (option_map due_shown o)) some)
     ∙ shown_at ds c.args.place

@@ -21,5 +21,6 @@ returns c =
     let t : Tables = c.self.inside.tables in
     let now = stands_now c.self.inside c.args.self.now c.self.invariant c.self.view_is c.requires.running in
     let k : Known (lists_of t) = known_by t c.self.inside.journal.items c.self.inside.stopped c.frames-frames.ensures.sound now.stands in
-    ap (λ (bs : List ℕ). slice_index bs c.args.at) (c.bytes.ensures.value ∙ held_bytes (lists_of t) c.args.frame k (subst (λ (s : Standing). IsHeld s.kernel.place c.args.frame) (sym c.self.view_is) c.requires.held))
+    ap (λ (bs : List ℕ). slice_index bs c.args.at)
+    (c.bytes.ensures.value ∙ held_bytes (lists_of t) c.args.frame k (subst (λ (s : Standing). IsHeld s.kernel.place c.args.frame) (sym c.self.view_is) c.requires.held))
     ∙ ap (λ (s : Standing). slice_index (frame_bytes s.kernel c.args.frame) c.args.at) c.self.view_is

@@ -26,7 +26,8 @@ move_hands-requires c =
     let r = running c.self.inside c.args.self.now c.self.invariant c.self.view_is c.requires.running c.requires.whole in
     let t : Tables = c.self.inside.tables in
     let k : Known (lists_of t) = known_of c.self.inside c.frames-frames.ensures.sound r in
-    let can : CanMove (placement_of (lists_of t)) c.args.locked.now c.args.lo c.args.n = subst (λ (s : Standing). CanMove s.kernel.place c.args.locked.now c.args.lo c.args.n) (sym c.self.view_is) c.requires.can in
+    let can : CanMove (placement_of (lists_of t)) c.args.locked.now c.args.lo c.args.n =
+    subst (λ (s : Standing). CanMove s.kernel.place c.args.locked.now c.args.lo c.args.n) (sym c.self.view_is) c.requires.can in
     record {
       known = known_of c.self.inside c.frames-frames.ensures.sound (running c.self.inside c.args.self.now c.self.invariant c.self.view_is c.requires.running c.requires.whole);
       front = (hands_low (lists_of c.self.inside.tables) r.sound.hands).0;
@@ -49,7 +50,8 @@ invariant_of-self-2 c =
     let t : Tables = c.self.inside.tables in
     let r = running c.self.inside c.args.self.now c.self.invariant c.self.view_is c.requires.running c.requires.whole in
     let k : Known (lists_of t) = known_of c.self.inside c.frames-frames.ensures.sound r in
-    let can : CanMove (placement_of (lists_of t)) c.args.locked.now c.args.lo c.args.n = subst (λ (s : Standing). CanMove s.kernel.place c.args.locked.now c.args.lo c.args.n) (sym c.self.view_is) c.requires.can in
+    let can : CanMove (placement_of (lists_of t)) c.args.locked.now c.args.lo c.args.n =
+    subst (λ (s : Standing). CanMove s.kernel.place c.args.locked.now c.args.lo c.args.n) (sym c.self.view_is) c.requires.can in
     let p : Placement = hand_move (placement_of (lists_of t)) c.args.locked.now in
     let m : MovedOn t c.move_hands.new.tables p = c.move_hands.ensures in
     let g : Moving c.self.inside c.move_hands.new.tables p c.args.locked.now (entries.Hands 1) = record {
@@ -67,7 +69,8 @@ invariant_of-self-2 c =
     let whole = whole_now c.self.inside c.args.self.now c.self.view_is c.requires.whole in
     record {
       stands = moving_stands c.self.inside c.move_hands.new.tables p c.args.locked.now (entries.Hands 1) c.add_move.new.journal.items c.self.inside.stopped g now.stands whole ej refl
-          (joined_within moves_in (λ (count : ℕ). entries.Hands count) moves_kind c.self.inside.journal.items c.add_move.new.journal.items t.params.journal ej now.stands.within (λ h. (c.in_ok-make_room_to_move.ensures.has_room h).0));
+          (joined_within moves_in (λ (count : ℕ). entries.Hands count) moves_kind c.self.inside.journal.items c.add_move.new.journal.items t.params.journal ej now.stands.within
+          (λ h. (c.in_ok-make_room_to_move.ensures.has_room h).0));
       none_lost = now.none_lost;
       room = no_room _ _ _ c.make_room_to_move.ensures.room;
     })
@@ -77,7 +80,8 @@ returns c =
     let t : Tables = c.self.inside.tables in
     let r = running c.self.inside c.args.self.now c.self.invariant c.self.view_is c.requires.running c.requires.whole in
     let k : Known (lists_of t) = known_of c.self.inside c.frames-frames.ensures.sound r in
-    let can : CanMove (placement_of (lists_of t)) c.args.locked.now c.args.lo c.args.n = subst (λ (s : Standing). CanMove s.kernel.place c.args.locked.now c.args.lo c.args.n) (sym c.self.view_is) c.requires.can in
+    let can : CanMove (placement_of (lists_of t)) c.args.locked.now c.args.lo c.args.n =
+    subst (λ (s : Standing). CanMove s.kernel.place c.args.locked.now c.args.lo c.args.n) (sym c.self.view_is) c.requires.can in
     let p : Placement = hand_move (placement_of (lists_of t)) c.args.locked.now in
     let m : MovedOn t c.move_hands.new.tables p = c.move_hands.ensures in
     let g : Moving c.self.inside c.move_hands.new.tables p c.args.locked.now (entries.Hands 1) = record {
@@ -97,7 +101,8 @@ returns c =
     record {
       step = is ∙ ap (λ (s : Standing). hand_step s.kernel c.args.locked.now) c.self.view_is;
       rest = rest_of c.self.inside c.args.self.now c.move_hands.new.tables _ _ _ c.self.view_is (moved_still t c.move_hands.new.tables p m) c.make_room_to_move.ensures.room;
-      keeps = subst (KeepsFlat c.args.self.now.kernel) (sym is) (subst (λ (s : Standing). KeepsFlat s.kernel (hand_step b c.args.locked.now)) c.self.view_is (hand_keeps t.book.size b c.args.locked.now r.sound));
+      keeps = subst (KeepsFlat c.args.self.now.kernel) (sym is)
+          (subst (λ (s : Standing). KeepsFlat s.kernel (hand_step b c.args.locked.now)) c.self.view_is (hand_keeps t.book.size b c.args.locked.now r.sound));
       same = subst (SameEverywhere c.args.self.now.kernel) (sym is) (subst (λ (s : Standing). SameEverywhere s.kernel (hand_step b c.args.locked.now)) c.self.view_is (hand_alike b c.args.locked.now));
       stop = search rules;
       cause = search rules;

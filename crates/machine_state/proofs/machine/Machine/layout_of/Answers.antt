@@ -28,7 +28,8 @@ unreachable-requires-in_default-index_of c =
     let t : Tables = c.self.inside.tables in
     let can : CanLend (kernel_by t c.self.inside.journal.items c.self.inside.stopped) c.args.pid = subst (λ (s : Standing). CanLend s.kernel c.args.pid) (sym c.self.view_is) c.requires.can in
     let same : c.in-Some.sid ≡ can.sid = some_is c.in-Some.sid can.sid (sym c.in-Some.is ∙ c.space_of.ensures ∙ holds_space t.processes t.next_pid c.args.pid can.sid can.holds) in
-    can.there (subst (λ (n : ℕ). Rattle.page_model.specs.Pages.numbered Rattle.page_model.specs.Placement.space_number n (kernel_by t c.self.inside.journal.items c.self.inside.stopped).place.spaces ≡ None) same
+    can.there
+    (subst (λ (n : ℕ). Rattle.page_model.specs.Pages.numbered Rattle.page_model.specs.Placement.space_number n (kernel_by t c.self.inside.journal.items c.self.inside.stopped).place.spaces ≡ None) same
     (stands_there t.core.slots t.spaces c.in-Some.sid c.in_default-index_of.ensures.absent))
 
 pub returns-clause-laid_out : goal.returns-clause-laid_out
@@ -38,8 +39,10 @@ returns-clause-laid_out c =
     let k : Known (lists_of t) = known_by t c.self.inside.journal.items c.self.inside.stopped c.frames-frames.ensures.sound now.stands in
     let r = c.layout_at.result in
     let running : c.self.inside.stopped ≡ false = ap (λ (s : Standing). s.kernel.stopped) c.self.view_is ∙ c.requires.running in
-    let lengths : HasLengths t.spaces r.index r.image r.text_len r.data_len r.stack_len = subst (λ (n : ℕ). HasLengths t.spaces n r.image r.text_len r.data_len r.stack_len) (sym c.layout_at.ensures.index) c.layout_at.ensures.lengths in
-    let number = subst (λ (n : ℕ). Rattle.std.proofs.Common.slice_get (Rattle.table_steps.specs.Rising.sids_of t.spaces) n ≡ Some r.sid) (sym c.layout_at.ensures.index) (c.in-Some-index_of.ensures.found.number ∙ ap (λ (n : ℕ). Some n) (sym c.layout_at.ensures.sid)) in
+    let lengths : HasLengths t.spaces r.index r.image r.text_len r.data_len r.stack_len =
+    subst (λ (n : ℕ). HasLengths t.spaces n r.image r.text_len r.data_len r.stack_len) (sym c.layout_at.ensures.index) c.layout_at.ensures.lengths in
+    let number = subst (λ (n : ℕ). Rattle.std.proofs.Common.slice_get (Rattle.table_steps.specs.Rising.sids_of t.spaces) n ≡ Some r.sid) (sym c.layout_at.ensures.index)
+    (c.in-Some-index_of.ensures.found.number ∙ ap (λ (n : ℕ). Some n) (sym c.layout_at.ensures.sid)) in
     subst (λ (s : Standing). IsLaidOut s.kernel r.index r.sid r.image r.text_len r.data_len r.stack_len) c.self.view_is
     (layout_shown t c.self.inside.journal.items c.self.inside.stopped r.index r.sid r.image r.text_len r.data_len r.stack_len k running number lengths)
 

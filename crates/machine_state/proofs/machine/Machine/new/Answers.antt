@@ -16,7 +16,22 @@ pub invariant_of-result : goal.invariant_of-result
 invariant_of-result c =
     runs_within _ refl (λ _.
     let facts : List Image = map (λ (x : Named). x.facts) c.args.images.items in
-    let t : Tables = record { params = c.args.params; images = c.args.images; core = c.in-Ok.core; ring = c.in_ok-ring.ring; spaces = c.new-5.result; texts = c.new-6.result; processes = c.in_ok-processes.processes; book = c.in_ok-book.book; fills = c.new-7.result; front = 1 + c.args.params.frames / 4; back = 1; next_pid = 1; next_sid = 1; found = 0 } in
+    let t : Tables = record {
+      params = c.args.params;
+      images = c.args.images;
+      core = c.in-Ok.core;
+      ring = c.in_ok-ring.ring;
+      spaces = c.new-5.result;
+      texts = c.new-6.result;
+      processes = c.in_ok-processes.processes;
+      book = c.in_ok-book.book;
+      fills = c.new-7.result;
+      front = 1 + c.args.params.frames / 4;
+      back = 1;
+      next_pid = 1;
+      next_sid = 1;
+      found = 0;
+    } in
     let n : NewTables t facts c.args.params.frames = record {
       slots = c.in-Ok.ensures.slots;
       free = c.in-Ok.ensures.free;
@@ -34,7 +49,8 @@ invariant_of-result c =
     let runs : Runs (kernel_by t c.new-8.result.items false) (lists_of t) t.book.size =
     subst (λ (k : Kernel). Runs k (lists_of t) t.book.size) (sym (new_kernel_is t facts c.args.params.frames c.new-8.result.items n c.new-8.ensures.items))
     (subst (λ (l : Lists). Runs (fresh_kernel facts c.args.params.frames) l t.book.size) (sym (new_lists_are t facts c.args.params.frames n))
-    (new_runs facts c.args.params.frames t.book.size c.requires.some c.requires.few (subst (λ (k : ℕ). k ≤ 16) (sym (length_map (λ (x : Named). x.facts) c.args.images.items)) c.requires.images) c.requires.sound)) in
+    (new_runs facts c.args.params.frames t.book.size c.requires.some c.requires.few
+    (subst (λ (k : ℕ). k ≤ 16) (sym (length_map (λ (x : Named). x.facts) c.args.images.items)) c.requires.images) c.requires.sound)) in
     record {
       stands = new_stands t c.new-8.result.items n.holdings n.ring c.new-8.ensures.items (ap (λ (b : Book). b.size) c.in_ok-book.ensures) c.in_ok-processes.ensures c.requires.names refl refl runs;
       none_lost = refl;
@@ -44,7 +60,22 @@ invariant_of-result c =
 pub returns : goal.returns
 returns c =
     let facts : List Image = map (λ (x : Named). x.facts) c.args.images.items in
-    let t : Tables = record { params = c.args.params; images = c.args.images; core = c.in-Ok.core; ring = c.in_ok-ring.ring; spaces = c.new-5.result; texts = c.new-6.result; processes = c.in_ok-processes.processes; book = c.in_ok-book.book; fills = c.new-7.result; front = 1 + c.args.params.frames / 4; back = 1; next_pid = 1; next_sid = 1; found = 0 } in
+    let t : Tables = record {
+      params = c.args.params;
+      images = c.args.images;
+      core = c.in-Ok.core;
+      ring = c.in_ok-ring.ring;
+      spaces = c.new-5.result;
+      texts = c.new-6.result;
+      processes = c.in_ok-processes.processes;
+      book = c.in_ok-book.book;
+      fills = c.new-7.result;
+      front = 1 + c.args.params.frames / 4;
+      back = 1;
+      next_pid = 1;
+      next_sid = 1;
+      found = 0;
+    } in
     let n : NewTables t facts c.args.params.frames = record {
       slots = c.in-Ok.ensures.slots;
       free = c.in-Ok.ensures.free;

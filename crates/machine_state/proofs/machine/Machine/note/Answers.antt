@@ -23,6 +23,7 @@ returns-clause-keeps c images image flat coupled =
     let t : Tables = c.self.inside.tables in
     let k : Kernel = kernel_by t c.self.inside.journal.items c.self.inside.stopped in
     let is : kernel_by t c.push_reserved.new.self.items c.self.inside.stopped ≡ note_step k c.args.e =
-    ap (λ (j : List Entry). kernel_by t j c.self.inside.stopped) (c.push_reserved.ensures.items ∙ ap (λ (j : List Entry). j ++ c.args.e ∷ []) c.make_room.ensures.same ∙ sym (note_append c.self.inside.journal.items c.args.e c.requires.note)) in
+    ap (λ (j : List Entry). kernel_by t j c.self.inside.stopped)
+    (c.push_reserved.ensures.items ∙ ap (λ (j : List Entry). j ++ c.args.e ∷ []) c.make_room.ensures.same ∙ sym (note_append c.self.inside.journal.items c.args.e c.requires.note)) in
     let keeps : KeepsFlat k (note_step k c.args.e) = λ images image flat coupled. note_coupled k images image flat c.args.e coupled in
     subst (KeepsFlat c.args.self.now.kernel) (sym is) (subst (λ (s : Standing). KeepsFlat s.kernel (note_step k c.args.e)) c.self.view_is keeps) images image flat coupled

@@ -68,7 +68,8 @@ invariant_of-self-2 c =
     let whole = whole_now c.self.inside c.args.self.now c.self.view_is c.requires.whole in
     record {
       stands = moving_stands c.self.inside c.put_out.new.tables p [] (entries.Put c.args.lo c.args.n) c.push_reserved.new.self.items c.self.inside.stopped g now.stands whole ej refl
-          (pushed c.self.inside.journal.items c.make_room.new.journal.items c.push_reserved.new.self.items _ t.params.journal c.make_room.ensures.same c.push_reserved.ensures.items c.in_ok-make_room.ensures.ok.0).within;
+          (pushed c.self.inside.journal.items c.make_room.new.journal.items c.push_reserved.new.self.items _ t.params.journal c.make_room.ensures.same c.push_reserved.ensures.items
+          c.in_ok-make_room.ensures.ok.0).within;
       none_lost = now.none_lost;
       room = no_room _ _ _ c.make_room.ensures.room;
     })
@@ -101,8 +102,10 @@ returns c =
     record {
       step = is ∙ ap (λ (s : Standing). push_step s.kernel c.args.lo c.args.n) c.self.view_is;
       rest = rest_of c.self.inside c.args.self.now c.put_out.new.tables _ _ _ c.self.view_is (moved_still t c.put_out.new.tables p m) c.make_room.ensures.room;
-      keeps = subst (KeepsFlat c.args.self.now.kernel) (sym is) (subst (λ (s : Standing). KeepsFlat s.kernel (push_step b c.args.lo c.args.n)) c.self.view_is (push_keeps t.book.size b c.args.lo c.args.n r.sound can));
-      same = subst (SameEverywhere c.args.self.now.kernel) (sym is) (subst (λ (s : Standing). SameEverywhere s.kernel (push_step b c.args.lo c.args.n)) c.self.view_is (push_alike b c.args.lo c.args.n));
+      keeps = subst (KeepsFlat c.args.self.now.kernel) (sym is)
+          (subst (λ (s : Standing). KeepsFlat s.kernel (push_step b c.args.lo c.args.n)) c.self.view_is (push_keeps t.book.size b c.args.lo c.args.n r.sound can));
+      same =
+          subst (SameEverywhere c.args.self.now.kernel) (sym is) (subst (λ (s : Standing). SameEverywhere s.kernel (push_step b c.args.lo c.args.n)) c.self.view_is (push_alike b c.args.lo c.args.n));
       stop = search rules;
       cause = search rules;
       full = search rules;

@@ -72,7 +72,8 @@ invariant_of-self-2 c =
     let i : InvalidEntry (lists_of t) c.args.page can.frame = invalid_entry (lists_of t) c.args.page can.frame k can.shared can.invalid in
     let frame : c.frame_of-frame.result.0 ≡ can.frame = c.frame_of-frame.ensures.frame ∙ ap frame_named i.entry in
     let v : RevivedPage t c.revive.new.self c.args.page can.frame (dirty_shown t.spaces t.texts c.args.page) =
-    subst (λ (b : Bool). RevivedPage t c.revive.new.self c.args.page can.frame b) c.is_dirty-dirty.ensures (subst (λ (f : ℕ). RevivedPage t c.revive.new.self c.args.page f c.is_dirty-dirty.result) frame c.revive.ensures) in
+    subst (λ (b : Bool). RevivedPage t c.revive.new.self c.args.page can.frame b) c.is_dirty-dirty.ensures
+    (subst (λ (f : ℕ). RevivedPage t c.revive.new.self c.args.page f c.is_dirty-dirty.result) frame c.revive.ensures) in
     let g : Reclaiming t c.revive.new.self c.args.page can.frame = record { known = k; invalid = can.invalid; entry = i; revived_it = v } in
     let now = stands_now c.self.inside c.args.self.now c.self.invariant c.self.view_is c.requires.running in
     let whole = whole_now c.self.inside c.args.self.now c.self.view_is c.requires.whole in
@@ -82,7 +83,9 @@ invariant_of-self-2 c =
       stands = stands_same c.self.inside c.revive.new.self c.push_reserved.new.self.items c.self.inside.stopped now.stands whole s
           (subst (λ (j : List Entry). Runs (kernel_by c.revive.new.self j c.self.inside.stopped) (lists_of c.revive.new.self) c.revive.new.self.book.size) (sym c.push_reserved.ensures.items)
           (reclaim_runs c.self.inside c.revive.new.self c.args.page can.frame c.make_room.new.journal.items c.self.inside.stopped r can.shared g c.make_room.ensures.same refl))
-          (ap (λ (x : Tables). x.ring) e) (ap (map head_of) v.spaces ∙ placed_heads t.spaces c.args.page (Frame can.frame true (dirty_shown t.spaces t.texts c.args.page))) (pushed c.self.inside.journal.items c.make_room.new.journal.items c.push_reserved.new.self.items _ c.self.inside.tables.params.journal c.make_room.ensures.same c.push_reserved.ensures.items c.in_ok-make_room.ensures.ok.0);
+          (ap (λ (x : Tables). x.ring) e) (ap (map head_of) v.spaces ∙ placed_heads t.spaces c.args.page (Frame can.frame true (dirty_shown t.spaces t.texts c.args.page)))
+          (pushed c.self.inside.journal.items c.make_room.new.journal.items c.push_reserved.new.self.items _ c.self.inside.tables.params.journal c.make_room.ensures.same c.push_reserved.ensures.items
+          c.in_ok-make_room.ensures.ok.0);
       none_lost = now.none_lost;
       room = no_room _ _ _ c.make_room.ensures.room;
     })
@@ -96,7 +99,8 @@ returns c =
     let i : InvalidEntry (lists_of t) c.args.page can.frame = invalid_entry (lists_of t) c.args.page can.frame k can.shared can.invalid in
     let frame : c.frame_of-frame.result.0 ≡ can.frame = c.frame_of-frame.ensures.frame ∙ ap frame_named i.entry in
     let v : RevivedPage t c.revive.new.self c.args.page can.frame (dirty_shown t.spaces t.texts c.args.page) =
-    subst (λ (b : Bool). RevivedPage t c.revive.new.self c.args.page can.frame b) c.is_dirty-dirty.ensures (subst (λ (f : ℕ). RevivedPage t c.revive.new.self c.args.page f c.is_dirty-dirty.result) frame c.revive.ensures) in
+    subst (λ (b : Bool). RevivedPage t c.revive.new.self c.args.page can.frame b) c.is_dirty-dirty.ensures
+    (subst (λ (f : ℕ). RevivedPage t c.revive.new.self c.args.page f c.is_dirty-dirty.result) frame c.revive.ensures) in
     let g : Reclaiming t c.revive.new.self c.args.page can.frame = record { known = k; invalid = can.invalid; entry = i; revived_it = v } in
     let b : Kernel = kernel_by t c.self.inside.journal.items c.self.inside.stopped in
     let is : kernel_by c.revive.new.self c.push_reserved.new.self.items c.self.inside.stopped ≡ reclaim_step b c.args.page =
@@ -109,7 +113,8 @@ returns c =
           let e = v.rest in
           let s : Still t c.revive.new.self = still_along _ _ _ e (record { params = refl; images = refl; book = refl; found = refl; processes = refl; next_pid = refl; next_sid = refl }) in
           rest_of c.self.inside c.args.self.now c.revive.new.self _ _ _ c.self.view_is s c.make_room.ensures.room;
-      keeps = subst (KeepsFlat c.args.self.now.kernel) (sym is) (subst (λ (s : Standing). KeepsFlat s.kernel (reclaim_step b c.args.page)) c.self.view_is (reclaim_keeps t.book.size b c.args.page r.sound));
+      keeps = subst (KeepsFlat c.args.self.now.kernel) (sym is)
+          (subst (λ (s : Standing). KeepsFlat s.kernel (reclaim_step b c.args.page)) c.self.view_is (reclaim_keeps t.book.size b c.args.page r.sound));
       same = subst (SameEverywhere c.args.self.now.kernel) (sym is) (subst (λ (s : Standing). SameEverywhere s.kernel (reclaim_step b c.args.page)) c.self.view_is (reclaim_alike b c.args.page));
       stop = search rules;
       cause = search rules;

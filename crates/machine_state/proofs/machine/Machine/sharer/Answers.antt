@@ -11,4 +11,5 @@ pub returns : goal.returns
 returns c =
     let t : Tables = c.self.inside.tables in
     subst (λ (s : Standing). Lowest (IsSharer s.kernel.place c.args.image) c.sharer.result) c.self.view_is
-    (subst (Lowest (IsSharer (placement_of (lists_of t)) c.args.image)) (sym c.sharer.ensures.first) (lowest_sharer (placement_of (lists_of t)) t.core.slots t.spaces c.args.image refl c.sharer.ensures.rising))
+    (subst (Lowest (IsSharer (placement_of (lists_of t)) c.args.image)) (sym c.sharer.ensures.first)
+    (lowest_sharer (placement_of (lists_of t)) t.core.slots t.spaces c.args.image refl c.sharer.ensures.rising))

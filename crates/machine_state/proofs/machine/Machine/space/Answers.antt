@@ -15,8 +15,11 @@ use Rattle.machine_state.proofs.machine.Machine.space.Goals as goal
 pub returns-in_err-index-clause-there : goal.returns-in_err-index-clause-there
 returns-in_err-index-clause-there c =
     let t : Tables = c.self.inside.tables in
-    let gone : HasSpace (placement_of (lists_of t)) c.args.sid → ⊥ = λ h. h (stands_there t.core.slots t.spaces c.args.sid c.in_err-index.ensures.absent) in
-    ((λ e. absurd (let x = sym (ap Rattle.std.proofs.Common.is_some c.from_residual.ensures) ∙ e in cc)), (λ h. absurd (gone (subst (λ (s : Standing). HasSpace s.kernel.place c.args.sid) (sym c.self.view_is) h))))
+    let gone : HasSpace (placement_of (lists_of t)) c.args.sid → ⊥ = λ h. h (stands_there t.core.slots t.spaces c.args.sid c.in_err-index.ensures.absent) in (
+      (λ e. absurd (let x = sym (ap Rattle.std.proofs.Common.is_some c.from_residual.ensures) ∙ e in cc)),
+      (λ h.
+          absurd (gone (subst (λ (s : Standing). HasSpace s.kernel.place c.args.sid) (sym c.self.view_is) h))),
+    )
 
 pub returns-clause-there : goal.returns-clause-there
 returns-clause-there c =
@@ -45,4 +48,5 @@ returns-clause-shows c =
     let now = stands_now c.self.inside c.args.self.now c.self.invariant c.self.view_is c.requires in
     let k = known_by t c.self.inside.journal.items c.self.inside.stopped c.frames-frames.ensures.sound now.stands in
     subst (λ (s : Standing). (core : Frames) → ShowsCore s.kernel.place core → ShowsSpace s.kernel.place core c.at-space.result.now) c.self.view_is
-    (space_shows (lists_of t) c.in_ok-index.index c.at-space.result.now k c.at-space.ensures.rising c.at-space.ensures.space (sym c.text_pages-pages.ensures.count ∙ c.text_pages-pages.ensures.of_image))
+    (space_shows (lists_of t) c.in_ok-index.index c.at-space.result.now k c.at-space.ensures.rising c.at-space.ensures.space
+    (sym c.text_pages-pages.ensures.count ∙ c.text_pages-pages.ensures.of_image))

@@ -61,7 +61,8 @@ invariant_of-self-in-Done u c =
     let r = running m c.args.self.now c.self.invariant c.self.view_is c.requires.running c.requires.whole in
     let now = stands_now m c.args.self.now c.self.invariant c.self.view_is c.requires.running in
     let whole = whole_now m c.args.self.now c.self.view_is c.requires.whole in
-    let g : Gone m c.move_record.new.processes c.push_reserved.new.self.items c.self.inside.stopped c.args.pid c.regs_in-regs.result false c.next_place-since.result (entries.SwapIn c.args.pid) = record {
+    let g : Gone m c.move_record.new.processes c.push_reserved.new.self.items c.self.inside.stopped c.args.pid c.regs_in-regs.result false c.next_place-since.result
+    (entries.SwapIn c.args.pid) = record {
       moved = c.move_record.ensures;
       lasts = entering_lasts t.processes c.args.pid (Kernel.processes k) c.move_record.ensures.was o c.move_record.ensures.found;
       since_is = c.next_place-since.ensures ∙ ap (λ (j : List Entry). length j + 1) (c.as_slice.ensures.value ∙ c.make_room.ensures.same);
@@ -71,7 +72,8 @@ invariant_of-self-in-Done u c =
     let is : kernel_by (with_records t c.move_record.new.processes) c.push_reserved.new.self.items c.self.inside.stopped ≡ in_step k c.args.pid c.regs_in-regs.result =
     in_is m c.move_record.new.processes c.push_reserved.new.self.items c.self.inside.stopped c.args.pid c.regs_in-regs.result c.next_place-since.result g in
     record {
-      stands = in_stands m c.move_record.new.processes c.push_reserved.new.self.items c.self.inside.stopped c.args.pid c.regs_in-regs.result c.next_place-since.result g now.stands whole r (omega (arith, c.in_ok-make_room.ensures.ok.0));
+      stands = in_stands m c.move_record.new.processes c.push_reserved.new.self.items c.self.inside.stopped c.args.pid c.regs_in-regs.result c.next_place-since.result g now.stands whole r
+          (omega (arith, c.in_ok-make_room.ensures.ok.0));
       none_lost = now.none_lost;
       room = no_room _ _ _ c.make_room.ensures.room;
     })
@@ -83,7 +85,8 @@ returns-in-Done u c =
     let k : Kernel = kernel_by t m.journal.items m.stopped in
     let can : CanComeIn k c.args.pid = subst (λ (s : Standing). CanComeIn s.kernel c.args.pid) (sym c.self.view_is) c.requires.can in
     let o : IsOutThere t.processes c.args.pid (Kernel.processes k) = entering t m.journal.items m.stopped c.args.pid can in
-    let g : Gone m c.move_record.new.processes c.push_reserved.new.self.items c.self.inside.stopped c.args.pid c.regs_in-regs.result false c.next_place-since.result (entries.SwapIn c.args.pid) = record {
+    let g : Gone m c.move_record.new.processes c.push_reserved.new.self.items c.self.inside.stopped c.args.pid c.regs_in-regs.result false c.next_place-since.result
+    (entries.SwapIn c.args.pid) = record {
       moved = c.move_record.ensures;
       lasts = entering_lasts t.processes c.args.pid (Kernel.processes k) c.move_record.ensures.was o c.move_record.ensures.found;
       since_is = c.next_place-since.ensures ∙ ap (λ (j : List Entry). length j + 1) (c.as_slice.ensures.value ∙ c.make_room.ensures.same);
@@ -93,11 +96,14 @@ returns-in-Done u c =
     let is : kernel_by (with_records t c.move_record.new.processes) c.push_reserved.new.self.items c.self.inside.stopped ≡ in_step k c.args.pid c.regs_in-regs.result =
     in_is m c.move_record.new.processes c.push_reserved.new.self.items c.self.inside.stopped c.args.pid c.regs_in-regs.result c.next_place-since.result g in
     let a : AreStored k c.args.pid (u.D.SwapDev.image c.args.swap.now) c.regs_in-regs.result =
-    read_regs k c.args.pid c.u_block-block.result c.read.new.buf c.regs_in-regs.result (u.D.SwapDev.image c.args.swap.now) (sym c.u_block-block.ensures) c.regs_in-regs.ensures c.in-Done.ensures.done in
+    read_regs k c.args.pid c.u_block-block.result c.read.new.buf c.regs_in-regs.result (u.D.SwapDev.image c.args.swap.now)
+    (sym c.u_block-block.ensures) c.regs_in-regs.ensures c.in-Done.ensures.done in
     record {
       step =
-          let i : IsIn k (kernel_by (with_records t c.move_record.new.processes) c.push_reserved.new.self.items c.self.inside.stopped) c.args.pid (u.D.SwapDev.image c.args.swap.now) = record { regs = c.regs_in-regs.result; stored = a; step = is } in
-          subst (λ (s : Standing). IsIn s.kernel (kernel_by (with_records t c.move_record.new.processes) c.push_reserved.new.self.items c.self.inside.stopped) c.args.pid (u.D.SwapDev.image c.args.swap.now)) c.self.view_is i;
+          let i : IsIn k (kernel_by (with_records t c.move_record.new.processes) c.push_reserved.new.self.items c.self.inside.stopped) c.args.pid (u.D.SwapDev.image c.args.swap.now) =
+          record { regs = c.regs_in-regs.result; stored = a; step = is } in
+          subst (λ (s : Standing). IsIn s.kernel (kernel_by (with_records t c.move_record.new.processes) c.push_reserved.new.self.items c.self.inside.stopped) c.args.pid
+          (u.D.SwapDev.image c.args.swap.now)) c.self.view_is i;
       rest = search rules;
       keeps =
           subst (λ (x : Kernel). KeepsIn c.args.self.now.kernel x c.args.pid (u.D.SwapDev.image c.args.swap.now) (u.D.SwapDev.image c.read.new.self)) (sym is)

@@ -70,7 +70,8 @@ invariant_of-self-in-Done u c =
     let is : kernel_by (with_records t c.move_record.new.processes) c.push_reserved.new.self.items c.self.inside.stopped ≡ out_step k c.args.pid =
     out_is m c.move_record.new.processes c.push_reserved.new.self.items c.self.inside.stopped c.args.pid c.no_regs.result c.next_place-since.result g c.no_regs.ensures in
     record {
-      stands = out_stands m c.move_record.new.processes c.push_reserved.new.self.items c.self.inside.stopped c.args.pid c.no_regs.result c.next_place-since.result g c.no_regs.ensures now.stands whole r (omega (arith, c.in_ok-make_room.ensures.ok.0));
+      stands = out_stands m c.move_record.new.processes c.push_reserved.new.self.items c.self.inside.stopped c.args.pid c.no_regs.result c.next_place-since.result g c.no_regs.ensures now.stands whole
+          r (omega (arith, c.in_ok-make_room.ensures.ok.0));
       none_lost = now.none_lost;
       room = no_room _ _ _ c.make_room.ensures.room;
     })
@@ -92,7 +93,8 @@ returns-in-Done u c =
     let is : kernel_by (with_records t c.move_record.new.processes) c.push_reserved.new.self.items c.self.inside.stopped ≡ out_step k c.args.pid =
     out_is m c.move_record.new.processes c.push_reserved.new.self.items c.self.inside.stopped c.args.pid c.no_regs.result c.next_place-since.result g c.no_regs.ensures in
     let w : WritesU k c.args.pid (u.D.SwapDev.image c.args.swap.now) (u.D.SwapDev.image c.write.new.self) =
-    written k c.args.pid c.u_block-block.result c.u_page_of-page.result (u.D.SwapDev.image c.args.swap.now) (u.D.SwapDev.image c.write.new.self) (sym c.u_block-block.ensures) (bytes_are t m.journal.items m.stopped c.args.pid c.u_page_of-page.result l c.u_page_of-page.ensures) c.in-Done.ensures.done in
+    written k c.args.pid c.u_block-block.result c.u_page_of-page.result (u.D.SwapDev.image c.args.swap.now) (u.D.SwapDev.image c.write.new.self) (sym c.u_block-block.ensures)
+    (bytes_are t m.journal.items m.stopped c.args.pid c.u_page_of-page.result l c.u_page_of-page.ensures) c.in-Done.ensures.done in
     record {
       step = is ∙ ap (λ (s : Standing). out_step s.kernel c.args.pid) c.self.view_is;
       rest = search rules;
@@ -103,10 +105,12 @@ returns-in-Done u c =
           let area = c.requires.area in
           let size = now.stands.book in
           let ps = ap (λ (s : Standing). s.params.swap_blocks) c.self.view_is in
-          let long : (image : List ℕ) → u.D.SwapDev.image c.args.swap.now ≡ Some image → 512 * t.book.size ≤ length image = λ image i. let long = u.met.D.SwapDev.whole c.args.swap.now image i in omega arith in
+          let long : (image : List ℕ) → u.D.SwapDev.image c.args.swap.now ≡ Some image → 512 * t.book.size ≤ length image =
+          λ image i. let long = u.met.D.SwapDev.whole c.args.swap.now image i in omega arith in
           subst (λ (x : Kernel). KeepsOut c.args.self.now.kernel x (u.D.SwapDev.image c.args.swap.now) (u.D.SwapDev.image c.write.new.self)) (sym is)
           (subst (λ (s : Standing). KeepsOut s.kernel (out_step k c.args.pid) (u.D.SwapDev.image c.args.swap.now) (u.D.SwapDev.image c.write.new.self)) c.self.view_is
-          (out_keeps t.book.size t k c.args.pid (u.D.SwapDev.image c.args.swap.now) (u.D.SwapDev.image c.write.new.self) l r.sound r.numbered can.resident c.u_page_of-page.result c.u_page_of-page.ensures long w));
+          (out_keeps t.book.size t k c.args.pid (u.D.SwapDev.image c.args.swap.now) (u.D.SwapDev.image c.write.new.self) l r.sound r.numbered can.resident c.u_page_of-page.result
+          c.u_page_of-page.ensures long w));
       swapped = subst (λ (s : Standing). WritesU s.kernel c.args.pid (u.D.SwapDev.image c.args.swap.now) (u.D.SwapDev.image c.write.new.self)) c.self.view_is w;
       spoiled = search rules;
       uncalled = search rules;

@@ -22,7 +22,8 @@ write_byte-requires c =
     let t : Tables = c.self.inside.tables in
     let now = stands_now c.self.inside c.args.self.now c.self.invariant c.self.view_is c.requires.running in
     let k : Known (lists_of t) = known_by t c.self.inside.journal.items c.self.inside.stopped c.frames-frames.ensures.sound now.stands in
-    let valid : state_of (placement_of (lists_of t)) c.args.page ≡ Valid c.args.frame = subst (λ (s : Standing). state_of s.kernel.place c.args.page ≡ Valid c.args.frame) (sym c.self.view_is) c.requires.valid in
+    let valid : state_of (placement_of (lists_of t)) c.args.page ≡ Valid c.args.frame =
+    subst (λ (s : Standing). state_of s.kernel.place c.args.page ≡ Valid c.args.frame) (sym c.self.view_is) c.requires.valid in
     let i : InFrame (lists_of t) c.args.page c.args.frame = in_frame (lists_of t) c.args.page c.args.frame k valid in
     record {
       home = own_home (lists_of t) c.args.index c.args.page c.requires.writable (subst (λ (s : Standing). IsOwnPage s.kernel.place c.args.index c.args.page) (sym c.self.view_is) c.requires.own);
@@ -42,16 +43,22 @@ invariant_of-self c =
     let t : Tables = c.self.inside.tables in
     let now = stands_now c.self.inside c.args.self.now c.self.invariant c.self.view_is c.requires.running in
     let k : Known (lists_of t) = known_by t c.self.inside.journal.items c.self.inside.stopped c.frames-frames.ensures.sound now.stands in
-    let valid : state_of (placement_of (lists_of t)) c.args.page ≡ Valid c.args.frame = subst (λ (s : Standing). state_of s.kernel.place c.args.page ≡ Valid c.args.frame) (sym c.self.view_is) c.requires.valid in
+    let valid : state_of (placement_of (lists_of t)) c.args.page ≡ Valid c.args.frame =
+    subst (λ (s : Standing). state_of s.kernel.place c.args.page ≡ Valid c.args.frame) (sym c.self.view_is) c.requires.valid in
     let w : Writing t c.write_byte.new.self c.args.page c.args.frame c.args.at c.args.byte = record { known = k; valid = valid; writable = c.requires.writable; wrote = c.write_byte.ensures } in
-    record { stands = write_stands t c.write_byte.new.self c.args.page c.args.frame c.args.at c.args.byte c.self.inside.journal.items c.self.inside.stopped now.stands w; none_lost = now.none_lost; room = subst (λ (x : Tables). HasRoom c.self.inside.room c.self.inside.journal x.params.journal) (sym c.write_byte.ensures.rest) now.room })
+    record {
+      stands = write_stands t c.write_byte.new.self c.args.page c.args.frame c.args.at c.args.byte c.self.inside.journal.items c.self.inside.stopped now.stands w;
+      none_lost = now.none_lost;
+      room = subst (λ (x : Tables). HasRoom c.self.inside.room c.self.inside.journal x.params.journal) (sym c.write_byte.ensures.rest) now.room;
+    })
 
 pub returns-clause-step : goal.returns-clause-step
 returns-clause-step c =
     let t : Tables = c.self.inside.tables in
     let now = stands_now c.self.inside c.args.self.now c.self.invariant c.self.view_is c.requires.running in
     let k : Known (lists_of t) = known_by t c.self.inside.journal.items c.self.inside.stopped c.frames-frames.ensures.sound now.stands in
-    let valid : state_of (placement_of (lists_of t)) c.args.page ≡ Valid c.args.frame = subst (λ (s : Standing). state_of s.kernel.place c.args.page ≡ Valid c.args.frame) (sym c.self.view_is) c.requires.valid in
+    let valid : state_of (placement_of (lists_of t)) c.args.page ≡ Valid c.args.frame =
+    subst (λ (s : Standing). state_of s.kernel.place c.args.page ≡ Valid c.args.frame) (sym c.self.view_is) c.requires.valid in
     let w : Writing t c.write_byte.new.self c.args.page c.args.frame c.args.at c.args.byte = record { known = k; valid = valid; writable = c.requires.writable; wrote = c.write_byte.ensures } in
     write_standing c.self.inside c.write_byte.new.self c.args.page c.args.frame c.args.at c.args.byte w
     ∙ ap (λ (s : Standing). record s { kernel = write_step s.kernel c.args.page c.args.frame c.args.at c.args.byte }) c.self.view_is

@@ -20,5 +20,6 @@ returns c =
     IfOk-weaker c.enter.result (Entering c.args.frames c.args.page c.leave.new.self c.enter.new.self)
     (λ (ok : Bool). (cache : List ℕ) → Tracks cache c.args.self.now.cache → Serving c.args.frames c.args.at c.args.page cache c.args.self.now c.enter.new.self ok)
     (λ ok e cache k.
-    replay_fault c.args.frames c.args.at c.args.page cache c.args.self.now c.leave.new.self c.enter.new.self c.due-victim.result ok k (sym c.if-contains.ensures) c.due-victim.ensures c.if-not-leave.ensures e)
+    replay_fault c.args.frames c.args.at c.args.page cache c.args.self.now c.leave.new.self c.enter.new.self c.due-victim.result ok k
+    (sym c.if-contains.ensures) c.due-victim.ensures c.if-not-leave.ensures e)
     c.enter.ensures

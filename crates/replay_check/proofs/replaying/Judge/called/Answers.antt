@@ -21,7 +21,8 @@ returns-then-of-pid-clause-verdict c = λ A point same at.
 pub returns-else-of-pid-clause-verdict : goal.returns-else-of-pid-clause-verdict
 returns-else-of-pid-clause-verdict c = λ A point same at.
     let other : (c.in-Wrote.of == c.args.pid) ≡ false = grind (arith, nat_tests) in
-    answered_at A point c.args.self.now.machine c.args.self.now.last Other c.in-Wrote.of c.args.pid c.args.number c.args.r0 c.args.r1 c.args.carry (c.in-Wrote.of == c.args.pid) c.in-Wrote.call c.in-Wrote.regs
+    answered_at A point c.args.self.now.machine c.args.self.now.last Other c.in-Wrote.of c.args.pid c.args.number c.args.r0 c.args.r1 c.args.carry
+    (c.in-Wrote.of == c.args.pid) c.in-Wrote.call c.in-Wrote.regs
     c.in-Wrote.is refl at
     (other
     ∙ sym (ap (λ (b : Bool). b && same_entry (call_entry c.args.pid c.in-Wrote.call c.in-Wrote.regs) (Call c.args.pid c.args.number c.args.carry c.args.r0 c.args.r1)) other))
@@ -39,7 +40,8 @@ pub returns-clause-verdict : goal.returns-clause-verdict
 returns-clause-verdict c = λ A point same at.
     let mine = c.take_refused.new.self in
     let images : A.images ≡ mine.programs.now = cc in
-    called_at A point mine.machine c.step.new.self.machine c.args.self.now.last c.step.new.self.last c.args.pid c.args.number c.args.r0 c.args.r1 c.args.carry c.in-Some.refused c.in_ok-did.did c.is_replied.result
+    called_at A point mine.machine c.step.new.self.machine c.args.self.now.last c.step.new.self.last c.args.pid c.args.number c.args.r0 c.args.r1 c.args.carry c.in-Some.refused
+    c.in_ok-did.did c.is_replied.result
     (sym c.in-Some.ensures.refused) (c.step.ensures.last ∙ c.in-Some.ensures.other)
     (subst (λ (F : FlatState). IsAt A F c.args.self.now.last point) (sym c.take_refused.ensures.machine) at)
     (c.in_ok-did.ensures.entries A images) (c.in_ok-did.ensures.after A images) (c.is_replied.ensures c.args.pid)

@@ -10,14 +10,16 @@ pub returns-in-Call-clause-way : goal.returns-in-Call-clause-way
 returns-in-Call-clause-way c = λ A units whole same way.
     let now = c.args.self.now in
     let after = c.count.new.self in
-    counted_on A now.machine after.machine now.refused after.refused now.pages.items after.pages.items c.args.entry.now (Call c.in-Call.pid c.in-Call.number c.in-Call.carry c.in-Call.r0 c.in-Call.r1) units whole c.in-Call.pid c.count.result
+    counted_on A now.machine after.machine now.refused after.refused now.pages.items after.pages.items c.args.entry.now
+    (Call c.in-Call.pid c.in-Call.number c.in-Call.carry c.in-Call.r0 c.in-Call.r1) units whole c.in-Call.pid c.count.result
     c.in-Call.is refl refl (λ point. refl) way c.count.ensures.refused (c.count.ensures.after A same) (c.count.ensures.pages A same)
 
 pub returns-in-Ended-clause-way : goal.returns-in-Ended-clause-way
 returns-in-Ended-clause-way c = λ A units whole same way.
     let now = c.args.self.now in
     let after = c.count-in-Ended.new.self in
-    counted_on A now.machine after.machine now.refused after.refused now.pages.items after.pages.items c.args.entry.now (Ended c.in-Ended.pid c.in-Ended.status) units whole c.in-Ended.pid c.count-in-Ended.result
+    counted_on A now.machine after.machine now.refused after.refused now.pages.items after.pages.items c.args.entry.now
+    (Ended c.in-Ended.pid c.in-Ended.status) units whole c.in-Ended.pid c.count-in-Ended.result
     c.in-Ended.is refl refl (λ point. refl) way c.count-in-Ended.ensures.refused (c.count-in-Ended.ensures.after A same) (c.count-in-Ended.ensures.pages A same)
 
 pub returns-in-Grew-clause-way : goal.returns-in-Grew-clause-way

@@ -16,7 +16,8 @@ loop-preserved c = record {
       let after = c.count.new.self in
       let images = same ∙ sym (ap (λ programs. programs.now) c.loop.invariant.programs) in
       let gone : IsOnWay A after.machine None after.pages.items (repeated (Ran c.args.pid 1) (c.args.count - (c.loop.counter + 1)) units) whole =
-      step_on A now.machine after.machine now.refused now.pages.items after.pages.items (Ran c.args.pid 1) (repeated (Ran c.args.pid 1) (c.args.count - (c.loop.counter + 1)) units) whole c.args.pid refl
+      step_on A now.machine after.machine now.refused now.pages.items after.pages.items (Ran c.args.pid 1)
+      (repeated (Ran c.args.pid 1) (c.args.count - (c.loop.counter + 1)) units) whole c.args.pid refl
       (subst (λ (us : List Entry). IsOnWay A now.machine now.refused now.pages.items us whole) (ran_next (Ran c.args.pid 1) c.args.count c.loop.counter units c.loop-test.true)
       (c.loop.invariant.way A units whole same way))
       (c.in_ok-count.ensures.after A images)

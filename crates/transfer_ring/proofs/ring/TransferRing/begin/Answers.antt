@@ -38,7 +38,8 @@ invariant_of-self-2 c =
     record {
       order_room = ap (λ b. b.capacity) c.push_back.ensures.items ∙ c.self.invariant.order_room;
       spare_room = c.in-Some.ensures.capacity ∙ c.self.invariant.spare_room;
-      kept = begin_kept a.slots.items c.put.new.slots.items a.order.items c.push_back.new.self.items a.spare.items c.pop.new.self.items slot c.args.t c.requires kept c.in-Some.ensures.items c.put.ensures order;
+      kept = begin_kept a.slots.items c.put.new.slots.items a.order.items c.push_back.new.self.items a.spare.items c.pop.new.self.items slot c.args.t c.requires kept
+          c.in-Some.ensures.items c.put.ensures order;
     }
 
 pub returns-clause-begun : goal.returns-clause-begun

@@ -5,7 +5,8 @@ use Rattle.vax_asm.proofs.labels.LabelTable.find.Goals as goal
 
 pub returns-in_err-place : goal.returns-in_err-place
 returns-in_err-place c =
-    let none : found c.self.inside.definitions.items c.args.label ≡ None = none_found c.self.inside.definitions.items c.args.label (sym (c.self.invariant c.args.label.bytes) ∙ sym c.in_err-place.ensures.value) in
+    let none : found c.self.inside.definitions.items c.args.label ≡ None =
+    none_found c.self.inside.definitions.items c.args.label (sym (c.self.invariant c.args.label.bytes) ∙ sym c.in_err-place.ensures.value) in
     cc
 
 pub returns : goal.returns

@@ -18,7 +18,8 @@ returns-in_err-note-clause-stops g c =
     stops_on c.from_residual.result c.in_err-note.field-0.0 (StopsTaking c.args.self.now after c.args.line c.args.e holds i i) c.from_residual.ensures.1
     (subst (λ (u : Underway). StopsTaking u after c.args.line c.args.e holds i i c.in_err-note.field-0.0) c.self.view_is
     (stops_noted old after holds i c.args.line c.args.e c.in_err-note.field-0.0
-    (noted_stop c.in_err-note.field-0.0 old.machine after.machine (subst GoesOn (sym c.self.view_is) c.requires.goes_on).steady.whole c.in_err-note.ensures.stop c.in_err-note.ensures.cause c.in_err-note.ensures.full)))
+    (noted_stop c.in_err-note.field-0.0 old.machine after.machine (subst GoesOn (sym c.self.view_is) c.requires.goes_on).steady.whole c.in_err-note.ensures.stop c.in_err-note.ensures.cause
+    c.in_err-note.ensures.full)))
 
 pub carry_out-requires-clause-steady : goal.carry_out-requires-clause-steady
 carry_out-requires-clause-steady g c =
@@ -77,7 +78,8 @@ returns-in_err-note-clause-kept g c =
     let goes : GoesOn (record { machine = c.self.inside.machine; counted = c.self.inside.counted }) = subst GoesOn (sym c.self.view_is) c.requires.goes_on in
     stops_on c.from_residual.result stop (KeptAtStop c.args.self.now.machine c.note.new.self) c.from_residual.ensures.1
     (subst (λ (u : Underway). KeptAtStop u.machine c.note.new.self stop) c.self.view_is
-    (kept_noting c.self.inside.machine c.note.new.self stop (noted_stop stop c.self.inside.machine c.note.new.self goes.steady.whole c.in_err-note.ensures.stop c.in_err-note.ensures.cause c.in_err-note.ensures.full)))
+    (kept_noting c.self.inside.machine c.note.new.self stop
+    (noted_stop stop c.self.inside.machine c.note.new.self goes.steady.whole c.in_err-note.ensures.stop c.in_err-note.ensures.cause c.in_err-note.ensures.full)))
 
 pub returns-in_err-self-inside-clause-kept : goal.returns-in_err-self-inside-clause-kept
 returns-in_err-self-inside-clause-kept g c =
