@@ -311,7 +311,7 @@ async function run() {
   if (ended && lines.length > 0 && lines[lines.length - 1].startsWith("vmrun: ")) lines.pop();
   tellResult(answer.short ? `${told} The transcript is long: its beginning is shown.` : told, Boolean(ended));
   if (lines.length === 0) return;
-  lab.run = { given, lines, from: 0, to: -1, now: 0, read: null };
+  lab.run = { given, lines, from: 0, to: -1, now: 0, read: null, listings: listingsOf(answer.listings), images: imagesOf(given.images, lines) };
   showTranscript(true);
   at("lab-transcript-count").textContent = `${number(lines.length)} lines`;
   await goTo(0);
@@ -423,13 +423,68 @@ function drawStep() {
   at("lab-part").hidden = from === 0 && to === lines.length;
   at("lab-part-said").textContent = `Pictures ${number(from)} to ${number(to)} are here.`;
   at("lab-registers").hidden = film.now.registers.length === 0;
-  at("lab-registers-text").textContent = film.now.registers.join("\n");
+  at("lab-registers-list").replaceChildren(...film.now.registers.map(drawRegisters));
 }
 
-// A place for the next instruction of each process: `owners` has no such lines yet. They are shown as they stand, with the registers.
-READERS.next = (state, words, line) => {
-  state.registers.push(line);
-};
+// ---- The registers of each process, and its next instruction. ----
+
+const NAMES = [...Array.from({ length: 12 }, (_, index) => `r${index}`), "ap", "fp", "sp", "pc"];
+const FORKS = ["2", "66"];
+const EXECVE = "59";
+
+// The lines of each listing by the address that they begin with.
+function listingsOf(listings) {
+  const byAddress = (listing) => new Map(listing.match(/^[0-9a-f]{8} .*$/gm)?.map((line) => [parseInt(line, 16), line]));
+  return new Map(Object.entries(listings).map(([name, listing]) => [name, byAddress(listing)]));
+}
+
+// Of each process which image it runs from which step on, in this order: the first ones those of the words, a child that of its
+// parent. After an execve that succeeds the transcript doesn't tell it.
+function imagesOf(words, lines) {
+  const images = new Map();
+  const imageOf = (pid) => images.get(pid)?.at(-1).image;
+  const runs = (pid, step, image) => {
+    if (!images.has(pid)) images.set(pid, [{ step, image }]);
+    else if (imageOf(pid) !== image) images.get(pid).push({ step, image });
+  };
+  const first = words.split(/\s+/).filter((word) => word !== "" && !word.startsWith("="));
+  first.forEach((image, index) => runs(String(index + 1), 0, image));
+  lines.forEach((line, index) => {
+    if (line[0] !== "c") return;
+    const [, pid, call, carry, r0] = line.split(" ");
+    if (carry !== "0") return;
+    if (FORKS.includes(call)) runs(r0, index + 1, imageOf(pid));
+    if (call === EXECVE) runs(pid, index + 1, undefined);
+  });
+  return images;
+}
+
+// The line of the listing at the address that is the process's PC; none where the listing has none, or isn't known.
+function nextOf(pid, pc) {
+  const image = lab.run.images.get(pid)?.findLast(({ step }) => step <= lab.run.now)?.image;
+  return lab.run.listings.get(image)?.get(pc);
+}
+
+// A process's registers, those that are addresses as a listing writes them.
+function drawRegisters(line) {
+  const [, pid, ...words] = line.split(" ");
+  const [values, codes] = [words.slice(0, NAMES.length), words.slice(NAMES.length)];
+  const it = element("section");
+  it.dataset.process = pid;
+  const title = element("h3", "", `process ${pid} `);
+  title.append(element("span", "lab-codes", codes.length > 0 ? codes.join(" ") : "no codes set"));
+  const next = nextOf(pid, Number(values.at(-1)));
+  const list = element("dl", "lab-values");
+  list.append(
+    ...values.map((value, index) => {
+      const row = element("div");
+      row.append(element("dt", "", NAMES[index]), element("dd", "", index < 12 ? value : `0x${Number(value).toString(16)}`));
+      return row;
+    }),
+  );
+  it.append(title, ...(next ? [element("p", "lab-next mono", next)] : []), list);
+  return it;
+}
 
 // ---- Counts and faults. ----
 

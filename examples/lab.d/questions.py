@@ -99,16 +99,24 @@ def ask_check(run, asked):
     return wrong or {"status": 0, "program": name, "listing": run.program("dis", name).text()}
 
 
+def listings(run, setup):
+    """The listing of each image that a process begins with, by its name."""
+    names = [image for image in dict.fromkeys(setup.images) if not image.startswith("=")]
+    answers = {name: run.program("dis", name) for name in names}
+    return {name: answer.text() for name, answer in answers.items() if not answer.status and not answer.cut}
+
+
 def ask_run(run, asked):
-    """The transcript of the run, with its paging entries."""
+    """The transcript of the run, with its paging entries, and the listings of its images."""
     setup = Setup(asked)
     wrong = prepare(run, setup)
     if wrong:
         return wrong
+    listed = listings(run, setup)
     answer = run.program("run", "--trace", *setup.words())
     whole = answer.text()
     shown = whole[: whole.rfind("\n", 0, MOST_TRANSCRIPT) + 1] if len(whole) > MOST_TRANSCRIPT else whole
-    return bad(answer, transcript=shown, short=len(shown) < len(whole))
+    return bad(answer, transcript=shown, short=len(shown) < len(whole), listings=listed)
 
 
 def step_number(asked, name):
