@@ -1,4 +1,5 @@
 -- The lines of a source.
+use Prim.Native.Char.{code}
 use Rattle.std.specs.Prelude.{ℕ, ◌==◌, if◌then◌else◌, List, [], ◌∷◌, codes, map, Option, Some, None}
 use Rattle.asm_grammar.specs.Text.{◌>>=◌, Text, after, front_of, behind}
 use Rattle.asm_grammar.specs.Numbers.{number_at}
@@ -32,7 +33,7 @@ directive_by word text =
 
 -- the directive after the `.`: one of the five words, a space, and its value or number
 unfoldable pub directive_of : List ℕ → Option Statement
-directive_of text = after 32 (behind is_word_byte text) >>= λ rest. directive_by (front_of is_word_byte text) rest
+directive_of text = after (code " ") (behind is_word_byte text) >>= λ rest. directive_by (front_of is_word_byte text) rest
 
 -- the instruction that the whole text is, as a statement
 unfoldable pub instruction_of : List ℕ → Option Statement
@@ -41,13 +42,13 @@ instruction_of text = sentence_of text >>= λ sentence. Some (statements.Instruc
 -- the statement that the whole text is: a directive where it begins with `.`, or else an instruction
 unfoldable pub statement_of : List ℕ → Option Statement
 statement_of [] = None
-statement_of (first ∷ rest) = if first == 46 then directive_of rest else instruction_of (first ∷ rest)
+statement_of (first ∷ rest) = if first == code "." then directive_of rest else instruction_of (first ∷ rest)
 
 -- a label and the `:` after it
 unfoldable pub label_before : List ℕ → Text Label
 label_before text = do
   label ← label_at text
-  rest ← after 58 label.1
+  rest ← after (code ":") label.1
   Some (label.0, rest)
 
 -- a line of a statement without a label
@@ -61,7 +62,7 @@ labelled label statement = record { label = Some label; statement = Some stateme
 -- nothing, or a space and a statement
 unfoldable pub behind_label : Label → List ℕ → Option SourceLine
 behind_label label [] = Some (record { label = Some label; statement = None })
-behind_label label (first ∷ rest) = if first == 32 then (statement_of rest >>= λ statement. Some (labelled label statement)) else None
+behind_label label (first ∷ rest) = if first == code " " then (statement_of rest >>= λ statement. Some (labelled label statement)) else None
 
 -- a line, by the label that its text begins with and the text after the `:`, or none
 abbrev pub by_label : List ℕ → Option (Label × List ℕ) → Option SourceLine
@@ -75,7 +76,7 @@ empty_line = record { label = None; statement = None }
 -- what a line of any length says: nothing where it is empty or begins with `#`; none where it is outside the grammar
 unfoldable pub line_by : List ℕ → Option SourceLine
 line_by [] = Some empty_line
-line_by (first ∷ rest) = if first == 35 then Some empty_line else by_label (first ∷ rest) (label_before (first ∷ rest))
+line_by (first ∷ rest) = if first == code "#" then Some empty_line else by_label (first ∷ rest) (label_before (first ∷ rest))
 
 -- A line is empty, or begins with `#`, or is an optional label, an optional statement, and a space between them.
 unfoldable pub line_of : List ℕ → Option SourceLine
@@ -90,7 +91,7 @@ put_before byte (Some line ∷ lines) = Some (byte ∷ line) ∷ lines
 -- the lines of a source without their line feeds, and none in place of a last line that has no line feed
 unfoldable pub lines_in : List ℕ → List (Option (List ℕ))
 lines_in [] = []
-lines_in (byte ∷ bytes) = if byte == 10 then Some [] ∷ lines_in bytes else put_before byte (lines_in bytes)
+lines_in (byte ∷ bytes) = if byte == code "\n" then Some [] ∷ lines_in bytes else put_before byte (lines_in bytes)
 
 -- what a line says; none where it is outside the grammar
 abbrev pub item_of : Option (List ℕ) → Option SourceLine

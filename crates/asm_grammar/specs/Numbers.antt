@@ -1,4 +1,5 @@
 -- The numbers of a line.
+use Prim.Native.Char.{code}
 use Rattle.std.specs.Prelude.{⊤, IsTrue, ℕ, ◌==◌, ◌&&◌, ◌||◌, Bool, true, false, not, if◌then◌else◌, min, List, [], ◌∷◌, drop, Some, None}
 use Rattle.std.specs.Int.{is_in_range}
 use Rattle.std.specs.Str.Parse.{digits_value}
@@ -7,7 +8,7 @@ use Rattle.asm_grammar.specs.declared.syntax.Number.{Number}
 
 -- a decimal digit, or a hexadecimal one in lower case
 abbrev pub is_digit : ℕ → ℕ → Bool
-is_digit base byte = is_in_range 48 57 byte || (base == 16) && is_in_range 97 102 byte
+is_digit base byte = is_in_range (code "0") (code "9") byte || (base == 16) && is_in_range (code "a") (code "f") byte
 
 -- A magnitude of 2^32 or more is in no range that a line has: it stands as 2^32.
 abbrev pub held : ℕ → ℕ
@@ -29,7 +30,7 @@ AreDigits base (byte ∷ bytes) = IsTrue (is_digit base byte) × AreDigits base 
 
 -- the text begins with `0x`
 abbrev pub is_hexadecimal : List ℕ → Bool
-is_hexadecimal (first ∷ second ∷ rest) = (first == 48) && (second == 120)
+is_hexadecimal (first ∷ second ∷ rest) = (first == code "0") && (second == code "x")
 is_hexadecimal _ = false
 
 -- a decimal numeral, or `0x` and a hexadecimal one
@@ -49,4 +50,4 @@ signed_at minus text = do
 -- a number: a magnitude, with a `-` before it or without
 unfoldable pub number_at : List ℕ → Text Number
 number_at [] = None
-number_at (first ∷ rest) = if first == 45 then signed_at true rest else signed_at false (first ∷ rest)
+number_at (first ∷ rest) = if first == code "-" then signed_at true rest else signed_at false (first ∷ rest)

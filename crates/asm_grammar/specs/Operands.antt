@@ -1,4 +1,5 @@
 -- The texts of operands.
+use Prim.Native.Char.{code}
 use Rattle.std.specs.Prelude.{ℕ, ◌+◌, ◌-◌, ◌==◌, ◌&&◌, Bool, true, false, not, if◌then◌else◌, List, [], ◌∷◌, Option, Some, None}
 use Rattle.std.specs.Int.{is_in_range}
 use Rattle.asm_grammar.specs.Text.{◌>>=◌, Text, after}
@@ -12,32 +13,32 @@ use Rattle.asm_grammar.specs.declared.syntax.Written.TheVariants as writtens
 -- a register's number after a 1: 10 to 15, or 1
 abbrev pub second_digit : List ℕ → Text ℕ
 second_digit [] = Some (1, [])
-second_digit (digit ∷ rest) = if is_in_range 48 53 digit then Some (10 + (digit - 48), rest) else Some (1, digit ∷ rest)
+second_digit (digit ∷ rest) = if is_in_range (code "0") (code "5") digit then Some (10 + (digit - code "0"), rest) else Some (1, digit ∷ rest)
 
 -- 0 to 15, without leading zeros
 unfoldable pub register_number_at : List ℕ → Text ℕ
 register_number_at [] = None
 register_number_at (digit ∷ rest) =
-    if digit == 49 then second_digit rest
-    else (if is_in_range 48 57 digit then Some (digit - 48, rest) else None)
+    if digit == code "1" then second_digit rest
+    else (if is_in_range (code "0") (code "9") digit then Some (digit - code "0", rest) else None)
 
 -- `rK`
 unfoldable pub register_at : List ℕ → Text ℕ
-register_at text = after 114 text >>= register_number_at
+register_at text = after (code "r") text >>= register_number_at
 
 -- `(rK)`
 unfoldable pub in_parentheses_at : List ℕ → Text ℕ
 in_parentheses_at text = do
-  inner ← after 40 text
+  inner ← after (code "(") text
   reg ← register_at inner
-  rest ← after 41 reg.1
+  rest ← after (code ")") reg.1
   Some (reg.0, rest)
 
 -- `(rK)` or `(rK)+`
 abbrev pub incremented : ℕ → List ℕ → Text Place
 incremented reg [] = Some (places.Deferred reg, [])
 incremented reg (first ∷ rest) =
-    if (first == 43) && not (reg == 15) then Some (places.AutoInc reg, rest) else Some (places.Deferred reg, first ∷ rest)
+    if (first == code "+") && not (reg == 15) then Some (places.AutoInc reg, rest) else Some (places.Deferred reg, first ∷ rest)
 
 -- an operand that begins with `(`: `(rK)` or `(rK)+`
 unfoldable pub deferred_at : List ℕ → Text Place
@@ -51,7 +52,7 @@ decremented_at text = in_parentheses_at text >>= λ reg. Some (places.AutoDec re
 unfoldable pub increment_deferred_at : List ℕ → Text Place
 increment_deferred_at text = do
   reg ← in_parentheses_at text
-  rest ← after 43 reg.1
+  rest ← after (code "+") reg.1
   if reg.0 == 15 then None else Some (places.AutoIncDef reg.0, rest)
 
 -- `*$X`, after the `$`
@@ -60,12 +61,12 @@ absolute_at text = value_at text >>= λ address. Some (places.Absolute address.0
 
 -- how many bytes a displacement has by its mark
 abbrev pub marked_size : ℕ → Option ℕ
-marked_size mark = if mark == 98 then Some 1 else (if mark == 119 then Some 2 else (if mark == 108 then Some 4 else None))
+marked_size mark = if mark == code "b" then Some 1 else (if mark == code "w" then Some 2 else (if mark == code "l" then Some 4 else None))
 
 -- `^N(rK)`, after the mark
 unfoldable pub displacement_at : ℕ → Bool → List ℕ → Text Place
 displacement_at size deferred text = do
-  number ← after 94 text
+  number ← after (code "^") text
   by ← number_at number
   reg ← in_parentheses_at by.1
   Some (places.Disp size reg.0 by.0 deferred, reg.1)
@@ -79,30 +80,30 @@ displaced_at deferred (mark ∷ rest) = marked_size mark >>= λ size. displaceme
 unfoldable pub pointer_at : List ℕ → Text Place
 pointer_at [] = None
 pointer_at (first ∷ rest) =
-    if first == 36 then absolute_at rest
-    else (if first == 40 then increment_deferred_at (first ∷ rest)
+    if first == code "$" then absolute_at rest
+    else (if first == code "(" then increment_deferred_at (first ∷ rest)
     else displaced_at true (first ∷ rest))
 
 -- an operand that an index may follow
 unfoldable pub place_at : List ℕ → Text Place
 place_at [] = None
 place_at (first ∷ rest) =
-    if first == 40 then deferred_at (first ∷ rest)
-    else (if first == 45 then decremented_at rest
-    else (if first == 42 then pointer_at rest
+    if first == code "(" then deferred_at (first ∷ rest)
+    else (if first == code "-" then decremented_at rest
+    else (if first == code "*" then pointer_at rest
     else displaced_at false (first ∷ rest)))
 
 -- `rK]`, after the `[`
 unfoldable pub index_at : Place → List ℕ → Text Written
 index_at base text = do
   reg ← register_at text
-  rest ← after 93 reg.1
+  rest ← after (code "]") reg.1
   Some (writtens.Indexed reg.0 base, rest)
 
 -- a place, with the index `[rK]` where the text after it begins with one
 abbrev pub indexed : Place → List ℕ → Text Written
 indexed place [] = Some (writtens.Plain place, [])
-indexed place (first ∷ rest) = if first == 91 then index_at place rest else Some (writtens.Plain place, first ∷ rest)
+indexed place (first ∷ rest) = if first == code "[" then index_at place rest else Some (writtens.Plain place, first ∷ rest)
 
 -- an operand that has an address, with an index or without
 unfoldable pub addressed_at : List ℕ → Text Written
@@ -112,13 +113,13 @@ addressed_at text = place_at text >>= λ place. indexed place.0 place.1
 unfoldable pub misindexed_at : Bool → List ℕ → Text Written
 misindexed_at immediate text = do
   reg ← register_at text
-  rest ← after 93 reg.1
+  rest ← after (code "]") reg.1
   Some (writtens.Misindexed immediate, rest)
 
 -- an operand without an address: with an index after it, it is still one of the grammar, but refused
 abbrev pub unaddressed : Bool → Written → List ℕ → Text Written
 unaddressed immediate written [] = Some (written, [])
-unaddressed immediate written (first ∷ rest) = if first == 91 then misindexed_at immediate rest else Some (written, first ∷ rest)
+unaddressed immediate written (first ∷ rest) = if first == code "[" then misindexed_at immediate rest else Some (written, first ∷ rest)
 
 -- `$N`, after the `$`
 unfoldable pub literal_at : List ℕ → Text Written
@@ -127,8 +128,8 @@ literal_at text = number_at text >>= λ number. unaddressed false (writtens.Lite
 -- `i^$X`, after the `i`
 unfoldable pub immediate_at : List ℕ → Text Written
 immediate_at text = do
-  dollar ← after 94 text
-  number ← after 36 dollar
+  dollar ← after (code "^") text
+  number ← after (code "$") dollar
   value ← value_at number
   unaddressed true (writtens.Immediate value.0) value.1
 
@@ -140,9 +141,9 @@ plain_register_at text = register_at text >>= λ reg. unaddressed false (written
 unfoldable pub specifier_at : List ℕ → Text Written
 specifier_at [] = None
 specifier_at (first ∷ rest) =
-    if first == 36 then literal_at rest
-    else (if first == 105 then immediate_at rest
-    else (if first == 114 then plain_register_at (first ∷ rest)
+    if first == code "$" then literal_at rest
+    else (if first == code "i" then immediate_at rest
+    else (if first == code "r" then plain_register_at (first ∷ rest)
     else addressed_at (first ∷ rest)))
 
 -- the target of a branch, which is a value

@@ -1,4 +1,5 @@
 -- The text of an instruction: its mnemonic and its operands.
+use Prim.Native.Char.{code}
 use Rattle.std.specs.Prelude.{ℕ, ◌==◌, Bool, if◌then◌else◌, nat_lt, nat_le, List, [], ◌∷◌, length, Option, Some, None}
 use Rattle.vax_code.specs.declared.table.Row.{Row}
 use Rattle.vax_code.specs.Table.{slot_in}
@@ -13,7 +14,7 @@ use Rattle.asm_grammar.specs.declared.syntax.Sentence.{Sentence}
 
 -- what stands before an operand: a space before the first one, and a comma before each other
 abbrev pub separator : ℕ → ℕ
-separator place = if place == 0 then 32 else 44
+separator place = if place == 0 then code " " else code ","
 
 -- the operand in one of the places 0, 1 and 2 of the row, or nothing where the instruction has none there
 unfoldable pub place_of_row_at : Row → ℕ → List ℕ → Text Written

@@ -1,4 +1,5 @@
 -- Labels, and values, which are numbers or labels.
+use Prim.Native.Char.{code}
 use Rattle.std.specs.Prelude.{ℕ, ◌==◌, ◌&&◌, ◌||◌, Bool, if◌then◌else◌, nat_le, List, [], ◌∷◌, ◌++◌, length, drop, replicate, Some, None}
 use Rattle.std.specs.Int.{is_in_range}
 use Rattle.asm_grammar.specs.Text.{◌>>=◌, Text, front_of, behind}
@@ -9,11 +10,11 @@ use Rattle.asm_grammar.specs.declared.syntax.Value.TheVariants as values
 
 -- a letter in lower case or `_`, with which a label begins
 abbrev pub is_label_start : ℕ → Bool
-is_label_start byte = is_in_range 97 122 byte || (byte == 95)
+is_label_start byte = is_in_range (code "a") (code "z") byte || (byte == code "_")
 
 -- a letter in lower case, `_` or a digit
 abbrev pub is_word_byte : ℕ → Bool
-is_word_byte byte = is_label_start byte || is_in_range 48 57 byte
+is_word_byte byte = is_label_start byte || is_in_range (code "0") (code "9") byte
 
 -- a label is kept in 16 bytes, with zeros after it
 abbrev pub padded : List ℕ → List ℕ

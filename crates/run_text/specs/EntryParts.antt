@@ -1,5 +1,6 @@
 -- The parts of an entry's line: a letter, and after it numbers, a page's letter and numbers, or a
 -- process and bytes.
+use Prim.Native.Char.{code}
 use Rattle.std.specs.Prelude.{◌≡◌, ℕ, ◌==◌, Bool, ◌&&◌, ◌||◌, if◌then◌else◌, nat_lt, List, [], ◌∷◌, ◌++◌, Option, Some, None}
 use Rattle.vm_facts.specs.declared.page.Page.{Page}
 use Rattle.vm_facts.specs.declared.page.Page.TheVariants.{Data, Stack, Text}
@@ -16,31 +17,31 @@ pub data Body : Type 0 where
 
 -- the letter of a page's segment: d, s or x
 abbrev pub segment_of : Page → ℕ
-segment_of (Data sid v) = 100
-segment_of (Stack sid v) = 115
-segment_of (Text image v) = 120
+segment_of (Data sid v) = code "d"
+segment_of (Stack sid v) = code "s"
+segment_of (Text image v) = code "x"
 
 -- the letter that an entry's line begins with
 abbrev pub letter_of : Entry → ℕ
-letter_of (Event line) = 101
-letter_of (Turn pid) = 116
-letter_of (Ran pid count) = 114
-letter_of (Out pid bytes) = 111
-letter_of (Grew pid pages) = 103
-letter_of (Call pid number carry r0 r1) = 99
-letter_of (Refused pid) = 102
-letter_of (Sleeps pid) = 115
-letter_of (Ended pid status) = 120
-letter_of (Zero page) = 90
-letter_of (Get page lo n) = 71
-letter_of (Copy page) = 67
-letter_of (Reclaim page) = 82
-letter_of (Hands count) = 72
-letter_of (Put page n) = 80
-letter_of Done = 68
-letter_of (SwapOut pid) = 79
-letter_of (SwapIn pid) = 73
-letter_of (Owners free used moving held) = 77
+letter_of (Event line) = code "e"
+letter_of (Turn pid) = code "t"
+letter_of (Ran pid count) = code "r"
+letter_of (Out pid bytes) = code "o"
+letter_of (Grew pid pages) = code "g"
+letter_of (Call pid number carry r0 r1) = code "c"
+letter_of (Refused pid) = code "f"
+letter_of (Sleeps pid) = code "s"
+letter_of (Ended pid status) = code "x"
+letter_of (Zero page) = code "Z"
+letter_of (Get page lo n) = code "G"
+letter_of (Copy page) = code "C"
+letter_of (Reclaim page) = code "R"
+letter_of (Hands count) = code "H"
+letter_of (Put page n) = code "P"
+letter_of Done = code "D"
+letter_of (SwapOut pid) = code "O"
+letter_of (SwapIn pid) = code "I"
+letter_of (Owners free used moving held) = code "M"
 
 -- what an entry's line has after its letter
 abbrev pub body_of : Entry → Body
@@ -55,8 +56,8 @@ body_of e = Counted (numbers_of e)
 -- the text of a line after its letter: numbers in decimal, each after a space, and bytes in hexadecimal
 abbrev pub body_text : Body → List ℕ
 body_text (Counted ns) = parts ns
-body_text (Paged segment ns) = 32 ∷ segment ∷ parts ns
-body_text (Written pid bytes) = part pid ++ 32 ∷ hex_text bytes
+body_text (Paged segment ns) = code " " ∷ segment ∷ parts ns
+body_text (Written pid bytes) = part pid ++ code " " ∷ hex_text bytes
 
 -- the text of a line without its end
 abbrev pub entry_text : Entry → List ℕ
@@ -64,29 +65,32 @@ entry_text e = letter_of e ∷ body_text (body_of e)
 
 -- the letters of entries with a page
 abbrev pub is_page_letter : ℕ → Bool
-is_page_letter l = l == 90 || (l == 71 || (l == 67 || (l == 82 || l == 80)))
+is_page_letter l = l == code "Z" || (l == code "G" || (l == code "C" || (l == code "R" || l == code "P")))
 
 -- the entry of a letter with no number
 abbrev pub with_none : ℕ → Option Entry
-with_none l = if l == 68 then Some Done else None
+with_none l = if l == code "D" then Some Done else None
 
 -- the entry of a letter and one number
 abbrev pub with_one : ℕ → ℕ → Option Entry
-with_one l a = if l == 101 then Some (Event a) else (if l == 116 then Some (Turn a) else (if l == 102 then Some (Refused a) else (if l == 115 then Some
-    (Sleeps a) else (if l == 79 then Some (SwapOut a) else (if l == 73 then Some (SwapIn a) else (if l == 72 && nat_lt 0 a then Some (Hands a) else None))))))
+with_one l a =
+    if l == code "e" then Some (Event a) else (if l == code "t" then Some (Turn a) else (if l == code "f" then Some (Refused a) else (if l == code "s" then Some
+    (Sleeps a) else (if l == code "O" then Some (SwapOut a)
+    else (if l == code "I" then Some (SwapIn a) else (if l == code "H" && nat_lt 0 a then Some (Hands a) else None))))))
 
 -- the entry of a letter and two numbers
 abbrev pub with_two : ℕ → ℕ → ℕ → Option Entry
 with_two l a b =
-    if l == 120 then Some (Ended a b) else (if l == 114 && nat_lt 0 b then Some (Ran a b) else (if l == 103 && nat_lt 0 b then Some (Grew a b) else None))
+    if l == code "x" then Some (Ended a b)
+    else (if l == code "r" && nat_lt 0 b then Some (Ran a b) else (if l == code "g" && nat_lt 0 b then Some (Grew a b) else None))
 
 -- the entry of a letter and four numbers
 abbrev pub with_four : ℕ → ℕ → ℕ → ℕ → ℕ → Option Entry
-with_four l a b c d = if l == 77 then Some (Owners a b c d) else None
+with_four l a b c d = if l == code "M" then Some (Owners a b c d) else None
 
 -- the entry of a letter and five numbers
 abbrev pub with_five : ℕ → ℕ → ℕ → ℕ → ℕ → ℕ → Option Entry
-with_five l a b c d e = if l == 99 && nat_lt c 2 then Some (Call a b (c == 1) d e) else None
+with_five l a b c d e = if l == code "c" && nat_lt c 2 then Some (Call a b (c == 1) d e) else None
 
 -- the entry of a letter and these numbers; none where no entry has that many
 abbrev pub from_numbers : ℕ → List ℕ → Option Entry
@@ -100,22 +104,23 @@ from_numbers l (a ∷ b ∷ c ∷ d ∷ e ∷ f ∷ ns) = None
 
 -- the page of a letter and two numbers
 abbrev pub page_from : ℕ → ℕ → ℕ → Option Page
-page_from s a b = if s == 100 then Some (Data a b) else (if s == 115 then Some (Stack a b) else (if s == 120 then Some (Text a b) else None))
+page_from s a b = if s == code "d" then Some (Data a b) else (if s == code "s" then Some (Stack a b) else (if s == code "x" then Some (Text a b) else None))
 
 -- the entry of a letter and a page alone
 abbrev pub page_alone : ℕ → Option Page → Option Entry
 page_alone l None = None
-page_alone l (Some page) = if l == 90 then Some (Zero page) else (if l == 67 then Some (Copy page) else (if l == 82 then Some (Reclaim page) else None))
+page_alone l (Some page) =
+    if l == code "Z" then Some (Zero page) else (if l == code "C" then Some (Copy page) else (if l == code "R" then Some (Reclaim page) else None))
 
 -- the entry of a letter, a page and one further number
 abbrev pub page_and_one : ℕ → Option Page → ℕ → Option Entry
 page_and_one l None n = None
-page_and_one l (Some page) n = if l == 80 && nat_lt 0 n then Some (Put page n) else None
+page_and_one l (Some page) n = if l == code "P" && nat_lt 0 n then Some (Put page n) else None
 
 -- the entry of a letter, a page and two further numbers
 abbrev pub page_and_two : ℕ → Option Page → ℕ → ℕ → Option Entry
 page_and_two l None lo n = None
-page_and_two l (Some page) lo n = if l == 71 && nat_lt 0 n then Some (Get page lo n) else None
+page_and_two l (Some page) lo n = if l == code "G" && nat_lt 0 n then Some (Get page lo n) else None
 
 -- the entry of a letter, a segment's letter and numbers, of which the first two are the page's
 abbrev pub from_paged : ℕ → ℕ → List ℕ → Option Entry
@@ -130,7 +135,7 @@ from_paged l s (a ∷ b ∷ c ∷ d ∷ e ∷ ns) = None
 abbrev pub entry_from : ℕ → Body → Option Entry
 entry_from l (Counted ns) = from_numbers l ns
 entry_from l (Paged segment ns) = from_paged l segment ns
-entry_from l (Written pid bytes) = if l == 111 then Some (Out pid bytes) else None
+entry_from l (Written pid bytes) = if l == code "o" then Some (Out pid bytes) else None
 
 -- the kind of a body: numbers, a page's, or bytes
 abbrev pub kind_of : Body → ℕ
@@ -140,7 +145,7 @@ kind_of (Written pid bytes) = 2
 
 -- the kind of body that the entries of a letter have
 abbrev pub kind_for : ℕ → ℕ
-kind_for l = if l == 111 then 2 else (if is_page_letter l then 1 else 0)
+kind_for l = if l == code "o" then 2 else (if is_page_letter l then 1 else 0)
 
 -- an entry has this letter and this body, and is within its ranges
 abbrev pub HasParts : ℕ → Body → Entry → Type 0
