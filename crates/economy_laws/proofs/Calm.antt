@@ -9,11 +9,10 @@ use Rattle.vm_facts.specs.declared.entry.Entry.{Entry}
 use Rattle.vm_facts.specs.declared.entry.Entry.TheVariants as entries
 use Rattle.page_model.specs.Pages.{Slot, no_slot, is_dirty_by, written_mark, left_state, frame_of, filling_behind}
 use Rattle.flat_state.specs.PageNames.{number_of, beside, pages_from, same_page, is_among}
-use Rattle.vm_facts.specs.Lists.{times}
 use Rattle.page_model.specs.Placement.{Placement, Transfer, Part, Errand, Writes, Reads, Source, FromSwap, FromFile, slots_of, slot_of, state_of, mark_of, is_dirty, IsThere, page_of, put, Moving, moving, parts_of}
 use Rattle.page_model.specs.Moves.{evict, evict_at, fill, fill_at, begin, get_one, get_at, get_all, launch_run, land, land_read, land_all, done, done_of, arrived_mark, reclaim, reclaim_to, retire, retire_to}
 use Rattle.page_model.specs.Runs.{pages_of_run, run_out, goes_along, is_idle, is_near, most_written}
-use Rattle.page_model.specs.Hands.{expire, expire_of, expire_if, expire_to, sweep, sweep_of, sweep_to, sweep_by, hand_move, hand_moves}
+use Rattle.page_model.specs.Hands.{expire, expire_of, expire_if, expire_to, sweep, taken, hand_move, hand_moves}
 use Rattle.page_model.specs.Place.{put_step, put_by, place_entry}
 use Rattle.page_model.specs.Serve.{read_errand}
 use Rattle.page_model.specs.Conditions.{EachPage}
@@ -26,6 +25,7 @@ use Rattle.std.proofs.lemmas.Bool.{and_parts, or_cases}
 use Rattle.page_laws.proofs.Leaving.Held.{written_clean}
 use Rattle.page_laws.proofs.Runs.Sweeping.{launch_all_other}
 use Rattle.economy_laws.specs.Worth.{stored_by, stored_first, stored_pages, arrives_by, arrives_first}
+use Rattle.page_laws.proofs.Moves.Taken.{sweep_cases}
 
 abbrev pub is_going : PageState → Bool
 is_going (Going f) = true
@@ -158,25 +158,8 @@ run_out_dirty p locked q d = run_each (λ r. is_dirty p r ≡ true) (λ w. goes_
     (and_parts (is_idle p (beside q w)) (is_dirty p (beside q w) && not (is_among (beside q w) locked)) (and_parts (goes_along p locked (beside q w)) (is_near q w) e).0).1).0)
 
 sweep_calm : (p : Placement) (locked : List Page) (w : Page) → Calm p w → Calm (sweep p locked) w
-sweep_calm p locked w c = go (page_of p p.back)
-  where
-    by : (q : Page) (d : Bool) → is_dirty p q ≡ d → Calm (sweep_by p locked q d) w
-    by q true e = launch_run_calm p (pages_of_run q (run_out p locked q)) w (run_out_dirty p locked q e) c
-    by q false e = retire_calm p q w c
-
-    to : (q : Page) (s : PageState) (n : ℕ) (b : Bool) → Calm (sweep_to p locked q s n b) w
-    to q (Invalid f) zero false = by q (is_dirty p q) refl
-    to q (Invalid f) zero true = c
-    to q (Invalid f) (suc n) b = c
-    to q Unfilled n b = c
-    to q (Valid f) n b = c
-    to q (Coming f) n b = c
-    to q (Going f) n b = c
-    to q OnSwap n b = c
-
-    go : (h : Option Page) → Calm (sweep_of p locked p.back h) w
-    go None = c
-    go (Some q) = to q (state_of p q) (times p.back p.free) (is_among q locked)
+sweep_calm p locked w c = sweep_cases (λ r. Calm r w) p locked c
+    (λ q t e. launch_run_calm p (pages_of_run q (run_out p locked q)) w (run_out_dirty p locked q e) c) (λ q t e. retire_calm p q w c)
 
 move_calm : (p : Placement) (locked : List Page) (w : Page) → Calm p w → Calm (hand_move p locked) w
 move_calm p locked w c = sweep_calm (expire p locked) locked w (expire_calm p locked w c)

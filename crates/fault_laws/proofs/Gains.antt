@@ -4,7 +4,7 @@ use Rattle.vm_facts.specs.declared.page.Page.{Page}
 use Rattle.vm_facts.specs.declared.page.Page.TheVariants.{Data, Stack, Text}
 use Rattle.vm_facts.specs.declared.page.PageState.{PageState}
 use Rattle.vm_facts.specs.declared.page.PageState.TheVariants.{Unfilled, Valid, Invalid, Coming, Going, OnSwap}
-use Rattle.vm_facts.specs.Lists.{times, without}
+use Rattle.vm_facts.specs.Lists.{without}
 use Rattle.flat_state.specs.PageNames.{number_of, same_page, is_among}
 use Rattle.page_model.specs.Pages.{is_valid, left_state, written_mark, frame_of}
 use Rattle.page_model.specs.Frames.{set_frame}
@@ -12,12 +12,13 @@ use Rattle.page_model.specs.Placement.{Placement, Transfer, Part, Errand, Writes
 use Rattle.page_model.specs.Moves.{evict, evict_at, turn, join_last, touch, touch_to, touch_all, fill, fill_at, begin, get_one, get_at, get_all, get_run, launch, launch_to, launch_all}
 use Rattle.page_model.specs.Moves.{launch_run, arrived_mark, land, land_read, land_all, done, done_of, reclaim, reclaim_to, retire, retire_to, drop_page, drop_at, drop_all, leave_page, leave_by, leave_all, listed}
 use Rattle.page_model.specs.Runs.{run_out, pages_of_run}
-use Rattle.page_model.specs.Hands.{expire, expire_of, expire_if, expire_to, sweep, sweep_of, sweep_to, sweep_by, hand_move, hand_moves}
+use Rattle.page_model.specs.Hands.{expire, expire_of, expire_if, expire_to, sweep, hand_move, hand_moves}
 use Rattle.page_model.specs.Place.{put_by, put_step}
 use Rattle.flat_state.proofs.PageNames.{same_page_is}
 use Rattle.page_laws.proofs.Lists.Pages.{page_cases, put_state, put_length}
 use Rattle.page_laws.proofs.Moves.Steps.{page_in, put_other_state}
 use Rattle.page_laws.proofs.Moves.Transfers.{land_all_rest}
+use Rattle.page_laws.proofs.Moves.Taken.{sweep_cases}
 
 -- Reads in flight.
 
@@ -265,25 +266,7 @@ expire_keeps p locked = go (page_of p p.front)
     go (Some v) = at v (is_among v locked)
 
 sweep_keeps : (p : Placement) (locked : List Page) → Keeps p (sweep p locked)
-sweep_keeps p locked = go (page_of p p.back)
-  where
-    by : (q : Page) (d : Bool) → Keeps p (sweep_by p locked q d)
-    by q true = launch_run_keeps p (pages_of_run q (run_out p locked q))
-    by q false = retire_keeps p q
-
-    to : (q : Page) (s : PageState) (n : ℕ) (b : Bool) → Keeps p (sweep_to p locked q s n b)
-    to q (Invalid f) zero false = by q (is_dirty p q)
-    to q (Invalid f) zero true = keeps_self p
-    to q (Invalid f) (suc n) b = keeps_self p
-    to q Unfilled n b = keeps_self p
-    to q (Valid f) n b = keeps_self p
-    to q (Coming f) n b = keeps_self p
-    to q (Going f) n b = keeps_self p
-    to q OnSwap n b = keeps_self p
-
-    go : (h : Option Page) → Keeps p (sweep_of p locked p.back h)
-    go None = keeps_self p
-    go (Some q) = to q (state_of p q) (times p.back p.free) (is_among q locked)
+sweep_keeps p locked = sweep_cases (Keeps p) p locked (keeps_self p) (λ q t e. launch_run_keeps p (pages_of_run q (run_out p locked q))) (λ q t e. retire_keeps p q)
 
 -- the hands go on by one frame
 move_keeps : (p : Placement) (locked : List Page) → Keeps p (hand_move p locked)

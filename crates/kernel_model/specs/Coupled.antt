@@ -11,6 +11,8 @@ use Rattle.page_model.specs.Holdings.{block_in}
 use Rattle.page_model.specs.Pages.{SpacePages, numbered}
 use Rattle.page_model.specs.Placement.{Placement, Transfer, Part, Errand, Writes, Reads, space_number, image_of, slots_of}
 use Rattle.page_model.specs.PageBytes.{zeros, Bytes, CouplesPages, source_bytes}
+use Rattle.page_model.specs.Place.{space_of_holding}
+use Rattle.page_model.specs.Swapper.{is_out}
 use Rattle.kernel_model.specs.Kernel.{Life, Proc, Kernel, start_bytes, life_of}
 use Rattle.page_model.specs.Stored.{stored_at, stored}
 use Rattle.kernel_model.specs.UPage.{u_page}
@@ -111,10 +113,14 @@ KeepsRegs k image false q kept sid = kept ≡ q.regs
 KeepsRegs k image true q kept sid =
     stored_at image (block_in k.holdings (owners.U q.pid) 0) ≡ u_page q.regs (length (slots_of k.place (Data sid 0))) (length (slots_of k.place (Stack sid 0)))
 
+-- each process that the machine has has its registers where it keeps them
+abbrev pub RegistersStand : Kernel → List ℕ → FlatState → Type 0
+RegistersStand k image flat =
+    (q : Process) (p : Proc) → numbered (λ (x : Process). x.pid) q.pid flat.processes ≡ Some q → numbered (λ (x : Proc). x.pid) q.pid k.processes ≡ Some p
+    → KeepsRegs k image (is_out k.place q.pid) q p.regs (space_of_holding q.holding)
+
 -- The machine, the files' images and the swap image stand for the flat state.
 pub record Coupled (k : Kernel) (images : List NamedImage) (image : List ℕ) (flat : FlatState) : Type 0 where
   pub tables : SameTables k flat
   pub pages : CouplesPages k.place (beside_kernel k images image flat)
-  pub regs : (q : Process) (p : Proc) → numbered (λ (x : Process). x.pid) q.pid flat.processes ≡ Some q
-      → numbered (λ (x : Proc). x.pid) q.pid k.processes ≡ Some p
-      → KeepsRegs k image (Rattle.page_model.specs.Swapper.is_out k.place q.pid) q p.regs (Rattle.page_model.specs.Place.space_of_holding q.holding)
+  pub regs : RegistersStand k image flat

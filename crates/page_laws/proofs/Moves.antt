@@ -1,6 +1,7 @@
 pub mod Hands
 pub mod Steps
 pub mod Stays
+pub mod Taken
 pub mod HandRuns
 pub mod Transfers
 pub mod KeptHands

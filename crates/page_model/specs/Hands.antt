@@ -29,44 +29,51 @@ expire_of p locked (Some q) = expire_if p q (is_among q locked)
 abbrev pub expire : Placement → List Page → Placement
 expire p locked = expire_of p locked (page_of p p.front)
 
--- The back hand takes a page that is invalid in a frame off the free list and isn't locked: where it is dirty the
--- write of its run begins, and else its frame goes to the tail.
+-- a page is taken where it is invalid, its frame is off the free list, and it isn't locked
+abbrev pub taken_by : Page → PageState → ℕ → Bool → Option Page
+taken_by q (Invalid f) zero false = Some q
+taken_by q _ _ _ = None
+
+-- what is taken at the back hand, by the page that its frame holds; without one nothing is
+abbrev pub taken_of : Placement → List Page → Option Page → Option Page
+taken_of p locked None = None
+taken_of p locked (Some q) = taken_by q (state_of p q) (times p.back p.free) (is_among q locked)
+
+-- The page that the back hand takes: the one in the frame at the hand, where it is invalid off the free list and isn't locked.
+abbrev pub taken : Placement → List Page → Option Page
+taken p locked = taken_of p locked (page_of p p.back)
+
+-- a taken page that is dirty has the write of its run begun; the frame of a clean one goes to the tail
 abbrev pub sweep_by : Placement → List Page → Page → Bool → Placement
 sweep_by p locked q true = launch_run p (pages_of_run q (run_out p locked q))
 sweep_by p locked q false = retire p q
 
--- by the page's state, the times that its frame stands on the free list, and whether it is locked
-abbrev pub sweep_to : Placement → List Page → Page → PageState → ℕ → Bool → Placement
-sweep_to p locked q (Invalid f) zero false = sweep_by p locked q (is_dirty p q)
-sweep_to p locked q _ _ _ = p
-
--- the back hand's part at this frame, by the page that it holds; without one nothing changes
-abbrev pub sweep_of : Placement → List Page → ℕ → Option Page → Placement
-sweep_of p locked f None = p
-sweep_of p locked f (Some q) = sweep_to p locked q (state_of p q) (times f p.free) (is_among q locked)
+-- the back hand's part, by the page that it takes; without one nothing changes
+abbrev pub sweep_taken : Placement → List Page → Option Page → Placement
+sweep_taken p locked None = p
+sweep_taken p locked (Some q) = sweep_by p locked q (is_dirty p q)
 
 -- the back hand's part of a move, with the pages that are locked
 abbrev pub sweep : Placement → List Page → Placement
-sweep p locked = sweep_of p locked p.back (page_of p p.back)
+sweep p locked = sweep_taken p locked (taken p locked)
 
--- The write that the back hand begins: the page that it takes, and the run that goes with it.
+-- a taken page that is dirty is written, with the run that goes along; a clean one isn't
 abbrev pub write_by : Placement → List Page → Page → Bool → Option (Page × Run)
 write_by p locked q true = Some (q, run_out p locked q)
 write_by p locked q false = None
 
--- the write that begins of this page, by its state, the times that its frame stands on the free list, and whether it is locked
-abbrev pub write_to : Placement → List Page → Page → PageState → ℕ → Bool → Option (Page × Run)
-write_to p locked q (Invalid f) zero false = write_by p locked q (is_dirty p q)
-write_to p locked q _ _ _ = None
+-- the write that begins, by the page that the back hand takes; without one none begins
+abbrev pub write_taken : Placement → List Page → Option Page → Option (Page × Run)
+write_taken p locked None = None
+write_taken p locked (Some q) = write_by p locked q (is_dirty p q)
 
--- the write that begins at this frame, by the page that it holds; without one none begins
-abbrev pub write_of : Placement → List Page → ℕ → Option Page → Option (Page × Run)
-write_of p locked f None = None
-write_of p locked f (Some q) = write_to p locked q (state_of p q) (times f p.free) (is_among q locked)
+-- the write that the back hand begins, or none
+abbrev pub back_run : Placement → List Page → Option (Page × Run)
+back_run p locked = write_taken p locked (taken p locked)
 
 -- the write that a move begins once the front hand has made its page invalid, or none
 abbrev pub hand_run : Placement → List Page → Option (Page × Run)
-hand_run p locked = write_of (expire p locked) locked (expire p locked).back (page_of (expire p locked) (expire p locked).back)
+hand_run p locked = back_run (expire p locked) locked
 
 -- both hands go on by one frame, after the last to the first
 abbrev pub advance : Placement → Placement

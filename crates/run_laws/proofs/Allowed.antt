@@ -1,18 +1,17 @@
 -- Each paging entry that the policy gives may be made, and leaves at most 16 transfers in flight.
-use Rattle.std.proofs.Common.{◌≡◌, ℕ, zero, suc, ◌<◌, ◌≤◌, Bool, true, false, cond, ◌&&◌, List, [], ◌∷◌, length, Option, Some, None, refl, sym, ap, ◌∙◌, subst, arith}
+use Rattle.std.proofs.Common.{◌≡◌, ℕ, ◌<◌, ◌≤◌, Bool, true, false, cond, ◌&&◌, List, [], ◌∷◌, length, Option, Some, None, refl, sym, ap, ◌∙◌, subst, arith}
 use Rattle.vm_facts.specs.declared.page.Page.{Page}
 use Rattle.vm_facts.specs.declared.page.PageState.{PageState}
 use Rattle.vm_facts.specs.declared.page.PageState.TheVariants.{Unfilled, Valid, Invalid, Coming, Going, OnSwap}
 use Rattle.vm_facts.specs.declared.entry.Entry.{Entry}
 use Rattle.vm_facts.specs.declared.entry.Entry.TheVariants as entries
 use Rattle.page_model.specs.Pages.{Filling, Zeros, OfImage, frame_of, is_valid}
-use Rattle.flat_state.specs.PageNames.{same_page, is_among}
-use Rattle.vm_facts.specs.Lists.{times}
-use Rattle.page_model.specs.Placement.{Placement, Transfer, Due, Start, CopyOf, due_page, due_at, state_of, filling_of, IsThere, page_of, is_dirty}
+use Rattle.flat_state.specs.PageNames.{same_page}
+use Rattle.page_model.specs.Placement.{Placement, Transfer, Due, Start, CopyOf, due_page, due_at, state_of, filling_of, IsThere, is_dirty}
 use Rattle.page_model.specs.Moves.{done}
 use Rattle.page_model.specs.Place.{due_after, place_entry}
 use Rattle.page_model.specs.Runs.{run_put, spare_frames}
-use Rattle.page_model.specs.Hands.{expire, sweep_of, sweep_to, sweep_by, hand_move, write_by, write_to, write_of}
+use Rattle.page_model.specs.Hands.{expire, taken, sweep_taken, sweep_by, hand_move, write_by, write_taken}
 use Rattle.std.specs.Option.{is_some}
 use Rattle.page_model.specs.Serve.{force_entry, is_full, read_entry, read_entry_if, bring_entry_by, feed_entry_by, serve_entry_by, serve_entry}
 use Rattle.page_model.specs.Swapper.{put_out_unit}
@@ -204,7 +203,7 @@ put_out_allowed p pid sid = unit_case (IsAllowed p) p pid sid
 
 -- a move that begins no write
 no_write : (p : Placement) (locked : List Page) → begins_write p locked ≡ false → length (hand_move p locked).transfers ≤ length p.transfers
-no_write p locked n = let k = ap length (expire_transfers p locked) in let h = of x.back (page_of x x.back) n in omega arith
+no_write p locked n = let k = ap length (expire_transfers p locked) in let h = of (taken x locked) n in omega arith
   where
     x : Placement
     x = expire p locked
@@ -213,19 +212,9 @@ no_write p locked n = let k = ap length (expire_transfers p locked) in let h = o
     by q true e = absurd cc
     by q false e = let k = retire_count x q in omega arith
 
-    to : (q : Page) (s : PageState) (m : ℕ) (b : Bool) → is_some (write_to x locked q s m b) ≡ false → length (sweep_to x locked q s m b).transfers ≤ length x.transfers
-    to q (Invalid f) zero false e = by q (is_dirty x q) e
-    to q (Invalid f) zero true e = omega arith
-    to q (Invalid f) (suc m) b e = omega arith
-    to q Unfilled m b e = omega arith
-    to q (Valid f) m b e = omega arith
-    to q (Coming f) m b e = omega arith
-    to q (Going f) m b e = omega arith
-    to q OnSwap m b e = omega arith
-
-    of : (f : ℕ) (h : Option Page) → is_some (write_of x locked f h) ≡ false → length (sweep_of x locked f h).transfers ≤ length x.transfers
-    of f None e = omega arith
-    of f (Some q) e = to q (state_of x q) (times f x.free) (is_among q locked) e
+    of : (h : Option Page) → is_some (write_taken x locked h) ≡ false → length (sweep_taken x locked h).transfers ≤ length x.transfers
+    of None e = omega arith
+    of (Some q) e = by q (is_dirty x q) e
 
 pub move_allowed : (p : Placement) (locked : List Page) → IsAllowed p (move_unit p locked)
 move_allowed p locked = go (begins_write p locked) (is_full p) refl

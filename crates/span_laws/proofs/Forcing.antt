@@ -1,18 +1,14 @@
 -- Forcing a frame adds few entries.
-use Rattle.std.proofs.Common.{◌≡◌, ◌⊎◌, inl, inr, ℕ, zero, suc, ◌+◌, ◌/◌, ◌<◌, ◌≤◌, Bool, true, false, List, [], ◌∷◌, length, Option, Some, None, refl, sym, ap, ◌∙◌, subst, arith}
+use Rattle.std.proofs.Common.{◌≡◌, ◌⊎◌, inl, inr, ℕ, ◌+◌, ◌/◌, ◌<◌, ◌≤◌, Bool, true, false, List, [], ◌∷◌, length, refl, sym, ap, ◌∙◌, subst, arith}
 use Rattle.page_laws.proofs.Runs.Sweeping.{launch_all_free}
 use Rattle.page_laws.proofs.Moves.HandRuns.{retire_flies}
 use Rattle.vm_facts.specs.declared.page.Page.{Page}
-use Rattle.vm_facts.specs.declared.page.PageState.{PageState}
-use Rattle.vm_facts.specs.declared.page.PageState.TheVariants.{Unfilled, Valid, Invalid, Coming, Going, OnSwap}
 use Rattle.vm_facts.specs.declared.entry.Entry.{Entry}
 use Rattle.vm_facts.specs.declared.entry.Entry.TheVariants as entries
-use Rattle.flat_state.specs.PageNames.{is_among}
-use Rattle.vm_facts.specs.Lists.{times}
-use Rattle.page_model.specs.Placement.{Placement, Transfer, Errand, Writes, state_of, is_dirty, page_of}
+use Rattle.page_model.specs.Placement.{Placement, Transfer, Errand, Writes}
 use Rattle.page_model.specs.Moves.{land_all, done, done_of, begin}
 use Rattle.page_model.specs.Runs.{run_out, pages_of_run}
-use Rattle.page_model.specs.Hands.{expire, sweep, sweep_of, sweep_to, sweep_by, hand_move}
+use Rattle.page_model.specs.Hands.{expire, sweep, hand_move}
 use Rattle.page_model.specs.Serve.{force, force_by, force_entry, Forces}
 use Rattle.page_model.specs.Rank.{is_usable, HandsStand, HasRoom, far, far_by, far_transfers, reach}
 use Rattle.page_model.specs.Ownership.{OwnsFrames}
@@ -26,6 +22,7 @@ use Rattle.page_laws.proofs.Ends.Wholes.{force_room}
 use Rattle.page_laws.proofs.Ownership.Hands.{move_owner}
 use Rattle.span_laws.specs.Spans.{adds, added, moves_of}
 use Rattle.span_laws.proofs.Spanning.{adds_one}
+use Rattle.page_laws.proofs.Moves.Taken.{sweep_cases}
 
 -- What a step leaves.
 
@@ -38,25 +35,8 @@ done_free p = go p.transfers
 
 -- the back hand frees nothing, or begins nothing
 pub sweep_either : (p : Placement) (locked : List Page) → ((sweep p locked).free ≡ p.free) ⊎ ((sweep p locked).transfers ≡ p.transfers)
-sweep_either p locked = go (page_of p p.back)
-  where
-    by : (q : Page) (d : Bool) → ((sweep_by p locked q d).free ≡ p.free) ⊎ ((sweep_by p locked q d).transfers ≡ p.transfers)
-    by q true = inl (launch_all_free (pages_of_run q (run_out p locked q)) (begin p Writes))
-    by q false = inr (retire_flies p q)
-
-    to : (q : Page) (s : PageState) (n : ℕ) (b : Bool) → ((sweep_to p locked q s n b).free ≡ p.free) ⊎ ((sweep_to p locked q s n b).transfers ≡ p.transfers)
-    to q (Invalid f) zero false = by q (is_dirty p q)
-    to q (Invalid f) zero true = inr refl
-    to q (Invalid f) (suc n) b = inr refl
-    to q Unfilled n b = inr refl
-    to q (Valid f) n b = inr refl
-    to q (Coming f) n b = inr refl
-    to q (Going f) n b = inr refl
-    to q OnSwap n b = inr refl
-
-    go : (h : Option Page) → ((sweep_of p locked p.back h).free ≡ p.free) ⊎ ((sweep_of p locked p.back h).transfers ≡ p.transfers)
-    go None = inr refl
-    go (Some q) = to q (state_of p q) (times p.back p.free) (is_among q locked)
+sweep_either p locked = sweep_cases (λ r. (r.free ≡ p.free) ⊎ (r.transfers ≡ p.transfers)) p locked (inr refl)
+    (λ q t e. inl (launch_all_free (pages_of_run q (run_out p locked q)) (begin p Writes))) (λ q t e. inr (retire_flies p q))
 
 -- What a move of the hands leaves where no frame is free and nothing in flight: a free frame; one write; or nothing new.
 pub data Moved (q : Placement) : Type 0 where

@@ -14,12 +14,11 @@ use Rattle.swap_book.specs.Holdings.{Holdings}
 use Rattle.flat_state.specs.PageNames.{number_of, beside, is_among}
 use Rattle.flat_state.specs.Numbers.{AllDistinct}
 use Rattle.page_model.specs.Frames.{next_frame}
-use Rattle.vm_facts.specs.Lists.{times}
-use Rattle.page_model.specs.Pages.{Slot, Zeros, frame_of}
-use Rattle.page_model.specs.Placement.{Placement, state_of, mark_of, is_dirty, page_of, IsThere, sharers}
+use Rattle.page_model.specs.Pages.{Slot, Zeros}
+use Rattle.page_model.specs.Placement.{Placement, state_of, mark_of, is_dirty, page_of, IsThere}
 use Rattle.page_model.specs.Moves.{turn}
 use Rattle.page_model.specs.Runs.{Run, run_out, pages_of_run, goes_along, is_idle, is_near, most_written}
-use Rattle.page_model.specs.Hands.{expire, expire_of, expire_if, expire_to, sweep, sweep_of, sweep_to, sweep_by, write_of, write_to, write_by, hand_run, advance, hand_move}
+use Rattle.page_model.specs.Hands.{expire, expire_of, expire_if, expire_to, sweep, taken, sweep_taken, sweep_by, write_taken, write_by, back_run, hand_run, advance, hand_move}
 use Rattle.page_model.specs.Rank.{HandsStand}
 use Rattle.page_model.specs.Conditions.{EachPage, HasSeat, IsSeated}
 use Rattle.page_model.specs.Ownership.{OwnsFrames, TextAside}
@@ -37,7 +36,7 @@ use Rattle.page_laws.proofs.Blocks.Aside.{IsBusy, turn_aside}
 use Rattle.page_laws.proofs.Blocks.Steps.{shared_as}
 use Rattle.page_laws.proofs.Runs.Neighbours.{widest_out}
 use Rattle.page_laws.proofs.Moves.Hands.{walk_in}
-use Rattle.page_laws.proofs.Moves.HandRuns.{hand_begun, hand_rests}
+use Rattle.page_laws.proofs.Moves.HandRuns.{hand_begun, hand_rests, hand_some}
 use Rattle.page_laws.proofs.Moves.Stays.{expire_transfers, move_stays}
 use Rattle.page_laws.proofs.Moves.Transfers.{launch_run_count}
 use Rattle.page_laws.proofs.Bytes.Others.{stays_same}
@@ -45,25 +44,26 @@ use Rattle.kernel_tables.proofs.Moves.{hand_coupled_step}
 use Rattle.kernel_tables.specs.declared.tables.Tables.{Tables}
 use Rattle.kernel_tables.specs.Shown.{entry_in, placed, changed_named}
 use Rattle.kernel_tables.specs.TableViewShown.{is_away, idle_state}
-use Rattle.kernel_tables.specs.View.{Lists, page_held, placement_of, frames_of, flown_at, page_by}
+use Rattle.kernel_tables.specs.View.{Lists, placement_of, frames_of}
 use Rattle.kernel_tables.specs.Known.{Known}
 use Rattle.kernel_tables.specs.Machine.{lists_of, image_at}
 use Rattle.kernel_tables.specs.Calls.{IsRunOf}
 use Rattle.kernel_tables.specs.Conditions.{KeepsFlat, SameEverywhere}
-use Rattle.kernel_tables.specs.Launches.{MayPutOut, MayWrite, HasBlocks, MovedOn, put_out, valid_named, under, under_by, under_if, expired, expired_by, expired_if}
+use Rattle.kernel_tables.specs.Launches.{MayPutOut, MayWrite, HasBlocks, MovedOn, put_out, valid_named, under, under_by, under_if, expired, expired_by}
 use Rattle.kernel_tables.proofs.Entries.{head_of}
 use Rattle.kernel_tables.proofs.Shows.{head_sids, lengths_same}
 use Rattle.kernel_tables.proofs.Held.{holds_length}
 use Rattle.kernel_tables.proofs.Arrives.{page_shown}
 use Rattle.kernel_tables.proofs.Likes.{frame_fits}
 use Rattle.kernel_tables.proofs.Kept.{sharers_heads}
-use Rattle.table_steps.proofs.Residing.{Resides, resides, seat_resides, resides_state, resides_seat}
+use Rattle.table_steps.proofs.Residing.{Resides, resides, seat_resides, resides_state}
 use Rattle.table_steps.proofs.Turning.{Turning, turn_is, turn_frames, turn_heads, turn_tied}
 use Rattle.table_steps.proofs.Puttings.{put_some}
 use Rattle.kernel_tables.proofs.Marks.{placed_mark, resident_page, resident_mark}
 use Rattle.text_table.specs.Texts.{Text as SharedText}
 use Rattle.space_map.specs.Space.{Places}
 use Rattle.kernel_tables.specs.Steps.{dirty_shown}
+use Rattle.page_laws.proofs.Moves.Taken.{IsTaken, taken_is, taken_none, taken_state, taken_seat}
 
 -- What the definitions say, by cases.
 
@@ -90,38 +90,6 @@ expire_kept p locked never = go (page_of p p.front) refl
 expire_at : (p : Placement) (locked : List Page) (q : Page) (f : ℕ) → page_of p p.front ≡ Some q → is_among q locked ≡ false → state_of p q ≡ Valid f
     → expire p locked ≡ turn p q (Invalid f) (mark_of p q) p.free p.transfers
 expire_at p locked q f h b e = ap (expire_of p locked) h ∙ ap (expire_if p q) b ∙ ap (expire_to p q) e
-
-sweep_kept : (p : Placement) (locked : List Page)
-    → ((q : Page) (f : ℕ) → page_of p p.back ≡ Some q → is_among q locked ≡ false → state_of p q ≡ Invalid f → times p.back p.free ≡ 0 → ⊥)
-    → sweep p locked ≡ p
-sweep_kept p locked never = go (page_of p p.back) refl
-  where
-    to : (q : Page) (s : PageState) (n : ℕ) (b : Bool) → page_of p p.back ≡ Some q → is_among q locked ≡ b → state_of p q ≡ s → times p.back p.free ≡ n → sweep_to p locked q s n b ≡ p
-    to q (Invalid f) zero false h b e z = absurd (never q f h b e z)
-    to q (Invalid f) zero true h b e z = refl
-    to q (Invalid f) (suc n) d h b e z = refl
-    to q Unfilled n d h b e z = refl
-    to q (Valid f) n d h b e z = refl
-    to q (Coming f) n d h b e z = refl
-    to q (Going f) n d h b e z = refl
-    to q OnSwap n d h b e z = refl
-
-    go : (o : Option Page) → page_of p p.back ≡ o → sweep_of p locked p.back o ≡ p
-    go None h = refl
-    go (Some q) h = to q (state_of p q) (times p.back p.free) (is_among q locked) h refl refl refl
-
-sweep_at : (p : Placement) (locked : List Page) (q : Page) (f : ℕ) → page_of p p.back ≡ Some q → is_among q locked ≡ false → state_of p q ≡ Invalid f
-    → times p.back p.free ≡ 0 → sweep p locked ≡ sweep_by p locked q (is_dirty p q)
-sweep_at p locked q f h b e z =
-    ap (sweep_of p locked p.back) h ∙ ap (λ (s : PageState). sweep_to p locked q s (times p.back p.free) (is_among q locked)) e
-    ∙ ap (λ (n : ℕ). sweep_to p locked q (Invalid f) n (is_among q locked)) z ∙ ap (sweep_to p locked q (Invalid f) zero) b
-
-write_at : (p : Placement) (locked : List Page) (q : Page) (f : ℕ) → page_of p p.back ≡ Some q → is_among q locked ≡ false → state_of p q ≡ Invalid f
-    → times p.back p.free ≡ 0
-    → write_of p locked p.back (page_of p p.back) ≡ write_by p locked q (is_dirty p q)
-write_at p locked q f h b e z =
-    ap (write_of p locked p.back) h ∙ ap (λ (s : PageState). write_to p locked q s (times p.back p.free) (is_among q locked)) e
-    ∙ ap (λ (n : ℕ). write_to p locked q (Invalid f) n (is_among q locked)) z ∙ ap (write_to p locked q (Invalid f) zero) b
 
 -- What stands at a frame.
 
@@ -303,12 +271,11 @@ idle_back t locked q k e = go (slot_at t.slots t.back) refl
 
 pub sweep_rests : (t : Lists) (locked : List Page) → Known t → ((q : Page) → under t locked t.back ≡ Some (q, false) → ⊥)
     → sweep (placement_of t) locked ≡ placement_of t
-sweep_rests t locked k never = sweep_kept (placement_of t) locked (λ q f at a e z.
-    let same : f ≡ t.back = same_Some f t.back (sym (ap frame_of e) ∙ k.owns.named t.back q at) in
-    let i : state_of (placement_of t) q ≡ Invalid t.back = e ∙ ap (λ (n : ℕ). Invalid n) same in
-    let r : Resides t q t.back = seat_resides t q t.back k (record { state = inr (i, z) }) in
-    never q (ap (under_by t.spaces locked) r.slot ∙ ap (λ (x : Bool). under_if x q (valid_named (entry_in t.spaces q))) a ∙ ap (λ (o : Option Place). Some (q, valid_named o)) r.entry
-    ∙ ap (λ (b : Bool). Some (q, b)) (invalid r r.valid refl i)))
+sweep_rests t locked k never = ap (sweep_taken (placement_of t) locked) (taken_none (placement_of t) locked (λ q g.
+    let i : state_of (placement_of t) q ≡ Invalid t.back = taken_state (placement_of t) locked q k.owns g in
+    let r : Resides t q t.back = seat_resides t q t.back k (record { state = inr (i, g.off) }) in
+    never q (ap (under_by t.spaces locked) r.slot ∙ ap (λ (x : Bool). under_if x q (valid_named (entry_in t.spaces q))) g.unlocked ∙ ap (λ (o : Option Place). Some (q, valid_named o)) r.entry
+    ∙ ap (λ (b : Bool). Some (q, b)) (invalid r r.valid refl i))))
   where
     invalid : {q : Page} (r : Resides t q t.back) (v : Bool) → r.valid ≡ v → state_of (placement_of t) q ≡ Invalid t.back → r.valid ≡ false
     invalid {q} r true e i = absurd (let x : Valid t.back ≡ Invalid t.back = sym (resides_state t q t.back r ∙ ap (λ (y : Bool). cond y (Valid t.back) (Invalid t.back)) e) ∙ i in cc)
@@ -348,16 +315,21 @@ puts_by p locked q lo n false e seat run room = record {
 }
 
 pub sweep_puts : (t : Lists) (locked : List Page) (q : Page) (lo n : ℕ) → Known t → IdleBack t locked q
-    → IsRunOf (write_of (placement_of t) locked t.back (page_of (placement_of t) t.back)) lo n → (0 < n → length t.transfers < 16)
-    → Puts (placement_of t) q lo n (sweep (placement_of t) locked)
+    → IsRunOf (back_run (placement_of t) locked) lo n → (0 < n → length t.transfers < 16) → Puts (placement_of t) q lo n (sweep (placement_of t) locked)
 sweep_puts t locked q lo n k i run room =
     let p : Placement = placement_of t in
     let r : Resides t q t.back = i.resides in
-    let s : state_of p q ≡ Invalid t.back = resides_state t q t.back r ∙ ap (λ (y : Bool). cond y (Valid t.back) (Invalid t.back)) i.invalid in
-    let at : page_of p p.back ≡ Some q = resides_page t q t.back k r in
-    let x : Puts p q lo n (sweep_by p locked q (is_dirty p q)) = puts_by p locked q lo n (is_dirty p q) refl (record { frame = t.back; seat = resides_seat t q t.back r })
-    (subst (λ (o : Option (Page × Run)). IsRunOf o lo n) (write_at p locked q t.back at i.free s r.unlisted) run) room in
-    record { may = x.may; is = x.is ∙ sym (sweep_at p locked q t.back at i.free s r.unlisted) }
+    let g : IsTaken p locked q = record {
+      held = resides_page t q t.back k r;
+      frame = t.back;
+      state = resides_state t q t.back r ∙ ap (λ (y : Bool). cond y (Valid t.back) (Invalid t.back)) i.invalid;
+      off = r.unlisted;
+      unlocked = i.free;
+    } in
+    let e : taken p locked ≡ Some q = taken_is p locked q g in
+    let x : Puts p q lo n (sweep_by p locked q (is_dirty p q)) = puts_by p locked q lo n (is_dirty p q) refl (taken_seat p locked q k.owns g)
+    (subst (λ (o : Option Page). IsRunOf (write_taken p locked o) lo n) e run) room in
+    record { may = x.may; is = x.is ∙ sym (ap (sweep_taken p locked) e) }
 
 pub moved_none : (t : Tables) (p : Placement) → Known (lists_of t) → p ≡ placement_of (lists_of t) → MovedOn t t p
 moved_none t p k e = record { place = sym e; frames = refl; tied = k.tied; images = λ sid. refl; ring = inl refl; rest = refl }
@@ -470,37 +442,11 @@ hand_few p locked lo n run room l = go (hand_run p locked) refl run
     go : (o : Option (Page × Run)) → hand_run p locked ≡ o → IsRunOf o lo n → length (hand_move p locked).transfers ≤ 16
     go None e r = let a = ap length (hand_rests p locked e) in omega arith
     go (Some w) e r =
-        let begun_some : (p : Placement) (locked2 : List Page) (w : Page × Run) → hand_run p locked ≡ Some w → 0 < w.1.n = λ p locked2 w e.
-        of_some (expire p locked) (expire p locked).back (page_of (expire p locked) (expire p locked).back) w e in
         let a = ap (λ (x : Placement). length x.transfers) (hand_begun p locked w.0 w.1 e) ∙ launch_run_count (expire p locked) (pages_of_run w.0 w.1) in
         let b = ap length (expire_transfers p locked) in
-        let some : 0 < n = subst (λ (k : ℕ). 0 < k) (sym r.1) (begun_some p locked w e) in
+        let some : 0 < n = subst (λ (k : ℕ). 0 < k) (sym r.1) (hand_some p locked w e) in
         let c = room some in
         omega arith
-      where
-        by_some : (q : Placement) (v : Page) (d : Bool) (w : Page × Run) → write_by q locked v d ≡ Some w → 0 < w.1.n
-        by_some q v true w e =
-            let x : (v, run_out q locked v) ≡ w = same_Some (v, run_out q locked v) w e in
-            let wide = widest_out q locked v in
-            let a = wide.has.0 in
-            let b = wide.has.1 in
-            let c : (run_out q locked v).n ≡ w.1.n = ap (λ (y : Page × Run). y.1.n) x in
-            omega arith
-        by_some q v false w e = none_some w e
-
-        to_some : (q : Placement) (v : Page) (s : PageState) (m : ℕ) (b : Bool) (w : Page × Run) → write_to q locked v s m b ≡ Some w → 0 < w.1.n
-        to_some q v (Invalid f) zero false w e = by_some q v (is_dirty q v) w e
-        to_some q v (Invalid f) zero true w e = none_some w e
-        to_some q v (Invalid f) (suc m) b w e = none_some w e
-        to_some q v Unfilled m b w e = none_some w e
-        to_some q v (Valid f) m b w e = none_some w e
-        to_some q v (Coming f) m b w e = none_some w e
-        to_some q v (Going f) m b w e = none_some w e
-        to_some q v OnSwap m b w e = none_some w e
-
-        of_some : (q : Placement) (f : ℕ) (o : Option Page) (w : Page × Run) → write_of q locked f o ≡ Some w → 0 < w.1.n
-        of_some q f None w e = none_some w e
-        of_some q f (Some v) w e = to_some q v (state_of q v) (times f q.free) (is_among v locked) w e
 
 pub hand_keeps : (size : ℕ) (k : Kernel) (locked : List Page) → Sound size k → KeepsFlat k (hand_step k locked)
 hand_keeps size k locked so images image flat c = hand_coupled_step size k images image flat locked so c

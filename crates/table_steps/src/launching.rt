@@ -5,10 +5,9 @@ ghost use Rattle.core_map.specs.Slots.{slot_at, page_of as page_held, is_residen
 ghost use Rattle.transfer_ring.specs.Sound.{outbound_pages};
 ghost use Rattle.flat_state.specs.PageNames.{pages_from, is_among};
 ghost use Rattle.page_model.specs.Frames.{next_frame};
-ghost use Rattle.page_model.specs.Placement.{page_of};
 ghost use Rattle.page_model.specs.Conditions.{EachPage};
 ghost use Rattle.page_model.specs.Moves.{launch_all, launch_run};
-ghost use Rattle.page_model.specs.Hands.{expire, sweep, hand_move, hand_run, write_of};
+ghost use Rattle.page_model.specs.Hands.{expire, sweep, hand_move, hand_run, back_run};
 ghost use Rattle.page_model.specs.Ownership.{block_of};
 ghost use Rattle.kernel_tables.specs.Calls.{IsRunOf};
 ghost use Rattle.kernel_tables.specs.Known.{Known};
@@ -180,8 +179,7 @@ fn expire(tables: &mut Tables, locked: &[Page])
 // there and clean. `parts` is empty and has room for the run.
 fn sweep(tables: &mut Tables, locked: &[Page], parts: Vec<Outbound>, lo: u32, n: u32)
     requires known { Known (lists_of tables.old) }
-    requires run { IsRunOf
-        (write_of (placement_of (lists_of tables.old)) locked.now tables.old.back (page_of (placement_of (lists_of tables.old)) tables.old.back)) lo n }
+    requires run { IsRunOf (back_run (placement_of (lists_of tables.old)) locked.now) lo n }
     requires room { 0 < n → length (lists_of tables.old).transfers < 16 }
     requires blocks { HasBlocks (placement_of (lists_of tables.old)) tables.old.book.holdings }
     requires empty { parts.items ≡ [] }

@@ -7,29 +7,28 @@ use Rattle.vm_facts.specs.declared.page.PageState.TheVariants.{Unfilled, Valid, 
 use Rattle.vm_facts.specs.declared.entry.Entry.{Entry}
 use Rattle.vm_facts.specs.declared.entry.Entry.TheVariants as entries
 use Rattle.page_model.specs.Holdings.{Holdings}
-use Rattle.page_model.specs.Pages.{frame_of, written_mark, SpacePages, TextPages, numbered, data_in, stack_in, text_in}
+use Rattle.page_model.specs.Pages.{written_mark, SpacePages, TextPages, numbered, data_in, stack_in, text_in}
 use Rattle.flat_state.specs.PageNames.{is_among, same_page, number_of, beside, pages_from}
-use Rattle.vm_facts.specs.Lists.{times, without}
+use Rattle.vm_facts.specs.Lists.{without}
 use Rattle.page_model.specs.Placement.{Placement, Transfer, Part, Errand, Writes, Reads, Source, slots_of, state_of, mark_of, is_dirty, page_of, parts_of, sharers, put, space_number, image_number, sharers_in}
 use Rattle.page_model.specs.Moves.{evict, turn, fill_at, begin, join_last, get_one, get_at, get_all, get_run, launch, launch_to, launch_all, launch_run, land, land_read, land_all, done, done_of, arrived_mark, reclaim, reclaim_to, retire, retire_to}
 use Rattle.page_model.specs.Runs.{run_out, pages_of_run}
-use Rattle.page_model.specs.Hands.{expire, expire_of, expire_if, expire_to, sweep, sweep_of, sweep_to, sweep_by, hand_move, hand_moves, advance}
+use Rattle.page_model.specs.Hands.{expire, expire_of, expire_if, expire_to, sweep, hand_move, hand_moves, advance}
 use Rattle.page_model.specs.Place.{filled, put_step, put_by, place_entry, moved}
 use Rattle.page_model.specs.Serve.{source_for}
 use Rattle.page_model.specs.Conditions.{EachPage, AllApart, CanEnter, IsSeated, HasSeat, CanPlace, IsShared, EntryShared}
-use Rattle.page_model.specs.Ownership.{OwnsFrames, OwnsBlocks, OneOwner, TextAside}
+use Rattle.page_model.specs.Ownership.{OwnsFrames, OneOwner, TextAside}
 use Rattle.page_laws.proofs.Moves.Puts.{KeptByPuts, entry_kept}
 use Rattle.page_laws.proofs.Lists.Pages.{put_length, put_sharers}
 use Rattle.page_laws.proofs.Lists.Parts.{IsOpen, begin_open}
-use Rattle.std.proofs.lemmas.Option.{same_Some}
 use Rattle.page_laws.proofs.Lists.Frames.{some_free}
-use Rattle.page_laws.proofs.Moves.Steps.{evict_owner, EvictRest, evict_rest, frameless_rest}
 use Rattle.page_laws.proofs.Ownership.Pages.{fill_enters, get_enters, get_owner, expire_owner, reclaim_turns, expire_turns, launch_turns, launch_owner, retire_turns}
 use Rattle.page_laws.proofs.Lists.Runs.{each_page_imp, each_page_both, pages_from_each, pages_from_apart, run_apart}
 use Rattle.page_laws.proofs.Ownership.Runs.{begin_owner, get_enters_still, get_open_still, launch_still, launch_open_still, clean_unmarked, written_clean, coming_clean, Landing, landing_state, land_owner, land_transfers, tail_turns, valid_turns}
 use Rattle.page_laws.proofs.Ownership.Hands.{run_out_seats, move_owner}
 use Rattle.page_laws.proofs.Ownership.Entries.{place_entry_owner}
-use Rattle.page_laws.proofs.Blocks.Aside.{IsBusy, turn_aside, enter_aside, evict_aside, evict_sharers, blocks_still, one_owner}
+use Rattle.page_laws.proofs.Blocks.Aside.{IsBusy, turn_aside, enter_aside, evict_sharers, blocks_still, one_owner}
+use Rattle.page_laws.proofs.Moves.Taken.{taken_seat, sweep_cases}
 
 filled_aside : (p : Placement) (v : Page) → OwnsFrames p → CanEnter p v → TextAside p → IsShared p v → TextAside (filled p v)
 filled_aside p v o c a s = λ i n z. let k = go p.free refl i n z in record { unsaved = k.unsaved; rests = k.rests }
@@ -157,30 +156,9 @@ put_step_aside p v qs o c cs d a = go (is_dirty p v) refl
     go false e = retire_aside p v c.frame o c.seat (clean_unmarked v (mark_of p v) e) a
 
 sweep_aside : (p : Placement) (locked : List Page) → OwnsFrames p → TextAside p → TextAside (sweep p locked)
-sweep_aside p locked o a = go (page_of p p.back) refl
-  where
-    by : (q : Page) (d : Bool) → is_dirty p q ≡ d → HasSeat p q → TextAside (sweep_by p locked q d)
-    by q true e c = launch_run_aside p (pages_of_run q (run_out p locked q)) o (run_out_seats p locked q c) (run_apart q (run_out p locked q)) a
-    by q false e c = retire_aside p q c.frame o c.seat (clean_unmarked q (mark_of p q) e) a
-
-    seat : (q : Page) (f : ℕ) → page_of p p.back ≡ Some q → state_of p q ≡ Invalid f → times p.back p.free ≡ zero → HasSeat p q
-    seat q f h e z =
-        let same : f ≡ p.back = same_Some f p.back (sym (ap frame_of e) ∙ o.named p.back q h) in
-        record { frame = f; seat = record { state = inr (e, ap (λ (g : ℕ). times g p.free) same ∙ z) } }
-
-    to : (q : Page) (s : PageState) (n : ℕ) (d : Bool) → page_of p p.back ≡ Some q → state_of p q ≡ s → times p.back p.free ≡ n → TextAside (sweep_to p locked q s n d)
-    to q (Invalid f) zero false h e z = by q (is_dirty p q) refl (seat q f h e z)
-    to q (Invalid f) zero true h e z = a
-    to q (Invalid f) (suc n) d h e z = a
-    to q Unfilled n d h e z = a
-    to q (Valid f) n d h e z = a
-    to q (Coming f) n d h e z = a
-    to q (Going f) n d h e z = a
-    to q OnSwap n d h e z = a
-
-    go : (h : Option Page) → page_of p p.back ≡ h → TextAside (sweep_of p locked p.back h)
-    go None h = a
-    go (Some q) h = to q (state_of p q) (times p.back p.free) (is_among q locked) h refl refl
+sweep_aside p locked o a = sweep_cases TextAside p locked a
+    (λ q t e. launch_run_aside p (pages_of_run q (run_out p locked q)) o (run_out_seats p locked q (taken_seat p locked q o t)) (run_apart q (run_out p locked q)) a)
+    (λ q t e. let h : HasSeat p q = taken_seat p locked q o t in retire_aside p q h.frame o h.seat (clean_unmarked q (mark_of p q) e) a)
 
 pub move_aside : (p : Placement) (locked : List Page) → OwnsFrames p → TextAside p → TextAside (hand_move p locked)
 move_aside p locked o a = λ i n z. let k = sweep_aside (expire p locked) locked (expire_owner p locked o) (expire_aside p locked o a) i n z in record { unsaved = k.unsaved; rests = k.rests }

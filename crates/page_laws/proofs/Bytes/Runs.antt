@@ -1,16 +1,15 @@
 -- Reads and writes of several pages, their beginning and their end, and the hands, keep the flat memory.
-use Rattle.std.proofs.Common.{◌≡◌, ◌≢◌, inl, inr, ℕ, zero, suc, ◌<◌, Bool, true, false, min, List, [], ◌∷◌, length, Option, Some, None, refl, sym, ap, ◌∙◌, subst}
+use Rattle.std.proofs.Common.{◌≡◌, ◌≢◌, inl, ℕ, ◌<◌, Bool, true, false, min, List, [], ◌∷◌, length, None, refl, sym, ap, ◌∙◌, subst}
 use Rattle.vm_facts.specs.declared.page.Page.{Page}
 use Rattle.vm_facts.specs.declared.page.Page.TheVariants.{Data, Stack, Text}
 use Rattle.vm_facts.specs.declared.page.PageState.{PageState}
 use Rattle.vm_facts.specs.declared.page.PageState.TheVariants.{Unfilled, Valid, Invalid, Coming, Going, OnSwap}
-use Rattle.page_model.specs.Pages.{Slot, Filling, Zeros, OfImage, frame_of, is_on_swap, is_unfilled}
-use Rattle.flat_state.specs.PageNames.{beside, number_of, is_among}
-use Rattle.vm_facts.specs.Lists.{times}
-use Rattle.page_model.specs.Placement.{Placement, Transfer, Part, Moving, Errand, Writes, Reads, Source, FromSwap, FromFile, Due, filling_by, slots_of, slot_of, state_of, mark_of, is_dirty, page_of, errand_at, due_at, parts_of}
+use Rattle.page_model.specs.Pages.{Slot, frame_of, is_on_swap, is_unfilled}
+use Rattle.flat_state.specs.PageNames.{beside, number_of}
+use Rattle.page_model.specs.Placement.{Placement, Transfer, Part, Moving, Errand, Writes, Reads, Source, FromSwap, FromFile, Due, filling_by, slots_of, slot_of, state_of, mark_of, is_dirty, errand_at, due_at, parts_of}
 use Rattle.page_model.specs.Moves.{evict, get_one, get_at, get_all, get_run, begin, launch, launch_all, launch_run, land, land_read, land_all, done, done_of}
 use Rattle.page_model.specs.Runs.{run_out, run_in, run_in_by, pages_of_run, run_both, run_up, run_alone, comes_from_swap, comes_from_file, is_near, spare_frames}
-use Rattle.page_model.specs.Hands.{expire, sweep, sweep_of, sweep_to, sweep_by, hand_move}
+use Rattle.page_model.specs.Hands.{expire, sweep, hand_move}
 use Rattle.page_model.specs.Serve.{read_step, source_for}
 use Rattle.page_model.specs.Place.{put_step, put_by}
 use Rattle.page_model.specs.Conditions.{EachPage, AllApart, CanEnter, IsSeated, HasSeat}
@@ -20,7 +19,6 @@ use Rattle.page_laws.proofs.Moves.Puts.{rest_by_puts, get_kept}
 use Rattle.page_laws.proofs.Lists.Frames.{length_set_frame}
 use Rattle.page_laws.proofs.Lists.Pages.{put_other}
 use Rattle.page_laws.proofs.Lists.Parts.{IsOpen, begin_open, parts_begin}
-use Rattle.std.proofs.lemmas.Option.{same_Some}
 use Rattle.page_laws.proofs.Moves.Steps.{evict_other}
 use Rattle.page_laws.proofs.Ownership.Pages.{get_owner, launch_owner, expire_owner}
 use Rattle.page_laws.proofs.Lists.Runs.{each_page_imp, each_page_both, run_each, run_both_in, run_up_in, run_alone_in, run_apart}
@@ -30,6 +28,7 @@ use Rattle.page_laws.proofs.Ownership.Hands.{run_out_seats}
 use Rattle.page_laws.proofs.Ownership.Serve.{run_in_enters, on_swap_is, unfilled_is}
 use Rattle.page_laws.proofs.Bytes.Couples.{unmoved_keeps}
 use Rattle.page_laws.proofs.Bytes.Pages.{get_coupled, launch_coupled, retire_coupled, expire_coupled, land_write_coupled, land_read_coupled}
+use Rattle.page_laws.proofs.Moves.Taken.{taken_seat, sweep_cases}
 
 -- where nothing is moved, all pages keep
 pub still_coupled : (p q : Placement) (b : Bytes) → ((w : Page) → slots_of q w ≡ slots_of p w) → q.due ≡ p.due
@@ -140,30 +139,9 @@ put_step_coupled p v qs b o c cs a k = go (is_dirty p v) refl
 -- The hands.
 
 pub sweep_coupled : (p : Placement) (locked : List Page) (b : Bytes) → OwnsFrames p → CouplesPages p b → CouplesPages (sweep p locked) b
-sweep_coupled p locked b o k = go (page_of p p.back) refl
-  where
-    by : (q : Page) (d : Bool) → is_dirty p q ≡ d → HasSeat p q → CouplesPages (sweep_by p locked q d) b
-    by q true e c = launch_run_coupled p (pages_of_run q (run_out p locked q)) b o (run_out_seats p locked q c) (run_apart q (run_out p locked q)) k
-    by q false e c = retire_coupled p q c.frame b o c.seat (clean_unmarked q (mark_of p q) e) k
-
-    seat : (q : Page) (f : ℕ) → page_of p p.back ≡ Some q → state_of p q ≡ Invalid f → times p.back p.free ≡ zero → HasSeat p q
-    seat q f h e z =
-        let same : f ≡ p.back = same_Some f p.back (sym (ap frame_of e) ∙ o.named p.back q h) in
-        record { frame = f; seat = record { state = inr (e, ap (λ (g : ℕ). times g p.free) same ∙ z) } }
-
-    to : (q : Page) (s : PageState) (n : ℕ) (d : Bool) → page_of p p.back ≡ Some q → state_of p q ≡ s → times p.back p.free ≡ n → CouplesPages (sweep_to p locked q s n d) b
-    to q (Invalid f) zero false h e z = by q (is_dirty p q) refl (seat q f h e z)
-    to q (Invalid f) zero true h e z = k
-    to q (Invalid f) (suc n) d h e z = k
-    to q Unfilled n d h e z = k
-    to q (Valid f) n d h e z = k
-    to q (Coming f) n d h e z = k
-    to q (Going f) n d h e z = k
-    to q OnSwap n d h e z = k
-
-    go : (h : Option Page) → page_of p p.back ≡ h → CouplesPages (sweep_of p locked p.back h) b
-    go None h = k
-    go (Some q) h = to q (state_of p q) (times p.back p.free) (is_among q locked) h refl refl
+sweep_coupled p locked b o k = sweep_cases (λ r. CouplesPages r b) p locked k
+    (λ q t e. launch_run_coupled p (pages_of_run q (run_out p locked q)) b o (run_out_seats p locked q (taken_seat p locked q o t)) (run_apart q (run_out p locked q)) k)
+    (λ q t e. let h : HasSeat p q = taken_seat p locked q o t in retire_coupled p q h.frame b o h.seat (clean_unmarked q (mark_of p q) e) k)
 
 pub move_coupled : (p : Placement) (locked : List Page) (b : Bytes) → OwnsFrames p → CouplesPages p b → CouplesPages (hand_move p locked) b
 move_coupled p locked b o k = still_coupled (sweep (expire p locked) locked) (hand_move p locked) b (λ w. refl) refl refl

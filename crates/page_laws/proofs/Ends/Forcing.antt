@@ -12,7 +12,7 @@ use Rattle.vm_facts.specs.Lists.{times}
 use Rattle.page_model.specs.Placement.{Placement, Transfer, Part, Errand, Writes, state_of, mark_of, is_dirty, page_of, IsFrame, parts_of, flying}
 use Rattle.page_model.specs.Moves.{begin, join_last, launch, launch_to, launch_all, launch_run, retire_to}
 use Rattle.page_model.specs.Runs.{run_out, pages_of_run}
-use Rattle.page_model.specs.Hands.{expire, expire_of, expire_if, expire_to, sweep, sweep_of, sweep_to, sweep_by, advance, hand_move}
+use Rattle.page_model.specs.Hands.{expire, expire_of, expire_if, expire_to, sweep, sweep_taken, sweep_by, advance, hand_move}
 use Rattle.page_model.specs.Conditions.{EachPage, HasSeat, IsSeated}
 use Rattle.page_model.specs.Rank.{is_invalid, is_open, is_open_page, is_usable, is_usable_page, reach, walk, HandsStand, far, far_by, far_transfers, far_parts, HasRoom}
 use Rattle.page_model.specs.Ownership.{OwnsFrames, seats, seated, seated_of}
@@ -22,6 +22,7 @@ use Rattle.page_laws.proofs.Moves.Steps.{page_in, put_other_state}
 use Rattle.page_laws.proofs.Ownership.Hands.{run_out_seats}
 use Rattle.page_laws.proofs.Moves.Stays.{Steady, expire_steady, swept_steady}
 use Rattle.page_laws.proofs.Moves.Hands.{walk_in, walk_apart, walk_next, next_in, pigeons, reach_le, reach_none, Passed, reach_shift}
+use Rattle.page_laws.proofs.Moves.Taken.{IsTaken, taken_is, taken_none, taken_seat}
 
 -- Where no frame is free or in flight, each has a page.
 pub record Full (p : Placement) (f : ℕ) : Type 0 where
@@ -195,48 +196,42 @@ some_pages q lo (suc n) l e = absurd cc
 abbrev pub Freed : Placement → Type 0
 Freed p = (p.free ≡ [] → ⊥) ⊎ HasWrite p.transfers
 
+-- at a frame that it can use it takes the page
+usable_taken : (p : Placement) (locked : List Page) → p.free ≡ [] → is_usable p locked p.back ≡ true → (q : Page) × IsTaken p locked q
+usable_taken p locked fr e = go (page_of p p.back) refl e
+  where
+    to : (q : Page) (s : PageState) (b : Bool) → page_of p p.back ≡ Some q → state_of p q ≡ s → is_among q locked ≡ b → (is_invalid s && not b) ≡ true
+        → (q : Page) × IsTaken p locked q
+    to q (Invalid f) false h s b k = (q, record { held = h; frame = f; state = s; off = ap (times p.back) fr; unlocked = b })
+    to q _ _ h s b k = absurd cc
+
+    go : (h : Option Page) → page_of p p.back ≡ h → is_usable_page p locked h ≡ true → (q : Page) × IsTaken p locked q
+    go None h k = absurd cc
+    go (Some q) h k = to q (state_of p q) (is_among q locked) h refl refl k
+
 pub sweep_frees : (p : Placement) (locked : List Page) → OwnsFrames p → p.free ≡ [] → p.transfers ≡ [] → is_usable p locked p.back ≡ true
     → Freed (sweep p locked)
-sweep_frees p locked o fr t e = go (page_of p p.back) refl e
+sweep_frees p locked o fr t e =
+    let u = usable_taken p locked fr e in
+    subst (λ (h : Option Page). Freed (sweep_taken p locked h)) (sym (taken_is p locked u.0 u.1)) (by u.0 u.1 (is_dirty p u.0))
   where
-    by : (q : Page) (f : ℕ) (d : Bool) → state_of p q ≡ Invalid f → times f p.free ≡ 0 → Freed (sweep_by p locked q d)
-    by q f true h z = inr (run_first p (pages_of_run q (run_out p locked q)) t (run_out_seats p locked q (record { frame = f; seat = record { state = inr (h, z) } }))
+    by : (q : Page) → IsTaken p locked q → (d : Bool) → Freed (sweep_by p locked q d)
+    by q u true = inr (run_first p (pages_of_run q (run_out p locked q)) t (run_out_seats p locked q (taken_seat p locked q o u))
         (some_pages q (run_out p locked q).lo (run_out p locked q).n (omega arith)))
-    by q f false h z = subst (λ (s : PageState). Freed (retire_to p q s)) (sym h) (inl (not_empty p.free f))
+    by q u false = subst (λ (s : PageState). Freed (retire_to p q s)) (sym u.state) (inl (not_empty p.free u.frame))
       where
         not_empty : (xs : List ℕ) (x : ℕ) → xs ++ x ∷ [] ≡ [] → ⊥
         not_empty [] x e = absurd cc
         not_empty (y ∷ ys) x e = absurd cc
 
-    to : (q : Page) (s : PageState) (b : Bool) → state_of p q ≡ s → is_among q locked ≡ b → (is_invalid s && not b) ≡ true → Freed (sweep_to p locked q s (times p.back p.free) b)
-    to q (Invalid f) false h i k = subst (λ (n : ℕ). Freed (sweep_to p locked q (Invalid f) n false)) (sym (ap (times p.back) fr)) (by q f (is_dirty p q) h (ap (times f) fr))
-    to q (Invalid f) true h i k = absurd cc
-    to q Unfilled b h i k = absurd cc
-    to q (Valid f) b h i k = absurd cc
-    to q (Coming f) b h i k = absurd cc
-    to q (Going f) b h i k = absurd cc
-    to q OnSwap b h i k = absurd cc
-
-    go : (h : Option Page) → page_of p p.back ≡ h → is_usable_page p locked (page_of p p.back) ≡ true → Freed (sweep_of p locked p.back h)
-    go None h k = absurd (let j : true ≡ false = sym k ∙ ap (is_usable_page p locked) h in cc)
-    go (Some q) h k = to q (state_of p q) (is_among q locked) refl refl (ap (is_usable_page p locked) (sym h) ∙ k)
-
 pub sweep_idles : (p : Placement) (locked : List Page) → is_usable p locked p.back ≡ false → sweep p locked ≡ p
-sweep_idles p locked e = go (page_of p p.back) refl e
+sweep_idles p locked e = ap (sweep_taken p locked) (taken_none p locked never)
   where
-    to : (q : Page) (s : PageState) (n : ℕ) (b : Bool) → (is_invalid s && not b) ≡ false → sweep_to p locked q s n b ≡ p
-    to q (Invalid f) zero false k = absurd cc
-    to q (Invalid f) zero true k = refl
-    to q (Invalid f) (suc n) b k = refl
-    to q Unfilled n b k = refl
-    to q (Valid f) n b k = refl
-    to q (Coming f) n b k = refl
-    to q (Going f) n b k = refl
-    to q OnSwap n b k = refl
-
-    go : (h : Option Page) → page_of p p.back ≡ h → is_usable_page p locked (page_of p p.back) ≡ false → sweep_of p locked p.back h ≡ p
-    go None h k = refl
-    go (Some q) h k = to q (state_of p q) (times p.back p.free) (is_among q locked) (ap (is_usable_page p locked) (sym h) ∙ k)
+    never : (q : Page) → IsTaken p locked q → ⊥
+    never q t =
+        let k : is_usable p locked p.back ≡ true = ap (is_usable_page p locked) t.held ∙ ap (λ (s : PageState). is_invalid s && not (is_among q locked)) t.state ∙ ap not t.unlocked in
+        let j : true ≡ false = sym k ∙ e in
+        absurd cc
 
 -- Falling.
 

@@ -14,7 +14,7 @@ use Rattle.page_model.specs.Placement.{Placement, Transfer, Part, Errand, Writes
 use Rattle.page_model.specs.Moves.{evict, evict_at, fill, fill_at, begin, get_one, get_at, get_all, turn, join_last, launch, launch_to}
 use Rattle.page_model.specs.Moves.{launch_all, launch_run, land, land_read, land_all, arrived_mark, done, done_of, reclaim, reclaim_to, retire, retire_to}
 use Rattle.page_model.specs.Runs.{pages_of_run, run_out}
-use Rattle.page_model.specs.Hands.{expire, expire_of, expire_if, expire_to, sweep, sweep_of, sweep_to, sweep_by, hand_move, hand_moves}
+use Rattle.page_model.specs.Hands.{expire, expire_of, expire_if, expire_to, sweep, hand_move, hand_moves}
 use Rattle.page_model.specs.Place.{put_step, put_by, place_entry}
 use Rattle.page_model.specs.Serve.{source_for, read_errand}
 use Rattle.page_model.specs.Conditions.{EachPage, CanPlace}
@@ -29,6 +29,7 @@ use Rattle.page_laws.proofs.Ownership.Pages.{expire_owner}
 use Rattle.page_laws.proofs.Ownership.Hands.{move_owner}
 use Rattle.page_laws.proofs.Ownership.Runs.{Landing, landing_state, landing_frame, land_owner, land_transfers}
 use Rattle.page_laws.proofs.Leaving.Entries.{CanReadAll, reads_on, reading, enters_other, entering_others}
+use Rattle.page_laws.proofs.Moves.Taken.{sweep_cases}
 
 pub held_frame : (p : Placement) (w : Page) (f : ℕ) → IsUnwritten p w f → frame_of (state_of p w) ≡ Some f
 held_frame p w f u = elim u.held [
@@ -238,25 +239,8 @@ launch_run_held : (p : Placement) (qs : List Page) (w : Page) (f : ℕ) → IsUn
 launch_run_held p qs w f u = launch_all_held qs (begin p Writes) w f (record { dirty = u.dirty; held = u.held })
 
 sweep_held : (p : Placement) (locked : List Page) (w : Page) (f : ℕ) → OwnsFrames p → IsUnwritten p w f → IsUnwritten (sweep p locked) w f
-sweep_held p locked w f o u = of (page_of p p.back)
-  where
-    by : (v : Page) (d : Bool) → is_dirty p v ≡ d → IsUnwritten (sweep_by p locked v d) w f
-    by v true e = launch_run_held p (pages_of_run v (run_out p locked v)) w f u
-    by v false e = retire_held p v w f o e u
-
-    to : (v : Page) (s : PageState) (n : ℕ) (b : Bool) → IsUnwritten (sweep_to p locked v s n b) w f
-    to v (Invalid g) zero false = by v (is_dirty p v) refl
-    to v (Invalid g) zero true = u
-    to v (Invalid g) (suc n) b = u
-    to v Unfilled n b = u
-    to v (Valid g) n b = u
-    to v (Coming g) n b = u
-    to v (Going g) n b = u
-    to v OnSwap n b = u
-
-    of : (h : Option Page) → IsUnwritten (sweep_of p locked p.back h) w f
-    of None = u
-    of (Some v) = to v (state_of p v) (times p.back p.free) (is_among v locked)
+sweep_held p locked w f o u = sweep_cases (λ r. IsUnwritten r w f) p locked u
+    (λ v t e. launch_run_held p (pages_of_run v (run_out p locked v)) w f u) (λ v t e. retire_held p v w f o e u)
 
 move_held : (p : Placement) (locked : List Page) (w : Page) (f : ℕ) → OwnsFrames p → IsUnwritten p w f → IsUnwritten (hand_move p locked) w f
 move_held p locked w f o u =

@@ -1,15 +1,15 @@
 -- What is locked and valid stays valid, whatever frame is forced and whatever page is served.
-use Rattle.std.proofs.Common.{◌≡◌, ◌≢◌, inl, inr, ℕ, zero, suc, ◌<◌, ◌&&◌, Bool, true, false, not, List, [], ◌∷◌, Option, Some, None, refl, sym, ap, ◌∙◌, subst}
+use Rattle.std.proofs.Common.{◌≡◌, ◌≢◌, inl, inr, ℕ, ◌<◌, ◌&&◌, Bool, true, false, not, List, [], ◌∷◌, Option, Some, None, refl, sym, ap, ◌∙◌, subst}
 use Rattle.vm_facts.specs.declared.page.Page.{Page}
 use Rattle.vm_facts.specs.declared.page.PageState.{PageState}
 use Rattle.vm_facts.specs.declared.page.PageState.TheVariants.{Unfilled, Valid, Invalid, Coming, Going, OnSwap}
 use Rattle.page_model.specs.Pages.{Slot, Filling, Zeros, OfImage, frame_of, is_valid, left_state, written_mark}
 use Rattle.flat_state.specs.PageNames.{number_of, beside, is_among, same_page}
 use Rattle.vm_facts.specs.Lists.{times}
-use Rattle.page_model.specs.Placement.{Placement, Transfer, Part, Errand, Writes, Reads, Source, slot_of, state_of, mark_of, is_dirty, filling_of, page_of, IsThere, moving_state, put}
+use Rattle.page_model.specs.Placement.{Placement, Transfer, Part, Errand, Writes, Reads, Source, state_of, mark_of, is_dirty, filling_of, page_of, IsThere, moving_state, put}
 use Rattle.page_model.specs.Moves.{evict, evict_at, enter, fill, fill_at, begin, join_last, get_one, get_at, get_all, launch, launch_to, launch_all, land, land_read, land_all, done, done_of, reclaim, reclaim_to, retire_to, arrived_mark}
 use Rattle.page_model.specs.Runs.{run_out, pages_of_run, goes_along, is_idle, is_idle_by, is_near, most_written, run_in}
-use Rattle.page_model.specs.Hands.{expire, expire_of, expire_if, expire_to, sweep, sweep_of, sweep_to, sweep_by, hand_move}
+use Rattle.page_model.specs.Hands.{expire, expire_of, expire_if, expire_to, sweep, hand_move}
 use Rattle.page_model.specs.Serve.{force, force_by, read_step, read_errand, source_for, read_if, bring_by, feed_by, serve_by, serve_step, is_full}
 use Rattle.page_model.specs.Conditions.{EachPage, AllApart, CanEnter, Spares}
 use Rattle.page_model.specs.Ownership.{OwnsFrames, IsListed}
@@ -23,6 +23,7 @@ use Rattle.std.proofs.lemmas.Bool.{and_parts}
 use Rattle.page_laws.proofs.Lists.Frames.{some_free}
 use Rattle.page_laws.proofs.Ownership.Runs.{begin_owner, get_enters_still, get_open_still, Landing, landing_state, land_owner, land_transfers}
 use Rattle.page_laws.proofs.Ownership.Serve.{run_in_enters}
+use Rattle.page_laws.proofs.Moves.Taken.{sweep_cases}
 
 pub spares_both : (p q r : Placement) (locked : List Page) → Spares p q locked → Spares q r locked → Spares p r locked
 spares_both p q r locked a b w i v = b w i (a w i v)
@@ -155,30 +156,14 @@ idle_not p (Valid f) e = absurd cc
 idle_not p _ e = refl
 
 pub sweep_spares : (p : Placement) (locked : List Page) → Spares p (sweep p locked) locked
-sweep_spares p locked = go (page_of p p.back)
-  where
-    by : (q : Page) (f : ℕ) (d : Bool) → state_of p q ≡ Invalid f → Spares p (sweep_by p locked q d) locked
-    by q f true e = λ w i h. launch_all_spares (pages_of_run q (run_out p locked q)) (begin p Writes) locked
-        (run_each (λ r. is_valid (state_of p r) ≡ false) (λ x. goes_along p locked (beside q x) && is_near q x) q (run_out p locked q)
-        (run_both_in (λ x. goes_along p locked (beside q x) && is_near q x) (number_of q) most_written) (ap is_valid e)
-        (λ x k. idle_not p (state_of p (beside q x))
-        (and_parts (is_idle p (beside q x)) (is_dirty p (beside q x) && not (is_among (beside q x) locked)) (and_parts (goes_along p locked (beside q x)) (is_near q x) k).0).0))
-        (run_apart q (run_out p locked q)) w i h
-    by q f false e = subst (λ (s : PageState). Spares p (retire_to p q s) locked) (sym e) (λ w i h. put_invalid p q (Invalid f) (mark_of p q) locked (ap is_valid e) w i h)
-
-    to : (q : Page) (s : PageState) (n : ℕ) (b : Bool) → state_of p q ≡ s → Spares p (sweep_to p locked q s n b) locked
-    to q (Invalid f) zero false e = by q f (is_dirty p q) e
-    to q (Invalid f) zero true e = λ w i h. h
-    to q (Invalid f) (suc n) b e = λ w i h. h
-    to q Unfilled n b e = λ w i h. h
-    to q (Valid f) n b e = λ w i h. h
-    to q (Coming f) n b e = λ w i h. h
-    to q (Going f) n b e = λ w i h. h
-    to q OnSwap n b e = λ w i h. h
-
-    go : (h : Option Page) → Spares p (sweep_of p locked p.back h) locked
-    go None = λ w i h. h
-    go (Some q) = to q (state_of p q) (times p.back p.free) (is_among q locked) refl
+sweep_spares p locked = sweep_cases (λ r. Spares p r locked) p locked (λ w i h. h)
+    (λ q t e w i h. launch_all_spares (pages_of_run q (run_out p locked q)) (begin p Writes) locked
+    (run_each (λ r. is_valid (state_of p r) ≡ false) (λ x. goes_along p locked (beside q x) && is_near q x) q (run_out p locked q)
+    (run_both_in (λ x. goes_along p locked (beside q x) && is_near q x) (number_of q) most_written) (ap is_valid t.state)
+    (λ x k. idle_not p (state_of p (beside q x))
+    (and_parts (is_idle p (beside q x)) (is_dirty p (beside q x) && not (is_among (beside q x) locked)) (and_parts (goes_along p locked (beside q x)) (is_near q x) k).0).0))
+    (run_apart q (run_out p locked q)) w i h)
+    (λ q t e. subst (λ (s : PageState). Spares p (retire_to p q s) locked) (sym t.state) (λ w i h. put_invalid p q (Invalid t.frame) (mark_of p q) locked (ap is_valid t.state) w i h))
 
 pub move_spares : (p : Placement) (locked : List Page) → Spares p (hand_move p locked) locked
 move_spares p locked w i h = sweep_spares (expire p locked) locked w i (expire_spares p locked w i h)

@@ -1,5 +1,5 @@
 -- Each transfer has a page.
-use Rattle.std.proofs.Common.{◌≡◌, inl, inr, ℕ, zero, suc, ◌+◌, ◌<◌, Bool, true, false, List, [], ◌∷◌, ◌++◌, length, Option, Some, None, refl, sym, ap, ◌∙◌, subst, arith}
+use Rattle.std.proofs.Common.{◌≡◌, inl, inr, ℕ, zero, suc, ◌+◌, ◌<◌, Bool, true, false, List, [], ◌∷◌, ◌++◌, length, refl, sym, subst, arith}
 use Rattle.std.proofs.lemmas.List.{length-append}
 use Rattle.vm_facts.specs.declared.page.Page.{Page}
 use Rattle.vm_facts.specs.declared.page.Page.TheVariants.{Data, Stack, Text}
@@ -7,22 +7,21 @@ use Rattle.vm_facts.specs.declared.page.PageState.{PageState}
 use Rattle.vm_facts.specs.declared.page.PageState.TheVariants.{Unfilled, Valid, Invalid, Coming, Going, OnSwap}
 use Rattle.vm_facts.specs.declared.entry.Entry.{Entry}
 use Rattle.vm_facts.specs.declared.entry.Entry.TheVariants as entries
-use Rattle.page_model.specs.Pages.{Filling, Zeros, OfImage, frame_of}
-use Rattle.flat_state.specs.PageNames.{is_among, beside, pages_from, number_of}
-use Rattle.vm_facts.specs.Lists.{times}
-use Rattle.page_model.specs.Placement.{Placement, Transfer, Part, Errand, Writes, state_of, filling_of, is_dirty, page_of}
+use Rattle.page_model.specs.Pages.{Filling, Zeros, OfImage}
+use Rattle.flat_state.specs.PageNames.{beside, pages_from, number_of}
+use Rattle.page_model.specs.Placement.{Placement, Transfer, Part, Errand, Writes, state_of, filling_of, is_dirty}
 use Rattle.page_model.specs.Moves.{fill, fill_at, begin, join_last, get_one, get_at, get_all, get_run, launch, launch_to, launch_all, launch_run, done, done_of, reclaim, reclaim_to, retire, retire_to}
 use Rattle.page_model.specs.Runs.{run_in, run_in_by, run_out, spare_frames}
-use Rattle.page_model.specs.Hands.{expire, sweep, sweep_of, sweep_to, sweep_by, hand_move, hand_moves}
+use Rattle.page_model.specs.Hands.{expire, sweep, hand_move, hand_moves}
 use Rattle.page_model.specs.Place.{put_step, put_by, place_entry}
 use Rattle.page_model.specs.Serve.{force, force_by, read_errand, read_if, bring_by, feed_by, serve_by, serve_step, is_full}
 use Rattle.page_model.specs.Conditions.{EachPage, IsSeated, HasSeat, CanPlace, HaveParts, CanBegin}
 use Rattle.page_model.specs.Ownership.{OwnsFrames}
-use Rattle.std.proofs.lemmas.Option.{same_Some}
 use Rattle.page_laws.proofs.Ownership.Pages.{expire_owner}
 use Rattle.page_laws.proofs.Ownership.Hands.{run_out_seats, move_owner}
 use Rattle.page_laws.proofs.Moves.Stays.{expire_transfers}
 use Rattle.page_laws.proofs.Moves.Transfers.{land_all_rest}
+use Rattle.page_laws.proofs.Moves.Taken.{taken_seat, sweep_cases}
 
 -- a part joins the youngest transfer, also one that has none yet
 joined : (ts : List Transfer) (e : Errand) (x : Part) → HaveParts ts → HaveParts (join_last ts e x)
@@ -121,30 +120,9 @@ done_parts p h = go p.transfers h
     go (t ∷ ts) k = subst HaveParts (sym (land_all_rest t.parts p t.errand ts)) k.1
 
 sweep_parts : (p : Placement) (locked : List Page) → OwnsFrames p → HaveParts p.transfers → HaveParts (sweep p locked).transfers
-sweep_parts p locked o a = go (page_of p p.back) refl
-  where
-    by : (q : Page) (d : Bool) → HasSeat p q → HaveParts (sweep_by p locked q d).transfers
-    by q true c = launch_run_parts p q (run_out p locked q).lo (run_out p locked q).n (omega arith) (run_out_seats p locked q c) a
-    by q false c = retire_parts p q a
-
-    seat : (q : Page) (f : ℕ) → page_of p p.back ≡ Some q → state_of p q ≡ Invalid f → times p.back p.free ≡ zero → HasSeat p q
-    seat q f h e z =
-        let same : f ≡ p.back = same_Some f p.back (sym (ap frame_of e) ∙ o.named p.back q h) in
-        record { frame = f; seat = record { state = inr (e, ap (λ (g : ℕ). times g p.free) same ∙ z) } }
-
-    to : (q : Page) (s : PageState) (n : ℕ) (b : Bool) → page_of p p.back ≡ Some q → state_of p q ≡ s → times p.back p.free ≡ n → HaveParts (sweep_to p locked q s n b).transfers
-    to q (Invalid f) zero false h e z = by q (is_dirty p q) (seat q f h e z)
-    to q (Invalid f) zero true h e z = a
-    to q (Invalid f) (suc n) b h e z = a
-    to q Unfilled n b h e z = a
-    to q (Valid f) n b h e z = a
-    to q (Coming f) n b h e z = a
-    to q (Going f) n b h e z = a
-    to q OnSwap n b h e z = a
-
-    go : (h : Option Page) → page_of p p.back ≡ h → HaveParts (sweep_of p locked p.back h).transfers
-    go None h = a
-    go (Some q) h = to q (state_of p q) (times p.back p.free) (is_among q locked) h refl refl
+sweep_parts p locked o a = sweep_cases (λ r. HaveParts r.transfers) p locked a
+    (λ q t e. launch_run_parts p q (run_out p locked q).lo (run_out p locked q).n (omega arith) (run_out_seats p locked q (taken_seat p locked q o t)) a)
+    (λ q t e. retire_parts p q a)
 
 move_parts : (p : Placement) (locked : List Page) → OwnsFrames p → HaveParts p.transfers → HaveParts (hand_move p locked).transfers
 move_parts p locked o h = sweep_parts (expire p locked) locked (expire_owner p locked o) (subst HaveParts (sym (expire_transfers p locked)) h)

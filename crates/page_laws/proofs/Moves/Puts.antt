@@ -2,7 +2,7 @@
 -- due, where the hands are and how many frames there are. So such a relation is shown of a put, and by this walk of each
 -- move.
 use Rattle.std.proofs.Common.{◌++◌, ◌≡◌, ℕ, zero, suc, Bool, true, false, List, [], ◌∷◌, Option, Some, None, length, refl, ◌∙◌}
-use Rattle.vm_facts.specs.Lists.{times, without}
+use Rattle.vm_facts.specs.Lists.{without}
 use Rattle.vm_facts.specs.declared.page.Page.{Page}
 use Rattle.vm_facts.specs.declared.page.Page.TheVariants.{Data, Stack}
 use Rattle.vm_facts.specs.declared.page.PageState.{PageState}
@@ -15,10 +15,11 @@ use Rattle.page_model.specs.Frames.{set_frame}
 use Rattle.page_model.specs.Placement.{Placement, Due, Transfer, Part, Errand, Writes, Reads, state_of, mark_of, is_dirty, page_of, put}
 use Rattle.page_model.specs.Moves.{evict, evict_at, enter, turn, join_last, touch_all, fill, fill_at, begin, get_one, get_at, get_all, get_run, launch, launch_to, launch_all, launch_run, arrived_mark, land, land_read, land_all, done, done_of, reclaim, reclaim_to, retire, retire_to, touch, touch_to, drop_page, drop_at, drop_all, leave_page, leave_by, leave_all, listed}
 use Rattle.page_model.specs.Runs.{run_out, pages_of_run}
-use Rattle.page_model.specs.Hands.{expire, expire_of, expire_if, expire_to, sweep, sweep_of, sweep_to, sweep_by, advance, hand_move, hand_moves}
+use Rattle.page_model.specs.Hands.{expire, expire_of, expire_if, expire_to, sweep, advance, hand_move, hand_moves}
 use Rattle.page_model.specs.Serve.{read_errand}
 use Rattle.page_laws.proofs.Lists.Frames.{length_set_frame}
 use Rattle.page_model.specs.Place.{due_after, filled, put_by, put_step, moved, place_entry}
+use Rattle.page_laws.proofs.Moves.Taken.{sweep_cases}
 
 -- what a move leaves, beside pages and frames
 pub record SameRest (p q : Placement) : Type 0 where
@@ -182,25 +183,7 @@ expire_kept {R} k p locked = go (page_of p p.front)
     go (Some v) = at v (is_among v locked)
 
 pub sweep_kept : {R : Placement → Placement → Type 0} → KeptByPuts R → (p : Placement) (locked : List Page) → R p (sweep p locked)
-sweep_kept {R} k p locked = go (page_of p p.back)
-  where
-    by : (q : Page) (d : Bool) → R p (sweep_by p locked q d)
-    by q true = launch_run_kept k p (pages_of_run q (run_out p locked q))
-    by q false = retire_kept k p q
-
-    to : (q : Page) (s : PageState) (n : ℕ) (b : Bool) → R p (sweep_to p locked q s n b)
-    to q (Invalid f) zero false = by q (is_dirty p q)
-    to q (Invalid f) zero true = self_kept k p
-    to q (Invalid f) (suc n) b = self_kept k p
-    to q Unfilled n b = self_kept k p
-    to q (Valid f) n b = self_kept k p
-    to q (Coming f) n b = self_kept k p
-    to q (Going f) n b = self_kept k p
-    to q OnSwap n b = self_kept k p
-
-    go : (h : Option Page) → R p (sweep_of p locked p.back h)
-    go None = self_kept k p
-    go (Some q) = to q (state_of p q) (times p.back p.free) (is_among q locked)
+sweep_kept {R} k p locked = sweep_cases (R p) p locked (self_kept k p) (λ q t e. launch_run_kept k p (pages_of_run q (run_out p locked q))) (λ q t e. retire_kept k p q)
 
 -- the hands go on by one frame
 pub move_kept : {R : Placement → Placement → Type 0} → KeptByPuts R → ((p : Placement) → R p (advance p)) → (p : Placement) (locked : List Page)

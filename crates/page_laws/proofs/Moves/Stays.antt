@@ -1,21 +1,21 @@
 -- Moves of pages with their frames: each page has the frame that it had, and a page with no frame stays as it is.
-use Rattle.std.proofs.Common.{◌≡◌, inl, inr, ℕ, zero, suc, Bool, true, false, List, [], ◌∷◌, ◌++◌, length, Option, Some, None, refl, sym, ap, ◌∙◌, subst}
+use Rattle.std.proofs.Common.{◌≡◌, inl, inr, ℕ, Bool, true, false, List, [], ◌∷◌, ◌++◌, length, Option, Some, None, refl, sym, ap, ◌∙◌, subst}
 use Rattle.vm_facts.specs.declared.page.Page.{Page}
 use Rattle.vm_facts.specs.declared.page.PageState.{PageState}
 use Rattle.vm_facts.specs.declared.page.PageState.TheVariants.{Unfilled, Valid, Invalid, Coming, Going, OnSwap}
 use Rattle.page_model.specs.Pages.{frame_of, written_mark}
 use Rattle.flat_state.specs.PageNames.{is_among, same_page}
-use Rattle.vm_facts.specs.Lists.{times}
-use Rattle.page_model.specs.Placement.{Placement, Transfer, Part, Errand, Writes, Reads, parts_of, slots_of, slot_of, state_of, mark_of, is_dirty, page_of, put, sharers}
+use Rattle.page_model.specs.Placement.{Placement, Transfer, Part, Errand, Writes, Reads, parts_of, slots_of, slot_of, state_of, mark_of, page_of, put, sharers}
 use Rattle.page_model.specs.Moves.{turn, begin, join_last, launch, launch_to, launch_all, launch_run, land, land_read, land_all, done, done_of, retire, retire_to, arrived_mark}
 use Rattle.page_model.specs.Runs.{run_out, pages_of_run}
-use Rattle.page_model.specs.Hands.{expire, expire_of, expire_if, expire_to, sweep, sweep_of, sweep_to, sweep_by, hand_move}
+use Rattle.page_model.specs.Hands.{expire, expire_of, expire_if, expire_to, sweep, hand_move}
 use Rattle.page_model.specs.Serve.{force, force_by}
 use Rattle.page_model.specs.Ownership.{OwnsFrames}
 use Rattle.page_laws.proofs.Lists.Pages.{page_cases, put_state, put_other, put_length, put_sharers}
 use Rattle.page_laws.proofs.Lists.Local.{none_some}
 use Rattle.page_laws.proofs.Moves.Steps.{page_in, put_other_state}
 use Rattle.page_laws.proofs.Ownership.Runs.{Landing, landing_frame, land_owner, land_transfers}
+use Rattle.page_laws.proofs.Moves.Taken.{sweep_cases}
 
 pub record Steady (p q : Placement) : Type 0 where
   pub sizes : (w : Page) → length (slots_of q w) ≡ length (slots_of p w)
@@ -148,25 +148,7 @@ retire_steady p v = go (state_of p v) refl
     go OnSwap e = steady_self p
 
 sweep_steady : (p : Placement) (locked : List Page) → Steady p (sweep p locked)
-sweep_steady p locked = go (page_of p p.back)
-  where
-    by : (q : Page) (d : Bool) → Steady p (sweep_by p locked q d)
-    by q true = launch_run_steady p (pages_of_run q (run_out p locked q))
-    by q false = retire_steady p q
-
-    to : (q : Page) (s : PageState) (n : ℕ) (b : Bool) → Steady p (sweep_to p locked q s n b)
-    to q (Invalid f) zero false = by q (is_dirty p q)
-    to q (Invalid f) zero true = steady_self p
-    to q (Invalid f) (suc n) b = steady_self p
-    to q Unfilled n b = steady_self p
-    to q (Valid f) n b = steady_self p
-    to q (Coming f) n b = steady_self p
-    to q (Going f) n b = steady_self p
-    to q OnSwap n b = steady_self p
-
-    go : (h : Option Page) → Steady p (sweep_of p locked p.back h)
-    go None = steady_self p
-    go (Some q) = to q (state_of p q) (times p.back p.free) (is_among q locked)
+sweep_steady p locked = sweep_cases (Steady p) p locked (steady_self p) (λ q t e. launch_run_steady p (pages_of_run q (run_out p locked q))) (λ q t e. retire_steady p q)
 
 -- the same, wherever the hands go
 pub record Stays (p q : Placement) : Type 0 where

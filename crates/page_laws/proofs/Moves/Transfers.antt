@@ -1,5 +1,5 @@
 -- How many transfers are in flight.
-use Rattle.std.proofs.Common.{◌≡◌, ℕ, zero, suc, ◌+◌, ◌<◌, ◌≤◌, Bool, true, false, List, [], ◌∷◌, length, Option, Some, None, refl, ap, ◌∙◌, arith}
+use Rattle.std.proofs.Common.{◌≡◌, ℕ, zero, suc, ◌+◌, ◌<◌, ◌≤◌, Bool, true, false, List, [], ◌∷◌, length, refl, ap, ◌∙◌, arith}
 use Rattle.std.proofs.lemmas.List.{length-append}
 use Rattle.std.proofs.lemmas.Bool.{leb-false}
 use Rattle.vm_facts.specs.declared.page.Page.{Page}
@@ -8,17 +8,17 @@ use Rattle.vm_facts.specs.declared.page.PageState.TheVariants.{Unfilled, Valid, 
 use Rattle.vm_facts.specs.declared.entry.Entry.{Entry}
 use Rattle.vm_facts.specs.declared.entry.Entry.TheVariants as entries
 use Rattle.page_model.specs.Pages.{Filling, Zeros, OfImage}
-use Rattle.flat_state.specs.PageNames.{is_among, pages_from, number_of}
-use Rattle.vm_facts.specs.Lists.{times}
-use Rattle.page_model.specs.Placement.{Placement, Transfer, Part, Errand, Writes, state_of, filling_of, is_dirty, page_of}
+use Rattle.flat_state.specs.PageNames.{pages_from, number_of}
+use Rattle.page_model.specs.Placement.{Placement, Transfer, Part, Errand, Writes, state_of, filling_of, is_dirty}
 use Rattle.page_model.specs.Moves.{fill, fill_at, begin, join_last, get_one, get_at, get_all, get_run, launch, launch_to, launch_all, launch_run, land_all, land, done, done_of, reclaim, reclaim_to, retire, retire_to}
 use Rattle.page_model.specs.Runs.{pages_of_run, run_in, run_out}
-use Rattle.page_model.specs.Hands.{expire, sweep, sweep_of, sweep_to, sweep_by, hand_move, hand_moves}
+use Rattle.page_model.specs.Hands.{expire, sweep, hand_move, hand_moves}
 use Rattle.page_model.specs.Place.{put_step, put_by, place_entry}
 use Rattle.page_model.specs.Serve.{force, force_by, read_errand, read_if, bring_by, feed_by, serve_by, serve_step, is_full}
 use Rattle.vm_facts.specs.Swap.{most_in_flight}
 use Rattle.page_model.specs.Conditions.{begins}
 use Rattle.page_laws.proofs.Moves.Stays.{expire_transfers}
+use Rattle.page_laws.proofs.Moves.Taken.{sweep_cases}
 
 -- what a part joins is as long as before
 join_count : (ts : List Transfer) (e : Errand) (x : Part) → 0 < length ts → length (join_last ts e x) ≡ length ts
@@ -102,25 +102,8 @@ done_count p = go p.transfers refl
     go (t ∷ ts) e = let k = ap length (land_all_rest t.parts p t.errand ts) in let l = ap length e in omega arith
 
 pub sweep_count : (p : Placement) (locked : List Page) → length (sweep p locked).transfers ≤ length p.transfers + 1
-sweep_count p locked = go (page_of p p.back)
-  where
-    by : (q : Page) (d : Bool) → length (sweep_by p locked q d).transfers ≤ length p.transfers + 1
-    by q true = let k = launch_run_count p (pages_of_run q (run_out p locked q)) in omega arith
-    by q false = let k = retire_count p q in omega arith
-
-    to : (q : Page) (s : PageState) (n : ℕ) (b : Bool) → length (sweep_to p locked q s n b).transfers ≤ length p.transfers + 1
-    to q (Invalid f) zero false = by q (is_dirty p q)
-    to q (Invalid f) zero true = omega arith
-    to q (Invalid f) (suc n) b = omega arith
-    to q Unfilled n b = omega arith
-    to q (Valid f) n b = omega arith
-    to q (Coming f) n b = omega arith
-    to q (Going f) n b = omega arith
-    to q OnSwap n b = omega arith
-
-    go : (h : Option Page) → length (sweep_of p locked p.back h).transfers ≤ length p.transfers + 1
-    go None = omega arith
-    go (Some q) = to q (state_of p q) (times p.back p.free) (is_among q locked)
+sweep_count p locked = sweep_cases (λ r. length r.transfers ≤ length p.transfers + 1) p locked (omega arith)
+    (λ q t e. let k = launch_run_count p (pages_of_run q (run_out p locked q)) in omega arith) (λ q t e. let k = retire_count p q in omega arith)
 
 move_count : (p : Placement) (locked : List Page) → length (hand_move p locked).transfers ≤ length p.transfers + 1
 move_count p locked = let k = sweep_count (expire p locked) locked in let e = ap length (expire_transfers p locked) in omega arith

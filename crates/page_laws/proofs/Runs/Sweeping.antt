@@ -1,5 +1,5 @@
 -- What a move of the hands frees or writes was invalid, off the free list and not locked.
-use Rattle.std.proofs.Common.{◌≡◌, ◌≢◌, ◌⊎◌, inl, inr, ℕ, zero, suc, ◌<◌, ◌&&◌, Bool, true, false, List, [], ◌∷◌, ◌++◌, Option, Some, None, refl, sym, ap, ◌∙◌, subst, arith}
+use Rattle.std.proofs.Common.{◌≡◌, ◌≢◌, ◌⊎◌, inl, inr, ℕ, ◌<◌, ◌&&◌, Bool, true, false, List, [], ◌∷◌, ◌++◌, Option, Some, None, refl, sym, ap, ◌∙◌, subst, arith}
 use Rattle.std.proofs.lemmas.Bool.{cases_eq}
 use Rattle.vm_facts.specs.declared.page.Page.{Page}
 use Rattle.vm_facts.specs.declared.page.PageState.{PageState}
@@ -10,7 +10,7 @@ use Rattle.vm_facts.specs.Lists.{times}
 use Rattle.page_model.specs.Placement.{Placement, Writes, slot_of, state_of, mark_of, is_dirty, page_of}
 use Rattle.page_model.specs.Moves.{begin, launch, launch_to, launch_all, launch_run, retire, retire_to}
 use Rattle.page_model.specs.Runs.{pages_of_run, run_out, goes_along, is_near, most_written}
-use Rattle.page_model.specs.Hands.{expire, expire_of, expire_if, expire_to, sweep, sweep_of, sweep_to, sweep_by, hand_move}
+use Rattle.page_model.specs.Hands.{expire, expire_of, expire_if, expire_to, sweep, hand_move}
 use Rattle.page_model.specs.Ownership.{OwnsFrames}
 use Rattle.page_model.specs.Conditions.{EachPage}
 use Rattle.page_laws.specs.Neighbours.{IsIdleBeside}
@@ -24,6 +24,7 @@ use Rattle.page_laws.proofs.Moves.Steps.{page_in}
 use Rattle.page_laws.proofs.Moves.Stays.{Steady, expire_free, expire_steady, launch_run_steady}
 use Rattle.page_laws.proofs.Ownership.Pages.{expire_owner}
 use Rattle.page_laws.proofs.Runs.Neighbours.{idle_joins}
+use Rattle.page_laws.proofs.Moves.Taken.{IsTaken, taken_state, sweep_cases}
 
 -- The front hand.
 
@@ -126,32 +127,12 @@ retired p q g f e z l = elim (cases_eq f g) [
 
 swept_freed : (p : Placement) (locked : List Page) (f : ℕ) → OwnsFrames p → times f p.free ≡ 0 → 0 < times f (sweep p locked).free
     → (w : Page) × (page_of p f ≡ Some w) × IsPicked p locked w f false
-swept_freed p locked f o z l = of (page_of p p.back) refl l
-  where
-    still : (0 < times f p.free) → ⊥
-    still m = omega arith
-
-    by : (q : Page) (g : ℕ) (d : Bool) → state_of p q ≡ Invalid g → times p.back p.free ≡ 0 → is_among q locked ≡ false → is_dirty p q ≡ d → page_of p p.back ≡ Some q
-        → 0 < times f (sweep_by p locked q d).free → (w : Page) × (page_of p f ≡ Some w) × IsPicked p locked w f false
-    by q g true e n k d h m = absurd (still (subst (λ (xs : List ℕ). 0 < times f xs) (launch_all_free (pages_of_run q (run_out p locked q)) (begin p Writes)) m))
-    by q g false e n k d h m =
-        let same : g ≡ f = retired p q g f e z m in
-        (q, o.names q f (ap frame_of e ∙ ap (λ (x : ℕ). Some x) same), record { state = e ∙ ap Invalid same; off = z; unlocked = k; mark = d })
-
-    to : (q : Page) (s : PageState) (n : ℕ) (b : Bool) → state_of p q ≡ s → times p.back p.free ≡ n → is_among q locked ≡ b → page_of p p.back ≡ Some q → 0 < times f (sweep_to p locked q s n b).free
-        → (w : Page) × (page_of p f ≡ Some w) × IsPicked p locked w f false
-    to q (Invalid g) zero false e n k h m = by q g (is_dirty p q) e n k refl h m
-    to q (Invalid g) zero true e n k h m = absurd (still m)
-    to q (Invalid g) (suc i) b e n k h m = absurd (still m)
-    to q Unfilled i b e n k h m = absurd (still m)
-    to q (Valid g) i b e n k h m = absurd (still m)
-    to q (Coming g) i b e n k h m = absurd (still m)
-    to q (Going g) i b e n k h m = absurd (still m)
-    to q OnSwap i b e n k h m = absurd (still m)
-
-    of : (h : Option Page) → page_of p p.back ≡ h → 0 < times f (sweep_of p locked p.back h).free → (w : Page) × (page_of p f ≡ Some w) × IsPicked p locked w f false
-    of None e m = absurd (still m)
-    of (Some q) e m = to q (state_of p q) (times p.back p.free) (is_among q locked) refl refl refl e m
+swept_freed p locked f o z l =
+    sweep_cases (λ r. 0 < times f r.free → (w : Page) × (page_of p f ≡ Some w) × IsPicked p locked w f false) p locked (λ m. absurd (omega arith))
+    (λ q t d m. absurd (let k : 0 < times f p.free = subst (λ (xs : List ℕ). 0 < times f xs) (launch_all_free (pages_of_run q (run_out p locked q)) (begin p Writes)) m in omega arith))
+    (λ q t d m.
+    let same : t.frame ≡ f = retired p q t.frame f t.state z m in
+    (q, o.names q f (ap frame_of t.state ∙ ap (λ (x : ℕ). Some x) same), record { state = t.state ∙ ap Invalid same; off = z; unlocked = t.unlocked; mark = d })) l
 
 -- a page is among these, for each of which something is so, or it is none of them
 pub among_or : (P : Page → Type 0) (w : Page) (qs : List Page) → EachPage P qs → P w ⊎ EachPage (λ r. w ≢ r) qs
@@ -212,32 +193,16 @@ retire_going p q w g f e h =
 
 swept_going : (p : Placement) (locked : List Page) (w : Page) (f : ℕ) → OwnsFrames p → state_of (sweep p locked) w ≡ Going f
     → (state_of p w ≡ Going f) ⊎ IsPicked p locked w f true
-swept_going p locked w f o l = of (page_of p p.back) refl l
-  where
-    by : (q : Page) (g : ℕ) (d : Bool) → state_of p q ≡ Invalid g → times g p.free ≡ 0 → is_among q locked ≡ false → is_dirty p q ≡ d → state_of (sweep_by p locked q d) w ≡ Going f
-        → (state_of p w ≡ Going f) ⊎ IsPicked p locked w f true
-    by q g true e n k d m = elim (going_from (TakenSome p locked) p (pages_of_run q (run_out p locked q)) w f (run_taken p locked q (g, record { state = e; off = n; unlocked = k; mark = d })) m) [
+swept_going p locked w f o l =
+    sweep_cases (λ r. state_of r w ≡ Going f → (state_of p w ≡ Going f) ⊎ IsPicked p locked w f true) p locked (λ m. inl m)
+    (λ q t d m. elim (going_from (TakenSome p locked) p (pages_of_run q (run_out p locked q)) w f (run_taken p locked q (picked q t d)) m) [
       | inl h ↦ inl h
       | inr h ↦ inr (taken_at p locked w f h.0 h.1)
-    ]
-    by q g false e n k d m = inl (retire_going p q w g f e m)
-
-    to : (q : Page) (s : PageState) (n : ℕ) (b : Bool) → state_of p q ≡ s → times p.back p.free ≡ n → is_among q locked ≡ b → page_of p p.back ≡ Some q
-        → state_of (sweep_to p locked q s n b) w ≡ Going f → (state_of p w ≡ Going f) ⊎ IsPicked p locked w f true
-    to q (Invalid g) zero false e n k h m =
-        let same : p.back ≡ g = same_Some p.back g (sym (o.named p.back q h) ∙ ap frame_of e) in
-        by q g (is_dirty p q) e (ap (λ (x : ℕ). times x p.free) (sym same) ∙ n) k refl m
-    to q (Invalid g) zero true e n k h m = inl m
-    to q (Invalid g) (suc i) b e n k h m = inl m
-    to q Unfilled i b e n k h m = inl m
-    to q (Valid g) i b e n k h m = inl m
-    to q (Coming g) i b e n k h m = inl m
-    to q (Going g) i b e n k h m = inl m
-    to q OnSwap i b e n k h m = inl m
-
-    of : (h : Option Page) → page_of p p.back ≡ h → state_of (sweep_of p locked p.back h) w ≡ Going f → (state_of p w ≡ Going f) ⊎ IsPicked p locked w f true
-    of None e m = inl m
-    of (Some q) e m = to q (state_of p q) (times p.back p.free) (is_among q locked) refl refl refl e m
+    ])
+    (λ q t d m. inl (retire_going p q w t.frame f t.state m)) l
+  where
+    picked : (q : Page) → IsTaken p locked q → is_dirty p q ≡ true → TakenSome p locked q
+    picked q t d = (p.back, record { state = taken_state p locked q o t; off = t.off; unlocked = t.unlocked; mark = d })
 
 -- Both hands.
 

@@ -1,6 +1,6 @@
 use Rattle.std.proofs.Common.{◌≡◌, ℕ, ◌<◌, length, sym, ap, ◌∙◌, subst, rules}
-use Rattle.page_model.specs.Placement.{Placement, page_of}
-use Rattle.page_model.specs.Hands.{write_of, sweep}
+use Rattle.page_model.specs.Placement.{Placement}
+use Rattle.page_model.specs.Hands.{back_run, sweep}
 use Rattle.page_laws.proofs.Moves.Stays.{swept_steady}
 use Rattle.kernel_tables.specs.View.{placement_of}
 use Rattle.kernel_tables.specs.declared.tables.Tables.{Tables}
@@ -16,7 +16,7 @@ sweep-requires c =
     let r : Ready t u c.args.locked.now = ready t u c.args.locked.now c.requires.known c.expire.ensures.lists c.expire.ensures.rest in
     record {
       known = r.known;
-      run = subst (λ (p : Placement). IsRunOf (write_of p c.args.locked.now p.back (page_of p p.back)) c.args.lo c.args.n) (sym r.place) c.requires.run;
+      run = subst (λ (p : Placement). IsRunOf (back_run p c.args.locked.now) c.args.lo c.args.n) (sym r.place) c.requires.run;
       room = search rules;
       blocks = r.blocks c.requires.blocks;
       empty = search rules;
