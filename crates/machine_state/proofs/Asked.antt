@@ -116,6 +116,7 @@ asked_stands m s b found ws hs a h r =
         named = n.stands.named;
         numbers = n.stands.numbers;
       };
+      holders = record { spaces = n.holders.spaces; once = n.holders.once };
       none_lost = n.none_lost;
       room = n.room;
     }

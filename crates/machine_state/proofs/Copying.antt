@@ -16,21 +16,16 @@ use Rattle.flat_state.specs.PageNames.{same_page}
 use Rattle.page_model.specs.Placement.{Placement, Due, CopyOf, due_page, due_at, state_of, IsThere}
 use Rattle.page_model.specs.Moves.{fill}
 use Rattle.page_model.specs.Place.{filled, due_after}
-use Rattle.page_model.specs.Conditions.{EachPage, CanEnter}
-use Rattle.page_model.specs.Dues.{DueStand, NotDue}
+use Rattle.page_model.specs.Conditions.{EachPage}
+use Rattle.page_model.specs.Dues.{NotDue}
 use Rattle.page_model.specs.PageBytes.{Bytes, SamePage, IsWritable, with_frame, bytes_in}
 use Rattle.kernel_model.specs.Kernel.{Kernel, copied_bytes, frame_bytes, page_bytes, put_first, copy_step}
 use Rattle.kernel_model.specs.Sound.{Sound}
-use Rattle.kernel_model.specs.Numbers.{Numbered}
 use Rattle.kernel_model.specs.Coupled.{beside_kernel}
 use Rattle.flat_state.proofs.PageNames.{same_page_self}
-use Rattle.table_steps.proofs.PageLawsDueEntries.{entry_due}
 use Rattle.table_steps.proofs.Others.{filled_same}
-use Rattle.table_steps.proofs.KernelLawsSoundSteps.{copy_sound}
-use Rattle.table_steps.proofs.NumbersApart.{copy_numbered}
 use Rattle.table_steps.proofs.Moves.{copy_coupled}
 use Rattle.table_steps.specs.Tables.{Tables}
-use Rattle.machine_state.specs.declared.machine.Machine.TheInside.{Inside}
 use Rattle.table_steps.specs.DueFill.{DueFill}
 use Rattle.table_steps.specs.DueFill.TheVariants as fills
 use Rattle.table_steps.specs.View.{Lists, flown_at, bytes_by, due_shown, starts_of, placement_of, frames_of}
@@ -45,8 +40,8 @@ use Rattle.table_steps.proofs.Evicts.{Head}
 use Rattle.table_steps.proofs.Fills.{Took, took_is, fill_is, seat_frames}
 use Rattle.table_steps.proofs.Held.{bytes_at}
 use Rattle.table_steps.proofs.Zeros.{zeroed, took_lists, seated_lists, finished_lists}
-use Rattle.table_steps.proofs.Kernels.{kernel_ext, writable_shared, zeroed_ties}
-use Rattle.table_steps.proofs.Kept.{Ties, tied_still, none_due}
+use Rattle.table_steps.proofs.Kernels.{kernel_ext, zeroed_ties}
+use Rattle.table_steps.proofs.Kept.{Ties, none_due}
 use Rattle.table_steps.proofs.Residing.{Resides, seat_resides}
 
 -- What is due.
@@ -67,7 +62,7 @@ starts_next (fills.Copy child from ∷ ds) q parent others e = refl
 due_copied : (ds : List Due) (q parent : Page) (others : List Due) → ds ≡ CopyOf q parent ∷ others → due_at ds q ≡ Some (CopyOf q parent)
 due_copied ds q parent others e = ap (λ (x : List Due). due_at x q) e ∙ ap (λ (b : Bool). cond b (Some (CopyOf q parent)) (due_at others q)) (same_page_self q)
 
-left_due : (ds : List DueFill) (q parent : Page) (others : List Due) → DueOnce ds → map due_shown ds ≡ CopyOf q parent ∷ others
+pub left_due : (ds : List DueFill) (q parent : Page) (others : List Due) → DueOnce ds → map due_shown ds ≡ CopyOf q parent ∷ others
     → NotDue (due_after (map due_shown ds) q) q
 left_due [] q parent others o e = absurd cc
 left_due (fills.Start r bytes ∷ ds) q parent others o e = absurd cc
@@ -164,25 +159,6 @@ copy_kernel t u v w token copy q parent f others journal stopped z =
     ∙ sym (ap (λ (fs : List ℕ). put_first fs (frames_of (lists_of t)) (copied_bytes (kernel_by t journal stopped) (due_at (map due_shown t.fills.items) q))) z.took.free))
     refl
     refl
-
-pub copy_runs : (m : Inside) (u v w : Tables) (token copy : Frame) (q parent : Page) (f : ℕ) (others : List Due) (journal : List Entry) (stopped : Bool)
-    → Runs (kernel_by m.tables m.journal.items m.stopped) (lists_of m.tables) m.tables.book.size → CanCopy (placement_of (lists_of m.tables)) q parent
-    → Copying m.tables u v w token copy q parent f others
-    → journal ≡ m.journal.items → stopped ≡ m.stopped → Runs (kernel_by w (journal ++ entries.Copy q ∷ []) stopped) (lists_of w) w.book.size
-copy_runs m u v w token copy q parent f others journal stopped r can z ej es =
-    let k : Kernel = kernel_by m.tables m.journal.items m.stopped in
-    let is : kernel_by w (journal ++ entries.Copy q ∷ []) stopped ≡ copy_step k q =
-    copy_kernel m.tables u v w token copy q parent f others journal stopped z ∙ ap (λ (j : List Entry). copy_step (kernel_by m.tables j stopped) q) ej
-    ∙ ap (λ (b : Bool). copy_step (kernel_by m.tables m.journal.items b) q) es in
-    let enter : CanEnter k.place q = record { there = can.there; frameless = ap frame_of can.unfilled } in
-    let size : w.book.size ≡ m.tables.book.size = ap (λ (x : Tables). x.book.size) (copying_rest m.tables u v w token copy q parent f others z) in
-    record {
-      sound = subst (λ (n : ℕ). Sound n (kernel_by w (journal ++ entries.Copy q ∷ []) stopped)) (sym size)
-          (subst (Sound m.tables.book.size) (sym is) (copy_sound m.tables.book.size k q r.sound enter (writable_shared k.place q can.writable)));
-      numbered = subst Numbered (sym is) (copy_numbered k q r.numbered);
-      due = subst (λ (x : Kernel). DueStand x.place) (sym is) (entry_due [] 0 k.place (entries.Copy q) r.sound.owner.frames enter (left_due m.tables.fills.items q parent others z.once z.due) r.due);
-      tied = tied_still (lists_of m.tables) (lists_of w) (copy_ties m.tables u v w token copy q parent f others z (ap frame_of can.unfilled)) r.tied;
-    }
 
 pub copy_keeps : (size : ℕ) (k : Kernel) (q parent : Page) → Sound size k → CanCopy k.place q parent → KeepsFlat k (copy_step k q)
 copy_keeps size k q parent so can images image flat c =

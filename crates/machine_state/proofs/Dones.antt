@@ -13,24 +13,25 @@ use Rattle.transfer_ring.specs.declared.transfer.Finished.TheVariants as answers
 use Rattle.transfer_ring.specs.Ending.{Ends, EndsOldest}
 use Rattle.page_model.specs.Placement.{Placement, Transfer, Writes, moving, flying, image_of}
 use Rattle.page_model.specs.Moves.{done}
-use Rattle.page_model.specs.Dues.{DueStand}
 use Rattle.kernel_model.specs.Kernel.{Kernel, landed, done_step, image_after_of}
 use Rattle.kernel_model.specs.Sound.{Sound, TextFits}
 use Rattle.kernel_model.specs.Coupled.{AreRead, beside_kernel}
-use Rattle.kernel_model.specs.Numbers.{Numbered}
-use Rattle.table_steps.proofs.KernelLawsSoundSteps.{done_sound}
-use Rattle.table_steps.proofs.NumbersApart.{done_numbered}
-use Rattle.table_steps.proofs.PageLawsDueEntries.{entry_due}
 use Rattle.table_steps.proofs.Done.{done_coupled_step}
 use Rattle.table_steps.specs.Tables.{Tables}
 use Rattle.table_steps.specs.View.{Lists, Flown, flown_number, source_shown, in_part, out_part, outbound_flown, transfer_shown, flown_in, flown, placement_of, frames_of}
 use Rattle.table_steps.specs.Known.{Known}
 use Rattle.table_steps.specs.Sourced.{ImageNamed, IsFlightSourced, AreSourced}
 use Rattle.table_steps.specs.Files.{AreFiles, AreImages}
-use Rattle.table_steps.specs.Machine.{Runs, lists_of, kernel_by, image_at}
+use Rattle.table_steps.specs.Machine.{Standing, lists_of, kernel_by, image_at, images_of}
 use Rattle.table_steps.specs.Moves.{LandedAll, ending}
 use Rattle.table_steps.specs.Done.{ReadsTold, IsWholeFlight, ImageAfter, SpoilsBy, SpoilsAfter, StandsTold}
 use Rattle.table_steps.proofs.Kernels.{kernel_ext}
+use Rattle.core_map.specs.Frames.{IsSound}
+use Rattle.machine_state.specs.declared.machine.Machine.TheInside.{Inside}
+use Rattle.machine_state.specs.Fields.{standing_of, RunsInside}
+use Rattle.machine_state.specs.Going.{CanGoOn}
+use Rattle.machine_state.proofs.Knowing.{known_of}
+use Rattle.machine_state.proofs.Standings.{running, stands_now, whole_now}
 use Rattle.machine_state.proofs.Ends.{IsBack, alike, ending_place, ending_known, ending_frames, brought, AreBytes, written_bytes}
 use Rattle.machine_state.proofs.ReadBytes.{pages_read, pages_written, none_written, pages_spoiled, none_spoiled}
 
@@ -91,20 +92,9 @@ done_kernel t w r o n journal stopped d =
     refl
     refl
 
-pub done_runs : (t w : Tables) (r : List Flight) (o n : Flight) (k new : Kernel) → Doing t w r o n → k.place ≡ placement_of (lists_of t)
-    → new ≡ done_step k (brought n) → Runs k (lists_of t) t.book.size → Runs new (lists_of w) w.book.size
-done_runs t w r o n k new d p is run =
-    let size : w.book.size ≡ t.book.size = ap (λ (x : Tables). x.book.size) d.all.rest in
-    record {
-      sound = subst (λ (s : ℕ). Sound s new) (sym size) (subst (Sound t.book.size) (sym is) (done_sound t.book.size k (brought n) run.sound));
-      numbered = subst Numbered (sym is) (done_numbered k (brought n) run.numbered);
-      due = subst (λ (x : Kernel). DueStand x.place) (sym is) (entry_due [] 0 k.place entries.Done run.sound.owner.frames tt tt run.due);
-      tied = d.all.tied;
-    }
-
 -- The bytes.
 
-pub head_sourced : (ns : List ImageNamed) (f : ℕ → ℕ) (hs : Holdings) (size : ℕ) (ts rest : List Flight) (o : Flight) → ts ≡ o ∷ rest
+head_sourced : (ns : List ImageNamed) (f : ℕ → ℕ) (hs : Holdings) (size : ℕ) (ts rest : List Flight) (o : Flight) → ts ≡ o ∷ rest
     → AreSourced ns f hs size ts → IsFlightSourced ns f hs size o
 head_sourced ns f hs size ts rest o e h = (subst (AreSourced ns f hs size) e h).0
 
@@ -119,6 +109,18 @@ pub record Before (t : Tables) (ns : List ImageNamed) (k : Kernel) (o : Flight) 
   pub ring : t.ring ≡ o ∷ rest
   pub known : Known (lists_of t)
   pub sourced : IsFlightSourced ns (image_of k.place) k.holdings size o
+
+pub before : (m : Inside) (s : Standing) (o : Flight) (rest : List Flight) → RunsInside m → standing_of m ≡ s → CanGoOn s
+    → IsSound m.tables.core.free m.tables.core.slots → m.tables.ring ≡ o ∷ rest
+    → Before m.tables (images_of m.tables) (kernel_by m.tables m.journal.items m.stopped) o rest m.tables.book.size
+before m s o rest h e g core ring = record {
+  place = refl;
+  frames = refl;
+  ring = ring;
+  known = known_of m core (running m s h e g);
+  sourced = head_sourced (images_of m.tables) (image_at m.tables) m.tables.book.holdings m.tables.book.size m.tables.ring rest o ring
+      (subst (λ (hs : Holdings). AreSourced (images_of m.tables) (image_at m.tables) hs m.tables.book.size m.tables.ring) (whole_now m s e g.whole) (stands_now m s h e g.running.runs).stands.ring);
+}
 
 oldest_first : (t : Tables) (ns : List ImageNamed) (k : Kernel) (o : Flight) (rest : List Flight) (size : ℕ) → Before t ns k o rest size
     → k.place.transfers ≡ transfer_shown o ∷ map transfer_shown rest

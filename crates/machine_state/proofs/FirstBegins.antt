@@ -1,9 +1,10 @@
 -- A first process begins: the machine is as the step says, and what holds of a machine that runs holds yet.
 use Rattle.std.proofs.Common.{◌≡◌, ℕ, zero, suc, ◌*◌, Bool, true, false, List, [], ◌∷◌, length, map}
 use Rattle.std.proofs.Common.{Option, Some, None, Result, Ok, Err, slice_get, refl, sym, ap, ◌∙◌, subst, arith}
-use Rattle.std.specs.Prelude.{is_ok}
+use Rattle.std.specs.Prelude.{IfOk, is_ok}
 use Rattle.std.proofs.lemmas.List.{length-map}
 use Rattle.std.proofs.lemmas.Option.{same_Some}
+use Rattle.vm_facts.specs.declared.stop.NoMemory.{NoMemory}
 use Rattle.vm_facts.specs.declared.page.Page.TheVariants.{Text}
 use Rattle.vm_facts.specs.declared.params.Params.{Params}
 use Rattle.aout_image.specs.declared.Image.{Image}
@@ -31,9 +32,10 @@ use Rattle.table_steps.specs.Tables.{Tables}
 use Rattle.machine_state.specs.declared.machine.Machine.TheInside.{Inside}
 use Rattle.table_steps.specs.Sourced.{ImageNamed, named_at}
 use Rattle.table_steps.specs.View.{placement_of}
-use Rattle.table_steps.specs.Machine.{Standing, Runs, lists_of, kernel_by, images_of, image_shown, before_of}
+use Rattle.table_steps.specs.Machine.{Standing, Runs, lists_of, kernel_by, image_shown, before_of}
 use Rattle.table_steps.specs.New.{fresh_kernel}
 use Rattle.machine_state.specs.Fields.{standing_of, RunsNow, RunsInside}
+use Rattle.machine_state.specs.Going.{CanGoOn}
 use Rattle.machine_state.specs.Beginning.{MayStart, FindsNoPlace, HoldsNone, MayLookFirst, LookedFirst, found_first, MayEnterFirst}
 use Rattle.table_steps.proofs.Shows.{sids_shown}
 use Rattle.machine_state.proofs.Knowing.{known_of}
@@ -46,12 +48,11 @@ pub record Before (m : Inside) (pid image : ℕ) : Type 0 where
   pub whole : before_of m.tables ≡ m.tables.book.holdings
   pub may : MayStart (standing_of m) pid image
 
-pub before_first : (m : Inside) (s : Standing) (pid image : ℕ) → RunsInside m → standing_of m ≡ s → s.kernel.stopped ≡ false → s.before ≡ s.kernel.holdings
-    → MayStart s pid image → Before m pid image
-before_first m s pid image h e r w may = record {
-  runs = running m s h e r w;
-  now = stands_now m s h e r;
-  whole = whole_now m s e w;
+pub before_first : (m : Inside) (s : Standing) (pid image : ℕ) → RunsInside m → standing_of m ≡ s → CanGoOn s → MayStart s pid image → Before m pid image
+before_first m s pid image h e g may = record {
+  runs = running m s h e g;
+  now = stands_now m s h e g.running.runs;
+  whole = whole_now m s e g.whole;
   may = subst (λ (x : Standing). MayStart x pid image) (sym e) may;
 }
 
@@ -62,9 +63,6 @@ same_number m pid image b = b.now.stands.numbers b.may.empty
 pub new_first : (m : Inside) (pid image : ℕ) → Before m pid image → IsNew (placement_of (lists_of m.tables)) m.tables.next_pid
 new_first m pid image b =
     subst (IsNew (placement_of (lists_of m.tables))) (same_number m pid image b) (new_number (kernel_by m.tables m.journal.items m.stopped) b.runs.numbered)
-
-pub images_length : (t : Tables) → length (images_of t) ≡ length t.images.items
-images_length t = length-map t.images.items image_shown
 
 -- what is shown of each image has its header
 pub shown_facts : (images : List Named) → map (λ (n : ImageNamed). n.facts) (map image_shown images) ≡ map (λ (n : Named). n.facts) images
@@ -96,7 +94,7 @@ may_look m pid image b =
       tied = b.runs.tied;
       number = b.may.next ∙ sym (same_number m pid image b);
       above = b.may.above;
-      within = (let l = b.may.within in let e = images_length t in omega arith);
+      within = (let l = b.may.within in let e = length-map t.images.items image_shown in omega arith);
       none = subst (λ (n : ℕ). HoldsNone p t.book.holdings n image) (sym b.may.next)
           (holds_none t.book.size (lives k.processes) p t.book.holdings t.next_pid image b.runs.sound.owner.blocks (new_first m pid image b) (dead_first k b.runs.numbered.pids_below));
     }
@@ -119,6 +117,12 @@ pub has_facts : (images : List Named) (image : ℕ) (facts : Image) → facts_nu
 has_facts images zero facts e = absurd cc
 has_facts images (suc place) facts e = let f = facts_at images place facts e in record { named = f.0; is = f.1; same = f.2 }
 
+-- what was looked for, by the answer
+pub looked_by : (t u : Tables) (pid image : ℕ) (fits : Bool) (r : Result Bool NoMemory) (now : Bool) → r ≡ Ok now → now ≡ fits
+    → IfOk r (λ b. LookedFirst t u pid image b) → LookedFirst t u pid image fits
+looked_by t u pid image fits (Ok b) now e i h = let same : b ≡ now = cc in subst (LookedFirst t u pid image) (same ∙ i) h
+looked_by t u pid image fits (Err x) now e i h = absurd cc
+
 -- Where the pieces find no place.
 
 pub looked_none : (t u : Tables) (pid image : ℕ) → LookedFirst t u pid image false → u ≡ t
@@ -133,6 +137,11 @@ pub runs_none : (m : Inside) (u : Tables) (pid image : ℕ) (stopped : Bool) →
 runs_none m u pid image stopped b l same =
     subst (λ (x : Tables). RunsNow (record m { tables = x; stopped = stopped })) (sym (looked_none m.tables u pid image l))
     (subst (λ (x : Bool). RunsNow (record m { stopped = x })) (sym same) b.now)
+
+pub still_none : (m : Inside) (s : Standing) (u : Tables) (pid image : ℕ) (stopped : Bool) → standing_of m ≡ s → LookedFirst m.tables u pid image false
+    → stopped ≡ m.stopped → standing_of (record m { tables = u; stopped = stopped }) ≡ s
+still_none m s u pid image stopped e l same =
+    ap (λ (x : Tables). standing_of (record m { tables = x; stopped = stopped })) (looked_none m.tables u pid image l) ∙ ap (λ (x : Bool). standing_of (record m { stopped = x })) same ∙ e
 
 pub no_place : (m : Inside) (s : Standing) (u : Tables) (pid image : ℕ) → standing_of m ≡ s → Before m pid image
     → LookedFirst m.tables u pid image false → FindsNoPlace s image
@@ -172,7 +181,7 @@ may_enter m u pid image b core f =
       below = subst (AllBelow t.next_sid) (sids_shown t.core.slots t.spaces) b.runs.numbered.spaces_below;
       due = b.runs.due;
       above = b.may.above;
-      within = (let l = b.may.within in let e = images_length t in omega arith);
+      within = (let l = b.may.within in let e = length-map t.images.items image_shown in omega arith);
       named = b.now.stands.named;
       records = b.now.stands.records;
       few = (let l = b.may.few in let e = b.may.next in omega arith);

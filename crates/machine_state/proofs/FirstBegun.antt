@@ -1,6 +1,5 @@
 -- Once a first process has begun: the kernel is as the step says, and what holds of a machine that runs holds yet.
-use Rattle.std.proofs.Common.{◌≡◌, ◌≢◌, ℕ, ◌+◌, ◌-◌, ◌≤◌, Bool, false, List, [], ◌∷◌, ◌++◌, length, map, take, Some, Result, Ok, refl, sym, ap, ◌∙◌, subst, arith}
-use Rattle.std.proofs.lemmas.List.{take_all}
+use Rattle.std.proofs.Common.{◌≡◌, ◌≢◌, ℕ, ◌+◌, ◌≤◌, Bool, false, List, [], ◌∷◌, ◌++◌, length, map, Some, Ok, refl, sym, ap, ◌∙◌, subst}
 use Rattle.vm_facts.specs.declared.page.Page.TheVariants.{Stack}
 use Rattle.vm_facts.specs.declared.entry.Entry.{Entry}
 use Rattle.vm_facts.specs.declared.params.Params.{Params}
@@ -24,12 +23,14 @@ use Rattle.machine_state.specs.declared.machine.Machine.TheInside.{Inside}
 use Rattle.table_steps.specs.Tied.{Tied}
 use Rattle.table_steps.specs.Sourced.{ImageNamed, AreNames, named_at, AreSourced}
 use Rattle.table_steps.specs.View.{Lists, placement_of, frames_of, starts_of}
-use Rattle.table_steps.specs.Machine.{Standing, Runs, lists_of, kernel_by, images_of, image_at, image_shown, before_of, processes_of, residents_of}
+use Rattle.table_steps.specs.Machine.{Standing, Runs, WereFound, lists_of, kernel_by, images_of, image_at, image_shown, before_of, processes_of, residents_of}
 use Rattle.machine_state.specs.Fields.{standing_of, HasRoom, RunsNow}
 use Rattle.table_steps.specs.Changing.{EnteredImage, started_place, processes_in, residents_in}
 use Rattle.machine_state.specs.Beginning.{StartedFirst, found_first, BeganFirst}
 use Rattle.table_steps.proofs.Kernels.{kernel_ext}
 use Rattle.machine_state.proofs.FirstBegins.{Before, same_number, new_first, same_named}
+use Rattle.machine_state.proofs.HoldingSteps.{begin_keeps}
+use Rattle.machine_state.proofs.Standings.{holders_by, all_before, found_none}
 use Rattle.machine_state.proofs.AddedRing.{ring_added, beside_ring}
 
 -- who resides says nothing of the tie
@@ -174,13 +175,6 @@ began_ring m pid image facts hs u b =
 abbrev pub begun : Inside → Tables → Bool → Inside
 begun m u stopped = record m { tables = record u { found = 0 }; stopped = stopped }
 
-all_before : (hs : Holdings) → take (length hs - 0) hs ≡ hs
-all_before hs = take_all (length hs - 0) hs (omega arith)
-
-none_placed : (size : ℕ) (hs : Holdings) → place_all size hs [] ≡ Ok hs
-unfolding place_all
-none_placed size hs = refl
-
 pub began_stands : (m : Inside) (pid image : ℕ) (facts : Image) (hs : Holdings) (u : Tables) (b : Began m pid image facts hs u) (s : Bool)
     → s ≡ m.stopped → RunsNow (begun m u s)
 began_stands m pid image facts hs u b s same =
@@ -205,13 +199,15 @@ began_stands m pid image facts hs u b s same =
             (subst (λ (ts : List Flight). AreSourced (images_of t) (image_at u) hs t.book.size ts) (sym l.ring) (began_ring m pid image facts hs u b))));
         within = subst (λ (x : Params). length m.journal.items ≤ x.journal) (sym l.params) n.stands.within;
         book = size ∙ n.stands.book ∙ sym (ap (λ (x : Params). x.swap_blocks) l.params);
-        found = record { pieces = []; found = none_placed w.book.size (before_of w) ∙ ap (λ (xs : Holdings). let r : Result Holdings ℕ = Ok xs in r) whole };
+        found = subst (λ (xs : Holdings). WereFound w.book.size xs w.book.holdings) (sym whole) (found_none w.book.size w.book.holdings);
         records = o.records;
         named = subst AreNames (sym images) n.stands.named;
         numbers = λ e.
             ap (λ (x : Tables). x.next_sid) o.rest ∙ b.began.entered.number ∙ ap (λ (k : ℕ). k + 1) (same_number m pid image b.before)
             ∙ sym (o.number ∙ ap (λ (x : Tables). x.next_pid + 1) b.began.entered.rest);
       };
+      holders = holders_by t w m.journal.items m.journal.items m.stopped m.stopped _ (began_kernel m pid image facts hs u b m.journal.items m.stopped)
+          (begin_keeps (kernel_by t m.journal.items m.stopped) hs image b.began.named.name b.began.named.facts (same_number m pid image b.before) b.before.runs.numbered) n.holders;
       none_lost = n.none_lost;
       room = subst (λ (x : Params). HasRoom m.room m.journal x.journal) (sym l.params) n.room;
     }

@@ -1,9 +1,9 @@
 -- The step of an entry of a process with its change: what it asks, what it leaves, and that the machine stands for it.
-use Rattle.std.proofs.Common.{◌≡◌, ℕ, ◌+◌, ◌-◌, ◌<◌, ◌≤◌, ◌==◌, Bool, true, false, cond, List, [], ◌∷◌, ◌++◌, length, map}
-use Rattle.std.proofs.Common.{take, Option, Some, None, IsSome, Result, Ok, Err, Vec, refl, sym, ap, ap₂, ◌∙◌, subst, arith}
+use Rattle.std.proofs.Common.{◌≡◌, ℕ, ◌+◌, ◌<◌, ◌≤◌, ◌==◌, Bool, true, false, cond, List, [], ◌∷◌, ◌++◌, length, map}
+use Rattle.std.proofs.Common.{Option, Some, None, IsSome, Result, Ok, Err, Vec, refl, sym, ap, ap₂, ◌∙◌, subst, arith}
 use Rattle.std.specs.Prelude.{OnOk}
 use Rattle.std.proofs.lemmas.Bool.{eqb-true}
-use Rattle.std.proofs.lemmas.List.{length-append, take_all}
+use Rattle.std.proofs.lemmas.List.{length-append}
 use Rattle.vm_facts.specs.declared.regs.Regs.{Regs}
 use Rattle.vm_facts.specs.declared.params.Params.{Params}
 use Rattle.vm_facts.specs.declared.entry.Entry.{Entry}
@@ -58,7 +58,10 @@ use Rattle.table_steps.proofs.Records.{regs_are, residents_are}
 use Rattle.table_steps.proofs.Recorded.{regs_records}
 use Rattle.table_steps.proofs.UserFrames.{known_by}
 use Rattle.table_steps.proofs.Kernels.{kernel_ext}
-use Rattle.machine_state.proofs.Standings.{stands_now}
+use Rattle.machine_state.proofs.FirstBegins.{shown_facts}
+use Rattle.machine_state.specs.Holders.{HoldersStand}
+use Rattle.machine_state.proofs.HoldingSteps.{change_keeps}
+use Rattle.machine_state.proofs.Standings.{stands_now, holders_by, all_before, found_none}
 use Rattle.machine_state.proofs.FlightsStay.{Behind, sourced_behind}
 use Rattle.table_steps.proofs.ProcessLists.{OnlyOne, only_one, found_number, regs_after, regs_lender, regs_count, regs_pids, regs_there}
 use Rattle.table_steps.proofs.ProcessLists.{regs_lives}
@@ -137,18 +140,6 @@ apart_of p ps sid b next (Exec image top) m = m
 apart_of p ps sid b next (Reap child) m = tt
 apart_of p ps sid b next Sleep m = tt
 apart_of p ps sid b next (End status) m = tt
-
--- the images' facts
-pub facts_are : (ns : List Named) → map (λ (n : ImageNamed). n.facts) (map image_shown ns) ≡ map (λ (n : Named). n.facts) ns
-facts_are [] = refl
-facts_are (n ∷ ns) = ap (λ (xs : List Image). n.facts ∷ xs) (facts_are ns)
-
-no_pieces : (size : ℕ) (hs : Holdings) → WereFound size hs hs
-unfolding place_all
-no_pieces size hs = record { pieces = []; found = refl }
-
-take_whole : (hs : Holdings) → take (length hs - 0) hs ≡ hs
-take_whole hs = take_all (length hs - 0) hs (omega arith)
 
 -- What the change asks, with the registers that were left.
 
@@ -283,7 +274,7 @@ module _ (t u : Tables) (j : List Entry) (b : Bool) (pid : ℕ) (regs : Regs) (e
     place_is =
         made.place
         ∙ ap (λ (x : Lists). place_change (lists_of t).facts (placement_of x) process.pid (space_of_life process.life) (gave_back process.life) t.next_sid since change) left_lists
-        ∙ ap (λ (fs : List Image). place_change fs (place_in t) process.pid (space_of_life process.life) (gave_back process.life) t.next_sid since change) (sym (facts_are t.images.items))
+        ∙ ap (λ (fs : List Image). place_change fs (place_in t) process.pid (space_of_life process.life) (gave_back process.life) t.next_sid since change) (sym (shown_facts t.images.items))
         ∙ ap (λ (n : ℕ). place_change (facts_named (images_of t)) (place_in t) process.pid (space_of_life process.life) (gave_back process.life) t.next_sid n change) since_is
 
     book_is : w.book ≡ with_holdings t.book (holdings_after t.book.holdings (place_in t) next_place process.pid (space_of_life process.life) (gave_back process.life) change)
@@ -295,7 +286,7 @@ module _ (t u : Tables) (j : List Entry) (b : Bool) (pid : ℕ) (regs : Regs) (e
     step_is : change_by (facts_named (images_of t)) (kernel_by t j b) (record process { regs = regs }) e change ≡ change_step (facts_named (images_of t)) (kernel_by t j b) pid regs e change
     step_is = ap (change_if (facts_named (images_of t)) (kernel_by t j b) regs e change) (sym there)
 
-    pub flat_kernel : (journal : List Entry) (stopped : Bool) → journal ≡ j ++ e ∷ [] → stopped ≡ b
+    flat_kernel : (journal : List Entry) (stopped : Bool) → journal ≡ j ++ e ∷ [] → stopped ≡ b
         → kernel_by after journal stopped ≡ change_step (facts_named (images_of t)) (kernel_by t j b) pid regs e change
     flat_kernel journal stopped ej es =
         kernel_ext (kernel_by after journal stopped) (change_by (facts_named (images_of t)) (kernel_by t j b) (record process { regs = regs }) e change)
@@ -310,11 +301,8 @@ module _ (t u : Tables) (j : List Entry) (b : Bool) (pid : ℕ) (regs : Regs) (e
         es
         ∙ step_is
 
-    pub flat_images : images_of w ≡ images_of t
+    flat_images : images_of w ≡ images_of t
     flat_images = ap (λ (x : Vec Named _). map image_shown x.items) made.images
-
-    pub flat_params : w.params ≡ t.params
-    flat_params = made.params
 
     -- all that stands after it
     size_is : w.book.size ≡ t.book.size
@@ -344,7 +332,7 @@ module _ (t u : Tables) (j : List Entry) (b : Bool) (pid : ℕ) (regs : Regs) (e
           (subst (Sound t.book.size) (sym (flat_kernel journal stopped ej es)) step_sound)
 
       before_now : before_of after ≡ w.book.holdings
-      before_now = take_whole w.book.holdings
+      before_now = all_before w.book.holdings
 
       kernel_now : (let x : Kernel = record (kernel_by after journal stopped) { holdings = before_of after } in x) ≡ kernel_by after journal stopped
       kernel_now = ap (λ (hs : Holdings). let x : Kernel = record (kernel_by after journal stopped) { holdings = hs } in x) before_now
@@ -380,7 +368,7 @@ module _ (t u : Tables) (j : List Entry) (b : Bool) (pid : ℕ) (regs : Regs) (e
           (subst (λ (ns : List ImageNamed). AreSourced ns (image_at w) w.book.holdings t.book.size t.ring) (sym flat_images)
           (subst (λ (q : Placement). AreSourced (images_of t) (image_of q) w.book.holdings t.book.size t.ring) (sym place_is) s)))
 
-      pub flat_stands : length journal ≤ t.params.journal → Stands after journal stopped
+      flat_stands : length journal ≤ t.params.journal → Stands after journal stopped
       flat_stands within = record {
         runs = record {
           sound = subst (Sound w.book.size) (sym kernel_now) now_sound;
@@ -391,12 +379,31 @@ module _ (t u : Tables) (j : List Entry) (b : Bool) (pid : ℕ) (regs : Regs) (e
         ring = subst (λ (hs : Holdings). AreSourced (images_of w) (image_at w) hs w.book.size w.ring) (sym before_now) now_ring;
         within = subst (λ (p : Params). length journal ≤ p.journal) (sym made.params) within;
         book = size_is ∙ r.stands.book ∙ sym (ap (λ (p : Params). p.swap_blocks) made.params);
-        found = subst (λ (hs : Holdings). WereFound w.book.size hs w.book.holdings) (sym before_now) (no_pieces w.book.size w.book.holdings);
+        found = subst (λ (hs : Holdings). WereFound w.book.size hs w.book.holdings) (sym before_now) (found_none w.book.size w.book.holdings);
         records = made.records;
         named = subst AreNames (sym flat_images) r.stands.named;
         numbers = λ h. absurd (let x : length journal ≡ 0 = ap (λ (es : List Entry). length es) h in
             let y : length journal ≡ length j + 1 = ap (λ (es : List Entry). length es) ej ∙ length-append j (e ∷ []) in omega arith);
       }
 
-      pub flat_before : before_of after ≡ w.book.holdings
-      flat_before = before_now
+-- what it leaves of the machine, with the kernel of the step
+pub record Made (t w : Tables) (journal : List Entry) (stopped : Bool) (k : Kernel) : Type 0 where
+  pub stands : Stands w journal stopped
+  pub holders : HoldersStand (kernel_by t [] false) → HoldersStand (kernel_by w [] false)
+  pub is : kernel_by w journal stopped ≡ k
+  pub whole : before_of w ≡ w.book.holdings
+
+pub made_by : (t u w : Tables) (j journal : List Entry) (b stopped : Bool) (pid : ℕ) (regs : Regs) (e : Entry) (change : Change) (since : ℕ)
+    (r : Ready t j b pid e change)
+    (left : LeftRegs t u pid regs) (applies : AppliesAs u w pid since change) → since ≡ length j + 1 → journal ≡ j ++ e ∷ [] → stopped ≡ b
+    → length journal ≤ t.params.journal
+    → Made t (record w { found = 0 }) journal stopped (change_step (facts_named (images_of t)) (kernel_by t j b) pid regs e change)
+made_by t u w j journal b stopped pid regs e change since r left applies counts ej es within =
+    let is = flat_kernel t u j b pid regs e change r left w since applies counts journal stopped ej es in
+    record {
+      stands = flat_stands t u j b pid regs e change r left w since applies counts journal stopped ej es within;
+      holders = holders_by t (record w { found = 0 }) j journal b stopped _ is
+          (change_keeps (images_of t) (kernel_by t j b) pid regs e change (is_numbered t u j b pid regs e change r left) r.can.acts r.can.whole);
+      is = is;
+      whole = all_before w.book.holdings;
+    }

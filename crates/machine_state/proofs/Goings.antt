@@ -1,5 +1,5 @@
 -- A process goes out or comes in: what becomes of the machine.
-use Rattle.std.proofs.Common.{◌≡◌, ◌≢◌, ℕ, ◌+◌, ◌*◌, ◌≤◌, Bool, true, false, List, [], ◌∷◌, ◌++◌, length, map, Option, Some, None, IsSome, refl, sym, ap, ◌∙◌, subst, arith}
+use Rattle.std.proofs.Common.{◌≡◌, ◌≢◌, ℕ, ◌+◌, ◌*◌, ◌<◌, ◌≤◌, Bool, true, false, List, [], ◌∷◌, ◌++◌, length, map, Option, Some, None, IsSome, refl, sym, ap, ◌∙◌, subst}
 use Rattle.std.specs.Prelude.{option_map}
 use Rattle.std.proofs.lemmas.List.{length-append, length-map}
 use Rattle.std.proofs.lemmas.Option.{same_Some}
@@ -17,7 +17,7 @@ use Rattle.proc_table.specs.declared.process.Life.{Life as RecordLife}
 use Rattle.proc_table.specs.declared.process.Life.TheVariants as lives
 use Rattle.proc_table.specs.Records.{find}
 use Rattle.swap_book.specs.declared.Owner.TheVariants as owners
-use Rattle.swap_book.specs.Holdings.{Holdings, block_in}
+use Rattle.swap_book.specs.Holdings.{block_in}
 use Rattle.swap_book.specs.Book.{IsPlace, ArePlacesApart}
 use Rattle.swap_book.proofs.PlaceLaws.{places_apart_of}
 use Rattle.page_model.specs.Pages.{numbered}
@@ -26,16 +26,13 @@ use Rattle.page_model.specs.Place.{moved}
 use Rattle.page_model.specs.Swapper.{is_out}
 use Rattle.page_model.specs.Dues.{DueStand}
 use Rattle.page_model.specs.Stored.{stored_at, store_at}
-use Rattle.table_steps.proofs.PageLawsDueEntries.{entry_due}
 use Rattle.kernel_model.specs.Kernel.{Kernel, Proc, HoldsSpace, with_regs, out_step, in_step}
-use Rattle.kernel_model.specs.ChangeStep.{life_of_proc, space_of_life}
+use Rattle.kernel_model.specs.ChangeStep.{space_of_life}
 use Rattle.kernel_model.specs.Sound.{Sound, has_life, lives_in, lives as lives_at}
 use Rattle.kernel_model.specs.Numbers.{Numbered}
 use Rattle.kernel_model.specs.Coupled.{Coupled}
 use Rattle.kernel_model.specs.UPage.{u_page, regs_in}
 use Rattle.kernel_model.specs.Unit.{u_bytes, proc_of}
-use Rattle.table_steps.proofs.KernelLawsSoundSteps.{out_sound, in_sound}
-use Rattle.table_steps.proofs.NumbersApart.{out_numbered, in_numbered}
 use Rattle.table_steps.proofs.Swaps.{u_found, out_coupled, in_coupled_any}
 use Rattle.table_steps.specs.Tables.{Tables}
 use Rattle.machine_state.specs.declared.machine.Machine.TheInside.{Inside}
@@ -49,113 +46,76 @@ use Rattle.table_steps.specs.Done.{StandsTold}
 use Rattle.table_steps.specs.Swapping.{u_block, Lasts, MovedRecord, IsUPage, AreStored, WritesU, KeepsOut, KeepsIn}
 use Rattle.table_steps.proofs.Kernels.{kernel_ext}
 use Rattle.table_steps.proofs.Lives.{HasRecord, record_of}
-use Rattle.table_steps.proofs.Stills.{Grown, pushed}
+use Rattle.table_steps.proofs.Stills.{pushed}
 use Rattle.table_steps.proofs.UserFrames.{numbered_shown}
 use Rattle.table_steps.proofs.MovedRecords.{moved_processes, moved_residents, moved_records, IsOutThere, out_there}
 use Rattle.table_steps.proofs.Moved.{tied_moved}
+use Rattle.table_steps.specs.Tied.{Tied}
+use Rattle.machine_state.specs.Fields.{RunsNow}
+use Rattle.machine_state.specs.Holders.{HoldersStand}
+use Rattle.machine_state.proofs.Holding.{life_has}
+use Rattle.machine_state.proofs.Stepping.{Steps}
 
 -- The step.
-
--- one process has another record, and the journal one more entry
-pub record Gone (m : Inside) (ps : List Record) (journal : List Entry) (stopped : Bool) (pid : ℕ) (regs : Regs) (out : Bool) (since : ℕ)
-    (e : Entry) : Type 0 where
-  pub moved : MovedRecord m.tables.processes ps pid regs out since
-  pub lasts : Lasts moved.was.state
-  pub since_is : since ≡ length m.journal.items + 1
-  pub journal_is : journal ≡ m.journal.items ++ e ∷ []
-  pub stopped_is : stopped ≡ m.stopped
 
 abbrev pub with_records : Tables → List Record → Tables
 with_records t ps = record t { processes = ps }
 
-place_is : (m : Inside) (ps : List Record) (journal : List Entry) (stopped : Bool) (pid : ℕ) (regs : Regs) (out : Bool) (since : ℕ) (e : Entry)
-    → Gone m ps journal stopped pid regs out since e
-    → placement_of (lists_of (with_records m.tables ps)) ≡ moved (placement_of (lists_of m.tables)) pid out (length (m.journal.items ++ e ∷ []))
-place_is m ps journal stopped pid regs out since e g =
-    let p : Placement = placement_of (lists_of m.tables) in
-    let n : since ≡ length (m.journal.items ++ e ∷ []) = g.since_is ∙ sym (length-append m.journal.items (e ∷ [])) in
-    ap (λ (rs : List Residence). record p { residents = rs }) (moved_residents m.tables.processes ps m.tables.next_pid pid regs out since g.moved g.lasts)
-    ∙ ap (moved p pid out) n
+-- one process has another record, and the journal one more entry
+pub record Gone (m : Inside) (ps : List Record) (journal : List Entry) (pid : ℕ) (regs : Regs) (out : Bool) (since : ℕ) (e : Entry) : Type 0 where
+  pub moved : MovedRecord m.tables.processes ps pid regs out since
+  pub lasts : Lasts moved.was.state
+  pub since_is : since ≡ length m.journal.items + 1
+  pub journal_is : journal ≡ m.journal.items ++ e ∷ []
 
-pub out_is : (m : Inside) (ps : List Record) (journal : List Entry) (stopped : Bool) (pid : ℕ) (regs : Regs) (since : ℕ)
-    → Gone m ps journal stopped pid regs true since (entries.SwapOut pid) → regs ≡ cleared
-    → kernel_by (with_records m.tables ps) journal stopped ≡ out_step (kernel_by m.tables m.journal.items m.stopped) pid
-out_is m ps journal stopped pid regs since g c =
-    let k : Kernel = kernel_by m.tables m.journal.items m.stopped in
-    kernel_ext (kernel_by (with_records m.tables ps) journal stopped) (out_step k pid)
-    (place_is m ps journal stopped pid regs true since (entries.SwapOut pid) g)
-    refl
-    (moved_processes m.tables.processes ps m.tables.next_pid pid regs true since g.moved ∙ ap (λ (r : Regs). map (with_regs pid r) k.processes) c)
-    refl refl refl refl g.journal_is g.stopped_is
+module _ (m : Inside) (ps : List Record) (journal : List Entry) (pid : ℕ) (regs : Regs) (since : ℕ) where
+  abbrev was : Kernel
+  was = kernel_by m.tables m.journal.items m.stopped
 
-pub in_is : (m : Inside) (ps : List Record) (journal : List Entry) (stopped : Bool) (pid : ℕ) (regs : Regs) (since : ℕ)
-    → Gone m ps journal stopped pid regs false since (entries.SwapIn pid)
-    → kernel_by (with_records m.tables ps) journal stopped ≡ in_step (kernel_by m.tables m.journal.items m.stopped) pid regs
-in_is m ps journal stopped pid regs since g =
-    let k : Kernel = kernel_by m.tables m.journal.items m.stopped in
-    kernel_ext (kernel_by (with_records m.tables ps) journal stopped) (in_step k pid regs)
-    (place_is m ps journal stopped pid regs false since (entries.SwapIn pid) g)
-    refl
-    (moved_processes m.tables.processes ps m.tables.next_pid pid regs false since g.moved)
-    refl refl refl refl g.journal_is g.stopped_is
+  place_is : (out : Bool) (e : Entry) → Gone m ps journal pid regs out since e
+      → placement_of (lists_of (with_records m.tables ps)) ≡ moved (placement_of (lists_of m.tables)) pid out (length (m.journal.items ++ e ∷ []))
+  place_is out e g =
+      let p : Placement = placement_of (lists_of m.tables) in
+      ap (λ (rs : List Residence). record p { residents = rs }) (moved_residents m.tables.processes ps m.tables.next_pid pid regs out since g.moved g.lasts)
+      ∙ ap (moved p pid out) (g.since_is ∙ sym (length-append m.journal.items (e ∷ [])))
 
--- what no change of records changes
-stands_by : (m : Inside) (ps : List Record) (j : List Entry) (b : Bool) → Stands m.tables m.journal.items m.stopped
-    → before_of m.tables ≡ m.tables.book.holdings → AreRecords ps m.tables.next_pid
-    → Runs (kernel_by (with_records m.tables ps) j b) (lists_of (with_records m.tables ps)) m.tables.book.size → Grown m.journal.items j m.tables.params.journal
-    → Stands (with_records m.tables ps) j b
-stands_by m ps j b s whole records r grown =
-    let w : Tables = with_records m.tables ps in
-    record {
-      runs = subst (λ (hs : Holdings). Runs (record (kernel_by w j b) { holdings = hs }) (lists_of w) w.book.size) (sym whole) r;
-      ring = s.ring;
-      within = grown.within;
-      book = s.book;
-      found = s.found;
-      records = records;
-      named = s.named;
-      numbers = λ e. s.numbers (grown.some e);
-    }
+  pub out_is : Gone m ps journal pid regs true since (entries.SwapOut pid) → regs ≡ cleared
+      → kernel_by (with_records m.tables ps) journal m.stopped ≡ out_step (kernel_by m.tables m.journal.items m.stopped) pid
+  out_is g c = kernel_ext (kernel_by (with_records m.tables ps) journal m.stopped) (out_step was pid) (place_is true (entries.SwapOut pid) g) refl
+      (moved_processes m.tables.processes ps m.tables.next_pid pid regs true since g.moved ∙ ap (λ (r : Regs). map (with_regs pid r) was.processes) c)
+      refl refl refl refl g.journal_is refl
 
-within_by : (m : Inside) (journal : List Entry) (e : Entry) → journal ≡ m.journal.items ++ e ∷ []
-    → length m.journal.items + 1 ≤ m.tables.params.journal → Grown m.journal.items journal m.tables.params.journal
-within_by m journal e j l = pushed m.journal.items m.journal.items journal e m.tables.params.journal refl j (omega (arith, l))
+  pub in_is : Gone m ps journal pid regs false since (entries.SwapIn pid)
+      → kernel_by (with_records m.tables ps) journal m.stopped ≡ in_step (kernel_by m.tables m.journal.items m.stopped) pid regs
+  in_is g = kernel_ext (kernel_by (with_records m.tables ps) journal m.stopped) (in_step was pid regs) (place_is false (entries.SwapIn pid) g) refl
+      (moved_processes m.tables.processes ps m.tables.next_pid pid regs false since g.moved) refl refl refl refl g.journal_is refl
 
-pub out_stands : (m : Inside) (ps : List Record) (journal : List Entry) (stopped : Bool) (pid : ℕ) (regs : Regs) (since : ℕ)
-    → Gone m ps journal stopped pid regs true since (entries.SwapOut pid) → regs ≡ cleared
-    → Stands m.tables m.journal.items m.stopped → before_of m.tables ≡ m.tables.book.holdings
-    → Runs (kernel_by m.tables m.journal.items m.stopped) (lists_of m.tables) m.tables.book.size
-    → length m.journal.items + 1 ≤ m.tables.params.journal → Stands (with_records m.tables ps) journal stopped
-out_stands m ps journal stopped pid regs since g c s whole r l =
-    let k : Kernel = kernel_by m.tables m.journal.items m.stopped in
-    let w : Tables = with_records m.tables ps in
-    let is : kernel_by w journal stopped ≡ out_step k pid = out_is m ps journal stopped pid regs since g c in
-    stands_by m ps journal stopped s whole (moved_records m.tables.processes ps m.tables.next_pid pid regs true since g.moved s.records)
-    (record {
-      sound = subst (Sound m.tables.book.size) (sym is) (out_sound m.tables.book.size k pid r.sound);
-      numbered = subst Numbered (sym is) (out_numbered k pid r.numbered);
-      due = subst (λ (x : Kernel). DueStand x.place) (sym is) (entry_due [] (length (m.journal.items ++ entries.SwapOut pid ∷ [])) k.place (entries.SwapOut pid) r.sound.owner.frames tt tt r.due);
-      tied = tied_moved (lists_of m.tables) _ r.tied;
-    })
-    (within_by m journal (entries.SwapOut pid) g.journal_is l)
-
-pub in_stands : (m : Inside) (ps : List Record) (journal : List Entry) (stopped : Bool) (pid : ℕ) (regs : Regs) (since : ℕ)
-    → Gone m ps journal stopped pid regs false since (entries.SwapIn pid)
-    → Stands m.tables m.journal.items m.stopped → before_of m.tables ≡ m.tables.book.holdings
-    → Runs (kernel_by m.tables m.journal.items m.stopped) (lists_of m.tables) m.tables.book.size
-    → length m.journal.items + 1 ≤ m.tables.params.journal → Stands (with_records m.tables ps) journal stopped
-in_stands m ps journal stopped pid regs since g s whole r l =
-    let k : Kernel = kernel_by m.tables m.journal.items m.stopped in
-    let w : Tables = with_records m.tables ps in
-    let is : kernel_by w journal stopped ≡ in_step k pid regs = in_is m ps journal stopped pid regs since g in
-    stands_by m ps journal stopped s whole (moved_records m.tables.processes ps m.tables.next_pid pid regs false since g.moved s.records)
-    (record {
-      sound = subst (Sound m.tables.book.size) (sym is) (in_sound m.tables.book.size k pid regs r.sound);
-      numbered = subst Numbered (sym is) (in_numbered k pid regs r.numbered);
-      due = subst (λ (x : Kernel). DueStand x.place) (sym is) (entry_due [] (length (m.journal.items ++ entries.SwapIn pid ∷ [])) k.place (entries.SwapIn pid) r.sound.owner.frames tt tt r.due);
-      tied = tied_moved (lists_of m.tables) _ r.tied;
-    })
-    (within_by m journal (entries.SwapIn pid) g.journal_is l)
+-- with the kernel of the step
+pub gone_steps : (m n : Inside) (ps : List Record) (pid : ℕ) (regs : Regs) (out : Bool) (since : ℕ) (e : Entry) (k : Kernel)
+    → Gone m ps n.journal.items pid regs out since e → RunsNow m → Tied (lists_of m.tables) → kernel_by (with_records m.tables ps) n.journal.items m.stopped ≡ k
+    → Sound m.tables.book.size k → Numbered k → DueStand k.place → (HoldersStand (kernel_by m.tables m.journal.items m.stopped) → HoldersStand k)
+    → length m.journal.items < m.tables.params.journal → n.room ≡ None
+    → Steps m (record m { tables = with_records m.tables ps; journal = n.journal; room = n.room }) k
+gone_steps m n ps pid regs out since e k g now tied is sound numbered due holders room none = record {
+  kept = record {
+    params = refl;
+    images = refl;
+    book = refl;
+    found = refl;
+    next_pid = refl;
+    next_sid = refl;
+    records = moved_records m.tables.processes ps m.tables.next_pid pid regs out since g.moved now.stands.records;
+  };
+  is = is;
+  runs = record { sound = sound; numbered = numbered; due = due; tied = tied_moved (lists_of m.tables) _ tied };
+  ring = now.stands.ring;
+  images = λ sid. refl;
+  holders = holders;
+  grown = pushed m.journal.items m.journal.items n.journal.items e m.tables.params.journal refl g.journal_is room;
+  stopped = refl;
+  lost = refl;
+  room = none;
+}
 
 -- Who goes out.
 
@@ -169,10 +129,6 @@ pub record Leaving (t : Tables) (k : Kernel) (pid : ℕ) : Type 0 where
   pub shows : proc_shown found ≡ process
   pub state : found.state ≡ lives.Holds sid
   pub space : IsSome (numbered (λ (s : Places). s.sid) sid t.spaces)
-
-life_has : (o : Option Proc) (sid : ℕ) → life_of_proc o ≡ HoldsSpace sid → (q : Proc) × (o ≡ Some q) × (q.life ≡ HoldsSpace sid)
-life_has None sid e = absurd cc
-life_has (Some q) sid e = (q, refl, e)
 
 state_is : (l : RecordLife) (sid : ℕ) → life_shown l ≡ HoldsSpace sid → l ≡ lives.Holds sid
 state_is lives.New sid e = absurd cc

@@ -1,12 +1,15 @@
 -- What is known of the tables of a machine that runs.
-use Rattle.std.proofs.Common.{subst}
+use Rattle.std.proofs.Common.{◌≡◌, subst}
 use Rattle.core_map.specs.Frames.{IsSound}
 use Rattle.flat_state.specs.Numbers.{AllDistinct}
-use Rattle.table_steps.specs.Machine.{Runs, lists_of, kernel_by}
+use Rattle.table_steps.specs.Machine.{Standing, Runs, lists_of, kernel_by}
 use Rattle.machine_state.specs.declared.machine.Machine.TheInside.{Inside}
 use Rattle.table_steps.proofs.Shows.{sids_shown}
 use Rattle.table_steps.proofs.Held.{flown_numbers}
 use Rattle.table_steps.specs.Known.{Known}
+use Rattle.machine_state.specs.Fields.{standing_of, RunsInside}
+use Rattle.machine_state.specs.Going.{CanGoOn}
+use Rattle.machine_state.proofs.Standings.{running}
 
 pub known_of : (m : Inside) → IsSound m.tables.core.free m.tables.core.slots
     → Runs (kernel_by m.tables m.journal.items m.stopped) (lists_of m.tables) m.tables.book.size → Known (lists_of m.tables)
@@ -18,3 +21,7 @@ known_of m c r = record {
   differ = subst AllDistinct (sids_shown m.tables.core.slots m.tables.spaces) r.numbered.spaces_differ;
   numbers = flown_numbers m.tables.ring;
 }
+
+pub known_now : (m : Inside) (s : Standing) → RunsInside m → standing_of m ≡ s → CanGoOn s → IsSound m.tables.core.free m.tables.core.slots
+    → Known (lists_of m.tables)
+known_now m s h e g c = known_of m c (running m s h e g)

@@ -26,6 +26,7 @@ pub use Rattle.table_steps.proofs.Further
 pub use Rattle.table_steps.proofs.Joins
 pub mod TextLengths
 pub mod Standings
+pub mod Stepping
 pub mod ZeroKeeps
 pub mod FlightsStay
 pub mod News
@@ -60,8 +61,10 @@ pub mod Sharers
 pub mod Asked
 pub mod Showings
 pub mod Knowing
-pub mod ZeroRuns
-pub mod ReclaimRuns
-pub mod GetRuns
+pub mod StepRuns
+pub mod ReclaimTies
 pub mod WriteStanding
 pub mod Transfers
+pub mod Holding
+pub mod HoldingSteps
+pub mod WritesGoOn

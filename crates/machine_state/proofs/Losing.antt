@@ -10,9 +10,9 @@ use Rattle.core_map.specs.declared.slot.Slot.{Slot as Token}
 use Rattle.core_map.specs.declared.slot.Slot.TheVariants as tokens
 use Rattle.core_map.specs.Slots.{slot_at}
 use Rattle.transfer_ring.specs.declared.transfer.Transfer.{Transfer as Flight}
-use Rattle.page_model.specs.Placement.{Placement, IsFrame, page_of}
+use Rattle.page_model.specs.Placement.{IsFrame, page_of}
 use Rattle.table_steps.specs.Tables.{Tables}
-use Rattle.table_steps.specs.View.{Lists, Flown, flown_number, flown_at, flown_in, flown, transfer_shown, page_by, page_held, placement_of}
+use Rattle.table_steps.specs.View.{Lists, Flown, flown_number, flown_at, flown_in, flown, transfer_shown, page_by, placement_of}
 use Rattle.table_steps.specs.Known.{Known}
 use Rattle.table_steps.specs.Machine.{Standing, lists_of, kernel_by, images_of, before_of}
 use Rattle.table_steps.specs.Moves.{ending}

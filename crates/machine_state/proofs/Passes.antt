@@ -15,7 +15,7 @@ use Rattle.table_steps.specs.Applying.{MayPass}
 use Rattle.table_steps.specs.Sourced.{AreNames, AreSourced}
 use Rattle.table_steps.specs.Tied.{Tied}
 use Rattle.table_steps.specs.View.{Lists, placement_of}
-use Rattle.table_steps.specs.Machine.{Standing, Stands, WereFound, lists_of, kernel_by, images_of, before_of}
+use Rattle.table_steps.specs.Machine.{Stands, WereFound, lists_of, kernel_by, images_of, before_of}
 use Rattle.table_steps.specs.Changing.{HasProcesses, processes_in, residents_in, life_at, passed_procs}
 
 -- who gives and who takes lives
@@ -65,10 +65,3 @@ module _ (t u : Tables) (from to : ℕ) (has : HasProcesses t u t.next_pid (pass
         named = subst (λ (x : Tables). AreNames (images_of x)) (sym has.rest) s.named;
         numbers = λ e. ap (λ (x : Tables). x.next_sid) has.rest ∙ s.numbers e ∙ sym has.number;
       }
-
-  pub pass_standing : (j : List Entry) (b : Bool) (room : Option ℕ)
-      → (let z : Standing = record { kernel = kernel_by u j b; params = u.params; images = images_of u; before = before_of u; room = room } in z)
-      ≡ record { kernel = pass_step (kernel_by t j b) from to; params = t.params; images = images_of t; before = before_of t; room = room }
-  pass_standing j b room =
-      ap (λ (k : Kernel). let z : Standing = record { kernel = k; params = u.params; images = images_of u; before = before_of u; room = room } in z) (pass_kernel j b)
-      ∙ ap (λ (x : Tables). let z : Standing = record { kernel = pass_step (kernel_by t j b) from to; params = x.params; images = images_of x; before = before_of x; room = room } in z) has.rest

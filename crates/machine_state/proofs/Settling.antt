@@ -8,7 +8,7 @@ use Rattle.page_model.specs.Moves.{done_of, done}
 use Rattle.page_model.specs.Swapper.{is_settled}
 use Rattle.vm_facts.specs.declared.stop.Stop.{Stop}
 use Rattle.vm_facts.specs.declared.stop.Stop.TheVariants as stops
-use Rattle.kernel_model.specs.Kernel.{Kernel, done_step}
+use Rattle.kernel_model.specs.Kernel.{Kernel}
 use Rattle.kernel_model.specs.Sound.{TextFits}
 use Rattle.table_steps.proofs.Shapes.{done_shaped, sizes_kept}
 use Rattle.table_steps.proofs.Transfers.{land_all_rest}
@@ -32,34 +32,18 @@ pub same_sources : (old next : Standing) (holds later : Option (List NamedFile))
 same_sources old next holds later e b =
     ap (λ (x : Option (List NamedFile)). sources next x) e ∙ ap (λ (ns : List ImageNamed). let f : Sources = record { images = ns; files = holds } in f) b.images
 
-pub record GoesOn (old new : Standing) : Type 0 where
-  pub stopped : new.kernel.stopped ≡ old.kernel.stopped
-  pub whole : new.before ≡ new.kernel.holdings
-  pub params : new.params ≡ old.params
-  pub images : new.images ≡ old.images
-  pub fewer : length new.kernel.place.transfers < length old.kernel.place.transfers
-  pub fits : (images : List NamedImage) → TextFits images old.kernel.place → TextFits images new.kernel.place
-
-fewer_left : (k : Kernel) → 0 < length k.place.transfers → length (done k.place).transfers < length k.place.transfers
-fewer_left k l = go k.place.transfers l
+-- one transfer fewer is in flight
+pub fewer : (from : Sources) (i : Option (List ℕ)) (k l : Kernel) → IsDone from i k l → length l.place.transfers < length k.place.transfers
+fewer from i k l d = subst (λ (x : Kernel). length x.place.transfers < length k.place.transfers) (sym d.step) (go k.place.transfers d.some)
   where
     go : (ts : List Transfer) → 0 < length ts → length (done_of k.place ts).transfers < length ts
     go [] m = absurd (omega arith)
     go (t ∷ ts) m = let e = ap (λ (us : List Transfer). length us) (land_all_rest t.parts k.place t.errand ts) in omega arith
 
-pub goes_on : (old new : Standing) (from : Sources) (i : Option (List ℕ)) → old.before ≡ old.kernel.holdings → IsDone from i old.kernel new.kernel
-    → new ≡ record old { kernel = new.kernel; room = None } → GoesOn old new
-goes_on old new from i w d r =
-    let k : Kernel = done_step old.kernel d.read in
-    record {
-      stopped = ap (λ (x : Kernel). x.stopped) d.step;
-      whole = ap (λ (s : Standing). s.before) r ∙ w ∙ sym (ap (λ (x : Kernel). x.holdings) d.step);
-      params = ap (λ (s : Standing). s.params) r;
-      images = ap (λ (s : Standing). s.images) r;
-      fewer = subst (λ (x : Kernel). length x.place.transfers < length old.kernel.place.transfers) (sym d.step) (fewer_left old.kernel d.some);
-      fits = λ images f. subst (λ (x : Kernel). TextFits images x.place) (sym d.step)
-          (λ i. f i ∙ ap (λ (n : ℕ). 1024 * n) (sym (sizes_kept old.kernel.place (done old.kernel.place) (done_shaped old.kernel.place) (Text i 0))));
-    }
+fits_on : (from : Sources) (i : Option (List ℕ)) (k l : Kernel) (images : List NamedImage) → IsDone from i k l → TextFits images k.place
+    → TextFits images l.place
+fits_on from i k l images d f = subst (λ (x : Kernel). TextFits images x.place) (sym d.step)
+    (λ t. f t ∙ ap (λ (n : ℕ). 1024 * n) (sym (sizes_kept k.place (done k.place) (done_shaped k.place) (Text t 0))))
 
 pub one_more : (from later : Sources) (sid : ℕ) (old next new : Kernel) (i j h : Option (List ℕ)) → later ≡ from → is_settled old.place sid ≡ false
     → IsDone from i old next → ImageAfter old i j
@@ -115,8 +99,9 @@ stopped_first sid old new holds i j stop u s w c full lost a = record {
   };
 }
 
-pub through : (old next new : Standing) (holds later : Option (List NamedFile)) (a b c : Option (List ℕ)) → GoesOn old next → later ≡ holds
+pub through : (from : Sources) (i : Option (List ℕ)) (old next new : Standing) (holds later : Option (List NamedFile)) (a b c : Option (List ℕ))
+    → IsSameBeside old next → IsDone from i old.kernel next.kernel → later ≡ holds
     → KeepsThrough old next holds a b → KeepsThrough next new later b c → KeepsThrough old new holds a c
-through old next new holds later a b c g e f s images flat l t h =
+through from i old next new holds later a b c g d e f s images flat l t h =
     s images flat (subst (λ (ns : List ImageNamed). AreImages ns later images) (sym g.images) (subst (λ (x : Option (List NamedFile)). AreImages old.images x images) (sym e) l))
-    (g.fits images t) (f images flat l t h)
+    (fits_on from i old.kernel next.kernel images d t) (f images flat l t h)

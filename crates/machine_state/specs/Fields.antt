@@ -1,9 +1,10 @@
 -- A machine by its fields.
-use Rattle.std.specs.Prelude.{◌≡◌, ℕ, ◌<◌, ◌≤◌, false, length, Option, Some, None, Vec}
+use Rattle.std.specs.Prelude.{◌≡◌, ℕ, ◌<◌, ◌≤◌, false, [], length, Option, Some, None, Vec}
 use Rattle.std.specs.Vec.{vec_capacity, vec_len}
 use Rattle.vm_facts.specs.declared.entry.Entry.{Entry}
 use Rattle.table_steps.specs.Joined.{instructions_in, last_says}
 use Rattle.machine_state.specs.declared.machine.Machine.TheInside.{Inside}
+use Rattle.machine_state.specs.Holders.{HoldersStand}
 use Rattle.table_steps.specs.Machine.{Standing, Stands, images_of, before_of, kernel_by}
 
 -- a machine as its callers see it: its kernel, its sizes and images, and what stands ready for an entry to come
@@ -26,6 +27,8 @@ HasRoom (Some pid) journal limit =
 -- what holds of a machine that hasn't stopped
 pub record RunsNow (m : Inside) : Type 0 where
   pub stands : Stands m.tables m.journal.items m.stopped
+  -- who holds a space, whatever the journal says
+  pub holders : HoldersStand (kernel_by m.tables [] false)
   -- no transfer failed
   pub none_lost : m.lost ≡ None
   pub room : HasRoom m.room m.journal m.tables.params.journal

@@ -20,6 +20,7 @@ pub use Rattle.table_steps.specs.Applying
 pub use Rattle.table_steps.specs.Swapping
 pub use Rattle.table_steps.specs.UserMemory
 pub use Rattle.table_steps.specs.Joined
+pub mod Holders
 pub use Rattle.swap_wants.specs.Wants
 pub use Rattle.swap_wants.specs.declared.Want
 pub mod Texts
@@ -30,3 +31,4 @@ pub mod Ahead
 pub mod Lent
 pub mod UserMemoryLaws
 pub mod Outside
+pub mod Going

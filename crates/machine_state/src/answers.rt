@@ -10,6 +10,7 @@ ghost use Rattle.table_steps.specs.Calls.{first_due, due_and_parent};
 ghost use Rattle.table_steps.specs.Sharing.{IsSharer};
 ghost use Rattle.table_steps.specs.Sourced.{IsFlightSourced};
 ghost use Rattle.table_steps.specs.View.{transfer_shown};
+ghost use Rattle.machine_state.specs.Going.{IsRunning};
 ghost use Rattle.machine_state.specs.Showing.{ShowsCore};
 
 use crate::machine::Machine;
@@ -47,7 +48,7 @@ impl Machine {
 
     /// The core map.
     pub fn core(&self) -> &CoreMap
-        requires { self.now.kernel.stopped ≡ false }
+        requires { IsRunning self.now }
         ensures { ShowsCore self.now.kernel.place result.now }
     {
         let _frames = self.tables.core.frames();
@@ -58,7 +59,7 @@ impl Machine {
     /// the placement they tell the state of each page of the space and of its text, and where it is in a frame off the
     /// free list, whether it is dirty.
     pub fn space(&self, sid: u32) -> Option<&SpaceMap>
-        requires { self.now.kernel.stopped ≡ false }
+        requires { IsRunning self.now }
         ensures there { IsSome result ↔ HasSpace self.now.kernel.place sid }
         ensures named { IfSome result (λ s. s.now.sid ≡ sid) }
         ensures of_image { IfSome result (λ s. s.now.image ≡ image_of self.now.kernel.place sid) }

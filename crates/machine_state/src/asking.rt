@@ -1,4 +1,5 @@
 //! Requests for pieces of swap space.
+ghost use Rattle.machine_state.specs.Going.{CanGoOn, IsRunning};
 ghost use Rattle.std.specs.Prelude.{◌≡◌, ◌⊎◌, ◌<◌, ◌≤◌, ◌↔◌, true, false, length, None, IfOk, OnOk, OnErr, Ok, Err};
 ghost use Rattle.vm_facts.specs.declared.entry.Entry.TheVariants.{Refused};
 ghost use Rattle.swap_book.specs.Holdings.{Holdings};
@@ -14,12 +15,13 @@ use vm_facts::{Entry, Stop};
 impl Machine {
     /// Whether the pieces with which each owner holds its blocks find their places. Nothing changes.
     pub fn fits(&mut self, wants: &[Want]) -> Result<bool, Stop>
-        requires running { self.old.kernel.stopped ≡ false }
+        requires ready { CanGoOn self.old }
         requires can { CanAsk self.old.kernel.holdings wants.now }
         ensures answer { IfOk result (λ fits. fits ≡ fits_for self.old.params.swap_blocks self.old.kernel.holdings wants.now) }
         ensures same { self.new ≡ self.old }
         ensures stop { OnErr result (HasStopped self.old self.new) }
         ensures cause { OnErr result (result ≡ Err Stop.NoMemory) }
+        ensures goes_on { CanGoOn self.new }
     {
         let found = find_all(&mut self.tables.book, wants, false);
         notes::or_stop(found)
@@ -28,8 +30,7 @@ impl Machine {
     /// Finds the pieces with which each owner holds its blocks, for the next entry of a process, and appends no entry. False
     /// comes exactly where they find no place: the holdings are then as before, and `Refused` is the entry.
     pub fn ask(&mut self, pid: u32, wants: &[Want]) -> Result<bool, Stop>
-        requires running { self.old.kernel.stopped ≡ false }
-        requires whole { self.old.before ≡ self.old.kernel.holdings }
+        requires ready { CanGoOn self.old }
         requires can { CanAsk self.old.kernel.holdings wants.now }
         ensures answer { IfOk result (λ fits. fits ≡ fits_for self.old.params.swap_blocks self.old.kernel.holdings wants.now) }
         ensures found { result ≡ Ok true → (hs : Holdings) × (found_for self.old.params.swap_blocks self.old.kernel.holdings wants.now ≡ Ok hs)
@@ -41,6 +42,8 @@ impl Machine {
         ensures cause { OnErr result ((result ≡ Err Stop.JournalFull) ⊎ (result ≡ Err Stop.NoMemory)) }
         ensures full { (result ≡ Err Stop.JournalFull) ↔ (self.old.params.journal ≤ length self.old.kernel.journal) }
         ensures has_room { OnOk result (length self.old.kernel.journal < self.old.params.journal) }
+        ensures running { result ≡ Ok true → IsRunning self.new }
+        ensures goes_on { result ≡ Ok false → CanGoOn self.new }
     {
         self.make_room()?;
         let before = self.tables.book.holdings().len();

@@ -1,4 +1,5 @@
 //! Entries of processes, and those that change nothing.
+ghost use Rattle.machine_state.specs.Going.{CanGoOn, IsRunning};
 ghost use Rattle.std.specs.Prelude.{◌≡◌, ◌⊎◌, ℕ, ◌+◌, ◌<◌, ◌≤◌, ◌↔◌, ◌^◌, ◌∷◌, ◌++◌, [], List, true, false, length, Some, None, IsSome, IfOk, OnOk, OnErr, Ok, Err};
 ghost use Rattle.vm_facts.specs.declared.entry.Entry.{Entry as Line};
 ghost use Rattle.vm_facts.specs.declared.entry.Entry.TheVariants.{Ran};
@@ -21,7 +22,7 @@ use vm_facts::{Entry, Regs, Stop};
 impl Machine {
     /// Appends an entry that changes nothing: `Event`, `Turn` or `Owners`.
     pub fn note(&mut self, e: Entry) -> Result<(), Stop>
-        requires running { self.old.kernel.stopped ≡ false }
+        requires ready { CanGoOn self.old }
         requires note { IsNote e }
         ensures step { OnOk result (self.new.kernel ≡ note_step self.old.kernel e) }
         ensures rest { OnOk result (self.new ≡ record self.old { kernel = self.new.kernel; room = None }) }
@@ -30,6 +31,7 @@ impl Machine {
         ensures stop { OnErr result (HasStopped self.old self.new) }
         ensures cause { OnErr result ((result ≡ Err Stop.JournalFull) ⊎ (result ≡ Err Stop.NoMemory)) }
         ensures full { (result ≡ Err Stop.JournalFull) ↔ (self.old.params.journal ≤ length self.old.kernel.journal) }
+        ensures goes_on { OnOk result (CanGoOn self.new) }
     {
         notes::make_room(
             &mut self.journal,
@@ -42,21 +44,23 @@ impl Machine {
 
     /// The journal may have so many entries from here on, which are no fewer than before.
     pub fn widen(&mut self, entries: u32)
-        requires running { self.old.kernel.stopped ≡ false }
+        requires ready { CanGoOn self.old }
         requires more { self.old.params.journal ≤ entries }
-        ensures { self.new ≡ record self.old { params = record self.old.params { journal = entries } } }
+        ensures step { self.new ≡ record self.old { params = record self.old.params { journal = entries } } }
+        ensures goes_on { CanGoOn self.new }
     {
         self.tables.params.journal = entries;
     }
 
     /// Makes room for one more entry, and changes nothing else.
     pub fn make_room(&mut self) -> Result<(), Stop>
-        requires running { self.old.kernel.stopped ≡ false }
+        requires ready { CanGoOn self.old }
         ensures ok { OnOk result (self.new ≡ self.old) }
         ensures has_room { OnOk result (length self.old.kernel.journal < self.old.params.journal) }
         ensures stop { OnErr result (HasStopped self.old self.new) }
         ensures cause { OnErr result ((result ≡ Err Stop.JournalFull) ⊎ (result ≡ Err Stop.NoMemory)) }
         ensures full { (result ≡ Err Stop.JournalFull) ↔ (self.old.params.journal ≤ length self.old.kernel.journal) }
+        ensures goes_on { OnOk result (CanGoOn self.new) }
     {
         let room = self.room;
         notes::make_room(
@@ -70,12 +74,13 @@ impl Machine {
 
     /// Makes room for one more instruction of a process, and appends no entry.
     pub fn room(&mut self, pid: u32) -> Result<(), Stop>
-        requires running { self.old.kernel.stopped ≡ false }
+        requires ready { CanGoOn self.old }
         ensures ok { OnOk result (self.new ≡ record self.old { room = Some pid }) }
         ensures stop { OnErr result (HasStopped self.old self.new) }
         ensures cause { OnErr result ((result ≡ Err Stop.JournalFull) ⊎ (result ≡ Err Stop.NoMemory)) }
         ensures full { (result ≡ Err Stop.JournalFull) ↔ ((self.old.params.journal ≤ length self.old.kernel.journal)
             × (length self.old.kernel.journal < length (append self.old.kernel.journal (Ran pid 1)))) }
+        ensures goes_on { OnOk result (CanGoOn self.new) }
     {
         joining::make_room_to_run(
             &mut self.journal,
@@ -90,13 +95,14 @@ impl Machine {
     /// The step of `Ran`: one more instruction of a process is counted, which leaves these registers. Its writes were
     /// made before.
     pub fn ran(&mut self, pid: u32, regs: &Regs)
-        requires running { self.old.kernel.stopped ≡ false }
+        requires ready { CanGoOn self.old }
         requires can { CanLend self.old.kernel pid }
         requires room { self.old.room ≡ Some pid }
         requires fits { (count : ℕ) (before : List Line) → self.old.kernel.journal ≡ before ++ Ran pid count ∷ [] → count + 1 < 2 ^ 32 }
         ensures step { self.new.kernel ≡ ran_by self.old.kernel pid regs.now (Ran pid 1) }
         ensures rest { self.new ≡ record self.old { kernel = self.new.kernel; room = None } }
         ensures keeps { ChangesFlat self.old.kernel self.new.kernel pid regs.now Keep }
+        ensures goes_on { CanGoOn self.new }
     {
         self.room = None;
         self.tables.set_regs(pid, regs);
@@ -106,12 +112,13 @@ impl Machine {
     /// The steps of `Ran`, one after another: so many further instructions of a process are counted in its last entry, which
     /// counts such, and the last of them leaves these registers. Their writes were made before.
     pub fn ran_on(&mut self, pid: u32, regs: &Regs, more: u32)
-        requires running { self.old.kernel.stopped ≡ false }
+        requires ready { CanGoOn self.old }
         requires can { CanLend self.old.kernel pid }
         requires counts { IsSome (last_says (instructions_in pid) self.old.kernel.journal) }
         requires fits { (count : ℕ) (before : List Line) → self.old.kernel.journal ≡ before ++ Ran pid count ∷ [] → count + more < 2 ^ 32 }
         ensures step { self.new.kernel ≡ ran_by self.old.kernel pid regs.now (Ran pid more) }
         ensures rest { self.new ≡ record self.old { kernel = self.new.kernel; room = None } }
+        ensures goes_on { CanGoOn self.new }
     {
         self.room = None;
         self.tables.set_regs(pid, regs);
@@ -121,7 +128,7 @@ impl Machine {
     /// The step of an entry of a process, `Out`, `Grew`, `Call`, `Sleeps` or `Ended`, which leaves these registers and makes a
     /// change. The pieces that it takes were found by `ask`. After `Lend` the child has no space until one passes to it.
     pub fn flat(&mut self, pid: u32, regs: &Regs, e: Entry, change: Change) -> Result<(), Stop>
-        requires running { self.old.kernel.stopped ≡ false }
+        requires running { IsRunning self.old }
         requires can { CanApply self.old pid e change }
         ensures step { OnOk result (self.new.kernel ≡ change_step (facts_named self.old.images) self.old.kernel pid regs.now e change) }
         ensures rest { OnOk result (self.new ≡ record self.old { kernel = self.new.kernel; before = self.new.kernel.holdings; room = None }) }
@@ -129,6 +136,7 @@ impl Machine {
         ensures stop { OnErr result (HasStopped self.old self.new) }
         ensures cause { OnErr result ((result ≡ Err Stop.JournalFull) ⊎ (result ≡ Err Stop.NoMemory)) }
         ensures full { (result ≡ Err Stop.JournalFull) ↔ (self.old.params.journal ≤ length self.old.kernel.journal) }
+        ensures goes_on { OnOk result (CanGoOn self.new) }
     {
         notes::make_room(
             &mut self.journal,
@@ -148,10 +156,11 @@ impl Machine {
     /// The space of one process moves to another: one that has none, to which it is lent, or its lender. It appends no
     /// entry.
     pub fn pass(&mut self, from: u32, to: u32)
-        requires running { self.old.kernel.stopped ≡ false }
+        requires running { IsRunning self.old }
         requires may { MayPass (life_in self.old.kernel from) (life_in self.old.kernel to) from }
         requires there { lives self.old.kernel.processes to ≡ true }
-        ensures { self.new ≡ record self.old { kernel = pass_step self.old.kernel from to } }
+        ensures step { self.new ≡ record self.old { kernel = pass_step self.old.kernel from to } }
+        ensures running { IsRunning self.new }
     {
         self.tables.pass(from, to);
     }

@@ -6,7 +6,10 @@ ghost use Rattle.page_model.specs.Pages.{numbered};
 ghost use Rattle.kernel_model.specs.Kernel.{Kernel};
 ghost use Rattle.kernel_model.specs.Sound.{TextFits};
 ghost use Rattle.kernel_model.specs.Coupled.{Coupled, text_of};
-ghost use Rattle.table_steps.specs.UserMemory.{kernel_answers};
+ghost use Rattle.table_steps.specs.Machine.{Standing};
+ghost use Rattle.table_steps.specs.UserMemory.{kernel_answers, Wrote};
+ghost use Rattle.machine_state.specs.Going.{CanGoOn};
+ghost use Rattle.vm_facts.specs.Answers.{ByteWrite};
 
 /// Where a machine stands for a flat state, the memory of each of its spaces answers what the flat space does, at every
 /// address where it doesn't miss; so do its tests of writes.
@@ -14,4 +17,9 @@ pub fn memory_is_flat()
     ensures { (images : List NamedImage) (k : Kernel) (image : List ℕ) (flat : FlatState) (x : Space) → Coupled k images image flat → TextFits images k.place
         → numbered (λ s. s.sid) x.sid (spaces_of flat) ≡ Some x → x.text_bytes ≡ text_of (image_numbered images x.image)
         → Covers (kernel_answers k x.sid) (answers_of x) }
+{}
+
+/// A machine that can go on can go on after writes of a process.
+pub fn writes_go_on()
+    ensures { (old new : Standing) (sid : ℕ) (ws : List ByteWrite) → Wrote old sid ws new → CanGoOn old → CanGoOn new }
 {}

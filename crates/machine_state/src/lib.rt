@@ -13,7 +13,7 @@ mod starting;
 mod swapping;
 mod user_memory;
 
-pub use laws::memory_is_flat;
+pub use laws::{memory_is_flat, writes_go_on};
 pub use machine::Machine;
 pub use swap_wants::{Want, image_wants};
 pub use table_steps::kernel_tables::Named;

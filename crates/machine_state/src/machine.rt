@@ -8,6 +8,7 @@ ghost use Rattle.kernel_model.specs.Numbers.{Numbered};
 ghost use Rattle.kernel_model.specs.Sound.{Sound};
 ghost use Rattle.table_steps.specs.Machine.{image_shown};
 ghost use Rattle.table_steps.specs.Sourced.{AreNames};
+ghost use Rattle.machine_state.specs.Going.{CanGoOn, IsRunning};
 ghost use Rattle.machine_state.specs.Texts.{TextsStand};
 ghost use Rattle.page_model.specs.Swapper.{is_settled};
 ghost use Rattle.table_steps.specs.Settled.{SettledBy, IsSameBeside, StopsSettling};
@@ -66,13 +67,14 @@ impl Machine {
         requires images { length images.items ≤ 16 }
         requires sound { AreSound (map (λ image. image.facts) images.items) }
         requires names { AreNames (map image_shown images.items) }
-        ensures { IfOk result (λ m. m ≡ record {
+        ensures fresh { IfOk result (λ m. m ≡ record {
           kernel = fresh_kernel (map (λ image. image.facts) images.items) params.frames;
           params = params;
           images = map image_shown images.items;
           before = [];
           room = None;
         }) }
+        ensures goes_on { IfOk result CanGoOn }
     {
         let processes = ProcTable::new(alloc)?;
         let book = SwapBook::new(alloc, params.swap_blocks)?;
@@ -107,30 +109,11 @@ impl Machine {
         })
     }
 
-    /// What is so of each machine that runs, with the holdings before the pieces that were found last. Its journal is
-    /// within its bound. Its images are those that
-    /// it was made with: at most 16, each as a header may be, and the text of each has as many pages as its header tells.
-    pub fn sound(&self)
-        requires { self.now.kernel.stopped ≡ false }
-        ensures sound { Sound self.now.params.swap_blocks (record self.now.kernel { holdings = self.now.before }) }
-        ensures numbered { Numbered self.now.kernel }
-        ensures due { DueStand self.now.kernel.place }
-        ensures within { length self.now.kernel.journal ≤ self.now.params.journal }
-        ensures frames { length self.now.kernel.place.holds ≤ 4096 }
-        ensures few_images { length self.now.images ≤ 16 }
-        ensures images { AreSound (map (λ image. image.facts) self.now.images) }
-        ensures texts { TextsStand self.now }
-    {
-        let _ = &self.stopped;
-    }
-
     /// What is so of each machine, also of one that has stopped: its journal is within its bound. Where it runs, with the holdings before
     /// the pieces that were found last, its tables are sound.
     pub fn always(&self)
         ensures within { length self.now.kernel.journal ≤ self.now.params.journal }
-        ensures sound { self.now.kernel.stopped ≡ false → Sound self.now.params.swap_blocks (record self.now.kernel { holdings = self.now.before }) }
-        ensures numbered { self.now.kernel.stopped ≡ false → Numbered self.now.kernel }
-        ensures due { self.now.kernel.stopped ≡ false → DueStand self.now.kernel.place }
+        ensures running { self.now.kernel.stopped ≡ false → IsRunning self.now }
     {
         let _ = &self.stopped;
     }
@@ -151,8 +134,7 @@ impl Machine {
 
     /// The step of `Zero`: a page of zeros, or a new stack page that is due, takes a free frame.
     pub fn fill_zero(&mut self, page: Page) -> Result<(), Stop>
-        requires running { self.old.kernel.stopped ≡ false }
-        requires whole { self.old.before ≡ self.old.kernel.holdings }
+        requires ready { CanGoOn self.old }
         requires can { CanZero self.old.kernel.place page }
         ensures step { OnOk result (self.new.kernel ≡ zero_step self.old.kernel page) }
         ensures rest { OnOk result (self.new ≡ record self.old { kernel = self.new.kernel; room = None }) }
@@ -161,6 +143,7 @@ impl Machine {
         ensures stop { OnErr result (HasStopped self.old self.new) }
         ensures cause { OnErr result ((result ≡ Err Stop.JournalFull) ⊎ (result ≡ Err Stop.NoMemory)) }
         ensures full { (result ≡ Err Stop.JournalFull) ↔ (self.old.params.journal ≤ length self.old.kernel.journal) }
+        ensures goes_on { OnOk result (CanGoOn self.new) }
     {
         notes::make_room(
             &mut self.journal,
@@ -178,8 +161,7 @@ impl Machine {
 
     /// The step of `Reclaim`: a page that a frame still holds is usable again.
     pub fn reclaim(&mut self, page: Page) -> Result<(), Stop>
-        requires running { self.old.kernel.stopped ≡ false }
-        requires whole { self.old.before ≡ self.old.kernel.holdings }
+        requires ready { CanGoOn self.old }
         requires can { CanReclaim self.old.kernel.place page }
         ensures step { OnOk result (self.new.kernel ≡ reclaim_step self.old.kernel page) }
         ensures rest { OnOk result (self.new ≡ record self.old { kernel = self.new.kernel; room = None }) }
@@ -188,6 +170,7 @@ impl Machine {
         ensures stop { OnErr result (HasStopped self.old self.new) }
         ensures cause { OnErr result ((result ≡ Err Stop.JournalFull) ⊎ (result ≡ Err Stop.NoMemory)) }
         ensures full { (result ≡ Err Stop.JournalFull) ↔ (self.old.params.journal ≤ length self.old.kernel.journal) }
+        ensures goes_on { OnOk result (CanGoOn self.new) }
     {
         notes::make_room(
             &mut self.journal,
@@ -205,8 +188,7 @@ impl Machine {
     /// The step of `Get`: pages that are all on swap, or all in their image's file, take a free frame each, and their read
     /// begins.
     pub fn begin_get(&mut self, page: Page, lo: u32, n: u32) -> Result<(), Stop>
-        requires running { self.old.kernel.stopped ≡ false }
-        requires whole { self.old.before ≡ self.old.kernel.holdings }
+        requires ready { CanGoOn self.old }
         requires can { CanBringIn self.old.kernel.place page lo n }
         ensures step { OnOk result (self.new.kernel ≡ get_step self.old.kernel page lo n) }
         ensures rest { OnOk result (self.new ≡ record self.old { kernel = self.new.kernel; room = None }) }
@@ -215,6 +197,7 @@ impl Machine {
         ensures stop { OnErr result (HasStopped self.old self.new) }
         ensures cause { OnErr result ((result ≡ Err Stop.JournalFull) ⊎ (result ≡ Err Stop.NoMemory)) }
         ensures full { (result ≡ Err Stop.JournalFull) ↔ (self.old.params.journal ≤ length self.old.kernel.journal) }
+        ensures goes_on { OnOk result (CanGoOn self.new) }
     {
         notes::make_room(
             &mut self.journal,
@@ -232,8 +215,7 @@ impl Machine {
     ///
     /// A transfer that fails is kept until the machine ends.
     pub fn done<F: Files, D: SwapDev>(&mut self, files: &mut F, swap: &mut D) -> Result<bool, Stop>
-        requires running { self.old.kernel.stopped ≡ false }
-        requires whole { self.old.before ≡ self.old.kernel.holdings }
+        requires ready { CanGoOn self.old }
         requires area { self.old.params.swap_blocks ≤ D.blocks swap.old }
         requires files { AreFiles self.old.images (F.holds files.old) }
         ensures idle { (result ≡ Ok false) ↔ (self.old.kernel.place.transfers ≡ []) }
@@ -249,6 +231,7 @@ impl Machine {
         ensures full { (result ≡ Err Stop.JournalFull)
             ↔ ((0 < length self.old.kernel.place.transfers) × (self.old.params.journal ≤ length self.old.kernel.journal)) }
         ensures outside { TransfersPages F.Files D.SwapDev (stop_of result) files.old files.new swap.old swap.new }
+        ensures goes_on { OnOk result (CanGoOn self.new) }
     {
         if self.tables.ring.len() == 0 {
             return Ok(false);
@@ -284,7 +267,7 @@ impl Machine {
 
     /// Whether no transfer in flight names a page of this space, nor of its text where no other space shares that.
     pub fn settled(&self, sid: u32) -> bool
-        requires { self.now.kernel.stopped ≡ false }
+        requires { IsRunning self.now }
         ensures { result ≡ is_settled self.now.kernel.place sid }
     {
         landing::is_settled(&self.tables, sid)
@@ -297,8 +280,7 @@ impl Machine {
         swap: &mut D,
         sid: u32,
     ) -> Result<(), Stop>
-        requires running { self.old.kernel.stopped ≡ false }
-        requires whole { self.old.before ≡ self.old.kernel.holdings }
+        requires ready { CanGoOn self.old }
         requires area { self.old.params.swap_blocks ≤ D.blocks swap.old }
         requires files { AreFiles self.old.images (F.holds files.old) }
         ensures settled { OnOk result
@@ -307,6 +289,7 @@ impl Machine {
         ensures keeps { OnOk result (KeepsThrough self.old self.new (F.holds files.old) (D.image swap.old) (D.image swap.new)) }
         ensures stops { IfErr result (StopsSettling sid self.old self.new (F.holds files.old) (D.image swap.old) (D.image swap.new)) }
         ensures outside { TransfersPages F.Files D.SwapDev (stop_of result) files.old files.new swap.old swap.new }
+        ensures goes_on { OnOk result (CanGoOn self.new) }
     {
         if self.settled(sid) {
             return Ok(());

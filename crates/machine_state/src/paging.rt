@@ -1,4 +1,5 @@
 //! Copies of pages, writes that begin, and moves of the hands.
+ghost use Rattle.machine_state.specs.Going.{CanGoOn};
 ghost use Rattle.std.specs.Prelude.{◌≡◌, ◌⊎◌, ◌<◌, ◌≤◌, ◌↔◌, ◌+◌, ◌^◌, ◌∷◌, ◌++◌, [], ℕ, List, false, length, None, OnOk, OnErr, Err, IsTrue, cond};
 ghost use Rattle.vm_facts.specs.declared.entry.Entry.{Entry as Line};
 ghost use Rattle.vm_facts.specs.declared.page.Page.TheVariants.{Text as TextPage};
@@ -47,8 +48,7 @@ fn written_of(tables: &Tables, page: Page, n: u32) -> u32
 impl Machine {
     /// The step of `Copy`: the child's page that is due first is filled from its parent's valid page, and is dirty.
     pub fn copy(&mut self, child: Page, parent: Page) -> Result<(), Stop>
-        requires running { self.old.kernel.stopped ≡ false }
-        requires whole { self.old.before ≡ self.old.kernel.holdings }
+        requires ready { CanGoOn self.old }
         requires can { CanCopy self.old.kernel.place child parent }
         ensures step { OnOk result (self.new.kernel ≡ copy_step self.old.kernel child) }
         ensures rest { OnOk result (self.new ≡ record self.old { kernel = self.new.kernel; room = None }) }
@@ -57,6 +57,7 @@ impl Machine {
         ensures stop { OnErr result (HasStopped self.old self.new) }
         ensures cause { OnErr result ((result ≡ Err Stop.JournalFull) ⊎ (result ≡ Err Stop.NoMemory)) }
         ensures full { (result ≡ Err Stop.JournalFull) ↔ (self.old.params.journal ≤ length self.old.kernel.journal) }
+        ensures goes_on { OnOk result (CanGoOn self.new) }
     {
         notes::make_room(
             &mut self.journal,
@@ -74,8 +75,7 @@ impl Machine {
     /// The step of `Put`: a write of `n` dirty pages begins, or the frame of one clean page goes to the tail of the
     /// free list.
     pub fn push(&mut self, lo: Page, n: u32) -> Result<(), Stop>
-        requires running { self.old.kernel.stopped ≡ false }
-        requires whole { self.old.before ≡ self.old.kernel.holdings }
+        requires ready { CanGoOn self.old }
         requires can { CanPush self.old.kernel.place lo n }
         ensures step { OnOk result (self.new.kernel ≡ push_step self.old.kernel lo n) }
         ensures rest { OnOk result (self.new ≡ record self.old { kernel = self.new.kernel; room = None }) }
@@ -84,6 +84,7 @@ impl Machine {
         ensures stop { OnErr result (HasStopped self.old self.new) }
         ensures cause { OnErr result ((result ≡ Err Stop.JournalFull) ⊎ (result ≡ Err Stop.NoMemory)) }
         ensures full { (result ≡ Err Stop.JournalFull) ↔ (self.old.params.journal ≤ length self.old.kernel.journal) }
+        ensures goes_on { OnOk result (CanGoOn self.new) }
     {
         notes::make_room(
             &mut self.journal,
@@ -101,8 +102,7 @@ impl Machine {
     /// One move of the hands, which pass over the locked pages, and one count of `Hands`. `lo` and `n` are the run of
     /// the write that the move begins; `n` is 0 where it begins none.
     pub fn hand(&mut self, locked: &[Page], lo: u32, n: u32) -> Result<(), Stop>
-        requires running { self.old.kernel.stopped ≡ false }
-        requires whole { self.old.before ≡ self.old.kernel.holdings }
+        requires ready { CanGoOn self.old }
         requires can { CanMove self.old.kernel.place locked.now lo n }
         requires fits { (count : ℕ) (before : List Line) → self.old.kernel.journal ≡ before ++ Hands count ∷ [] → count + 1 < 2 ^ 32 }
         ensures step { OnOk result (self.new.kernel ≡ hand_step self.old.kernel locked.now) }
@@ -113,6 +113,7 @@ impl Machine {
         ensures cause { OnErr result ((result ≡ Err Stop.JournalFull) ⊎ (result ≡ Err Stop.NoMemory)) }
         ensures full { (result ≡ Err Stop.JournalFull) ↔ ((self.old.params.journal ≤ length self.old.kernel.journal)
             × (length self.old.kernel.journal < length (append self.old.kernel.journal (Hands 1)))) }
+        ensures goes_on { OnOk result (CanGoOn self.new) }
     {
         joining::make_room_to_move(
             &mut self.journal,

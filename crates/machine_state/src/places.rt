@@ -1,4 +1,5 @@
 //! What the machine tells of the places of pages.
+ghost use Rattle.machine_state.specs.Going.{IsRunning};
 ghost use Rattle.std.specs.Prelude.{◌≡◌, ◌↔◌, false, IsSome, IfSome};
 ghost use Rattle.page_model.specs.Placement.{IsThere, state_of, filling_of};
 ghost use Rattle.table_steps.specs.Alike.{AreRecords};
@@ -14,7 +15,7 @@ use vm_facts::{Page, PageState};
 impl Machine {
     /// The state of a page; None exactly where no live space and no image has it.
     pub fn state_of(&self, page: Page) -> Option<PageState>
-        requires { self.now.kernel.stopped ≡ false }
+        requires { IsRunning self.now }
         ensures there { IsSome result ↔ IsThere self.now.kernel.place page }
         ensures state { IfSome result (λ s. s ≡ state_of self.now.kernel.place page) }
     {
@@ -26,7 +27,7 @@ impl Machine {
 
     /// Whether a page that is there has to be filled with zeros.
     pub fn is_blank(&self, page: Page) -> bool
-        requires running { self.now.kernel.stopped ≡ false }
+        requires running { IsRunning self.now }
         requires there { IsThere self.now.kernel.place page }
         ensures { result ≡ is_blank (state_of self.now.kernel.place page) (filling_of self.now.kernel.place page) }
     {

@@ -2,6 +2,7 @@
 ghost use Rattle.std.specs.Prelude.{◌≡◌, ◌<◌, true, false, [], ◌∷◌, length, string_bytes, IfOk, OnOk, OnErr, Ok, Err};
 ghost use Rattle.aout_image.specs.Image.{IsSound};
 ghost use Rattle.flat_state.specs.Flat.{start_page, start_regs};
+ghost use Rattle.machine_state.specs.Going.{CanGoOn};
 ghost use Rattle.machine_state.specs.Beginning.{MayStart, StartedFirst, FindsNoPlace, MayLookFirst, LookedFirst, MayEnterFirst, BeganFirst};
 ghost use Rattle.table_steps.specs.Conditions.{HasBrokenOff};
 
@@ -64,14 +65,14 @@ impl Machine {
     /// Begins a first process in an image: with its pieces of swap, its space, and its stack page 0, which is due. It
     /// appends no entry. False comes exactly where the pieces find no place, and then nothing changes.
     pub fn begin(&mut self, pid: u32, image: u32) -> Result<bool, Stop>
-        requires running { self.old.kernel.stopped ≡ false }
-        requires whole { self.old.before ≡ self.old.kernel.holdings }
+        requires ready { CanGoOn self.old }
         requires may { MayStart self.old pid image }
         ensures began { result ≡ Ok true → StartedFirst self.old self.new image }
         ensures no_place { result ≡ Ok false → FindsNoPlace self.old image }
         ensures same { result ≡ Ok false → self.new ≡ self.old }
         ensures stop { OnErr result (HasBrokenOff self.old self.new) }
         ensures cause { OnErr result (result ≡ Err Stop.NoMemory) }
+        ensures goes_on { OnOk result (CanGoOn self.new) }
     {
         let _frames = self.tables.core.frames();
         let found = find_first(&mut self.tables, pid, image);

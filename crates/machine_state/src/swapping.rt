@@ -5,6 +5,7 @@ ghost use Rattle.table_steps.specs.Calls.{CanGoOut, CanComeIn};
 ghost use Rattle.table_steps.specs.Conditions.{HasStopped};
 ghost use Rattle.table_steps.specs.Failing.{FailsFor};
 ghost use Rattle.table_steps.specs.Swapping.{IsIn, WritesU, SwapBehind, CallsNone, KeepsOut, KeepsIn};
+ghost use Rattle.machine_state.specs.Going.{CanGoOn};
 ghost use Rattle.machine_state.specs.Outside.{stop_of, MovesSwapPages};
 
 use crate::machine::Machine;
@@ -18,8 +19,7 @@ impl Machine {
     /// The step of `SwapOut`: the u page of a process is written, and the process is out. Its registers are in its u
     /// page alone then.
     pub fn u_out<D: SwapDev>(&mut self, swap: &mut D, pid: u32) -> Result<(), Stop>
-        requires running { self.old.kernel.stopped ≡ false }
-        requires whole { self.old.before ≡ self.old.kernel.holdings }
+        requires ready { CanGoOn self.old }
         requires area { self.old.params.swap_blocks ≤ D.blocks swap.old }
         requires can { CanGoOut self.old.kernel pid }
         ensures step { OnOk result (self.new.kernel ≡ out_step self.old.kernel pid) }
@@ -33,6 +33,7 @@ impl Machine {
         ensures failed { FailsFor result self.old self.new }
         ensures full { (result ≡ Err Stop.JournalFull) ↔ (self.old.params.journal ≤ length self.old.kernel.journal) }
         ensures outside { MovesSwapPages D.SwapDev (stop_of result) swap.old swap.new }
+        ensures goes_on { OnOk result (CanGoOn self.new) }
     {
         notes::make_room(
             &mut self.journal,
@@ -58,8 +59,7 @@ impl Machine {
     /// The step of `SwapIn`: the u page of a process that is out is read, which gives it its registers, and the
     /// process is in.
     pub fn u_in<D: SwapDev>(&mut self, swap: &mut D, pid: u32) -> Result<(), Stop>
-        requires running { self.old.kernel.stopped ≡ false }
-        requires whole { self.old.before ≡ self.old.kernel.holdings }
+        requires ready { CanGoOn self.old }
         requires area { self.old.params.swap_blocks ≤ D.blocks swap.old }
         requires can { CanComeIn self.old.kernel pid }
         ensures step { OnOk result (IsIn self.old.kernel self.new.kernel pid (D.image swap.old)) }
@@ -72,6 +72,7 @@ impl Machine {
         ensures failed { FailsFor result self.old self.new }
         ensures full { (result ≡ Err Stop.JournalFull) ↔ (self.old.params.journal ≤ length self.old.kernel.journal) }
         ensures outside { MovesSwapPages D.SwapDev (stop_of result) swap.old swap.new }
+        ensures goes_on { OnOk result (CanGoOn self.new) }
     {
         notes::make_room(
             &mut self.journal,

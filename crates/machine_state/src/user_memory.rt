@@ -9,6 +9,7 @@ ghost use Rattle.page_model.specs.PageBytes.{IsWritable};
 ghost use Rattle.page_model.specs.Ownership.{OwnsFrames};
 ghost use Rattle.kernel_model.specs.Kernel.{frame_bytes, write_step, HoldsSpace};
 ghost use Rattle.table_steps.specs.Calls.{life_in};
+ghost use Rattle.machine_state.specs.Going.{CanGoOn};
 ghost use Rattle.machine_state.specs.Ahead.{MayFrom, ReadsFrom};
 ghost use Rattle.table_steps.specs.UserMemory.{spot_in, page_in, read_page, valid_frame, may_write_by, NamesFrames, IsOwnPage, IsLaidOut, HasLengths, CanLend, IsHeld, AreWhole, WrotePage};
 
@@ -146,7 +147,7 @@ impl Machine {
 
     /// The memory of a process that is in. When the loan ends, the machine is what the writes through it left.
     pub fn memory(&mut self, pid: u32) -> SpaceMemory<'_>
-        requires running { self.old.kernel.stopped ≡ false }
+        requires ready { CanGoOn self.old }
         requires can { CanLend self.old.kernel pid }
         ensures same_reference { result.machine.ghost_name ≡ self.entry.ghost_name }
         ensures now { result.machine.now ≡ self.old }

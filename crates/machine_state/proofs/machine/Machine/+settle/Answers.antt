@@ -6,7 +6,7 @@ use Rattle.vm_facts.specs.declared.stop.Stop.{Stop}
 use Rattle.table_steps.specs.Sourced.{ImageNamed}
 use Rattle.table_steps.specs.Files.{AreFiles}
 use Rattle.table_steps.specs.Done.{Sources, sources, IsDone}
-use Rattle.machine_state.proofs.Settling.{GoesOn, goes_on, beside_done, same_sources, one_more, one_stopped, stopped_first, through}
+use Rattle.machine_state.proofs.Settling.{fewer, beside_done, same_sources, one_more, one_stopped, stopped_first, through}
 use Rattle.table_steps.proofs.Outcomes.{on_ok, if_err}
 use Rattle.machine_state.proofs.machine.Machine.+settle.Goals as goal
 
@@ -15,24 +15,21 @@ returns-in_err-done-clause-stops g t c =
     let p = err_from_is_err_and c.from_residual.result c.from_residual.ensures.1 in
     rw (p.1, p.2)
     (stopped_first c.args.sid c.args.self.now c.done.new.self (g.F.Files.holds c.args.files.now) (g.D.SwapDev.image c.args.swap.now) (g.D.SwapDev.image c.done.new.swap) c.in_err-done.field-0.0
-    (sym c.settled.ensures ∙ c.if-settled.false) c.in_err-done.ensures.stop c.requires.whole c.in_err-done.ensures.cause c.in_err-done.ensures.full c.in_err-done.ensures.lost
+    (sym c.settled.ensures ∙ c.if-settled.false) c.in_err-done.ensures.stop c.requires.ready.whole c.in_err-done.ensures.cause c.in_err-done.ensures.full c.in_err-done.ensures.lost
     c.in_err-done.ensures.spoiled)
 
 pub settle-requires : goal.settle-requires
 settle-requires g t c κs out =
     let yes = ap (λ (b : Bool). let r : Result Bool Stop = Ok b in r) c.if-branch.true in
-    let i = g.D.SwapDev.image c.args.swap.now in
-    let from : Sources = sources c.args.self.now (g.F.Files.holds c.args.files.now) in
-    let d : IsDone from i c.args.self.now.kernel c.done.new.self.kernel = c.in_ok-done.ensures.step yes in
-    let o : GoesOn c.args.self.now c.done.new.self = goes_on c.args.self.now c.done.new.self from i c.requires.whole d (c.in_ok-done.ensures.rest yes) in
+    let b = beside_done c.args.self.now c.done.new.self (c.in_ok-done.ensures.rest yes) in
     let area = c.requires.area in
-    let size = ap (λ (x : Params). x.swap_blocks) o.params in
+    let size = ap (λ (x : Params). x.swap_blocks) b.params in
     let blocks = c.in_ok-done.ensures.outside.swap.blocks in
     let files : AreFiles c.done.new.self.images (g.F.Files.holds c.done.new.files) =
-    subst (λ (ns : List ImageNamed). AreFiles ns (g.F.Files.holds c.done.new.files)) (sym o.images)
+    subst (λ (ns : List ImageNamed). AreFiles ns (g.F.Files.holds c.done.new.files)) (sym b.images)
     (subst (λ (h : Option (List NamedFile)). AreFiles c.args.self.now.images h) (sym c.in_ok-done.ensures.outside.files.holds) c.requires.files) in
-    let less = o.fewer in
-    (omega (arith, c.decreases, less), (out.0, (out.1, (o.stopped ∙ c.requires.running, (o.whole, (omega (arith, area, size, blocks), files))))))
+    let less = fewer _ _ _ _ (c.in_ok-done.ensures.step yes) in
+    (omega (arith, c.decreases, less), (out.0, (out.1, (c.in_ok-done.ensures.goes_on, (omega (arith, area, size, blocks), files)))))
 
 pub returns-then-branch-clause-settled : goal.returns-then-branch-clause-settled
 returns-then-branch-clause-settled g t c =
@@ -51,12 +48,8 @@ returns-then-branch-clause-settled g t c =
 pub returns-then-branch-clause-keeps : goal.returns-then-branch-clause-keeps
 returns-then-branch-clause-keeps g t c =
     let yes = ap (λ (b : Bool). let r : Result Bool Stop = Ok b in r) c.if-branch.true in
-    let i = g.D.SwapDev.image c.args.swap.now in
-    let from : Sources = sources c.args.self.now (g.F.Files.holds c.args.files.now) in
-    let d : IsDone from i c.args.self.now.kernel c.done.new.self.kernel = c.in_ok-done.ensures.step yes in
-    let o : GoesOn c.args.self.now c.done.new.self = goes_on c.args.self.now c.done.new.self from i c.requires.whole d (c.in_ok-done.ensures.rest yes) in
-    on_ok c.settle.result (through c.args.self.now c.done.new.self c.settle.new.self (g.F.Files.holds c.args.files.now) (g.F.Files.holds c.done.new.files) (g.D.SwapDev.image c.args.swap.now)
-    (g.D.SwapDev.image c.done.new.swap) (g.D.SwapDev.image c.settle.new.swap) o
+    on_ok c.settle.result (through _ _ c.args.self.now c.done.new.self c.settle.new.self (g.F.Files.holds c.args.files.now) (g.F.Files.holds c.done.new.files) (g.D.SwapDev.image c.args.swap.now)
+    (g.D.SwapDev.image c.done.new.swap) (g.D.SwapDev.image c.settle.new.swap) (beside_done c.args.self.now c.done.new.self (c.in_ok-done.ensures.rest yes)) (c.in_ok-done.ensures.step yes)
     c.in_ok-done.ensures.outside.files.holds c.in_ok-done.ensures.keeps) c.settle.ensures.keeps
 
 pub returns-then-branch-clause-stops : goal.returns-then-branch-clause-stops

@@ -1,11 +1,10 @@
-use Rattle.std.proofs.Common.{◌≡◌, ℕ, ◌*◌, ◌<◌, ◌≤◌, List, length, map, drop, Some, refl, sym, ap, ◌∙◌, subst, arith, rules}
+use Rattle.std.proofs.Common.{◌≡◌, ℕ, ◌*◌, ◌<◌, ◌≤◌, List, [], ◌∷◌, ◌++◌, length, map, drop, Some, refl, sym, ap, ◌∙◌, subst, arith, rules}
 use Rattle.vm_facts.specs.declared.entry.Entry.{Entry}
-use Rattle.swap_book.specs.Holdings.{Holdings}
+use Rattle.vm_facts.specs.declared.entry.Entry.TheVariants as entries
 use Rattle.transfer_ring.specs.declared.transfer.Finished.TheVariants as answers
 use Rattle.page_model.specs.Placement.{FromSwap, FromFile}
 use Rattle.kernel_model.specs.Kernel.{Kernel, done_step}
 use Rattle.kernel_model.specs.Sound.{TextFits}
-use Rattle.table_steps.specs.Known.{Known}
 use Rattle.table_steps.specs.View.{transfer_shown}
 use Rattle.table_steps.specs.Done.{sources, ReadsTold, StandsTold, ImageAfter, SpoilsAfter, OldestReadsFrom}
 use Rattle.machine_state.proofs.Ends.{brought}
@@ -14,18 +13,22 @@ use Rattle.table_steps.specs.Tables.{Tables}
 use Rattle.table_steps.specs.Sourced.{AreSourced}
 use Rattle.table_steps.specs.Files.{AreFiles, AreImages}
 use Rattle.table_steps.specs.Machine.{Standing, lists_of, kernel_by, image_at, images_of, before_of}
-use Rattle.machine_state.proofs.Knowing.{known_of}
-use Rattle.machine_state.proofs.Standings.{no_room, running, stands_now, whole_now, stands_on, runs_by, runs_within}
-use Rattle.table_steps.proofs.Stills.{Still, still_along, pushed}
+use Rattle.machine_state.proofs.Knowing.{known_of, known_now}
+use Rattle.machine_state.proofs.Standings.{running, stands_now}
+use Rattle.machine_state.proofs.Stepping.{Kept, Stepped, stepped}
+use Rattle.machine_state.proofs.HoldingSteps.{page_keeps}
+use Rattle.machine_state.proofs.StepRuns.{done_runs}
+use Rattle.table_steps.proofs.Stills.{pushed}
 use Rattle.machine_state.proofs.Reaches.{reachable}
-use Rattle.machine_state.proofs.Dones.{Came, came, done_back, was_lists, back_known, Doing, done_kernel, done_runs, Before, head_sourced, rest_sourced, done_image, done_told, spoiled_image, done_keeps}
+use Rattle.machine_state.proofs.Dones.{Came, came, done_back, was_lists, back_known, Doing, done_kernel, before, rest_sourced, done_image, done_told, spoiled_image, done_keeps}
 use Rattle.machine_state.proofs.FailedReads.{file_failed, swap_read_failed}
 use Rattle.machine_state.proofs.Losing.{lost}
+use Rattle.machine_state.proofs.machine.Machine.done.Given.{Over}
 use Rattle.machine_state.proofs.machine.Machine.done.Goals as goal
 
 pub complete_oldest-requires : goal.complete_oldest-requires
 complete_oldest-requires g c =
-    let now = stands_now c.self.inside c.args.self.now c.self.invariant c.self.view_is c.requires.running in
+    let now = stands_now c.self.inside c.args.self.now c.self.invariant c.self.view_is c.requires.ready.running.runs in
     let t : Tables = c.self.inside.tables in
     let area = c.requires.area in
     let size = now.stands.book in
@@ -36,86 +39,65 @@ complete_oldest-requires g c =
 pub land-requires : goal.land-requires
 land-requires g c =
     let t : Tables = c.self.inside.tables in
-    let r = running c.self.inside c.args.self.now c.self.invariant c.self.view_is c.requires.running c.requires.whole in
-    let k = known_of c.self.inside c.frames-frames.ensures.sound r in
+    let k = known_now c.self.inside c.args.self.now c.self.invariant c.self.view_is c.requires.ready c.frames-frames.ensures.sound in
     let e = came t.ring (g.F.Files.holds c.args.files.now) (g.D.SwapDev.image c.args.swap.now) (g.D.SwapDev.image c.complete_oldest.new.swap) _ c.in-Done.ensures.ends (λ i. let x = i in cc) in
     back_known t c.complete_oldest.new.self e.oldest c.in-Done.transfer (was_lists t c.complete_oldest.new.self e.rest e.oldest e.ring_is c.in-Done.ensures.rest)
     (done_back e.oldest c.in-Done.transfer _ _ _ e.ends) k
 
-pub invariant_of-self-in-Done : goal.invariant_of-self-in-Done
-invariant_of-self-in-Done g c =
-    runs_within _ (runs_by c.self.inside c.args.self.now c.self.view_is c.requires.running) (λ _.
+back : (g : Over) (c : goal.After-push_reserved g)
+    → Came c.self.inside.tables.ring (g.F.Files.holds c.args.files.now) (g.D.SwapDev.image c.args.swap.now) (g.D.SwapDev.image c.complete_oldest.new.swap)
+    (answers.Done c.in-Done.transfer)
+back g c = came _ _ _ _ _ c.in-Done.ensures.ends (λ i. let x = i in cc)
+
+step : (g : Over) (c : goal.After-push_reserved g)
+    → Stepped c.self.inside
+    (record c.self.inside { tables = c.land.new.tables; journal = c.push_reserved.new.self; room = c.make_room.new.room }) c.args.self.now
+    (done_step (kernel_by c.self.inside.tables c.self.inside.journal.items c.self.inside.stopped) (brought c.in-Done.transfer))
+step g c =
     let t : Tables = c.self.inside.tables in
-    let r = running c.self.inside c.args.self.now c.self.invariant c.self.view_is c.requires.running c.requires.whole in
-    let k : Known (lists_of t) = known_of c.self.inside c.frames-frames.ensures.sound r in
-    let now = stands_now c.self.inside c.args.self.now c.self.invariant c.self.view_is c.requires.running in
-    let whole = whole_now c.self.inside c.args.self.now c.self.view_is c.requires.whole in
-    let e : Came t.ring (g.F.Files.holds c.args.files.now) (g.D.SwapDev.image c.args.swap.now) (g.D.SwapDev.image c.complete_oldest.new.swap) (answers.Done c.in-Done.transfer) =
-    came t.ring (g.F.Files.holds c.args.files.now) (g.D.SwapDev.image c.args.swap.now) (g.D.SwapDev.image c.complete_oldest.new.swap) (answers.Done c.in-Done.transfer) c.in-Done.ensures.ends
-    (λ i. let x = i in cc) in
-    let n : Flight = c.in-Done.transfer in
     let w : Tables = c.land.new.tables in
-    let l : List Flight = c.complete_oldest.new.self in
-    let d : Doing t w l e.oldest n = record {
-      known = k;
-      was = was_lists t l e.rest e.oldest e.ring_is c.in-Done.ensures.rest;
-      back = done_back e.oldest n (g.F.Files.holds c.args.files.now) (g.D.SwapDev.image c.args.swap.now) (g.D.SwapDev.image c.complete_oldest.new.swap) e.ends;
+    let k : Kernel = kernel_by t c.self.inside.journal.items c.self.inside.stopped in
+    let n : Flight = c.in-Done.transfer in
+    let r = running c.self.inside c.args.self.now c.self.invariant c.self.view_is c.requires.ready in
+    let e = back g c in
+    let d : Doing t w c.complete_oldest.new.self e.oldest n = record {
+      known = known_of c.self.inside c.frames-frames.ensures.sound r;
+      was = was_lists t c.complete_oldest.new.self e.rest e.oldest e.ring_is c.in-Done.ensures.rest;
+      back = done_back e.oldest n _ _ _ e.ends;
       place = c.land.ensures.place;
       all = c.land.ensures.all;
     } in
-    let b : Kernel = kernel_by t c.self.inside.journal.items c.self.inside.stopped in
-    let is : kernel_by w c.push_reserved.new.self.items c.self.inside.stopped ≡ done_step b (brought n) =
-    ap (λ (j : List Entry). kernel_by w j c.self.inside.stopped) c.push_reserved.ensures.items
-    ∙ done_kernel t w l e.oldest n c.make_room.new.journal.items c.self.inside.stopped d
-    ∙ ap (λ (j : List Entry). done_step (kernel_by t j c.self.inside.stopped) (brought n)) c.make_room.ensures.same in
-    let u = d.all.rest in
-    let s : Still t w = still_along _ _ _ u (record { params = refl; images = refl; book = refl; found = refl; processes = refl; next_pid = refl; next_sid = refl }) in
-    let left : w.ring ≡ e.rest = ap (λ (x : Tables). x.ring) u ∙ c.in-Done.ensures.rest ∙ ap (drop 1) e.ring_is in
-    record {
-      stands = stands_on c.self.inside w c.push_reserved.new.self.items c.self.inside.stopped now.stands whole s
-          (done_runs t w l e.oldest n b (kernel_by w c.push_reserved.new.self.items c.self.inside.stopped) d refl is r)
-          (subst (AreSourced (images_of t) (image_at t) (before_of t) t.book.size) (sym left)
-          (rest_sourced (images_of t) (image_at t) (before_of t) t.book.size t.ring e.rest e.oldest e.ring_is now.stands.ring))
-          d.all.images
-          (pushed c.self.inside.journal.items c.make_room.new.journal.items c.push_reserved.new.self.items _ t.params.journal c.make_room.ensures.same c.push_reserved.ensures.items
-          c.in_ok-make_room.ensures.ok.0);
-      none_lost = now.none_lost;
-      room = no_room _ _ _ c.make_room.ensures.room;
+    let journal : c.push_reserved.new.self.items ≡ c.self.inside.journal.items ++ entries.Done ∷ [] =
+    c.push_reserved.ensures.items ∙ ap (λ (j : List Entry). j ++ entries.Done ∷ []) c.make_room.ensures.same in
+    let left : w.ring ≡ e.rest = ap (λ (x : Tables). x.ring) d.all.rest ∙ c.in-Done.ensures.rest ∙ ap (drop 1) e.ring_is in
+    let now = stands_now c.self.inside c.args.self.now c.self.invariant c.self.view_is c.requires.ready.running.runs in
+    stepped c.self.inside _ c.args.self.now _ c.self.invariant c.self.view_is c.requires.ready (record {
+      kept = subst (Kept t) (sym d.all.rest) (record { params = refl; images = refl; book = refl; found = refl; next_pid = refl; next_sid = refl; records = now.stands.records });
+      is = ap (λ (j : List Entry). kernel_by w j c.self.inside.stopped) journal ∙ done_kernel t w c.complete_oldest.new.self e.oldest n c.self.inside.journal.items c.self.inside.stopped d;
+      runs = done_runs t.book.size k (lists_of t) _ r d.all.tied (brought n);
+      ring = subst (AreSourced (images_of t) (image_at t) (before_of t) t.book.size) (sym left)
+          (rest_sourced (images_of t) (image_at t) (before_of t) t.book.size t.ring e.rest e.oldest e.ring_is now.stands.ring);
+      images = d.all.images;
+      holders = page_keeps k (done_step k (brought n)) [] 0 entries.Done refl refl;
+      grown = pushed _ _ _ _ _ refl journal c.in_ok-make_room.ensures.ok.0;
+      stopped = refl;
+      lost = refl;
+      room = c.make_room.ensures.room;
     })
+
+pub invariant_of-self-in-Done : goal.invariant_of-self-in-Done
+invariant_of-self-in-Done g c = (step g c).inside
 
 pub returns-in-Done : goal.returns-in-Done
 returns-in-Done g c =
     let t : Tables = c.self.inside.tables in
-    let r = running c.self.inside c.args.self.now c.self.invariant c.self.view_is c.requires.running c.requires.whole in
-    let k : Known (lists_of t) = known_of c.self.inside c.frames-frames.ensures.sound r in
-    let now = stands_now c.self.inside c.args.self.now c.self.invariant c.self.view_is c.requires.running in
-    let whole = whole_now c.self.inside c.args.self.now c.self.view_is c.requires.whole in
-    let e : Came t.ring (g.F.Files.holds c.args.files.now) (g.D.SwapDev.image c.args.swap.now) (g.D.SwapDev.image c.complete_oldest.new.swap) (answers.Done c.in-Done.transfer) =
-    came t.ring (g.F.Files.holds c.args.files.now) (g.D.SwapDev.image c.args.swap.now) (g.D.SwapDev.image c.complete_oldest.new.swap) (answers.Done c.in-Done.transfer) c.in-Done.ensures.ends
-    (λ i. let x = i in cc) in
+    let r = running c.self.inside c.args.self.now c.self.invariant c.self.view_is c.requires.ready in
+    let e = back g c in
     let n : Flight = c.in-Done.transfer in
-    let w : Tables = c.land.new.tables in
-    let l : List Flight = c.complete_oldest.new.self in
-    let d : Doing t w l e.oldest n = record {
-      known = k;
-      was = was_lists t l e.rest e.oldest e.ring_is c.in-Done.ensures.rest;
-      back = done_back e.oldest n (g.F.Files.holds c.args.files.now) (g.D.SwapDev.image c.args.swap.now) (g.D.SwapDev.image c.complete_oldest.new.swap) e.ends;
-      place = c.land.ensures.place;
-      all = c.land.ensures.all;
-    } in
     let b : Kernel = kernel_by t c.self.inside.journal.items c.self.inside.stopped in
-    let is : kernel_by w c.push_reserved.new.self.items c.self.inside.stopped ≡ done_step b (brought n) =
-    ap (λ (j : List Entry). kernel_by w j c.self.inside.stopped) c.push_reserved.ensures.items
-    ∙ done_kernel t w l e.oldest n c.make_room.new.journal.items c.self.inside.stopped d
-    ∙ ap (λ (j : List Entry). done_step (kernel_by t j c.self.inside.stopped) (brought n)) c.make_room.ensures.same in
-    let f : Before t (images_of t) b e.oldest e.rest t.book.size = record {
-      place = refl;
-      frames = refl;
-      ring = e.ring_is;
-      known = k;
-      sourced = head_sourced (images_of t) (image_at t) t.book.holdings t.book.size t.ring e.rest e.oldest e.ring_is
-          (subst (λ (hs : Holdings). AreSourced (images_of t) (image_at t) hs t.book.size t.ring) whole now.stands.ring);
-    } in
+    let f = before c.self.inside c.args.self.now e.oldest e.rest c.self.invariant c.self.view_is c.requires.ready c.frames-frames.ensures.sound e.ring_is in
+    let z = step g c in
+    let files = subst (λ (s : Standing). AreFiles s.images (g.F.Files.holds c.args.files.now)) (sym c.self.view_is) c.requires.files in
     record {
       idle = search rules;
       still = search rules;
@@ -123,28 +105,22 @@ returns-in-Done g c =
           record {
             some = subst (λ (s : Standing). 0 < length s.kernel.place.transfers) c.self.view_is (subst (λ (ts : List Flight). 0 < length (map transfer_shown ts)) (sym e.ring_is) (omega arith));
             read = brought n;
-            step = is ∙ ap (λ (s : Standing). done_step s.kernel (brought n)) c.self.view_is;
+            step = z.is ∙ ap (λ (s : Standing). done_step s.kernel (brought n)) c.self.view_is;
             told = subst (λ (s : Standing). ReadsTold (sources s (g.F.Files.holds c.args.files.now)) (g.D.SwapDev.image c.args.swap.now) s.kernel (brought n)) c.self.view_is
                 (done_told t (images_of t) b e.oldest n e.rest t.book.size (g.F.Files.holds c.args.files.now) (g.D.SwapDev.image c.args.swap.now)
-                (g.D.SwapDev.image c.complete_oldest.new.swap) f e.ends
-                (subst (λ (s : Standing). AreFiles s.images (g.F.Files.holds c.args.files.now)) (sym c.self.view_is) c.requires.files) c.look.ensures);
+                (g.D.SwapDev.image c.complete_oldest.new.swap) f e.ends files c.look.ensures);
           };
-      rest = search rules;
-      keeps = λ images flat loads fits stands.
+      rest = λ _. z.rest;
+      keeps = λ images flat loads.
           let area = c.requires.area in
-          let size = now.stands.book in
+          let size = (stands_now c.self.inside c.args.self.now c.self.invariant c.self.view_is c.requires.ready.running.runs).stands.book in
           let p = ap (λ (s : Standing). s.params.swap_blocks) c.self.view_is in
           let long : (image : List ℕ) → (g.D.SwapDev.image c.args.swap.now) ≡ Some image → 512 * t.book.size ≤ length image =
           λ image i. let m = g.met.D.SwapDev.whole c.args.swap.now image i in omega arith in
-          subst (λ (x : Kernel). StandsTold x images (g.D.SwapDev.image c.complete_oldest.new.swap) flat) (sym is)
-          (done_keeps t (images_of t) b e.oldest n e.rest t.book.size (g.F.Files.holds c.args.files.now) (g.D.SwapDev.image c.args.swap.now)
-          (g.D.SwapDev.image c.complete_oldest.new.swap) images flat f e.ends r.sound
-          (subst (λ (s : Standing). AreFiles s.images (g.F.Files.holds c.args.files.now)) (sym c.self.view_is) c.requires.files)
-          (subst (λ (s : Standing). AreImages s.images (g.F.Files.holds c.args.files.now) images) (sym c.self.view_is) loads)
-          c.look.ensures
-          (subst (λ (s : Standing). TextFits images s.kernel.place) (sym c.self.view_is) fits)
-          long
-          (subst (λ (s : Standing). StandsTold s.kernel images (g.D.SwapDev.image c.args.swap.now) flat) (sym c.self.view_is) stands));
+          z.says (λ (k l : Kernel). TextFits images k.place → StandsTold k images (g.D.SwapDev.image c.args.swap.now) flat → StandsTold l images (g.D.SwapDev.image c.complete_oldest.new.swap) flat)
+          (λ fits. done_keeps t (images_of t) b e.oldest n e.rest t.book.size (g.F.Files.holds c.args.files.now) (g.D.SwapDev.image c.args.swap.now)
+          (g.D.SwapDev.image c.complete_oldest.new.swap) images flat f e.ends r.sound files
+          (subst (λ (s : Standing). AreImages s.images (g.F.Files.holds c.args.files.now) images) (sym c.self.view_is) loads) c.look.ensures fits long);
       swapped = subst (λ (s : Standing). ImageAfter s.kernel (g.D.SwapDev.image c.args.swap.now) (g.D.SwapDev.image c.complete_oldest.new.swap)) c.self.view_is (done_image t (images_of t) b e.oldest
           c.in-Done.transfer e.rest t.book.size (g.F.Files.holds c.args.files.now) (g.D.SwapDev.image c.args.swap.now) (g.D.SwapDev.image c.complete_oldest.new.swap) f e.ends);
       spoiled = search rules;
@@ -156,34 +132,24 @@ returns-in-Done g c =
         files = record { leads = search rules; holds = search rules; open_faults = search rules; page_faults = search rules };
         swap = record { leads = search rules; blocks = search rules; read_faults = search rules; write_faults = search rules };
       };
+      goes_on = z.goes_on;
     }
 
 pub returns-in-SwapWriteFault-clause-spoiled : goal.returns-in-SwapWriteFault-clause-spoiled
 returns-in-SwapWriteFault-clause-spoiled g c =
     let t : Tables = c.self.inside.tables in
-    let r = running c.self.inside c.args.self.now c.self.invariant c.self.view_is c.requires.running c.requires.whole in
-    let k : Known (lists_of t) = known_of c.self.inside c.frames-frames.ensures.sound r in
-    let now = stands_now c.self.inside c.args.self.now c.self.invariant c.self.view_is c.requires.running in
-    let whole = whole_now c.self.inside c.args.self.now c.self.view_is c.requires.whole in
     let e : Came t.ring (g.F.Files.holds c.args.files.now) (g.D.SwapDev.image c.args.swap.now) (g.D.SwapDev.image c.complete_oldest.new.swap) (answers.SwapWriteFault c.in-SwapWriteFault.transfer) =
     came t.ring (g.F.Files.holds c.args.files.now) (g.D.SwapDev.image c.args.swap.now) (g.D.SwapDev.image c.complete_oldest.new.swap)
     (answers.SwapWriteFault c.in-SwapWriteFault.transfer) c.in-SwapWriteFault.ensures.ends (λ i. let x = i in cc) in
     let b : Kernel = kernel_by t c.self.inside.journal.items c.self.inside.stopped in
-    let f : Before t (images_of t) b e.oldest e.rest t.book.size = record {
-      place = refl;
-      frames = refl;
-      ring = e.ring_is;
-      known = k;
-      sourced = head_sourced (images_of t) (image_at t) t.book.holdings t.book.size t.ring e.rest e.oldest e.ring_is
-          (subst (λ (hs : Holdings). AreSourced (images_of t) (image_at t) hs t.book.size t.ring) whole now.stands.ring);
-    } in
+    let f = before c.self.inside c.args.self.now e.oldest e.rest c.self.invariant c.self.view_is c.requires.ready c.frames-frames.ensures.sound e.ring_is in
     subst (λ (s : Standing). SpoilsAfter s.kernel (g.D.SwapDev.image c.args.swap.now) (g.D.SwapDev.image c.complete_oldest.new.swap)) c.self.view_is (spoiled_image t (images_of t) b e.oldest
     c.in-SwapWriteFault.transfer e.rest t.book.size (g.F.Files.holds c.args.files.now) (g.D.SwapDev.image c.args.swap.now) (g.D.SwapDev.image c.complete_oldest.new.swap) f e.ends)
 
 pub returns-in-FileFault-clause-cause : goal.returns-in-FileFault-clause-cause
 returns-in-FileFault-clause-cause g c =
     let t : Tables = c.self.inside.tables in
-    let now = stands_now c.self.inside c.args.self.now c.self.invariant c.self.view_is c.requires.running in
+    let now = stands_now c.self.inside c.args.self.now c.self.invariant c.self.view_is c.requires.ready.running.runs in
     subst (λ (s : Standing). OldestReadsFrom FromFile s.kernel.place.transfers) c.self.view_is
     (file_failed (images_of t) (image_at t) (before_of t) t.book.size t.ring c.in-FileFault.transfer (g.F.Files.holds c.args.files.now) (g.D.SwapDev.image c.args.swap.now)
     (g.D.SwapDev.image c.complete_oldest.new.swap) now.stands.ring c.in-FileFault.ensures.ends)
@@ -191,7 +157,7 @@ returns-in-FileFault-clause-cause g c =
 pub returns-in-SwapReadFault-clause-cause : goal.returns-in-SwapReadFault-clause-cause
 returns-in-SwapReadFault-clause-cause g c =
     let t : Tables = c.self.inside.tables in
-    let now = stands_now c.self.inside c.args.self.now c.self.invariant c.self.view_is c.requires.running in
+    let now = stands_now c.self.inside c.args.self.now c.self.invariant c.self.view_is c.requires.ready.running.runs in
     subst (λ (s : Standing). OldestReadsFrom FromSwap s.kernel.place.transfers) c.self.view_is
     (swap_read_failed (images_of t) (image_at t) (before_of t) t.book.size t.ring c.in-SwapReadFault.transfer (g.F.Files.holds c.args.files.now) (g.D.SwapDev.image c.args.swap.now)
     (g.D.SwapDev.image c.complete_oldest.new.swap) now.stands.ring c.in-SwapReadFault.ensures.ends)
@@ -199,32 +165,29 @@ returns-in-SwapReadFault-clause-cause g c =
 pub returns-in-FileFault-clause-lost : goal.returns-in-FileFault-clause-lost
 returns-in-FileFault-clause-lost g c =
     let t : Tables = c.self.inside.tables in
-    let r = running c.self.inside c.args.self.now c.self.invariant c.self.view_is c.requires.running c.requires.whole in
     let e : Came t.ring (g.F.Files.holds c.args.files.now) (g.D.SwapDev.image c.args.swap.now) (g.D.SwapDev.image c.complete_oldest.new.swap) (answers.FileFault c.in-FileFault.transfer) =
     came t.ring (g.F.Files.holds c.args.files.now) (g.D.SwapDev.image c.args.swap.now) (g.D.SwapDev.image c.complete_oldest.new.swap)
     (answers.FileFault c.in-FileFault.transfer) c.in-FileFault.ensures.ends (λ i. let x = i in cc) in
     lost c.self.inside c.complete_oldest.new.self e.rest e.oldest c.args.self.now c.make_room.new.journal.items c.lose.new.stopped _ e.ring_is c.in-FileFault.ensures.rest
-    (known_of c.self.inside c.frames-frames.ensures.sound r) c.self.view_is
+    (known_now c.self.inside c.args.self.now c.self.invariant c.self.view_is c.requires.ready c.frames-frames.ensures.sound) c.self.view_is
     c.make_room.ensures.same c.lose.ensures
 
 pub returns-in-SwapReadFault-clause-lost : goal.returns-in-SwapReadFault-clause-lost
 returns-in-SwapReadFault-clause-lost g c =
     let t : Tables = c.self.inside.tables in
-    let r = running c.self.inside c.args.self.now c.self.invariant c.self.view_is c.requires.running c.requires.whole in
     let e : Came t.ring (g.F.Files.holds c.args.files.now) (g.D.SwapDev.image c.args.swap.now) (g.D.SwapDev.image c.complete_oldest.new.swap) (answers.SwapReadFault c.in-SwapReadFault.transfer) =
     came t.ring (g.F.Files.holds c.args.files.now) (g.D.SwapDev.image c.args.swap.now) (g.D.SwapDev.image c.complete_oldest.new.swap)
     (answers.SwapReadFault c.in-SwapReadFault.transfer) c.in-SwapReadFault.ensures.ends (λ i. let x = i in cc) in
     lost c.self.inside c.complete_oldest.new.self e.rest e.oldest c.args.self.now c.make_room.new.journal.items c.lose-in-SwapReadFault.new.stopped _ e.ring_is c.in-SwapReadFault.ensures.rest
-    (known_of c.self.inside c.frames-frames.ensures.sound r) c.self.view_is
+    (known_now c.self.inside c.args.self.now c.self.invariant c.self.view_is c.requires.ready c.frames-frames.ensures.sound) c.self.view_is
     c.make_room.ensures.same c.lose-in-SwapReadFault.ensures
 
 pub returns-in-SwapWriteFault-clause-lost : goal.returns-in-SwapWriteFault-clause-lost
 returns-in-SwapWriteFault-clause-lost g c =
     let t : Tables = c.self.inside.tables in
-    let r = running c.self.inside c.args.self.now c.self.invariant c.self.view_is c.requires.running c.requires.whole in
     let e : Came t.ring (g.F.Files.holds c.args.files.now) (g.D.SwapDev.image c.args.swap.now) (g.D.SwapDev.image c.complete_oldest.new.swap) (answers.SwapWriteFault c.in-SwapWriteFault.transfer) =
     came t.ring (g.F.Files.holds c.args.files.now) (g.D.SwapDev.image c.args.swap.now) (g.D.SwapDev.image c.complete_oldest.new.swap)
     (answers.SwapWriteFault c.in-SwapWriteFault.transfer) c.in-SwapWriteFault.ensures.ends (λ i. let x = i in cc) in
     lost c.self.inside c.complete_oldest.new.self e.rest e.oldest c.args.self.now c.make_room.new.journal.items c.lose-in-SwapWriteFault.new.stopped _ e.ring_is c.in-SwapWriteFault.ensures.rest
-    (known_of c.self.inside c.frames-frames.ensures.sound r) c.self.view_is
+    (known_now c.self.inside c.args.self.now c.self.invariant c.self.view_is c.requires.ready c.frames-frames.ensures.sound) c.self.view_is
     c.make_room.ensures.same c.lose-in-SwapWriteFault.ensures

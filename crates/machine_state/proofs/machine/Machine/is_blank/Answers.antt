@@ -11,7 +11,7 @@ use Rattle.machine_state.proofs.machine.Machine.is_blank.Goals as goal
 pub returns : goal.returns
 returns c =
     let t : Tables = c.self.inside.tables in
-    let now = stands_now c.self.inside c.args.self.now c.self.invariant c.self.view_is c.requires.running in
+    let now = stands_now c.self.inside c.args.self.now c.self.invariant c.self.view_is c.requires.running.runs in
     c.is_zero.ensures
     ∙ sym (blank_is (lists_of t) c.args.page (known_by t c.self.inside.journal.items c.self.inside.stopped c.frames-frames.ensures.sound now.stands)
     (subst (λ (s : Standing). IsThere s.kernel.place c.args.page) (sym c.self.view_is) c.requires.there))

@@ -1,15 +1,17 @@
-use Rattle.std.proofs.Common.{◌≡◌, ℕ, Option, IsSome, refl, sym, ap, ◌∙◌, subst}
+use Rattle.std.proofs.Common.{ℕ, Option, None, IsSome, refl, sym, ap, ◌∙◌, subst}
 use Rattle.vm_facts.specs.declared.entry.Entry.TheVariants as entries
 use Rattle.proc_table.specs.declared.process.Proc.{Proc as Record}
 use Rattle.kernel_model.specs.Kernel.{Kernel}
 use Rattle.kernel_model.specs.ChangeStep.{ran_by}
-use Rattle.table_steps.specs.Tables.{Tables}
+use Rattle.table_steps.specs.Conditions.{ChangesFlat}
+use Rattle.flat_state.specs.declared.change.Change.TheVariants.{Keep}
 use Rattle.table_steps.specs.Joined.{instructions_in}
 use Rattle.table_steps.specs.UserMemory.{CanLend}
 use Rattle.table_steps.specs.Machine.{Standing, kernel_by}
 use Rattle.table_steps.proofs.Joins.{runs_kind, last_is, joined_within}
-use Rattle.machine_state.proofs.Standings.{stands_now, room_of, runs_by, runs_within}
-use Rattle.machine_state.proofs.Instructions.{has_record, ran_changes, regs_kernel, regs_stand, regs_rest}
+use Rattle.machine_state.proofs.Standings.{running, stands_now, room_of}
+use Rattle.machine_state.proofs.Stepping.{Stepped, stepped}
+use Rattle.machine_state.proofs.Instructions.{has_record, ran_changes, regs_steps}
 use Rattle.machine_state.proofs.machine.Machine.ran.Goals as goal
 
 pub set_regs-requires : goal.set_regs-requires
@@ -26,38 +28,30 @@ add_instruction-requires-clause-fits c count h =
 
 pub add_instruction-requires-clause-room : goal.add_instruction-requires-clause-room
 add_instruction-requires-clause-room c h =
-    let now = stands_now c.self.inside c.args.self.now c.self.invariant c.self.view_is c.requires.running in
+    let now = stands_now c.self.inside c.args.self.now c.self.invariant c.self.view_is c.requires.ready.running.runs in
     (room_of c.self.inside c.args.pid now (ap (λ (s : Standing). s.room) c.self.view_is ∙ c.requires.room) h).1
 
+step : (c : goal.After-add_instruction)
+    → Stepped c.self.inside (record c.self.inside { tables = c.set_regs.new.self; journal = c.add_instruction.new.journal; room = None }) c.args.self.now
+    (ran_by (kernel_by c.self.inside.tables c.self.inside.journal.items c.self.inside.stopped) c.args.pid c.args.regs.now (entries.Ran c.args.pid 1))
+step c =
+    let now = stands_now c.self.inside c.args.self.now c.self.invariant c.self.view_is c.requires.ready.running.runs in
+    stepped c.self.inside _ c.args.self.now _ c.self.invariant c.self.view_is c.requires.ready
+    (regs_steps c.self.inside _ c.args.pid c.args.regs.now 1 c.set_regs.ensures now (running c.self.inside c.args.self.now c.self.invariant c.self.view_is c.requires.ready) c.add_instruction.ensures
+    (joined_within (instructions_in c.args.pid) (λ (n : ℕ). entries.Ran c.args.pid n) (runs_kind c.args.pid) c.self.inside.journal.items c.add_instruction.new.journal.items
+    c.self.inside.tables.params.journal c.add_instruction.ensures now.stands.within
+    (λ h. (room_of c.self.inside c.args.pid now (ap (λ (s : Standing). s.room) c.self.view_is ∙ c.requires.room) h).0)) refl refl refl)
+
 pub invariant_of-self : goal.invariant_of-self
-invariant_of-self c =
-    runs_within _ (runs_by c.self.inside c.args.self.now c.self.view_is c.requires.running) (λ _.
-    let t : Tables = c.self.inside.tables in
-    let now = stands_now c.self.inside c.args.self.now c.self.invariant c.self.view_is c.requires.running in
+invariant_of-self c = (step c).inside
+
+pub returns : goal.returns
+returns c =
+    let z = step c in
+    let is = z.is ∙ ap (λ (s : Standing). ran_by s.kernel c.args.pid c.args.regs.now (entries.Ran c.args.pid 1)) c.self.view_is in
     record {
-      stands = regs_stand t c.set_regs.new.self c.args.pid c.args.regs.now c.set_regs.ensures c.self.inside.journal.items c.add_instruction.new.journal.items c.self.inside.stopped
-          c.self.inside.stopped 1 now.stands c.add_instruction.ensures refl
-          (joined_within (instructions_in c.args.pid) (λ (n : ℕ). entries.Ran c.args.pid n) (runs_kind c.args.pid) c.self.inside.journal.items c.add_instruction.new.journal.items t.params.journal
-          c.add_instruction.ensures now.stands.within
-          (λ h. (room_of c.self.inside c.args.pid now (ap (λ (s : Standing). s.room) c.self.view_is ∙ c.requires.room) h).0));
-      none_lost = now.none_lost;
-      room = tt;
-    })
-
-pub returns-clause-step : goal.returns-clause-step
-returns-clause-step c =
-    regs_kernel c.self.inside.tables c.set_regs.new.self c.args.pid c.args.regs.now c.set_regs.ensures c.self.inside.journal.items c.add_instruction.new.journal.items c.self.inside.stopped
-    c.self.inside.stopped 1 c.add_instruction.ensures refl
-    ∙ ap (λ (s : Standing). ran_by s.kernel c.args.pid c.args.regs.now (entries.Ran c.args.pid 1)) c.self.view_is
-
-pub returns-clause-rest : goal.returns-clause-rest
-returns-clause-rest c = regs_rest c.self.inside c.args.self.now c.set_regs.new.self c.args.pid c.args.regs.now c.set_regs.ensures c.self.view_is _
-
-pub returns-clause-keeps : goal.returns-clause-keeps
-returns-clause-keeps c images image flat coupled =
-    let is : kernel_by c.set_regs.new.self c.add_instruction.new.journal.items c.self.inside.stopped ≡ ran_by c.args.self.now.kernel c.args.pid c.args.regs.now (entries.Ran c.args.pid 1) =
-    regs_kernel c.self.inside.tables c.set_regs.new.self c.args.pid c.args.regs.now c.set_regs.ensures c.self.inside.journal.items c.add_instruction.new.journal.items c.self.inside.stopped
-    c.self.inside.stopped 1 c.add_instruction.ensures refl
-    ∙ ap (λ (s : Standing). ran_by s.kernel c.args.pid c.args.regs.now (entries.Ran c.args.pid 1)) c.self.view_is in
-    subst (λ (k : Kernel). Rattle.table_steps.specs.Conditions.ChangesFlat c.args.self.now.kernel k c.args.pid c.args.regs.now Rattle.flat_state.specs.declared.change.Change.TheVariants.Keep) (sym is)
-    (ran_changes c.args.self.now.kernel c.args.pid c.args.regs.now c.requires.can) images image flat coupled
+      step = is;
+      rest = z.rest;
+      keeps = subst (λ (k : Kernel). ChangesFlat c.args.self.now.kernel k c.args.pid c.args.regs.now Keep) (sym is) (ran_changes c.args.self.now.kernel c.args.pid c.args.regs.now c.requires.can);
+      goes_on = z.goes_on;
+    }

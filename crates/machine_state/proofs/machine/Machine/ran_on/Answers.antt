@@ -1,16 +1,16 @@
-use Rattle.std.proofs.Common.{◌≡◌, ℕ, List, Option, IsSome, is_some, true, refl, sym, ap, ◌∙◌, subst}
+use Rattle.std.proofs.Common.{◌≡◌, ℕ, List, Option, None, IsSome, is_some, true, refl, sym, ap, ◌∙◌, subst}
 use Rattle.vm_facts.specs.declared.entry.Entry.{Entry}
 use Rattle.vm_facts.specs.declared.entry.Entry.TheVariants as entries
 use Rattle.proc_table.specs.declared.process.Proc.{Proc as Record}
 use Rattle.kernel_model.specs.ChangeStep.{ran_by}
-use Rattle.table_steps.specs.Tables.{Tables}
 use Rattle.table_steps.specs.Joined.{instructions_in, last_says}
 use Rattle.table_steps.specs.UserMemory.{CanLend}
 use Rattle.table_steps.specs.Machine.{Standing, kernel_by}
 use Rattle.table_steps.proofs.Further.{some_last, more_within}
 use Rattle.table_steps.proofs.Joins.{runs_kind, last_is}
-use Rattle.machine_state.proofs.Standings.{stands_now, runs_by, runs_within}
-use Rattle.machine_state.proofs.Instructions.{has_record, regs_kernel, regs_stand, regs_rest}
+use Rattle.machine_state.proofs.Standings.{running, stands_now}
+use Rattle.machine_state.proofs.Stepping.{Stepped, stepped}
+use Rattle.machine_state.proofs.Instructions.{has_record, regs_steps}
 use Rattle.machine_state.proofs.machine.Machine.ran_on.Goals as goal
 
 pub set_regs-requires : goal.set_regs-requires
@@ -29,27 +29,28 @@ add_instructions-requires-clause-fits c count h =
     let l = last_is (instructions_in c.args.pid) (λ (n : ℕ). entries.Ran c.args.pid n) (runs_kind c.args.pid) c.self.inside.journal.items count h in
     c.requires.fits count l.0 (sym (ap (λ (s : Standing). s.kernel.journal) c.self.view_is) ∙ l.1)
 
-pub invariant_of-self : goal.invariant_of-self
-invariant_of-self c =
-    runs_within _ (runs_by c.self.inside c.args.self.now c.self.view_is c.requires.running) (λ _.
-    let t : Tables = c.self.inside.tables in
-    let now = stands_now c.self.inside c.args.self.now c.self.invariant c.self.view_is c.requires.running in
+step : (c : goal.After-add_instructions)
+    → Stepped c.self.inside (record c.self.inside { tables = c.set_regs.new.self; journal = c.add_instructions.new.journal; room = None }) c.args.self.now
+    (ran_by (kernel_by c.self.inside.tables c.self.inside.journal.items c.self.inside.stopped) c.args.pid c.args.regs.now (entries.Ran c.args.pid c.args.more))
+step c =
+    let now = stands_now c.self.inside c.args.self.now c.self.invariant c.self.view_is c.requires.ready.running.runs in
     let counts : is_some (last_says (instructions_in c.args.pid) c.self.inside.journal.items) ≡ true =
     ap (λ (s : Standing). is_some (last_says (instructions_in c.args.pid) s.kernel.journal)) c.self.view_is ∙ c.requires.counts in
     let last = some_last (last_says (instructions_in c.args.pid) c.self.inside.journal.items) counts in
+    stepped c.self.inside _ c.args.self.now _ c.self.invariant c.self.view_is c.requires.ready
+    (regs_steps c.self.inside _ c.args.pid c.args.regs.now c.args.more c.set_regs.ensures now (running c.self.inside c.args.self.now c.self.invariant c.self.view_is c.requires.ready)
+    c.add_instructions.ensures
+    (more_within c.self.inside.journal.items c.add_instructions.new.journal.items c.args.pid last.0 c.args.more c.self.inside.tables.params.journal last.1 c.add_instructions.ensures
+    now.stands.within) refl refl refl)
+
+pub invariant_of-self : goal.invariant_of-self
+invariant_of-self c = (step c).inside
+
+pub returns : goal.returns
+returns c =
+    let z = step c in
     record {
-      stands = regs_stand t c.set_regs.new.self c.args.pid c.args.regs.now c.set_regs.ensures
-          c.self.inside.journal.items c.add_instructions.new.journal.items c.self.inside.stopped c.self.inside.stopped c.args.more now.stands c.add_instructions.ensures refl
-          (more_within c.self.inside.journal.items c.add_instructions.new.journal.items c.args.pid last.0 c.args.more t.params.journal last.1 c.add_instructions.ensures now.stands.within);
-      none_lost = now.none_lost;
-      room = tt;
-    })
-
-pub returns-clause-step : goal.returns-clause-step
-returns-clause-step c =
-    regs_kernel c.self.inside.tables c.set_regs.new.self c.args.pid c.args.regs.now c.set_regs.ensures
-    c.self.inside.journal.items c.add_instructions.new.journal.items c.self.inside.stopped c.self.inside.stopped c.args.more c.add_instructions.ensures refl
-    ∙ ap (λ (s : Standing). ran_by s.kernel c.args.pid c.args.regs.now (entries.Ran c.args.pid c.args.more)) c.self.view_is
-
-pub returns-clause-rest : goal.returns-clause-rest
-returns-clause-rest c = regs_rest c.self.inside c.args.self.now c.set_regs.new.self c.args.pid c.args.regs.now c.set_regs.ensures c.self.view_is _
+      step = z.is ∙ ap (λ (s : Standing). ran_by s.kernel c.args.pid c.args.regs.now (entries.Ran c.args.pid c.args.more)) c.self.view_is;
+      rest = z.rest;
+      goes_on = z.goes_on;
+    }

@@ -45,7 +45,7 @@ returns-clause-of_image c =
 pub returns-clause-shows : goal.returns-clause-shows
 returns-clause-shows c =
     let t : Tables = c.self.inside.tables in
-    let now = stands_now c.self.inside c.args.self.now c.self.invariant c.self.view_is c.requires in
+    let now = stands_now c.self.inside c.args.self.now c.self.invariant c.self.view_is c.requires.runs in
     let k = known_by t c.self.inside.journal.items c.self.inside.stopped c.frames-frames.ensures.sound now.stands in
     subst (λ (s : Standing). (core : Frames) → ShowsCore s.kernel.place core → ShowsSpace s.kernel.place core c.at-space.result.now) c.self.view_is
     (space_shows (lists_of t) c.in_ok-index.index c.at-space.result.now k c.at-space.ensures.rising c.at-space.ensures.space

@@ -11,7 +11,7 @@ use Rattle.machine_state.proofs.machine.Machine.state_of.Goals as goal
 pub returns-in_err-place-clause-there : goal.returns-in_err-place-clause-there
 returns-in_err-place-clause-there c =
     let t : Tables = c.self.inside.tables in
-    let now = stands_now c.self.inside c.args.self.now c.self.invariant c.self.view_is c.requires in
+    let now = stands_now c.self.inside c.args.self.now c.self.invariant c.self.view_is c.requires.runs in
     let tells = place_tells (lists_of t) c.args.page (known_by t c.self.inside.journal.items c.self.inside.stopped c.frames-frames.ensures.sound now.stands) c.rise.ensures in
     let gone = tells_none (lists_of t) c.args.page (place_of (lists_of t) c.args.page) tells (sym c.place_of.ensures ∙ c.in_err-place.was) in
     ((λ h. absurd (none_some c.from_residual.result c.from_residual.ensures h)), (λ h. absurd (gone (subst (λ (s : Standing). IsThere s.kernel.place c.args.page) (sym c.self.view_is) h))))
@@ -19,7 +19,7 @@ returns-in_err-place-clause-there c =
 pub returns-clause-there : goal.returns-clause-there
 returns-clause-there c =
     let t : Tables = c.self.inside.tables in
-    let now = stands_now c.self.inside c.args.self.now c.self.invariant c.self.view_is c.requires in
+    let now = stands_now c.self.inside c.args.self.now c.self.invariant c.self.view_is c.requires.runs in
     let tells = place_tells (lists_of t) c.args.page (known_by t c.self.inside.journal.items c.self.inside.stopped c.frames-frames.ensures.sound now.stands) c.rise.ensures in
     let there = tells_some (lists_of t) c.args.page (place_of (lists_of t) c.args.page) c.in_ok-place.place tells (sym c.place_of.ensures ∙ c.in_ok-place.was) in
     ((λ h. subst (λ (s : Standing). IsThere s.kernel.place c.args.page) c.self.view_is there), (λ h. refl))
@@ -27,7 +27,7 @@ returns-clause-there c =
 pub returns-clause-state : goal.returns-clause-state
 returns-clause-state c =
     let t : Tables = c.self.inside.tables in
-    let now = stands_now c.self.inside c.args.self.now c.self.invariant c.self.view_is c.requires in
+    let now = stands_now c.self.inside c.args.self.now c.self.invariant c.self.view_is c.requires.runs in
     let tells = place_tells (lists_of t) c.args.page (known_by t c.self.inside.journal.items c.self.inside.stopped c.frames-frames.ensures.sound now.stands) c.rise.ensures in
     c.state_shown.ensures ∙ sym (tells.state c.in_ok-place.place (sym c.place_of.ensures ∙ c.in_ok-place.was))
     ∙ ap (λ (s : Standing). state_of s.kernel.place c.args.page) c.self.view_is

@@ -1,4 +1,4 @@
-use Rattle.std.proofs.Common.{◌≡◌, ◌+◌, false, List, [], ◌∷◌, ◌++◌, length, IsSome, refl, sym, ap, ◌∙◌, subst, arith, rules}
+use Rattle.std.proofs.Common.{◌+◌, false, List, [], ◌∷◌, ◌++◌, length, IsSome, refl, sym, ap, ◌∙◌, subst, arith, rules}
 use Rattle.vm_facts.specs.declared.entry.Entry.{Entry}
 use Rattle.vm_facts.specs.declared.entry.Entry.TheVariants as entries
 use Rattle.kernel_model.specs.Kernel.{Kernel, in_step}
@@ -6,9 +6,15 @@ use Rattle.table_steps.specs.Tables.{Tables}
 use Rattle.table_steps.specs.Machine.{Standing, kernel_by}
 use Rattle.table_steps.specs.Calls.{CanComeIn}
 use Rattle.table_steps.specs.Swapping.{AreStored, KeepsIn, IsIn}
-use Rattle.machine_state.proofs.Standings.{running, stands_now, whole_now, no_room, runs_by, runs_within}
+use Rattle.machine_state.proofs.Standings.{running, stands_now}
+use Rattle.machine_state.proofs.Stepping.{Stepped, stepped}
 use Rattle.table_steps.proofs.MovedRecords.{IsOutThere}
-use Rattle.machine_state.proofs.Goings.{Gone, with_records, in_is, in_stands, block_there, block_place, read_regs, in_keeps, entering, entering_alive, entering_lasts}
+use Rattle.machine_state.proofs.Goings.{Gone, with_records, in_is, gone_steps, block_there, block_place, read_regs, in_keeps, entering, entering_alive, entering_lasts}
+use Rattle.table_steps.proofs.KernelLawsSoundSteps.{in_sound}
+use Rattle.table_steps.proofs.NumbersApart.{in_numbered}
+use Rattle.table_steps.proofs.PageLawsDueEntries.{entry_due}
+use Rattle.machine_state.proofs.HoldingSteps.{regs_keep}
+use Rattle.machine_state.proofs.machine.Machine.u_in.Given.{Over}
 use Rattle.machine_state.proofs.machine.Machine.u_in.Goals as goal
 
 pub u_block-block-requires : goal.u_block-block-requires
@@ -18,7 +24,7 @@ u_block-block-requires u c =
     let k : Kernel = kernel_by t m.journal.items m.stopped in
     let can : CanComeIn k c.args.pid = subst (λ (s : Standing). CanComeIn s.kernel c.args.pid) (sym c.self.view_is) c.requires.can in
     let o : IsOutThere t.processes c.args.pid (Kernel.processes k) = entering t m.journal.items m.stopped c.args.pid can in
-    let r = running m c.args.self.now c.self.invariant c.self.view_is c.requires.running c.requires.whole in
+    let r = running m c.args.self.now c.self.invariant c.self.view_is c.requires.ready in
     block_there t.book.size k c.args.pid r.sound (entering_alive t.processes c.args.pid (Kernel.processes k) o)
 
 pub read-requires : goal.read-requires
@@ -26,14 +32,13 @@ read-requires u c =
     let m = c.self.inside in
     let t : Tables = m.tables in
     let k : Kernel = kernel_by t m.journal.items m.stopped in
-    let r = running m c.args.self.now c.self.invariant c.self.view_is c.requires.running c.requires.whole in
+    let r = running m c.args.self.now c.self.invariant c.self.view_is c.requires.ready in
     let e = sym c.u_block-block.ensures in
     let p = block_place t.book.size k c.args.pid c.u_block-block.result r.sound e in
     record {
       even = p.even;
       inside =
-          let now = stands_now m c.args.self.now c.self.invariant c.self.view_is c.requires.running in
-          let whole = whole_now m c.args.self.now c.self.view_is c.requires.whole in
+          let now = stands_now m c.args.self.now c.self.invariant c.self.view_is c.requires.ready.running.runs in
           let within = p.within in
           let area = c.requires.area in
           let size = now.stands.book in
@@ -50,70 +55,57 @@ move_record-requires u c =
     let o : IsOutThere t.processes c.args.pid (Kernel.processes k) = entering t m.journal.items m.stopped c.args.pid can in
     subst IsSome (sym o.found) refl
 
-pub invariant_of-self-in-Done : goal.invariant_of-self-in-Done
-invariant_of-self-in-Done u c =
-    runs_within _ (runs_by c.self.inside c.args.self.now c.self.view_is c.requires.running) (λ _.
+step : (u : Over) (c : goal.After-push_reserved u)
+    → Stepped c.self.inside
+    (record c.self.inside {
+      tables = with_records c.self.inside.tables c.move_record.new.processes;
+      journal = c.push_reserved.new.self;
+      room = c.make_room.new.room;
+    }) c.args.self.now
+    (in_step (kernel_by c.self.inside.tables c.self.inside.journal.items c.self.inside.stopped) c.args.pid c.regs_in-regs.result)
+step u c =
     let m = c.self.inside in
     let t : Tables = m.tables in
     let k : Kernel = kernel_by t m.journal.items m.stopped in
     let can : CanComeIn k c.args.pid = subst (λ (s : Standing). CanComeIn s.kernel c.args.pid) (sym c.self.view_is) c.requires.can in
     let o : IsOutThere t.processes c.args.pid (Kernel.processes k) = entering t m.journal.items m.stopped c.args.pid can in
-    let r = running m c.args.self.now c.self.invariant c.self.view_is c.requires.running c.requires.whole in
-    let now = stands_now m c.args.self.now c.self.invariant c.self.view_is c.requires.running in
-    let whole = whole_now m c.args.self.now c.self.view_is c.requires.whole in
-    let g : Gone m c.move_record.new.processes c.push_reserved.new.self.items c.self.inside.stopped c.args.pid c.regs_in-regs.result false c.next_place-since.result
-    (entries.SwapIn c.args.pid) = record {
+    let r = running m c.args.self.now c.self.invariant c.self.view_is c.requires.ready in
+    let g : Gone m c.move_record.new.processes c.push_reserved.new.self.items c.args.pid c.regs_in-regs.result false c.next_place-since.result (entries.SwapIn c.args.pid) = record {
       moved = c.move_record.ensures;
       lasts = entering_lasts t.processes c.args.pid (Kernel.processes k) c.move_record.ensures.was o c.move_record.ensures.found;
       since_is = c.next_place-since.ensures ∙ ap (λ (j : List Entry). length j + 1) (c.as_slice.ensures.value ∙ c.make_room.ensures.same);
       journal_is = c.push_reserved.ensures.items ∙ ap (λ (j : List Entry). j ++ entries.SwapIn c.args.pid ∷ []) c.make_room.ensures.same;
-      stopped_is = refl;
     } in
-    let is : kernel_by (with_records t c.move_record.new.processes) c.push_reserved.new.self.items c.self.inside.stopped ≡ in_step k c.args.pid c.regs_in-regs.result =
-    in_is m c.move_record.new.processes c.push_reserved.new.self.items c.self.inside.stopped c.args.pid c.regs_in-regs.result c.next_place-since.result g in
-    record {
-      stands = in_stands m c.move_record.new.processes c.push_reserved.new.self.items c.self.inside.stopped c.args.pid c.regs_in-regs.result c.next_place-since.result g now.stands whole r
-          (omega (arith, c.in_ok-make_room.ensures.ok.0));
-      none_lost = now.none_lost;
-      room = no_room _ _ _ c.make_room.ensures.room;
-    })
+    stepped m _ c.args.self.now _ c.self.invariant c.self.view_is c.requires.ready
+    (gone_steps m (record m { journal = c.push_reserved.new.self; room = c.make_room.new.room }) _ _ _ _ _ _ (in_step k c.args.pid c.regs_in-regs.result) g
+    (stands_now m c.args.self.now c.self.invariant c.self.view_is c.requires.ready.running.runs) r.tied (in_is m _ _ _ _ _ g)
+    (in_sound t.book.size k c.args.pid c.regs_in-regs.result r.sound) (in_numbered k c.args.pid c.regs_in-regs.result r.numbered)
+    (entry_due [] _ k.place (entries.SwapIn c.args.pid) r.sound.owner.frames tt tt r.due)
+    (regs_keep k (in_step k c.args.pid c.regs_in-regs.result) c.args.pid c.regs_in-regs.result refl (λ sid h. h)) c.in_ok-make_room.ensures.ok.0 c.make_room.ensures.room)
+
+pub invariant_of-self-in-Done : goal.invariant_of-self-in-Done
+invariant_of-self-in-Done u c = (step u c).inside
 
 pub returns-in-Done : goal.returns-in-Done
 returns-in-Done u c =
     let m = c.self.inside in
-    let t : Tables = m.tables in
-    let k : Kernel = kernel_by t m.journal.items m.stopped in
-    let can : CanComeIn k c.args.pid = subst (λ (s : Standing). CanComeIn s.kernel c.args.pid) (sym c.self.view_is) c.requires.can in
-    let o : IsOutThere t.processes c.args.pid (Kernel.processes k) = entering t m.journal.items m.stopped c.args.pid can in
-    let g : Gone m c.move_record.new.processes c.push_reserved.new.self.items c.self.inside.stopped c.args.pid c.regs_in-regs.result false c.next_place-since.result
-    (entries.SwapIn c.args.pid) = record {
-      moved = c.move_record.ensures;
-      lasts = entering_lasts t.processes c.args.pid (Kernel.processes k) c.move_record.ensures.was o c.move_record.ensures.found;
-      since_is = c.next_place-since.ensures ∙ ap (λ (j : List Entry). length j + 1) (c.as_slice.ensures.value ∙ c.make_room.ensures.same);
-      journal_is = c.push_reserved.ensures.items ∙ ap (λ (j : List Entry). j ++ entries.SwapIn c.args.pid ∷ []) c.make_room.ensures.same;
-      stopped_is = refl;
-    } in
-    let is : kernel_by (with_records t c.move_record.new.processes) c.push_reserved.new.self.items c.self.inside.stopped ≡ in_step k c.args.pid c.regs_in-regs.result =
-    in_is m c.move_record.new.processes c.push_reserved.new.self.items c.self.inside.stopped c.args.pid c.regs_in-regs.result c.next_place-since.result g in
+    let k : Kernel = kernel_by m.tables m.journal.items m.stopped in
+    let z = step u c in
     let a : AreStored k c.args.pid (u.D.SwapDev.image c.args.swap.now) c.regs_in-regs.result =
     read_regs k c.args.pid c.u_block-block.result c.read.new.buf c.regs_in-regs.result (u.D.SwapDev.image c.args.swap.now)
     (sym c.u_block-block.ensures) c.regs_in-regs.ensures c.in-Done.ensures.done in
     record {
-      step =
-          let i : IsIn k (kernel_by (with_records t c.move_record.new.processes) c.push_reserved.new.self.items c.self.inside.stopped) c.args.pid (u.D.SwapDev.image c.args.swap.now) =
-          record { regs = c.regs_in-regs.result; stored = a; step = is } in
-          subst (λ (s : Standing). IsIn s.kernel (kernel_by (with_records t c.move_record.new.processes) c.push_reserved.new.self.items c.self.inside.stopped) c.args.pid
-          (u.D.SwapDev.image c.args.swap.now)) c.self.view_is i;
+      step = z.says (λ (k l : Kernel). IsIn k l c.args.pid (u.D.SwapDev.image c.args.swap.now)) (record { regs = c.regs_in-regs.result; stored = a; step = refl });
       rest = search rules;
       keeps =
-          subst (λ (x : Kernel). KeepsIn c.args.self.now.kernel x c.args.pid (u.D.SwapDev.image c.args.swap.now) (u.D.SwapDev.image c.read.new.self)) (sym is)
-          (subst (λ (s : Standing). KeepsIn s.kernel (in_step k c.args.pid c.regs_in-regs.result) c.args.pid (u.D.SwapDev.image c.args.swap.now) (u.D.SwapDev.image c.read.new.self)) c.self.view_is
-          (in_keeps k c.args.pid c.regs_in-regs.result (u.D.SwapDev.image c.args.swap.now) (u.D.SwapDev.image c.read.new.self) a c.read.ensures.image));
+          z.says (λ (k l : Kernel). KeepsIn k l c.args.pid (u.D.SwapDev.image c.args.swap.now) (u.D.SwapDev.image c.read.new.self))
+          (in_keeps k c.args.pid c.regs_in-regs.result (u.D.SwapDev.image c.args.swap.now) (u.D.SwapDev.image c.read.new.self) a c.read.ensures.image);
       image = search rules;
       uncalled = search rules;
       stop = search rules;
       cause = search rules;
       failed = search rules;
       full = search rules;
+      goes_on = z.goes_on;
       outside = record { leads = search rules; blocks = search rules; read_faults = search rules; write_faults = search rules };
     }

@@ -8,9 +8,10 @@ use Rattle.table_steps.specs.Tables.{Tables}
 use Rattle.table_steps.specs.View.{placement_of}
 use Rattle.table_steps.specs.Known.{Known}
 use Rattle.machine_state.specs.Fields.{HasRoom}
-use Rattle.table_steps.specs.Machine.{Standing, lists_of}
+use Rattle.table_steps.specs.Machine.{Standing, lists_of, kernel_by}
 use Rattle.table_steps.specs.UserMemory.{IsOwnPage, AreWhole}
-use Rattle.machine_state.proofs.Standings.{stands_now, runs_by, runs_within}
+use Rattle.machine_state.proofs.Standings.{stands_now, runs_by, runs_within, holders_by}
+use Rattle.machine_state.proofs.HoldingSteps.{write_keeps}
 use Rattle.table_steps.proofs.Touches.{InFrame, in_frame}
 use Rattle.table_steps.proofs.Writes.{Writing, write_stands}
 use Rattle.machine_state.proofs.WriteStanding.{write_standing}
@@ -48,6 +49,9 @@ invariant_of-self c =
     let w : Writing t c.write_byte.new.self c.args.page c.args.frame c.args.at c.args.byte = record { known = k; valid = valid; writable = c.requires.writable; wrote = c.write_byte.ensures } in
     record {
       stands = write_stands t c.write_byte.new.self c.args.page c.args.frame c.args.at c.args.byte c.self.inside.journal.items c.self.inside.stopped now.stands w;
+      holders = holders_by t c.write_byte.new.self c.self.inside.journal.items c.self.inside.journal.items c.self.inside.stopped c.self.inside.stopped _
+          (ap (λ (s : Standing). s.kernel) (write_standing c.self.inside c.write_byte.new.self c.args.page c.args.frame c.args.at c.args.byte w))
+          (write_keeps (kernel_by t c.self.inside.journal.items c.self.inside.stopped) c.args.page c.args.frame c.args.at c.args.byte) now.holders;
       none_lost = now.none_lost;
       room = subst (λ (x : Tables). HasRoom c.self.inside.room c.self.inside.journal x.params.journal) (sym c.write_byte.ensures.rest) now.room;
     })
