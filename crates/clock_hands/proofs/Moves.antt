@@ -1,22 +1,19 @@
 -- The unit that the policy names for a move of the hands.
-use Rattle.std.proofs.Common.{◌≡◌, ◌⊎◌, inl, inr, ℕ, zero, suc, ◌+◌, ◌-◌, ◌^◌, ◌<◌, ◌≤◌, ◌&&◌, nat_le, Bool, true, false, is_some, List, [], ◌∷◌, length, Option, Some, None, refl, sym, ap, ◌∙◌, subst, arith}
+use Rattle.std.proofs.Common.{◌≡◌, ◌⊎◌, inl, inr, ℕ, ◌+◌, ◌-◌, ◌^◌, ◌<◌, ◌≤◌, ◌&&◌, nat_le, Bool, true, false, is_some, List, [], ◌∷◌, length, Option, Some, None, refl, sym, ap, ◌∙◌, subst, arith}
 use Rattle.std.proofs.lemmas.Bool.Decides.{nat_tests}
 use Rattle.vm_facts.specs.declared.page.Page.{Page}
-use Rattle.vm_facts.specs.declared.page.PageState.{PageState}
-use Rattle.vm_facts.specs.declared.page.PageState.TheVariants.{Unfilled, Valid, Invalid, Coming, Going, OnSwap}
 use Rattle.vm_facts.specs.declared.entry.Entry.{Entry}
 use Rattle.vm_facts.specs.declared.entry.Entry.TheVariants as entries
 use Rattle.vm_facts.specs.declared.stop.Stop.{Stop}
-use Rattle.vm_facts.specs.Lists.{times}
 use Rattle.flat_state.specs.Journal.{append}
-use Rattle.flat_state.specs.PageNames.{is_among}
 use Rattle.io_edge.specs.FileHolding.{NamedFile}
-use Rattle.page_model.specs.Placement.{Placement, Transfer, state_of, page_of, is_dirty}
-use Rattle.page_model.specs.Runs.{Run, run_out}
+use Rattle.page_model.specs.Placement.{Placement, Transfer}
+use Rattle.page_model.specs.Runs.{Run}
 use Rattle.page_model.specs.Moves.{done}
-use Rattle.page_model.specs.Hands.{expire, write_by, write_to, write_of, hand_run, wants_moves}
+use Rattle.page_model.specs.Hands.{hand_run, wants_moves}
 use Rattle.page_model.specs.Place.{place_entry}
 use Rattle.page_model.specs.Serve.{is_full}
+use Rattle.page_laws.proofs.Moves.HandRuns.{hand_some}
 use Rattle.page_laws.proofs.Moves.Transfers.{entry_count}
 use Rattle.span_laws.specs.Spans.{moves}
 use Rattle.span_laws.proofs.Serving.{done_less}
@@ -32,34 +29,6 @@ use Rattle.paging_units.proofs.Units.{unit_place, unit_journal, makes_none, make
 use Rattle.paging_units.proofs.LastMoves.{last_done, last_more}
 use Rattle.clock_hands.specs.Moved.{Moves, IsMoveOf, Moved, StopsMoving}
 use Rattle.clock_hands.proofs.Units.{made_on, keeps_on}
-
--- a write that a move begins has a page
-
-run_some : (p : Placement) (locked : List Page) (q : Page) → 0 < (run_out p locked q).n
-run_some p locked q = omega arith
-
-by_some : (p : Placement) (locked : List Page) (v : Page) (w : Page × Run) (d : Bool) → write_by p locked v d ≡ Some w → 0 < w.1.n
-by_some p locked v w true e =
-    let same : (v, run_out p locked v) ≡ w = cc in
-    subst (λ (x : Page × Run). 0 < x.1.n) same (run_some p locked v)
-by_some p locked v w false e = absurd cc
-
-to_some : (p : Placement) (locked : List Page) (v : Page) (w : Page × Run) (s : PageState) (n : ℕ) (b : Bool) → write_to p locked v s n b ≡ Some w → 0 < w.1.n
-to_some p locked v w (Invalid f) zero false e = by_some p locked v w (is_dirty p v) e
-to_some p locked v w (Invalid f) zero true e = absurd cc
-to_some p locked v w (Invalid f) (suc n) b e = absurd cc
-to_some p locked v w Unfilled n b e = absurd cc
-to_some p locked v w (Valid f) n b e = absurd cc
-to_some p locked v w (Coming f) n b e = absurd cc
-to_some p locked v w (Going f) n b e = absurd cc
-to_some p locked v w OnSwap n b e = absurd cc
-
-of_some : (p : Placement) (locked : List Page) (f : ℕ) (w : Page × Run) (o : Option Page) → write_of p locked f o ≡ Some w → 0 < w.1.n
-of_some p locked f w None e = absurd cc
-of_some p locked f w (Some v) e = to_some p locked v w (state_of p v) (times f p.free) (is_among v locked) e
-
-hand_some : (p : Placement) (locked : List Page) (w : Page × Run) → hand_run p locked ≡ Some w → 0 < w.1.n
-hand_some p locked w e = of_some (expire p locked) locked (expire p locked).back w (page_of (expire p locked) (expire p locked).back) e
 
 -- the hands move where no write begins, or where there is room for it
 

@@ -1,8 +1,9 @@
 //! A frame is forced.
-ghost use Rattle.std.specs.Prelude.{◌≡◌, ◌<◌, ◌≤◌, ◌+◌, ◌^◌, false, [], length, OnOk, OnErr, IfErr};
+ghost use Rattle.std.specs.Prelude.{◌≡◌, ◌<◌, ◌≤◌, ◌+◌, ◌^◌, [], length, OnOk, OnErr, IfErr};
 ghost use Rattle.page_model.specs.Serve.{force_entry};
 ghost use Rattle.page_model.specs.Rank.{HasRoom, far};
 ghost use Rattle.page_model.specs.Conditions.{Spares};
+ghost use Rattle.machine_state.specs.Going.{CanGoOn};
 ghost use Rattle.machine_state.specs.Files.{AreFiles};
 ghost use Rattle.machine_state.specs.Done.{KeepsThrough};
 ghost use Rattle.machine_state.specs.Outside.{stop_of, TransfersPages};
@@ -24,8 +25,7 @@ fn force_once<F: Files, D: SwapDev>(
     swap: &mut D,
     locked: &[Page],
 ) -> Result<(), Stop>
-    requires running { m.old.kernel.stopped ≡ false }
-    requires whole { m.old.before ≡ m.old.kernel.holdings }
+    requires ready { CanGoOn m.old }
     requires area { m.old.params.swap_blocks ≤ D.blocks swap.old }
     requires files { AreFiles m.old.images (F.holds files.old) }
     requires none { m.old.kernel.place.free ≡ [] }
@@ -38,6 +38,7 @@ fn force_once<F: Files, D: SwapDev>(
     ensures params { m.new.params ≡ m.old.params }
     ensures images { m.new.images ≡ m.old.images }
     ensures outside { TransfersPages F.Files D.SwapDev (stop_of result) files.old files.new swap.old swap.new }
+    ensures goes_on { OnOk result (CanGoOn m.new) }
 {
     if m.done(files, swap)? {
         return Ok(());
@@ -53,8 +54,7 @@ fn force_frame<F: Files, D: SwapDev>(
     swap: &mut D,
     locked: &[Page],
 ) -> Result<(), Stop>
-    requires running { m.old.kernel.stopped ≡ false }
-    requires whole { m.old.before ≡ m.old.kernel.holdings }
+    requires ready { CanGoOn m.old }
     requires area { m.old.params.swap_blocks ≤ D.blocks swap.old }
     requires files { AreFiles m.old.images (F.holds files.old) }
     requires room { HasRoom m.old.kernel.place locked.now }
@@ -63,9 +63,9 @@ fn force_frame<F: Files, D: SwapDev>(
     ensures keeps { OnOk result (KeepsThrough m.old m.new (F.holds files.old) (D.image swap.old) (D.image swap.new)) }
     ensures stopped { IfErr result (λ stop. StopsForcing locked.now m.old stop m.new (F.holds files.old) (D.image swap.old) (D.image swap.new)) }
     ensures outside { TransfersPages F.Files D.SwapDev (stop_of result) files.old files.new swap.old swap.new }
+    ensures goes_on { OnOk result (CanGoOn m.new) }
 {
     while m.free_frames() == 0 {
-        m.sound();
         force_once(m, files, swap, locked)?;
     }
     Ok(())
@@ -79,8 +79,7 @@ pub fn make_room<F: Files, D: SwapDev>(
     swap: &mut D,
     locked: &[Page],
 ) -> Result<(), Stop>
-    requires running { m.old.kernel.stopped ≡ false }
-    requires whole { m.old.before ≡ m.old.kernel.holdings }
+    requires ready { CanGoOn m.old }
     requires area { m.old.params.swap_blocks ≤ D.blocks swap.old }
     requires files { AreFiles m.old.images (F.holds files.old) }
     requires room { HasRoom m.old.kernel.place locked.now }
@@ -95,7 +94,7 @@ pub fn make_room<F: Files, D: SwapDev>(
     ensures counted { OnOk result (last_moves m.new.kernel.journal ≤ last_moves m.old.kernel.journal + length m.old.kernel.place.holds) }
     ensures spares { OnOk result (Spares m.old.kernel.place m.new.kernel.place locked.now) }
     ensures outside { TransfersPages F.Files D.SwapDev (stop_of result) files.old files.new swap.old swap.new }
+    ensures goes_on { OnOk result (CanGoOn m.new) }
 {
-    m.sound();
     force_frame(m, files, swap, locked)
 }

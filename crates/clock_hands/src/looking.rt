@@ -1,10 +1,11 @@
 //! What the next move of the hands does.
-ghost use Rattle.std.specs.Prelude.{◌≡◌, ◌<◌, ◌/◌, false, length, IfSome, IsSome};
+ghost use Rattle.std.specs.Prelude.{◌≡◌, ◌<◌, ◌/◌, length, IfSome, IsSome};
 ghost use Rattle.flat_state.specs.PageNames.{same_page, is_among};
 ghost use Rattle.page_model.specs.Pages.{is_valid};
 ghost use Rattle.page_model.specs.Placement.{state_of, IsThere};
 ghost use Rattle.page_model.specs.Hands.{hand_run};
 ghost use Rattle.page_model.specs.Conditions.{IsShared};
+ghost use Rattle.machine_state.specs.Going.{IsRunning};
 ghost use Rattle.machine_state.specs.Calls.{IsRunOf};
 ghost use Rattle.kluster_io.specs.Front.{Expires};
 ghost use Rattle.clock_hands.specs.Seen.{IsUnlocked, IsToWrite, IsHome};
@@ -34,13 +35,12 @@ fn is_among(page: Page, pages: &[Page]) -> bool
 
 // The space of a page, or the lowest one that shares its text.
 fn space_of(m: &Machine, page: Page) -> Option<&SpaceMap>
-    requires running { m.now.kernel.stopped ≡ false }
+    requires running { IsRunning m.now }
     requires there { IsThere m.now.kernel.place page }
     requires shared { IsShared m.now.kernel.place page }
     ensures found { IsSome result }
     ensures home { IfSome result (λ s. IsHome m.now.kernel.place page s.now) }
 {
-    m.sound();
     match page {
         Page::Data { sid, .. } | Page::Stack { sid, .. } => m.space(sid),
         Page::Text { image, .. } => m.space(m.sharer(image)?),
@@ -49,10 +49,9 @@ fn space_of(m: &Machine, page: Page) -> Option<&SpaceMap>
 
 // The page of a frame off the free list, unless it is locked.
 fn unlocked_page(m: &Machine, frame: u32, locked: &[Page]) -> Option<Page>
-    requires { m.now.kernel.stopped ≡ false }
+    requires { IsRunning m.now }
     ensures { IsUnlocked m.now.kernel.place locked.now frame result }
 {
-    m.sound();
     let core = m.core();
     let Whose::Resident(page) = core.owner(frame) else {
         return None;
@@ -65,7 +64,7 @@ fn unlocked_page(m: &Machine, frame: u32, locked: &[Page]) -> Option<Page>
 }
 
 fn is_valid(m: &Machine, page: Page) -> bool
-    requires running { m.now.kernel.stopped ≡ false }
+    requires running { IsRunning m.now }
     requires there { IsThere m.now.kernel.place page }
     ensures { result ≡ is_valid (state_of m.now.kernel.place page) }
 {
@@ -74,21 +73,19 @@ fn is_valid(m: &Machine, page: Page) -> bool
 
 /// The page that the front hand's next move makes invalid; None where it makes none so.
 pub(crate) fn expiring(m: &Machine, locked: &[Page]) -> Option<Page>
-    requires { m.now.kernel.stopped ≡ false }
+    requires { IsRunning m.now }
     ensures { Expires m.now.kernel.place locked.now result }
 {
-    m.sound();
     let page = unlocked_page(m, m.hands().0, locked)?;
     if is_valid(m, page) { Some(page) } else { None }
 }
 
 /// The page whose write the back hand's next move begins; None where it begins none.
 pub(crate) fn to_write(m: &Machine, locked: &[Page]) -> Option<Page>
-    requires running { m.now.kernel.stopped ≡ false }
+    requires running { IsRunning m.now }
     requires quarter { 0 < length m.now.kernel.place.holds / 4 }
     ensures { IsToWrite m.now.kernel.place locked.now result }
 {
-    m.sound();
     let back = m.hands().1;
     let page = unlocked_page(m, back, locked)?;
     if is_valid(m, page) {
@@ -103,11 +100,10 @@ pub(crate) fn to_write(m: &Machine, locked: &[Page]) -> Option<Page>
 
 /// The run of the write that the next move begins: its lowest page and its count, which is 0 where it begins none.
 pub(crate) fn next_write(m: &Machine, locked: &[Page]) -> (u32, u32)
-    requires running { m.now.kernel.stopped ≡ false }
+    requires running { IsRunning m.now }
     requires quarter { 0 < length m.now.kernel.place.holds / 4 }
     ensures { IsRunOf (hand_run m.now.kernel.place locked.now) result.0 result.1 }
 {
-    m.sound();
     let Some(page) = to_write(m, locked) else {
         return (0, 0);
     };

@@ -1,7 +1,7 @@
 //! The hands move as a line of the schedule asks.
-ghost use Rattle.std.specs.Prelude.{◌≡◌, ◌<◌, ◌≤◌, ◌+◌, ◌/◌, ◌^◌, true, false, [], length, IfOk, OnOk, IfErr};
+ghost use Rattle.std.specs.Prelude.{◌≡◌, ◌<◌, ◌≤◌, ◌+◌, ◌^◌, true, [], IfOk, OnOk, IfErr};
 ghost use Rattle.page_model.specs.Hands.{wants_moves};
-ghost use Rattle.page_model.specs.Rank.{HasRoom};
+ghost use Rattle.machine_state.specs.Going.{CanGoOn, IsRunning};
 ghost use Rattle.machine_state.specs.Files.{AreFiles};
 ghost use Rattle.machine_state.specs.Done.{KeepsThrough};
 ghost use Rattle.machine_state.specs.Outside.{stop_of, TransfersPages};
@@ -21,7 +21,7 @@ const MOST_IN_FLIGHT: u32 = 16;
 
 // Whether fewer than a quarter of the frames are free.
 fn wants_moves(m: &Machine) -> bool
-    requires { m.now.kernel.stopped ≡ false }
+    requires { IsRunning m.now }
     ensures { result ≡ wants_moves m.now.kernel.place }
 {
     m.free_frames() < m.core().frames() / 4
@@ -34,8 +34,7 @@ fn move_once<F: Files, D: SwapDev>(
     files: &mut F,
     swap: &mut D,
 ) -> Result<bool, Stop>
-    requires running { m.old.kernel.stopped ≡ false }
-    requires whole { m.old.before ≡ m.old.kernel.holdings }
+    requires ready { CanGoOn m.old }
     requires area { m.old.params.swap_blocks ≤ D.blocks swap.old }
     requires files { AreFiles m.old.images (F.holds files.old) }
     requires wants { wants_moves m.old.kernel.place ≡ true }
@@ -48,8 +47,8 @@ fn move_once<F: Files, D: SwapDev>(
     ensures params { m.new.params ≡ m.old.params }
     ensures images { m.new.images ≡ m.old.images }
     ensures outside { TransfersPages F.Files D.SwapDev (stop_of result) files.old files.new swap.old swap.new }
+    ensures goes_on { OnOk result (CanGoOn m.new) }
 {
-    m.sound();
     let (lo, n) = next_write(m, &[]);
     if n > 0 && m.in_flight() == MOST_IN_FLIGHT {
         m.done(files, swap)?;
@@ -67,8 +66,7 @@ pub fn move_hands<F: Files, D: SwapDev>(
     swap: &mut D,
     n: u32,
 ) -> Result<u32, Stop>
-    requires running { m.old.kernel.stopped ≡ false }
-    requires whole { m.old.before ≡ m.old.kernel.holdings }
+    requires ready { CanGoOn m.old }
     requires area { m.old.params.swap_blocks ≤ D.blocks swap.old }
     requires files { AreFiles m.old.images (F.holds files.old) }
     requires fits { last_moves m.old.kernel.journal + n < 2 ^ 32 }
@@ -76,6 +74,7 @@ pub fn move_hands<F: Files, D: SwapDev>(
     ensures keeps { OnOk result (KeepsThrough m.old m.new (F.holds files.old) (D.image swap.old) (D.image swap.new)) }
     ensures stopped { IfErr result (λ stop. StopsMoving n m.old stop m.new (F.holds files.old) (D.image swap.old) (D.image swap.new)) }
     ensures outside { TransfersPages F.Files D.SwapDev (stop_of result) files.old files.new swap.old swap.new }
+    ensures goes_on { OnOk result (CanGoOn m.new) }
 {
     let mut left = n;
     while left > 0 && wants_moves(m) {

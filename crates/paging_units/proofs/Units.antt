@@ -1,8 +1,9 @@
 -- Units of paging, one by one and in order.
-use Rattle.std.proofs.Common.{◌≡◌, ℕ, List, [], ◌∷◌, ◌++◌, length, Bool, Option, Some, refl, sym, ap, ◌∙◌, subst}
+use Rattle.std.proofs.Common.{◌≡◌, ℕ, ◌≤◌, List, [], ◌∷◌, ◌++◌, length, Bool, Option, Some, refl, sym, ap, ◌∙◌, subst, arith}
 use Rattle.vm_facts.specs.declared.page.Page.{Page}
 use Rattle.vm_facts.specs.declared.entry.Entry.{Entry}
 use Rattle.vm_facts.specs.declared.entry.Entry.TheVariants as entries
+use Rattle.vm_facts.specs.declared.params.Params.{Params}
 use Rattle.flat_state.specs.Journal.{append, appended}
 use Rattle.page_model.specs.Placement.{Placement, Transfer}
 use Rattle.page_model.specs.Hands.{hand_moves}
@@ -13,6 +14,8 @@ use Rattle.kernel_model.specs.Kernel.{Kernel}
 use Rattle.io_edge.specs.FileHolding.{NamedFile}
 use Rattle.machine_state.specs.Sourced.{ImageNamed}
 use Rattle.machine_state.specs.Machine.{Standing}
+use Rattle.machine_state.specs.Going.{CanGoOn}
+use Rattle.machine_state.specs.Files.{AreFiles}
 use Rattle.machine_state.specs.Settled.{IsSameBeside}
 use Rattle.paging_units.specs.Made.{Ground, ground, MadeBy, ImageBy, Made, MakesUnit, Makes, SameBeside, starts_by, starts_behind}
 
@@ -161,11 +164,16 @@ makes_both g us vs old next new i h j a b = record {
   beside = beside_both old next new a.beside b.beside;
 }
 
--- no piece of swap waits after a unit, where none did before it
-pub unit_whole : (g : Ground) (e : Entry) (old new : Standing) (i j : Option (List ℕ)) → MakesUnit g e old new i j → old.before ≡ old.kernel.holdings
-    → new.before ≡ new.kernel.holdings
-unit_whole g e old new i j m w = m.beside.before ∙ w ∙ sym (unit_same g e old.kernel new.kernel i m.made).holdings
+-- what each call asks of the machine, the files and the swap device
+pub record Asks (s : Standing) (holds : Option (List NamedFile)) (blocks : ℕ) : Type 0 where
+  pub ready : CanGoOn s
+  pub area : s.params.swap_blocks ≤ blocks
+  pub files : AreFiles s.images holds
 
-pub makes_whole : (g : Ground) (us : List Entry) (old new : Standing) (i j : Option (List ℕ)) → Makes g us old new i j
-    → old.before ≡ old.kernel.holdings → new.before ≡ new.kernel.holdings
-makes_whole g us old new i j m w = m.beside.before ∙ w ∙ sym (made_same g us old.kernel new.kernel i j m.made).holdings
+pub asks_on : (old next : Standing) (holds later : Option (List NamedFile)) (blocks more : ℕ) → IsSameBeside old next → later ≡ holds → more ≡ blocks
+    → CanGoOn next → Asks old holds blocks → Asks next later more
+asks_on old next holds later blocks more b e f r a = record {
+  ready = r;
+  area = let x = a.area in let size = ap (λ (x : Params). x.swap_blocks) b.params in omega arith;
+  files = subst (λ (ns : List ImageNamed). AreFiles ns later) (sym b.images) (subst (λ (x : Option (List NamedFile)). AreFiles old.images x) (sym e) a.files);
+}

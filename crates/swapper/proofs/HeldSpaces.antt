@@ -1,6 +1,6 @@
 -- In a machine that stands for a flat state, who holds a space holds one that is there.
-use Rattle.std.proofs.Common.{◌≡◌, ℕ, List, Option, Some, None, refl, sym, ap, ◌∙◌, subst}
-use Rattle.flat_state.specs.Flat.{Holding, Holds, Lends, Zombie, Process, FlatState, NamedImage}
+use Rattle.std.proofs.Common.{◌≡◌, ℕ, Option, Some, None, refl, sym, ap, ◌∙◌, subst}
+use Rattle.flat_state.specs.Flat.{Holding, Holds, Lends, Zombie, Process, FlatState}
 use Rattle.page_model.specs.Pages.{numbered}
 use Rattle.kernel_model.specs.Kernel.{Kernel, Proc, HoldsSpace, life_of}
 use Rattle.kernel_model.specs.ChangeStep.{life_of_proc}
@@ -10,9 +10,8 @@ use Rattle.machine_state.proofs.Lists.{pid_of, found_is}
 use Rattle.machine_state.proofs.KernelLawsMachineTables.{kept_pid, outlines_at, outline_at}
 use Rattle.machine_state.proofs.KernelLawsMachineProcesses.{stepping}
 use Rattle.machine_state.proofs.Ready.{space_there}
-use Rattle.machine_state.specs.Done.{StandsTold}
 use Rattle.machine_state.specs.Calls.{life_in}
-use Rattle.swapper.specs.Turns.{HoldersHaveSpaces}
+use Rattle.machine_state.specs.Holders.{HoldersHaveSpaces}
 
 module _ (k : Kernel) (flat : FlatState) (t : SameTables k flat) (pid sid : ℕ) where
   -- the process of the flat state holds the space
@@ -41,7 +40,3 @@ module _ (k : Kernel) (flat : FlatState) (t : SameTables k flat) (pid sid : ℕ)
 
 pub holders_have_spaces : (k : Kernel) (flat : FlatState) → SameTables k flat → HoldersHaveSpaces k
 holders_have_spaces k flat t = λ pid sid l. holder_has k flat t pid sid l
-
-pub told_holders : (k : Kernel) (images : List NamedImage) (image : Option (List ℕ)) (flat : FlatState) → StandsTold k images image flat → HoldersHaveSpaces k
-told_holders k images None flat s = absurd s
-told_holders k images (Some image) flat s = holders_have_spaces k flat s.tables

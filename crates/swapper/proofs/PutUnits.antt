@@ -1,5 +1,5 @@
 -- Putting a process out, unit by unit.
-use Rattle.std.proofs.Common.{◌≡◌, ◌≢◌, ◌⊎◌, inl, inr, ℕ, ◌+◌, ◌<◌, ◌≤◌, ◌&&◌, Bool, true, false, cond, List, [], ◌∷◌, ◌++◌, length, Option, Some, None, Result, Ok, Err, OnOk, OnErr, IfErr, refl, sym, ap, ◌∙◌, subst, arith, ◌↔◌}
+use Rattle.std.proofs.Common.{◌≡◌, ◌⊎◌, inl, inr, ℕ, ◌+◌, ◌<◌, ◌≤◌, ◌&&◌, Bool, true, false, cond, List, [], ◌∷◌, ◌++◌, length, Option, Some, None, Result, Ok, Err, OnOk, OnErr, IfErr, refl, sym, ap, ◌∙◌, subst, arith, ◌↔◌}
 use Rattle.std.proofs.lemmas.Bool.{and_parts, leb-false}
 use Rattle.std.proofs.lemmas.List.{length-append}
 use Rattle.std.proofs.lemmas.Option.{same_Some}
@@ -14,8 +14,8 @@ use Rattle.io_edge.specs.FileHolding.{NamedFile}
 use Rattle.flat_state.specs.Journal.{append, IsPlain}
 use Rattle.flat_state.specs.PageNames.{number_of, beside, pages_from}
 use Rattle.flat_state.proofs.Joins.{append_plain}
-use Rattle.page_model.specs.Pages.{SpacePages, numbered}
-use Rattle.page_model.specs.Placement.{Placement, Residence, space_number, is_dirty}
+use Rattle.page_model.specs.Pages.{numbered}
+use Rattle.page_model.specs.Placement.{Placement, Residence, is_dirty}
 use Rattle.page_model.specs.Runs.{is_seated, is_near, run_put, run_put_by, run_up, most_written}
 use Rattle.page_model.specs.Serve.{is_full}
 use Rattle.page_model.specs.Place.{moved, place_entry, data_from, stack_from, data_count, stack_count, pages_of_space}
@@ -37,19 +37,17 @@ use Rattle.kernel_model.specs.Numbers.{EachResides}
 use Rattle.kernel_model.specs.Sound.{lives_in, has_life}
 use Rattle.machine_state.proofs.Swaps.{out_record}
 use Rattle.kernel_model.specs.Unit.{proc_of}
-use Rattle.machine_state.proofs.Shapes.{shape_in}
-use Rattle.machine_state.specs.Sourced.{ImageNamed}
 use Rattle.machine_state.specs.Machine.{Standing}
+use Rattle.machine_state.specs.Going.{CanGoOn}
 use Rattle.machine_state.specs.Done.{KeepsThrough}
-use Rattle.machine_state.specs.Files.{AreFiles}
 use Rattle.machine_state.specs.Settled.{IsSameBeside}
-use Rattle.machine_state.specs.Calls.{life_in, AreAlike, CanPush, CanGoOut}
+use Rattle.machine_state.specs.Calls.{life_in, AreAlike, CanPush}
 use Rattle.machine_state.specs.Conditions.{HasStopped}
 use Rattle.machine_state.specs.Failing.{FailsFor}
 use Rattle.machine_state.specs.Swapping.{WritesU, SwapBehind}
 use Rattle.paging_units.specs.Made.{Made, MakesUnit, Ground, ground}
 use Rattle.paging_units.specs.Stops.{StopsAt, SpoilsBy}
-use Rattle.paging_units.proofs.Units.{unit_place, unit_journal, unit_same, unit_whole, same_ground}
+use Rattle.paging_units.proofs.Units.{unit_place, unit_journal, unit_same, same_ground, Asks, asks_on}
 use Rattle.paging_units.proofs.Keeping.{unit_shaped, keeps_both}
 use Rattle.paging_units.proofs.Stopping.{plain_longer, moved_left}
 use Rattle.swapper.specs.declared.putting_out.Step.{Step}
@@ -152,18 +150,10 @@ err_same s t e = cc
 -- What holds of the machine, for the next unit.
 
 pub record Puts (s : Standing) (holds : Option (List NamedFile)) (blocks pid sid : ℕ) : Type 0 where
-  pub running : s.kernel.stopped ≡ false
-  pub whole : s.before ≡ s.kernel.holdings
-  pub area : s.params.swap_blocks ≤ blocks
-  pub files : AreFiles s.images holds
+  pub asks : Asks s holds blocks
   pub clear : s.kernel.place.due ≡ []
   pub holds_there : HoldsThere s.kernel pid sid
   pub resident : is_out s.kernel.place pid ≡ false
-
-same_there : (o w : Option SpacePages) → shape_in w ≡ shape_in o → o ≢ None → w ≢ None
-same_there None w e n = absurd (n refl)
-same_there (Some x) None e n = absurd cc
-same_there (Some x) (Some y) e n = λ k. absurd cc
 
 module _ (old next : Standing) (pid sid : ℕ) (step : Step) (holds : Option (List NamedFile)) (i h : Option (List ℕ)) (s : IsStep old.kernel.place sid step)
     (m : MakesUnit (ground old holds []) (put_out_unit old.kernel.place pid sid) old next i h) where
@@ -185,20 +175,17 @@ module _ (old next : Standing) (pid sid : ℕ) (step : Step) (holds : Option (Li
   rest : SameRest old.kernel.place next.kernel.place
   rest = subst (SameRest old.kernel.place) (sym place_is) (rest_kept old.kernel.place pid sid (length old.kernel.journal + 1) step s)
 
-  pub puts_on : (later : Option (List NamedFile)) (blocks more : ℕ) → later ≡ holds → more ≡ blocks → Puts old holds blocks pid sid → Puts next later more pid sid
-  puts_on later blocks more f b a = record {
-    running = (unit_same g e old.kernel next.kernel i m.made).stopped ∙ a.running;
-    whole = unit_whole g e old next i h m a.whole;
-    area = let x = a.area in let size = ap (λ (x : Params). x.swap_blocks) m.beside.params in omega arith;
-    files = subst (λ (ns : List ImageNamed). AreFiles ns later) (sym m.beside.images) (subst (λ (x : Option (List NamedFile)). AreFiles old.images x) (sym f) a.files);
-    clear = rest.due ∙ a.clear;
-    holds_there = record {
-      holds = ap (λ (ps : List Proc). life_of_proc (numbered (λ (p : Proc). p.pid) pid ps)) (unit_same g e old.kernel next.kernel i m.made).processes ∙ a.holds_there.holds;
-      there = same_there (numbered space_number sid old.kernel.place.spaces) (numbered space_number sid next.kernel.place.spaces)
-          ((unit_shaped g e old.kernel next.kernel i m.made).spaces sid) a.holds_there.there;
-    };
-    resident = same_out old.kernel.place next.kernel.place pid rest.residents ∙ a.resident;
-  }
+  pub puts_on : (later : Option (List NamedFile)) (blocks more : ℕ) → later ≡ holds → more ≡ blocks → CanGoOn next → Puts old holds blocks pid sid
+      → Puts next later more pid sid
+  puts_on later blocks more f b r a =
+      let held : life_in next.kernel pid ≡ HoldsSpace sid =
+      ap (λ (ps : List Proc). life_of_proc (numbered (λ (p : Proc). p.pid) pid ps)) (unit_same g e old.kernel next.kernel i m.made).processes ∙ a.holds_there.holds in
+      record {
+        asks = asks_on old next holds later blocks more m.beside f b r a.asks;
+        clear = rest.due ∙ a.clear;
+        holds_there = record { holds = held; there = r.running.holders.spaces pid sid held };
+        resident = same_out old.kernel.place next.kernel.place pid rest.residents ∙ a.resident;
+      }
 
   pub falls_on : OwnsFrames old.kernel.place → IsResident old.kernel.place pid → is_out old.kernel.place pid ≡ false → put_rank next.kernel.place pid sid < put_rank old.kernel.place pid sid
   falls_on o r n =
@@ -264,9 +251,6 @@ lives_holding (Some p) sid e = ap has_life e
 
 pub holder_resides : (k : Kernel) (pid sid : ℕ) → EachResides k → life_in k pid ≡ HoldsSpace sid → IsResident k.place pid
 holder_resides k pid sid r e = r pid (lives_holding (numbered (λ (p : Proc). p.pid) pid k.processes) sid e)
-
-pub can_go_out : (k : Kernel) (pid sid : ℕ) → k.place.due ≡ [] → HoldsThere k pid sid → is_out k.place pid ≡ false → IsNext k.place sid None → CanGoOut k pid
-can_go_out k pid sid d h r n = record { clear = d; sid = sid; holds = h.holds; there = h.there; resident = r; settled = n.0; empty = n.1 }
 
 pub put_last : (pid sid : ℕ) (old new : Standing) (holds : Option (List NamedFile)) (i j : Option (List ℕ)) → IsResident old.kernel.place pid
     → is_out old.kernel.place pid ≡ false → IsNext old.kernel.place sid None
@@ -371,10 +355,6 @@ in_stops pid old new i j (Err stop) s c f failed same w = record {
 }
 
 -- What is known of an answer, weakened.
-
-pub on_ok : {A E P Q : Type 0} (r : Result A E) → (P → Q) → OnOk r P → OnOk r Q
-on_ok (Ok x) f h = f h
-on_ok (Err e) f h = h
 
 pub on_ok_with : {A E P Q R S : Type 0} (r : Result A E) → (P → Q → R → S) → OnOk r P → OnOk r Q → OnOk r R → OnOk r S
 on_ok_with (Ok x) f p q r = f p q r

@@ -17,13 +17,14 @@ use Rattle.page_laws.proofs.Swapper.Choices.{chosen_in, chosen_out}
 use Rattle.kernel_model.specs.Kernel.{Kernel, Life, New, HoldsSpace, LendsSpace, Ended, Proc}
 use Rattle.kernel_model.specs.ChangeStep.{life_of_proc}
 use Rattle.kernel_model.specs.Unit.{has_lender}
+use Rattle.machine_state.specs.Holders.{HoldersHaveSpaces}
 use Rattle.machine_state.proofs.Records.{keeps_none, keeps_some}
 use Rattle.swapper.specs.declared.Turned.{Turned}
 use Rattle.swapper.specs.declared.Turned.TheVariants as turns
 use Rattle.swapper.specs.declared.candidates.Seen.{Seen}
 use Rattle.swapper.specs.declared.candidates.Kind.TheVariants as kinds
 use Rattle.swapper.specs.Runners.{runner_by, runners_of, runner_of, passes, choice_of}
-use Rattle.swapper.specs.Turns.{HoldersHaveSpaces, MayTurn}
+use Rattle.swapper.specs.Turns.{MayTurn}
 use Rattle.swapper.proofs.Numbers.{filter_both}
 
 -- The choice, by whether as many frames are free as are desired.

@@ -4,22 +4,16 @@ use Rattle.vm_facts.specs.declared.entry.Entry.TheVariants as entries
 use Rattle.vm_facts.specs.declared.stop.Stop.{Stop}
 use Rattle.io_edge.specs.FileHolding.{NamedFile}
 use Rattle.page_model.specs.Swapper.{is_out}
-use Rattle.kernel_model.specs.Kernel.{Kernel, HoldsSpace}
-use Rattle.kernel_model.specs.Asks.{HasSpace}
+use Rattle.kernel_model.specs.Kernel.{Kernel}
 use Rattle.kernel_model.specs.Unit.{has_lender}
 use Rattle.machine_state.specs.Machine.{Standing}
 use Rattle.machine_state.specs.Settled.{IsSameBeside}
-use Rattle.machine_state.specs.Calls.{life_in}
 use Rattle.machine_state.specs.Done.{KeepsThrough}
 use Rattle.machine_state.specs.Swapping.{IsIn, KeepsIn}
 use Rattle.paging_units.specs.Stops.{StopsAt}
 use Rattle.swapper.specs.declared.Turned.{Turned}
 use Rattle.swapper.specs.declared.Turned.TheVariants as turns
 use Rattle.swapper.specs.Putting.{HoldsThere, PutOut, StopsPutting}
-
--- who holds a space holds one that is there
-abbrev pub HoldersHaveSpaces : Kernel → Type 0
-HoldersHaveSpaces k = (pid sid : ℕ) → life_in k pid ≡ HoldsSpace sid → HasSpace k.place sid
 
 -- who comes in is out; who goes out is in, and holds a space of its own
 abbrev pub MayTurn : Kernel → Turned → Type 0

@@ -1,15 +1,16 @@
 //! One turn of the swapper.
-ghost use Rattle.std.specs.Prelude.{◌≡◌, ◌≤◌, false, [], OnOk, OnErr, IfOk, IfErr};
+ghost use Rattle.std.specs.Prelude.{◌≡◌, ◌≤◌, [], OnOk, OnErr, IfOk, IfErr};
 ghost use Rattle.std.specs.List.{filter};
 ghost use Rattle.page_model.specs.Placement.{Placement};
 ghost use Rattle.page_model.specs.Swapper.{swap_choice, choice_of_out, brings, longest, may_come_in, may_go_out};
+ghost use Rattle.machine_state.specs.Going.{CanGoOn, IsRunning};
 ghost use Rattle.machine_state.specs.Alike.{AreRecords};
 ghost use Rattle.machine_state.specs.Machine.{processes_of, residents_of};
 ghost use Rattle.machine_state.specs.Files.{AreFiles};
 ghost use Rattle.machine_state.specs.Outside.{stop_of, TransfersPages};
 ghost use Rattle.swapper.specs.Runners.{runners_in, runners_of, HasResidents, choice_of, in_choice, out_choice};
 ghost use Rattle.swapper.specs.declared.Turned.{Turned as Chosen};
-ghost use Rattle.swapper.specs.Turns.{HoldersHaveSpaces, MayTurn, Turns, KeepsTurn, StopsTurning};
+ghost use Rattle.swapper.specs.Turns.{MayTurn, Turns, KeepsTurn, StopsTurning};
 
 use crate::Turned;
 use crate::candidates::{Kind, longest};
@@ -34,7 +35,7 @@ fn choose_in(processes: &ProcTable, next: u32) -> Option<u32>
 
 // The process that goes out, a sleeper before all others.
 fn choose_out(m: &Machine, processes: &ProcTable, next: u32) -> Option<u32>
-    requires running { m.now.kernel.stopped ≡ false }
+    requires running { IsRunning m.now }
     requires residents { m.now.kernel.place.residents ≡ residents_of processes.now next }
     requires records { AreRecords processes.now next }
     ensures { out_choice result
@@ -51,7 +52,7 @@ fn choose_out(m: &Machine, processes: &ProcTable, next: u32) -> Option<u32>
 
 /// What a turn is to do.
 pub fn choose(m: &Machine) -> Turned
-    requires { m.now.kernel.stopped ≡ false }
+    requires { IsRunning m.now }
     ensures { choice_of result ≡ swap_choice m.now.kernel.place (runners_of m.now.kernel) }
 {
     let next = m.next_numbers().0;
@@ -76,8 +77,7 @@ fn carry_out<F: Files, D: SwapDev>(
     swap: &mut D,
     chosen: Turned,
 ) -> Result<(), Stop>
-    requires running { m.old.kernel.stopped ≡ false }
-    requires whole { m.old.before ≡ m.old.kernel.holdings }
+    requires ready { CanGoOn m.old }
     requires area { m.old.params.swap_blocks ≤ D.blocks swap.old }
     requires files { AreFiles m.old.images (F.holds files.old) }
     requires clear { m.old.kernel.place.due ≡ [] }
@@ -88,6 +88,7 @@ fn carry_out<F: Files, D: SwapDev>(
     ensures params_at_stop { OnErr result (m.new.params ≡ m.old.params) }
     ensures images_at_stop { OnErr result (m.new.images ≡ m.old.images) }
     ensures outside { TransfersPages F.Files D.SwapDev (stop_of result) files.old files.new swap.old swap.new }
+    ensures goes_on { OnOk result (CanGoOn m.new) }
 {
     match chosen {
         Turned::In(pid) => swap_in(m, swap, pid),
@@ -104,12 +105,10 @@ pub fn turn<F: Files, D: SwapDev>(
     files: &mut F,
     swap: &mut D,
 ) -> Result<Turned, Stop>
-    requires running { m.old.kernel.stopped ≡ false }
-    requires whole { m.old.before ≡ m.old.kernel.holdings }
+    requires ready { CanGoOn m.old }
     requires area { m.old.params.swap_blocks ≤ D.blocks swap.old }
     requires files { AreFiles m.old.images (F.holds files.old) }
     requires clear { m.old.kernel.place.due ≡ [] }
-    requires spaces { HoldersHaveSpaces m.old.kernel }
     ensures chosen { IfOk result (λ t. choice_of t ≡ swap_choice m.old.kernel.place (runners_of m.old.kernel)) }
     ensures did { IfOk result (λ t. Turns t m.old m.new (F.holds files.old) (D.image swap.old) (D.image swap.new)) }
     ensures keeps { IfOk result (λ t. KeepsTurn t m.old m.new (F.holds files.old) (D.image swap.old) (D.image swap.new)) }
@@ -118,8 +117,8 @@ pub fn turn<F: Files, D: SwapDev>(
     ensures params_at_stop { OnErr result (m.new.params ≡ m.old.params) }
     ensures images_at_stop { OnErr result (m.new.images ≡ m.old.images) }
     ensures outside { TransfersPages F.Files D.SwapDev (stop_of result) files.old files.new swap.old swap.new }
+    ensures goes_on { OnOk result (CanGoOn m.new) }
 {
-    m.sound();
     let chosen = choose(m);
     carry_out(m, files, swap, chosen)?;
     Ok(chosen)

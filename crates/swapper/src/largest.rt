@@ -1,10 +1,11 @@
 //! The processes with the most pages in frames.
-ghost use Rattle.std.specs.Prelude.{◌≡◌, ◌<◌, ◌≤◌, false, Some, take};
+ghost use Rattle.std.specs.Prelude.{◌≡◌, ◌<◌, ◌≤◌, Some, take};
 ghost use Rattle.std.specs.List.{filter};
 ghost use Rattle.proc_table.specs.Records.{find};
 ghost use Rattle.page_model.specs.Placement.{Placement};
 ghost use Rattle.page_model.specs.Place.{pages_of_space};
 ghost use Rattle.page_model.specs.Swapper.{is_larger, longest, ranked, seated_count};
+ghost use Rattle.machine_state.specs.Going.{IsRunning};
 ghost use Rattle.machine_state.specs.Alike.{AreRecords};
 ghost use Rattle.machine_state.specs.Machine.{proc_of, processes_of, residents_of};
 ghost use Rattle.swapper.specs.declared.candidates.Kind.TheVariants as kinds;
@@ -49,7 +50,7 @@ pub(crate) struct Largest {
 
 // How many pages of a space are in frames off the free list; none, where there is no such space.
 fn size_of(m: &Machine, sid: u32) -> u32
-    requires { m.now.kernel.stopped ≡ false }
+    requires { IsRunning m.now }
     ensures { result ≡ seated_count m.now.kernel.place (pages_of_space m.now.kernel.place sid) }
 {
     match m.space(sid) {
@@ -60,7 +61,7 @@ fn size_of(m: &Machine, sid: u32) -> u32
 
 // The process with this number, where it could go out.
 fn measure(m: &Machine, processes: &ProcTable, next: u32, pid: u32) -> Option<Measured>
-    requires running { m.now.kernel.stopped ≡ false }
+    requires running { IsRunning m.now }
     requires residents { m.now.kernel.place.residents ≡ residents_of processes.now next }
     requires records { AreRecords processes.now next }
     requires low { 1 ≤ pid }
@@ -155,7 +156,7 @@ fn place_with(largest: Largest, new: Option<Measured>) -> Largest
 
 // The four largest of those above a pid that could go out.
 fn four_largest(m: &Machine, processes: &ProcTable, next: u32, last: u32) -> Largest
-    requires running { m.now.kernel.stopped ≡ false }
+    requires running { IsRunning m.now }
     requires residents { m.now.kernel.place.residents ≡ residents_of processes.now next }
     requires records { AreRecords processes.now next }
     ensures list { listed_in (options_of result)
@@ -197,7 +198,7 @@ fn longest_of_four(largest: Largest) -> Option<Seen>
 
 /// Of the four largest of those that could go out, the one that is resident longest.
 pub(crate) fn longest_of_largest(m: &Machine, processes: &ProcTable, next: u32) -> Option<Seen>
-    requires running { m.now.kernel.stopped ≡ false }
+    requires running { IsRunning m.now }
     requires residents { m.now.kernel.place.residents ≡ residents_of processes.now next }
     requires records { AreRecords processes.now next }
     ensures { runner_of result

@@ -8,6 +8,7 @@ ghost use Rattle.page_model.specs.Serve.{is_full};
 ghost use Rattle.page_model.specs.Place.{pages_of_space};
 ghost use Rattle.page_model.specs.Swapper.{is_out, put_out_unit, first_seated};
 ghost use Rattle.kernel_model.specs.Asks.{HasSpace};
+ghost use Rattle.machine_state.specs.Going.{CanGoOn, IsRunning};
 ghost use Rattle.machine_state.specs.Files.{AreFiles};
 ghost use Rattle.machine_state.specs.Calls.{CanComeIn};
 ghost use Rattle.machine_state.specs.Conditions.{KeepsFlat};
@@ -41,7 +42,7 @@ enum Step {
 
 // The space with this number.
 fn space_of(m: &Machine, sid: u32) -> &SpaceMap
-    requires running { m.now.kernel.stopped ≡ false }
+    requires running { IsRunning m.now }
     requires there { HasSpace m.now.kernel.place sid }
     ensures { HasView m.now.kernel.place sid result.now }
 {
@@ -53,7 +54,7 @@ fn space_of(m: &Machine, sid: u32) -> &SpaceMap
 
 // The unit for a page of the space that is to leave its frame.
 fn step_for(m: &Machine, sid: u32, page: Page) -> Step
-    requires running { m.now.kernel.stopped ≡ false }
+    requires running { IsRunning m.now }
     requires there { HasSpace m.now.kernel.place sid }
     requires own { IsOfSegment sid page }
     requires seated { is_seated m.now.kernel.place page ≡ true }
@@ -71,7 +72,7 @@ fn step_for(m: &Machine, sid: u32, page: Page) -> Step
 
 // The first page of a space that is in a frame off the free list.
 fn seated_page(m: &Machine, sid: u32) -> Option<Page>
-    requires running { m.now.kernel.stopped ≡ false }
+    requires running { IsRunning m.now }
     requires there { HasSpace m.now.kernel.place sid }
     ensures { result ≡ first_seated m.now.kernel.place (pages_of_space m.now.kernel.place sid) }
 {
@@ -80,7 +81,7 @@ fn seated_page(m: &Machine, sid: u32) -> Option<Page>
 
 // The unit that comes next; None where only the last is left.
 fn next_step(m: &Machine, sid: u32) -> Option<Step>
-    requires running { m.now.kernel.stopped ≡ false }
+    requires running { IsRunning m.now }
     requires there { HasSpace m.now.kernel.place sid }
     ensures { IsNext m.now.kernel.place sid result }
 {
@@ -93,7 +94,7 @@ fn next_step(m: &Machine, sid: u32) -> Option<Step>
 
 // How many pages leave their frames along with a page, itself among them.
 fn run_of(m: &Machine, sid: u32, page: Page) -> u32
-    requires running { m.now.kernel.stopped ≡ false }
+    requires running { IsRunning m.now }
     requires there { HasSpace m.now.kernel.place sid }
     requires own { IsOfSegment sid page }
     requires seated { is_seated m.now.kernel.place page ≡ true }
@@ -104,8 +105,7 @@ fn run_of(m: &Machine, sid: u32, page: Page) -> u32
 
 // The oldest transfer ends.
 fn complete<F: Files, D: SwapDev>(m: &mut Machine, files: &mut F, swap: &mut D) -> Result<(), Stop>
-    requires running { m.old.kernel.stopped ≡ false }
-    requires whole { m.old.before ≡ m.old.kernel.holdings }
+    requires ready { CanGoOn m.old }
     requires area { m.old.params.swap_blocks ≤ D.blocks swap.old }
     requires files { AreFiles m.old.images (F.holds files.old) }
     requires some { 0 < length m.old.kernel.place.transfers }
@@ -115,6 +115,7 @@ fn complete<F: Files, D: SwapDev>(m: &mut Machine, files: &mut F, swap: &mut D) 
     ensures params { m.new.params ≡ m.old.params }
     ensures images { m.new.images ≡ m.old.images }
     ensures outside { TransfersPages F.Files D.SwapDev (stop_of result) files.old files.new swap.old swap.new }
+    ensures goes_on { OnOk result (CanGoOn m.new) }
 {
     m.done(files, swap)?;
     Ok(())
@@ -122,8 +123,7 @@ fn complete<F: Files, D: SwapDev>(m: &mut Machine, files: &mut F, swap: &mut D) 
 
 // A page and those that go along leave their frames.
 fn put_page(m: &mut Machine, sid: u32, page: Page) -> Result<(), Stop>
-    requires running { m.old.kernel.stopped ≡ false }
-    requires whole { m.old.before ≡ m.old.kernel.holdings }
+    requires ready { CanGoOn m.old }
     requires clear { m.old.kernel.place.due ≡ [] }
     requires there { HasSpace m.old.kernel.place sid }
     requires own { IsOfSegment sid page }
@@ -137,6 +137,7 @@ fn put_page(m: &mut Machine, sid: u32, page: Page) -> Result<(), Stop>
     ensures params { m.new.params ≡ m.old.params }
     ensures images { m.new.images ≡ m.old.images }
     ensures cause { OnErr result ((result ≡ Err Stop.JournalFull) ⊎ (result ≡ Err Stop.NoMemory)) }
+    ensures goes_on { OnOk result (CanGoOn m.new) }
 {
     let n = run_of(m, sid, page);
     m.push(page, n)
@@ -151,8 +152,7 @@ fn put_once<F: Files, D: SwapDev>(
     sid: u32,
     step: Step,
 ) -> Result<(), Stop>
-    requires running { m.old.kernel.stopped ≡ false }
-    requires whole { m.old.before ≡ m.old.kernel.holdings }
+    requires ready { CanGoOn m.old }
     requires area { m.old.params.swap_blocks ≤ D.blocks swap.old }
     requires files { AreFiles m.old.images (F.holds files.old) }
     requires clear { m.old.kernel.place.due ≡ [] }
@@ -165,6 +165,7 @@ fn put_once<F: Files, D: SwapDev>(
     ensures params { m.new.params ≡ m.old.params }
     ensures images { m.new.images ≡ m.old.images }
     ensures outside { TransfersPages F.Files D.SwapDev (stop_of result) files.old files.new swap.old swap.new }
+    ensures goes_on { OnOk result (CanGoOn m.new) }
 {
     match step {
         Step::Wait => complete(m, files, swap),
@@ -174,8 +175,7 @@ fn put_once<F: Files, D: SwapDev>(
 
 // The last unit of putting a process out: its u page is written.
 fn leave<D: SwapDev>(m: &mut Machine, swap: &mut D, pid: u32, sid: u32) -> Result<(), Stop>
-    requires running { m.old.kernel.stopped ≡ false }
-    requires whole { m.old.before ≡ m.old.kernel.holdings }
+    requires ready { CanGoOn m.old }
     requires area { m.old.params.swap_blocks ≤ D.blocks swap.old }
     requires clear { m.old.kernel.place.due ≡ [] }
     requires holds { HoldsThere m.old.kernel pid sid }
@@ -187,8 +187,8 @@ fn leave<D: SwapDev>(m: &mut Machine, swap: &mut D, pid: u32, sid: u32) -> Resul
         → IfErr result (λ stop. StopsPutting pid sid m.old stop m.new holds (D.image swap.old) (D.image swap.new)) }
     ensures cause { OnErr result ((result ≡ Err Stop.JournalFull) ⊎ ((result ≡ Err Stop.NoMemory) ⊎ (result ≡ Err Stop.SwapWriteFault))) }
     ensures outside { MovesSwapPages D.SwapDev (stop_of result) swap.old swap.new }
+    ensures goes_on { OnOk result (CanGoOn m.new) }
 {
-    m.sound();
     m.u_out(swap, pid)
 }
 
@@ -200,8 +200,7 @@ fn put_all<F: Files, D: SwapDev>(
     pid: u32,
     sid: u32,
 ) -> Result<(), Stop>
-    requires running { m.old.kernel.stopped ≡ false }
-    requires whole { m.old.before ≡ m.old.kernel.holdings }
+    requires ready { CanGoOn m.old }
     requires area { m.old.params.swap_blocks ≤ D.blocks swap.old }
     requires files { AreFiles m.old.images (F.holds files.old) }
     requires clear { m.old.kernel.place.due ≡ [] }
@@ -211,9 +210,9 @@ fn put_all<F: Files, D: SwapDev>(
     ensures keeps { OnOk result (KeepsThrough m.old m.new (F.holds files.old) (D.image swap.old) (D.image swap.new)) }
     ensures stopped { IfErr result (λ stop. StopsPutting pid sid m.old stop m.new (F.holds files.old) (D.image swap.old) (D.image swap.new)) }
     ensures outside { TransfersPages F.Files D.SwapDev (stop_of result) files.old files.new swap.old swap.new }
+    ensures goes_on { OnOk result (CanGoOn m.new) }
 {
     while let Some(step) = next_step(m, sid) {
-        m.sound();
         put_once(m, files, swap, pid, sid, step)?;
     }
     leave(m, swap, pid, sid)
@@ -241,8 +240,7 @@ pub fn swap_out<F: Files, D: SwapDev>(
     swap: &mut D,
     pid: u32,
 ) -> Result<(), Stop>
-    requires running { m.old.kernel.stopped ≡ false }
-    requires whole { m.old.before ≡ m.old.kernel.holdings }
+    requires ready { CanGoOn m.old }
     requires area { m.old.params.swap_blocks ≤ D.blocks swap.old }
     requires files { AreFiles m.old.images (F.holds files.old) }
     requires clear { m.old.kernel.place.due ≡ [] }
@@ -254,6 +252,7 @@ pub fn swap_out<F: Files, D: SwapDev>(
     ensures stopped { IfErr result (λ stop. (sid : ℕ) × HoldsThere m.old.kernel pid sid
         × StopsPutting pid sid m.old stop m.new (F.holds files.old) (D.image swap.old) (D.image swap.new)) }
     ensures outside { TransfersPages F.Files D.SwapDev (stop_of result) files.old files.new swap.old swap.new }
+    ensures goes_on { OnOk result (CanGoOn m.new) }
 {
     let sid = held_by(m, pid);
     put_all(m, files, swap, pid, sid)
@@ -261,8 +260,7 @@ pub fn swap_out<F: Files, D: SwapDev>(
 
 /// Brings a process in that is out: its u page is read, which gives it its registers.
 pub fn swap_in<D: SwapDev>(m: &mut Machine, swap: &mut D, pid: u32) -> Result<(), Stop>
-    requires running { m.old.kernel.stopped ≡ false }
-    requires whole { m.old.before ≡ m.old.kernel.holdings }
+    requires ready { CanGoOn m.old }
     requires area { m.old.params.swap_blocks ≤ D.blocks swap.old }
     requires can { CanComeIn m.old.kernel pid }
     ensures step { OnOk result (IsIn m.old.kernel m.new.kernel pid (D.image swap.old)) }
@@ -274,6 +272,7 @@ pub fn swap_in<D: SwapDev>(m: &mut Machine, swap: &mut D, pid: u32) -> Result<()
     ensures images { m.new.images ≡ m.old.images }
     ensures cause { OnErr result ((result ≡ Err Stop.JournalFull) ⊎ ((result ≡ Err Stop.NoMemory) ⊎ (result ≡ Err Stop.SwapReadFault))) }
     ensures outside { MovesSwapPages D.SwapDev (stop_of result) swap.old swap.new }
+    ensures goes_on { OnOk result (CanGoOn m.new) }
 {
     m.u_in(swap, pid)
 }

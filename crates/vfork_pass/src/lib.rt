@@ -1,12 +1,13 @@
 //! Spaces that are lent: a child of vfork runs in its parent's space, until it execs or ends (the 4.3BSD book).
 #![tactic(auto)]
 
-ghost use Rattle.std.specs.Prelude.{◌≡◌, ◌≢◌, ◌<◌, true, false, IsSome};
+ghost use Rattle.std.specs.Prelude.{◌≡◌, true};
 ghost use Rattle.proc_table.specs.Records.{find, Lowest};
 ghost use Rattle.kernel_model.specs.Kernel.{New};
 ghost use Rattle.kernel_model.specs.Sound.{lives};
 ghost use Rattle.kernel_model.specs.Unit.{has_lender, lender_among};
 ghost use Rattle.kernel_model.specs.ChangeStep.{pass_step};
+ghost use Rattle.machine_state.specs.Going.{IsRunning};
 ghost use Rattle.machine_state.specs.Calls.{life_in};
 ghost use Rattle.vfork_pass.specs.Lenders.{lends_in, IsLender};
 ghost use Rattle.vfork_pass.specs.Passed.{IsHolder, HasLent, HasGivenBack};
@@ -16,12 +17,13 @@ use proc_table::{Life, ProcTable};
 
 /// The parent lends its space to the child, which has none yet. It follows the entry of the vfork at once.
 pub fn lend(m: &mut Machine, parent: u32, child: u32)
-    requires running { m.old.kernel.stopped ≡ false }
+    requires running { IsRunning m.old }
     requires holds { IsHolder (life_in m.old.kernel parent) }
     requires there { lives m.old.kernel.processes child ≡ true }
     requires fresh { life_in m.old.kernel child ≡ New }
     ensures step { m.new ≡ record m.old { kernel = pass_step m.old.kernel parent child } }
     ensures lent { HasLent m.old.kernel m.new.kernel parent child }
+    ensures running { IsRunning m.new }
 {
     m.pass(parent, child);
 }
@@ -49,11 +51,12 @@ fn lender_of(processes: &ProcTable, borrower: u32) -> Option<u32>
 
 /// The child gives the space back that it borrowed. The entry of its execve or of its end follows at once.
 pub fn give_back(m: &mut Machine, child: u32)
-    requires running { m.old.kernel.stopped ≡ false }
+    requires running { IsRunning m.old }
     requires holds { IsHolder (life_in m.old.kernel child) }
     requires borrowed { has_lender m.old.kernel.processes child ≡ true }
     ensures step { m.new ≡ record m.old { kernel = pass_step m.old.kernel child (lender_among m.old.kernel.processes child) } }
     ensures given { HasGivenBack m.old.kernel m.new.kernel child (lender_among m.old.kernel.processes child) }
+    ensures running { IsRunning m.new }
 {
     match lender_of(m.processes(), child) {
         Some(lender) => m.pass(child, lender),

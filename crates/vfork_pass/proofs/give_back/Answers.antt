@@ -16,28 +16,26 @@ pass-requires-clause-may c =
     let k : Kernel = c.args.m.now.kernel in
     let i = walked_to k c.processes.result.now k.next_pid c.args.child (Some c.in-Some.lender) c.processes.ensures.processes c.requires.borrowed c.in-Some.ensures in
     subst (λ (n : ℕ). MayPass (life_in k c.args.child) (life_in k n) c.args.child) (sym (same_Some c.in-Some.lender (lender_among k.processes c.args.child) i))
-    (may_return k c.processes.result.now k.next_pid c.args.child c.processes.ensures.processes (c.processes.ensures.records c.requires.running) c.requires.holds c.requires.borrowed)
+    (may_return k c.processes.result.now k.next_pid c.args.child c.processes.ensures.processes (c.processes.ensures.records c.requires.running.runs) c.requires.holds c.requires.borrowed)
 
 pub pass-requires-clause-there : goal.pass-requires-clause-there
 pass-requires-clause-there c =
     let k : Kernel = c.args.m.now.kernel in
     let i = walked_to k c.processes.result.now k.next_pid c.args.child (Some c.in-Some.lender) c.processes.ensures.processes c.requires.borrowed c.in-Some.ensures in
     subst (λ (n : ℕ). lives k.processes n ≡ true) (sym (same_Some c.in-Some.lender (lender_among k.processes c.args.child) i))
-    (lender_alive k c.processes.result.now k.next_pid c.args.child c.processes.ensures.processes (c.processes.ensures.records c.requires.running) c.requires.holds c.requires.borrowed)
+    (lender_alive k c.processes.result.now k.next_pid c.args.child c.processes.ensures.processes (c.processes.ensures.records c.requires.running.runs) c.requires.holds c.requires.borrowed)
 
 pub returns-clause-step : goal.returns-clause-step
 returns-clause-step c =
     let k : Kernel = c.args.m.now.kernel in
     let i = walked_to k c.processes.result.now k.next_pid c.args.child (Some c.in-Some.lender) c.processes.ensures.processes c.requires.borrowed c.in-Some.ensures in
-    c.pass.ensures ∙ ap (λ (n : ℕ). let s : Standing = record c.args.m.now { kernel = pass_step k c.args.child n } in s) (same_Some c.in-Some.lender (lender_among k.processes c.args.child) i)
+    c.pass.ensures.step ∙ ap (λ (n : ℕ). let s : Standing = record c.args.m.now { kernel = pass_step k c.args.child n } in s) (same_Some c.in-Some.lender (lender_among k.processes c.args.child) i)
 
 pub returns-clause-given : goal.returns-clause-given
 returns-clause-given c =
     let k : Kernel = c.args.m.now.kernel in
-    let i = walked_to k c.processes.result.now k.next_pid c.args.child (Some c.in-Some.lender) c.processes.ensures.processes c.requires.borrowed c.in-Some.ensures in
-    subst (λ (s : Standing). HasGivenBack k s.kernel c.args.child (lender_among k.processes c.args.child))
-    (sym (c.pass.ensures ∙ ap (λ (n : ℕ). let s : Standing = record c.args.m.now { kernel = pass_step k c.args.child n } in s) (same_Some c.in-Some.lender (lender_among k.processes c.args.child) i)))
-    (has_returned k c.processes.result.now k.next_pid c.args.child c.processes.ensures.processes (c.processes.ensures.records c.requires.running) c.requires.holds c.requires.borrowed)
+    subst (λ (s : Standing). HasGivenBack k s.kernel c.args.child (lender_among k.processes c.args.child)) (sym (returns-clause-step c))
+    (has_returned k c.processes.result.now k.next_pid c.args.child c.processes.ensures.processes (c.processes.ensures.records c.requires.running.runs) c.requires.holds c.requires.borrowed)
 
 pub unreachable-requires : goal.unreachable-requires
 unreachable-requires c =

@@ -12,4 +12,4 @@ pass-requires-clause-may c = let k : Kernel = c.args.m.now.kernel in may_lend (l
 pub returns-clause-lent : goal.returns-clause-lent
 returns-clause-lent c =
     let k : Kernel = c.args.m.now.kernel in
-    subst (λ (s : Standing). HasLent k s.kernel c.args.parent c.args.child) (sym c.pass.ensures) (has_lent k c.args.parent c.args.child c.requires.holds c.requires.there c.requires.fresh)
+    subst (λ (s : Standing). HasLent k s.kernel c.args.parent c.args.child) (sym c.pass.ensures.step) (has_lent k c.args.parent c.args.child c.requires.holds c.requires.there c.requires.fresh)

@@ -1,16 +1,14 @@
 use Rattle.std.proofs.Common.{◌≡◌, ◌<◌, [], arith, None}
 use Rattle.std.proofs.lemmas.Result.{err_from_is_err_and}
 use Rattle.page_model.specs.Rank.{far}
-use Rattle.page_model.specs.Serve.{force_entry}
-use Rattle.paging_units.specs.Made.{ground}
-use Rattle.clock_hands.proofs.Units.{asks_on}
+use Rattle.paging_units.proofs.Units.{asks_on}
 use Rattle.clock_hands.proofs.Forces.{none_free, falls_on, room_on, fits_on, forced_none, stops_here, forces_none, forces_one}
 use Rattle.machine_state.proofs.Transfers.{transfers_none, transfers_then}
 use Rattle.clock_hands.proofs.forcing.force_frame.Goals as goal
 
 pub loop-m-init : goal.loop-m-init
 loop-m-init g c = record {
-  asks = record { running = c.requires.running; whole = c.requires.whole; area = c.requires.area; files = c.requires.files };
+  asks = record { ready = c.requires.ready; area = c.requires.area; files = c.requires.files };
   room = c.requires.room;
   fits = c.requires.fits;
   so_far = forces_none c.args.locked.now c.args.m.now (g.F.Files.holds c.args.files.now) (g.D.SwapDev.image c.args.swap.now);
@@ -28,13 +26,13 @@ loop-m-preserved g c =
     let latest = g.F.Files.holds c.force_once.new.files in
     let h = g.D.SwapDev.image c.loop-m.swap in
     let k = g.D.SwapDev.image c.force_once.new.swap in
-    let s = c.sound.ensures.sound in
+    let s = so.asks.ready.running.sound in
     let made = c.in_ok-force_once.ensures.made in
     let none : now.kernel.place.free ≡ [] = none_free now.kernel.place.free (omega arith) in
     let falls : far next.kernel.place locked < far now.kernel.place locked = falls_on locked now next later h k s.owner.frames s.hands so.room none made in
     record {
-      asks = asks_on (ground now later locked) (force_entry now.kernel.place.transfers) now next h k later latest (g.D.SwapDev.blocks c.loop-m.swap) (g.D.SwapDev.blocks c.force_once.new.swap)
-          made c.in_ok-force_once.ensures.outside.files.holds c.in_ok-force_once.ensures.outside.swap.blocks so.asks;
+      asks = asks_on now next later latest (g.D.SwapDev.blocks c.loop-m.swap) (g.D.SwapDev.blocks c.force_once.new.swap)
+          made.beside c.in_ok-force_once.ensures.outside.files.holds c.in_ok-force_once.ensures.outside.swap.blocks c.in_ok-force_once.ensures.goes_on so.asks;
       room = room_on locked now next later h k s.owner.frames so.room made;
       fits = fits_on locked now next later h k falls made so.fits;
       so_far = forces_one locked c.args.m.now now next holds later latest (g.D.SwapDev.image c.args.swap.now) h k c.in_ok-force_once.ensures.outside.files.holds
@@ -46,7 +44,7 @@ pub loop-m-smaller : goal.loop-m-smaller
 loop-m-smaller g c =
     let so = c.loop-m.invariant in
     let now = c.loop-m.m in
-    let s = c.sound.ensures.sound in
+    let s = so.asks.ready.running.sound in
     let none : now.kernel.place.free ≡ [] = none_free now.kernel.place.free (omega arith) in
     falls_on c.args.locked.now now c.force_once.new.m (g.F.Files.holds c.loop-m.files) (g.D.SwapDev.image c.loop-m.swap) (g.D.SwapDev.image c.force_once.new.swap)
     s.owner.frames s.hands so.room none c.in_ok-force_once.ensures.made

@@ -1,7 +1,7 @@
 use Rattle.std.proofs.Common.{◌+◌, ◌<◌, ◌^◌, None}
 use Rattle.page_model.specs.Rank.{HasRoom, far}
 use Rattle.paging_units.specs.LastMoves.{last_moves}
-use Rattle.clock_hands.proofs.Units.{Asks}
+use Rattle.paging_units.proofs.Units.{Asks}
 use Rattle.clock_hands.proofs.Forces.{ForcesSoFar}
 use Rattle.machine_state.specs.Outside.{TransfersPages}
 use Rattle.clock_hands.proofs.forcing.force_frame.Given as goal

@@ -6,7 +6,7 @@ space_of-requires-clause-there c = seat_there c.args.m.now.kernel.place c.in-Som
 
 pub space_of-requires-clause-shared : goal.space_of-requires-clause-shared
 space_of-requires-clause-shared c =
-    seat_shared c.args.m.now.kernel.place c.in-Some.page c.args.m.now.kernel.place.back c.sound.ensures.sound.owner.frames c.sound.ensures.sound.owner.aside c.in-Some.ensures.1
+    seat_shared c.args.m.now.kernel.place c.in-Some.page c.args.m.now.kernel.place.back c.requires.running.sound.owner.frames c.requires.running.sound.owner.aside c.in-Some.ensures.1
 
 pub pick_out-requires : goal.pick_out-requires
 pick_out-requires c =

@@ -9,7 +9,7 @@ pub returns-in_err-page : goal.returns-in_err-page
 returns-in_err-page c =
     let p = c.args.m.now.kernel.place in
     let locked = c.args.locked.now in
-    let s = c.sound.ensures.sound in
+    let s = c.requires.running.sound in
     subst (λ (o : Option Page). IsToWrite p locked o) (sym c.from_residual.ensures)
     (back_none p locked s.owner.frames s.hands c.requires.quarter (subst (λ (f : ℕ). IsUnlocked p locked f None) c.hands-back.ensures.back c.in_err-page.ensures))
 
@@ -17,7 +17,7 @@ pub returns-then-is_valid : goal.returns-then-is_valid
 returns-then-is_valid c =
     let p = c.args.m.now.kernel.place in
     let locked = c.args.locked.now in
-    let s = c.sound.ensures.sound in
+    let s = c.requires.running.sound in
     let page = c.in_ok-page.page in
     back_valid p locked s.owner.frames s.hands c.requires.quarter page
     (subst (λ (f : ℕ). IsUnlocked p locked f (Some page)) c.hands-back.ensures.back c.in_ok-page.ensures) (sym c.is_valid.ensures ∙ c.if-is_valid.true)
@@ -27,13 +27,13 @@ is_dirty-requires c =
     let p = c.args.m.now.kernel.place in
     let core = c.core.result.now in
     let page = c.in_ok-page.page in
-    token_resident core _ page (seat_token p core page _ c.sound.ensures.sound.owner.frames c.core.ensures c.in_ok-page.ensures.0)
+    token_resident core _ page (seat_token p core page _ c.requires.running.sound.owner.frames c.core.ensures c.in_ok-page.ensures.0)
 
 pub returns-then-is_dirty : goal.returns-then-is_dirty
 returns-then-is_dirty c =
     let p = c.args.m.now.kernel.place in
     let locked = c.args.locked.now in
-    let s = c.sound.ensures.sound in
+    let s = c.requires.running.sound in
     let page = c.in_ok-page.page in
     let core = c.core.result.now in
     let t = seat_token p core page _ s.owner.frames c.core.ensures c.in_ok-page.ensures.0 in
@@ -45,7 +45,7 @@ pub returns-else-is_dirty : goal.returns-else-is_dirty
 returns-else-is_dirty c =
     let p = c.args.m.now.kernel.place in
     let locked = c.args.locked.now in
-    let s = c.sound.ensures.sound in
+    let s = c.requires.running.sound in
     let page = c.in_ok-page.page in
     let core = c.core.result.now in
     let t = seat_token p core page _ s.owner.frames c.core.ensures c.in_ok-page.ensures.0 in

@@ -2,9 +2,8 @@ use Rattle.std.proofs.Common.{◌≡◌, true, false, Bool, ◌<◌, ◌∙◌, 
 use Rattle.std.proofs.lemmas.Result.{err_from_is_err_and}
 use Rattle.page_model.specs.Hands.{wants_moves}
 use Rattle.run_model.specs.Next.{move_unit}
-use Rattle.paging_units.specs.Made.{ground}
 use Rattle.clock_hands.specs.Moved.{IsMoveOf}
-use Rattle.clock_hands.proofs.Units.{asks_on}
+use Rattle.paging_units.proofs.Units.{asks_on}
 use Rattle.clock_hands.proofs.Moves.{stops_moving, move_flies, done_flies, move_last, done_last, moves_none, moves_one, moves_done, moves_all}
 use Rattle.clock_hands.proofs.moving.move_hands.Goals.{then-loop-left-test+else-wants_moves, else-loop-left-test}
 use Rattle.machine_state.proofs.Transfers.{transfers_none, transfers_then}
@@ -12,7 +11,7 @@ use Rattle.clock_hands.proofs.moving.move_hands.Goals as goal
 
 pub loop-left-init : goal.loop-left-init
 loop-left-init g c = record {
-  asks = record { running = c.requires.running; whole = c.requires.whole; area = c.requires.area; files = c.requires.files };
+  asks = record { ready = c.requires.ready; area = c.requires.area; files = c.requires.files };
   few = omega arith;
   fits = c.requires.fits;
   so_far = moves_none c.args.n c.args.m.now (g.F.Files.holds c.args.files.now) (g.D.SwapDev.image c.args.swap.now);
@@ -34,8 +33,8 @@ loop-left-preserved-then-branch g c =
     let made = c.in_ok-move_once.ensures.made in
     let w : wants_moves now.kernel.place ≡ true = sym c.wants_moves.ensures ∙ c.if-wants_moves.true in
     record {
-      asks = asks_on (ground now later []) (move_unit now.kernel.place []) now next h k later latest (g.D.SwapDev.blocks c.loop-left.swap) (g.D.SwapDev.blocks c.move_once.new.swap)
-          made c.in_ok-move_once.ensures.outside.files.holds c.in_ok-move_once.ensures.outside.swap.blocks so.asks;
+      asks = asks_on now next later latest (g.D.SwapDev.blocks c.loop-left.swap) (g.D.SwapDev.blocks c.move_once.new.swap)
+          made.beside c.in_ok-move_once.ensures.outside.files.holds c.in_ok-move_once.ensures.outside.swap.blocks c.in_ok-move_once.ensures.goes_on so.asks;
       few = let few = so.few in omega arith;
       fits = move_last left now next later h k some u made so.fits;
       so_far = moves_one c.args.n left c.args.m.now now next (g.F.Files.holds c.args.files.now) later latest (g.D.SwapDev.image c.args.swap.now) h k
@@ -58,8 +57,8 @@ loop-left-preserved g c =
     let made = c.in_ok-move_once.ensures.made in
     let w : wants_moves now.kernel.place ≡ true = sym c.wants_moves.ensures ∙ c.if-wants_moves.true in
     record {
-      asks = asks_on (ground now later []) (move_unit now.kernel.place []) now next h k later latest (g.D.SwapDev.blocks c.loop-left.swap) (g.D.SwapDev.blocks c.move_once.new.swap)
-          made c.in_ok-move_once.ensures.outside.files.holds c.in_ok-move_once.ensures.outside.swap.blocks so.asks;
+      asks = asks_on now next later latest (g.D.SwapDev.blocks c.loop-left.swap) (g.D.SwapDev.blocks c.move_once.new.swap)
+          made.beside c.in_ok-move_once.ensures.outside.files.holds c.in_ok-move_once.ensures.outside.swap.blocks c.in_ok-move_once.ensures.goes_on so.asks;
       few = let few = so.few in omega arith;
       fits = done_last left now next later h k u made so.fits;
       so_far = moves_done c.args.n left c.args.m.now now next (g.F.Files.holds c.args.files.now) later latest (g.D.SwapDev.image c.args.swap.now) h k

@@ -1,6 +1,6 @@
 use Rattle.std.proofs.Common.{◌+◌, ◌*◌, ◌<◌, ◌≤◌, ◌^◌, length, None}
 use Rattle.paging_units.specs.LastMoves.{last_moves}
-use Rattle.clock_hands.proofs.Units.{Asks}
+use Rattle.paging_units.proofs.Units.{Asks}
 use Rattle.clock_hands.proofs.Moves.{MovesSoFar}
 use Rattle.machine_state.specs.Outside.{TransfersPages}
 use Rattle.clock_hands.proofs.moving.move_hands.Given as goal

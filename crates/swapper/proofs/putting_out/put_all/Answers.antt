@@ -1,6 +1,7 @@
 use Rattle.std.proofs.Common.{subst, rules, None}
+use Rattle.std.proofs.lemmas.Result.{on_ok_weaker}
 use Rattle.swapper.specs.Putting.{IsStep, IsNext}
-use Rattle.swapper.proofs.PutUnits.{puts_on, falls_on, stops_here, holder_resides, on_ok, if_err, puts_none, puts_one}
+use Rattle.swapper.proofs.PutUnits.{puts_on, falls_on, stops_here, holder_resides, if_err, puts_none, puts_one}
 use Rattle.machine_state.proofs.Transfers.{transfers_none, transfers_then}
 use Rattle.swapper.proofs.putting_out.put_all.Goals as goal
 
@@ -8,7 +9,7 @@ pub loop-step-init : goal.loop-step-init
 loop-step-init g c =
     let r = c.requires in
     record {
-      puts = record { running = r.running; whole = r.whole; area = r.area; files = r.files; clear = r.clear; holds_there = r.holds; resident = r.resident };
+      puts = record { asks = record { ready = r.ready; area = r.area; files = r.files }; clear = r.clear; holds_there = r.holds; resident = r.resident };
       so_far = puts_none c.args.pid c.args.sid c.args.m.now (g.F.Files.holds c.args.files.now) (g.D.SwapDev.image c.args.swap.now);
       outside = transfers_none g.met.F.Files.leads_nowhere g.met.D.SwapDev.leads_nowhere c.args.files.now c.args.swap.now;
     }
@@ -26,7 +27,7 @@ loop-step-preserved g c =
     let k = g.D.SwapDev.image c.put_once.new.swap in
     record {
       puts = puts_on now next c.args.pid c.args.sid c.in-Some.step later h k s m latest (g.D.SwapDev.blocks c.loop-step.swap) (g.D.SwapDev.blocks c.put_once.new.swap)
-          c.in_ok-put_once.ensures.outside.files.holds c.in_ok-put_once.ensures.outside.swap.blocks so.puts;
+          c.in_ok-put_once.ensures.outside.files.holds c.in_ok-put_once.ensures.outside.swap.blocks c.in_ok-put_once.ensures.goes_on so.puts;
       so_far = puts_one c.args.pid c.args.sid c.args.m.now now next c.in-Some.step (g.F.Files.holds c.args.files.now) later latest (g.D.SwapDev.image c.args.swap.now) h k
           c.in_ok-put_once.ensures.outside.files.holds s so.puts.resident m c.in_ok-put_once.ensures.keeps so.so_far;
       outside = transfers_then {stop = None} g.met.F.Files.leads_through g.met.D.SwapDev.leads_through so.outside c.in_ok-put_once.ensures.outside;
@@ -38,8 +39,8 @@ loop-step-smaller g c =
     let now = c.loop-step.m in
     let s : IsStep now.kernel.place c.args.sid c.in-Some.step = subst (IsNext now.kernel.place c.args.sid) c.in-Some.is c.next_step.ensures in
     falls_on now c.put_once.new.m c.args.pid c.args.sid c.in-Some.step (g.F.Files.holds c.loop-step.files) (g.D.SwapDev.image c.loop-step.swap) (g.D.SwapDev.image c.put_once.new.swap) s
-    c.in_ok-put_once.ensures.made c.sound.ensures.sound.owner.frames
-    (holder_resides now.kernel c.args.pid c.args.sid c.sound.ensures.numbered.residents so.puts.holds_there.holds) so.puts.resident
+    c.in_ok-put_once.ensures.made so.puts.asks.ready.running.sound.owner.frames
+    (holder_resides now.kernel c.args.pid c.args.sid so.puts.asks.ready.running.numbered.residents so.puts.holds_there.holds) so.puts.resident
 
 pub returns-in_err-put_once-clause-stopped : goal.returns-in_err-put_once-clause-stopped
 returns-in_err-put_once-clause-stopped g c =
@@ -55,7 +56,7 @@ returns-in_err-put_once-clause-stopped g c =
 pub returns-clause-put : goal.returns-clause-put
 returns-clause-put g c =
     let so = c.loop-step.invariant in
-    on_ok c.leave.result (so.so_far.more c.leave.new.m (g.D.SwapDev.image c.leave.new.swap)) (c.leave.ensures.put (g.F.Files.holds c.loop-step.files))
+    on_ok_weaker c.leave.result (so.so_far.more c.leave.new.m (g.D.SwapDev.image c.leave.new.swap)) (c.leave.ensures.put (g.F.Files.holds c.loop-step.files))
 
 pub returns-clause-stopped : goal.returns-clause-stopped
 returns-clause-stopped g c =

@@ -1,4 +1,5 @@
 use Rattle.std.proofs.Common.{IfErr, OnOk, [], sym, subst}
+use Rattle.std.proofs.lemmas.Result.{on_ok_weaker}
 use Rattle.vm_facts.specs.declared.entry.Entry.{Entry}
 use Rattle.vm_facts.specs.declared.stop.Stop.{Stop}
 use Rattle.paging_units.specs.Made.{ground, MakesUnit}
@@ -6,7 +7,7 @@ use Rattle.paging_units.specs.Stops.{StopsAt}
 use Rattle.paging_units.proofs.Keeping.{keeps_flat}
 use Rattle.swapper.specs.Putting.{IsStep}
 use Rattle.swapper.specs.declared.putting_out.Step.TheVariants as steps
-use Rattle.swapper.proofs.PutUnits.{first_own, first_is_seated, on_ok}
+use Rattle.swapper.proofs.PutUnits.{first_own, first_is_seated}
 use Rattle.swapper.proofs.putting_out.put_once.Goals as goal
 
 pub put_page-requires-clause-own : goal.put_page-requires-clause-own
@@ -34,4 +35,4 @@ returns-in-Wait-clause-stopped g c =
 
 pub returns-in-Put-clause-keeps : goal.returns-in-Put-clause-keeps
 returns-in-Put-clause-keeps g c =
-    on_ok c.put_page.result (keeps_flat c.args.m.now c.put_page.new.m (g.F.Files.holds c.args.files.now) (g.D.SwapDev.image c.args.swap.now)) c.put_page.ensures.keeps
+    on_ok_weaker c.put_page.result (keeps_flat c.args.m.now c.put_page.new.m (g.F.Files.holds c.args.files.now) (g.D.SwapDev.image c.args.swap.now)) c.put_page.ensures.keeps
