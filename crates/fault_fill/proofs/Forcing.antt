@@ -14,7 +14,9 @@ use Rattle.machine_state.specs.Machine.{Standing}
 use Rattle.machine_state.specs.Done.{KeepsThrough}
 use Rattle.clock_hands.specs.Forced.{Forced, StopsForcing}
 use Rattle.fault_fill.specs.Serving.{StopsServing}
-use Rattle.fault_fill.specs.Units.{NoneMade, NeedsFrame, Further}
+use Rattle.fault_fill.specs.Units.{NoneMade, NeedsFrame, ComesTo, Further}
+use Rattle.fault_fill.specs.declared.unit.Unit.{Unit as Came}
+use Rattle.fault_fill.specs.declared.unit.Unit.TheVariants as units
 use Rattle.fault_fill.proofs.Serving.{unit_forces, forces_serve, forces_some}
 
 -- a page that has no frame still has none after units that force one
@@ -25,49 +27,54 @@ still_frameless (e ∷ us) p r locked q o n h =
     let s : Stays p (force p locked) = force_stays p locked o in
     still_frameless us (force p locked) r locked q (force_owner p locked o) (s.frames q ∙ n) h.2
 
-pub room_further : (locked : List Page) (q : Page) (old next new : Standing) (holds later : Option (List NamedFile)) (i h j : Option (List ℕ))
-    → NoneMade old next i h → later ≡ holds
-    → OwnsFrames old.kernel.place → NeedsFrame old.kernel.place q → Forced locked next new later h j → KeepsThrough next new later h j
-    → Further locked q old new holds i j
-room_further locked q old next new holds later i h j n e o needs f keeps = record {
+pub room_further : (locked : List Page) (q : Page) (old next new : Standing) (holds later : Option (List NamedFile)) (i h j : Option (List ℕ)) (came : Came)
+    → came ≡ units.Starves → ComesTo came q old next holds i h → later ≡ holds → OwnsFrames old.kernel.place → Forced locked next new later h j
+    → KeepsThrough next new later h j → Further locked q old new holds i j
+room_further locked q old next new holds later i h j came is made e o f keeps = record {
   serves = record {
     units = d.units;
-    leads = forces_serve d.units old.kernel.place new.kernel.place locked q o needs.frameless d.forces;
+    leads = forces_serve d.units old.kernel.place new.kernel.place locked q o n.1.frameless d.forces;
     makes = d.makes;
     keeps = kept;
   };
-  some = forces_some d.units old.kernel.place new.kernel.place locked d.forces needs.none d.free;
+  some = forces_some d.units old.kernel.place new.kernel.place locked d.forces n.1.none d.free;
   low = λ none. (let a = d.free in let b = ap length none in absurd (omega arith));
 }
   where
+    n : NoneMade old next i h × NeedsFrame old.kernel.place q
+    n = subst (λ (x : Came). ComesTo x q old next holds i h) is made
+
     d : Forced locked old new holds i j
     d =
-        subst (λ (s : Standing). Forced locked s new holds i j) n.machine
-        (subst (λ (x : Option (List ℕ)). Forced locked next new holds x j) n.image (subst (λ (x : Option (List NamedFile)). Forced locked next new x h j) e f))
+        subst (λ (s : Standing). Forced locked s new holds i j) n.0.machine
+        (subst (λ (x : Option (List ℕ)). Forced locked next new holds x j) n.0.image (subst (λ (x : Option (List NamedFile)). Forced locked next new x h j) e f))
 
     kept : KeepsThrough old new holds i j
     kept =
-        subst (λ (s : Standing). KeepsThrough s new holds i j) n.machine
-        (subst (λ (x : Option (List ℕ)). KeepsThrough next new holds x j) n.image (subst (λ (x : Option (List NamedFile)). KeepsThrough next new x h j) e keeps))
+        subst (λ (s : Standing). KeepsThrough s new holds i j) n.0.machine
+        (subst (λ (x : Option (List ℕ)). KeepsThrough next new holds x j) n.0.image (subst (λ (x : Option (List NamedFile)). KeepsThrough next new x h j) e keeps))
 
-pub room_stops : (locked : List Page) (q : Page) (old next new : Standing) (holds later : Option (List NamedFile)) (i h j : Option (List ℕ)) (stop : Stop)
-    → NoneMade old next i h → later ≡ holds
-    → OwnsFrames old.kernel.place → NeedsFrame old.kernel.place q → StopsForcing locked next stop new later h j
+pub room_stops : (locked : List Page) (q : Page) (old next new : Standing) (holds later : Option (List NamedFile)) (i h j : Option (List ℕ))
+    (stop : Stop) (came : Came)
+    → came ≡ units.Starves → ComesTo came q old next holds i h → later ≡ holds → OwnsFrames old.kernel.place → StopsForcing locked next stop new later h j
     → StopsServing true locked q old new holds i j stop
-room_stops locked q old next new holds later i h j stop n e o needs f = record {
+room_stops locked q old next new holds later i h j stop came is made e o f = record {
   units = d.units;
   kernel = d.at;
   image = d.image;
-  leads = forces_serve d.units old.kernel.place d.at.place locked q o needs.frameless d.forces;
+  leads = forces_serve d.units old.kernel.place d.at.place locked q o n.1.frameless d.forces;
   made = d.made;
   entry = force_entry d.at.place.transfers;
-  next = unit_forces d.at.place q (still_frameless d.units old.kernel.place d.at.place locked q o needs.frameless d.forces) d.none;
+  next = unit_forces d.at.place q (still_frameless d.units old.kernel.place d.at.place locked q o n.1.frameless d.forces) d.none;
   at = d.stops;
   params = d.params;
   images = d.images;
 }
   where
+    n : NoneMade old next i h × NeedsFrame old.kernel.place q
+    n = subst (λ (x : Came). ComesTo x q old next holds i h) is made
+
     d : StopsForcing locked old stop new holds i j
     d =
-        subst (λ (s : Standing). StopsForcing locked s stop new holds i j) n.machine
-        (subst (λ (x : Option (List ℕ)). StopsForcing locked next stop new holds x j) n.image (subst (λ (x : Option (List NamedFile)). StopsForcing locked next stop new x h j) e f))
+        subst (λ (s : Standing). StopsForcing locked s stop new holds i j) n.0.machine
+        (subst (λ (x : Option (List ℕ)). StopsForcing locked next stop new holds x j) n.0.image (subst (λ (x : Option (List NamedFile)). StopsForcing locked next stop new x h j) e f))

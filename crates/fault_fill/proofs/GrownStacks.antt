@@ -17,10 +17,11 @@ use Rattle.page_laws.proofs.Lists.Pages.{mapped, changed_same}
 use Rattle.page_laws.proofs.Bytes.Changes.{length_sized}
 use Rattle.kernel_model.specs.Kernel.{Life, HoldsSpace, Kernel, Proc, note_step}
 use Rattle.kernel_model.specs.Asks.{HasSpace, asked}
-use Rattle.kernel_model.specs.Sound.{Sound, has_life, lives_in}
+use Rattle.kernel_model.specs.Sound.{has_life, lives_in}
 use Rattle.kernel_model.specs.ChangeStep.{space_of_life, life_of_proc, change_if, change_by}
 use Rattle.clock_hands.specs.LastMoves.{last_moves}
 use Rattle.clock_hands.proofs.LastMoves.{last_of}
+use Rattle.machine_state.specs.Going.{CanGoOn}
 use Rattle.machine_state.specs.Want.{Want}
 use Rattle.machine_state.specs.Machine.{Standing}
 use Rattle.machine_state.specs.Wants.{wanted_of, found_for, fits_for}
@@ -45,21 +46,19 @@ own_wants : (m : Standing) (pid pages : ℕ)
 own_wants m pid pages held = growth_asked (facts_named m.images) m.kernel.place m.kernel.holdings (space_held m.kernel pid) m.kernel.next_sid pages held
 
 -- what is found for the one request is what growth asks for
-pub wants_found : (m : Standing) (pid sid pages : ℕ) → m.before ≡ m.kernel.holdings → Sound m.params.swap_blocks (record m.kernel { holdings = m.before })
-    → IsGrowth m.kernel.place (space_held m.kernel pid) sid pages
+pub wants_found : (m : Standing) (pid sid pages : ℕ) → CanGoOn m → IsGrowth m.kernel.place (space_held m.kernel pid) sid pages
     → growth_found m pid pages ≡ found_for m.params.swap_blocks m.kernel.holdings (stack_want sid pages)
-wants_found m pid sid pages whole sound g =
+wants_found m pid sid pages ready g =
     ap (place_all m.params.swap_blocks m.kernel.holdings)
-    (own_wants m pid pages (sym (ap (lengths (owners.Stack (space_held m.kernel pid))) whole) ∙ sound.owner.blocks.stack_held (space_held m.kernel pid))
+    (own_wants m pid pages (sym (ap (lengths (owners.Stack (space_held m.kernel pid))) ready.whole) ∙ ready.running.sound.owner.blocks.stack_held (space_held m.kernel pid))
     ∙ ap (λ (n : ℕ). wanted_of m.kernel.holdings (stack_want n pages)) (sym g.own))
 
-pub refused_growth : (m n : Standing) (pid sid pages : ℕ) → m.before ≡ m.kernel.holdings → Sound m.params.swap_blocks (record m.kernel { holdings = m.before })
-    → IsGrowth m.kernel.place (space_held m.kernel pid) sid pages
+pub refused_growth : (m n : Standing) (pid sid pages : ℕ) → CanGoOn m → IsGrowth m.kernel.place (space_held m.kernel pid) sid pages
     → false ≡ fits_for m.params.swap_blocks m.kernel.holdings (stack_want sid pages)
     → n ≡ record m { kernel = note_step m.kernel (Refused pid); room = None } → KeepsFlat m.kernel n.kernel → SameEverywhere m.kernel n.kernel
     → GrowthRefused m n pid pages
-refused_growth m n pid sid pages whole sound g none machine keeps same = record {
-  none = ap is_ok (wants_found m pid sid pages whole sound g) ∙ sym none;
+refused_growth m n pid sid pages ready g none machine keeps same = record {
+  none = ap is_ok (wants_found m pid sid pages ready g) ∙ sym none;
   machine = machine;
   keeps = keeps;
   same = same;
@@ -75,7 +74,7 @@ none_lost : (p : Placement) (held sid pages : ℕ) → IsGrowth p held sid pages
 none_lost p held sid pages g (inl l) = omega arith
 none_lost p held sid pages g (inr l) = let a = g.more in let b = ap (stack_count p) g.own in omega arith
 
-module _ (m : Standing) (pid sid pages : ℕ) (whole : m.before ≡ m.kernel.holdings) (clear : m.kernel.place.due ≡ []) (lends : CanLend m.kernel pid)
+module _ (m : Standing) (pid sid pages : ℕ) (ready : CanGoOn m) (clear : m.kernel.place.due ≡ []) (lends : CanLend m.kernel pid)
     (g : IsGrowth m.kernel.place (space_held m.kernel pid) sid pages) where
   can_apply : (hs : Holdings) → growth_found m pid pages ≡ Ok hs → data_count m.kernel.place (space_held m.kernel pid) ≤ 4096
       → CanApply (with_pieces m hs) pid (Grew pid pages) (growth m.kernel pid pages)
@@ -93,7 +92,7 @@ module _ (m : Standing) (pid sid pages : ℕ) (whole : m.before ≡ m.kernel.hol
     entry = (refl, refl);
     whole = (small, g.few);
     few = λ t. absurd cc;
-    found = ap (λ (xs : Holdings). place_all m.params.swap_blocks xs (asked (facts_named m.images) m.kernel pid (growth m.kernel pid pages))) whole ∙ finds;
+    found = ap (λ (xs : Holdings). place_all m.params.swap_blocks xs (asked (facts_named m.images) m.kernel pid (growth m.kernel pid pages))) ready.whole ∙ finds;
   }
 
   pub can_grow : (a : Standing) (d : ℕ) (hs : Holdings) → growth_found m pid pages ≡ Ok hs → a ≡ with_pieces m hs
@@ -149,10 +148,9 @@ module _ (m n : Standing) (pid sid pages : ℕ) (h : Grown m n pid pages) (lends
       ∙ ap (λ (i : ℕ). resize m.kernel.place i (data_count m.kernel.place (space_held m.kernel pid)) pages) (sym (held_is m.kernel pid h.process h.there) ∙ sym g.own)
       ∙ only_cut m.kernel.place sid (data_count m.kernel.place (space_held m.kernel pid)) pages (let a = ap (data_count m.kernel.place) g.own in omega arith) (let a = g.more in omega arith)
 
-  pub grown_ready : m.kernel.stopped ≡ false → m.kernel.place.due ≡ [] → IsReady (page_names.Stack sid (pages - 1)) m n
-  grown_ready running clear = record {
-    running = ap (λ (k : Kernel). k.stopped) step_is ∙ running;
-    whole = ap (λ (s : Standing). s.before) h.rest;
+  pub grown_ready : CanGoOn n → m.kernel.place.due ≡ [] → IsReady (page_names.Stack sid (pages - 1)) m n
+  grown_ready ready clear = record {
+    ready = ready;
     params = ap (λ (s : Standing). s.params) h.rest;
     images = ap (λ (s : Standing). s.images) h.rest;
     holds = ap (λ (p : Placement). p.holds) place_is;

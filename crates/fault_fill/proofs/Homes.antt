@@ -1,5 +1,5 @@
 -- The space of a page, or one that shares its text.
-use Rattle.std.proofs.Common.{◌≡◌, ◌≢◌, inl, inr, ℕ, ◌<◌, ◌≤◌, IsSome, List, [], ◌∷◌, length, map, Option, Some, None, slice_get, refl, sym, ap, ◌∙◌, arith}
+use Rattle.std.proofs.Common.{◌≡◌, ◌≢◌, inl, inr, ℕ, ◌<◌, ◌≤◌, IsSome, List, [], ◌∷◌, length, map, Option, Some, None, slice_get, refl, sym, ◌∙◌, arith}
 use Rattle.std.proofs.lemmas.Bool.{cases_eq}
 use Rattle.std.proofs.lemmas.Bool.Decides.{nat_tests}
 use Rattle.vm_facts.specs.declared.page.Page.{Page}
@@ -9,11 +9,10 @@ use Rattle.core_map.specs.Frames.{Frames}
 use Rattle.space_map.specs.Space.{Places, place_in}
 use Rattle.flat_state.specs.Numbers.{IsAbsent, AllDistinct}
 use Rattle.flat_state.specs.PageNames.{number_of}
-use Rattle.page_model.specs.Pages.{SpacePages, numbered, data_in, stack_in}
-use Rattle.page_model.specs.Placement.{Placement, space_number, IsThere, sharers_in, image_in, image_of}
+use Rattle.page_model.specs.Pages.{SpacePages, numbered}
+use Rattle.page_model.specs.Placement.{Placement, space_number, IsThere, sharers_in, image_of}
 use Rattle.page_model.specs.Conditions.{IsShared}
 use Rattle.page_laws.proofs.Lists.Pages.{numbered_hit, numbered_miss}
-use Rattle.kernel_model.specs.Asks.{HasSpace}
 use Rattle.machine_state.specs.Views.{IsNamedBy, ShowsPage, ShowsSpace}
 use Rattle.machine_state.specs.Sharing.{IsSharer}
 use Rattle.machine_state.proofs.UserFrames.{get_below}
@@ -54,24 +53,6 @@ pub no_sharer : (p : Placement) (image v : ℕ) → AllDistinct (map space_numbe
 no_sharer p image v d l none =
     let h : Sharer image p.spaces = shared_by image p.spaces d l in
     none h.sid (record { space = h.space; there = h.there; shares = h.shares })
-
-sharer_home : (p : Placement) (image v sid : ℕ) → IsSharer p image sid → HasSpace p sid × IsHome p (Text image v) sid
-sharer_home p image v sid h = (
-  λ e. (let k : Some h.space ≡ None = sym h.there ∙ e in absurd cc),
-  ap image_in h.there ∙ h.shares,
-)
-
-pub text_home : (p : Placement) (image v sid : ℕ) → IsSharer p image sid → HasSpace p sid
-text_home p image v sid h = (sharer_home p image v sid h).0
-
-pub text_image : (p : Placement) (image v sid : ℕ) → IsSharer p image sid → image_of p sid ≡ image
-text_image p image v sid h = (sharer_home p image v sid h).1
-
-pub data_home : (p : Placement) (sid v : ℕ) → IsThere p (Data sid v) → HasSpace p sid
-data_home p sid v there e = let a = ap (λ (o : Option SpacePages). length (data_in o)) e in absurd (omega arith)
-
-pub stack_home : (p : Placement) (sid v : ℕ) → IsThere p (Stack sid v) → HasSpace p sid
-stack_home p sid v there e = let a = ap (λ (o : Option SpacePages). length (stack_in o)) e in absurd (omega arith)
 
 -- the map of the space names the page
 pub home_names : (p : Placement) (q : Page) (sid : ℕ) (s : Places) → IsHome p q sid → s.sid ≡ sid → s.image ≡ image_of p sid → IsNamedBy s q

@@ -1,5 +1,5 @@
 -- Units of serving, and calls of them, one after another.
-use Rattle.std.proofs.Common.{◌≡◌, ◌↔◌, ◌⊎◌, ℕ, ◌+◌, ◌<◌, ◌≤◌, ◌^◌, Bool, true, false, List, [], ◌∷◌, ◌++◌, length, Option, Some, None, Result, Ok, Err, MatchResult, OnOk, OnErr, refl, sym, ap, ◌∙◌, subst, arith}
+use Rattle.std.proofs.Common.{◌≡◌, ◌↔◌, ◌⊎◌, ℕ, ◌+◌, ◌<◌, ◌≤◌, Bool, true, false, List, [], ◌∷◌, ◌++◌, length, Option, Some, None, Result, Ok, Err, MatchResult, OnOk, OnErr, refl, sym, ap, ◌∙◌, subst, arith}
 use Rattle.std.proofs.lemmas.List.{length_push}
 use Rattle.vm_facts.specs.declared.page.Page.{Page}
 use Rattle.vm_facts.specs.declared.stop.Stop.{Stop}
@@ -20,19 +20,19 @@ use Rattle.machine_state.specs.Machine.{Standing}
 use Rattle.machine_state.specs.Sourced.{ImageNamed}
 use Rattle.machine_state.specs.Files.{AreFiles}
 use Rattle.machine_state.specs.Conditions.{HasStopped, KeepsFlat}
-use Rattle.machine_state.specs.Done.{KeepsThrough}
 use Rattle.machine_state.specs.Settled.{IsSameBeside}
-use Rattle.clock_hands.specs.Made.{Ground, ground, MadeBy, ImageBy, SameBeside}
+use Rattle.clock_hands.specs.Made.{Ground, ground, MadeBy, ImageBy}
 use Rattle.clock_hands.specs.Stops.{CauseBy, SpoilsBy}
 use Rattle.clock_hands.proofs.Stopping.{held_here}
-use Rattle.clock_hands.proofs.PagingUnitsUnits.{served_place, unit_journal, unit_same, made_append, made_one, made_same, makes_none, makes_both, makes_on}
-use Rattle.clock_hands.proofs.Keeping.{made_shaped, keeps_flat, keeps_same, keeps_both}
+use Rattle.clock_hands.proofs.PagingUnitsUnits.{served_place, unit_journal, made_append, made_one, makes_both, makes_on}
+use Rattle.clock_hands.proofs.Keeping.{made_shaped, keeps_flat, keeps_both}
 use Rattle.clock_hands.proofs.Units.{made_on}
 use Rattle.fault_fill.specs.Serving.{CanServe, UnitMade, UnitStops, ServesTo, StopsServing}
-use Rattle.fault_fill.specs.Units.{AnyUnit, PlainMade, PlainStop, EndMade, EndStops, NoneMade}
-use Rattle.fault_fill.specs.Units.{is_flying, Further}
+use Rattle.fault_fill.specs.Units.{AnyUnit, PlainMade, PlainStop, EndMade, EndStops, NoneMade, ComesTo, is_flying, Further}
 use Rattle.fault_fill.specs.Answers.{ServesAs, ServesNow}
 use Rattle.fault_fill.specs.declared.pages.Served.{Served}
+use Rattle.fault_fill.specs.declared.unit.Unit.{Unit as Came}
+use Rattle.fault_fill.specs.declared.unit.Unit.TheVariants as units
 use Rattle.fault_fill.proofs.Serving.{due_same, serves_append, Behind, served_behind, near, near_falls, calm_unit, unit_waits}
 
 pub match_map : {A E : Type 0} (P Q : A → Type 0) (R S : E → Type 0) (r : Result A E) → ((x : A) → P x → Q x) → ((e : E) → R e → S e)
@@ -141,25 +141,6 @@ end_stops now q old new before after stop next m = record { entry = entries.Done
 
 -- What goes on.
 
-pub record GoesOn (old new : Standing) : Type 0 where
-  pub stopped : new.kernel.stopped ≡ old.kernel.stopped
-  pub holdings : new.kernel.holdings ≡ old.kernel.holdings
-
-pub unit_on : (now : Bool) (locked : List Page) (q : Page) (old new : Standing) (holds : Option (List NamedFile)) (before after : Option (List ℕ))
-    → UnitMade now locked q old new holds before after → GoesOn old new
-unit_on now locked q old new holds before after u =
-    let s : SameBeside old.kernel new.kernel = unit_same (ground old holds locked) u.entry old.kernel new.kernel before u.made in
-    record { stopped = s.stopped; holdings = s.holdings }
-
-pub units_on : (now : Bool) (locked : List Page) (q : Page) (old new : Standing) (holds : Option (List NamedFile)) (before after : Option (List ℕ))
-    → ServesTo now locked q old new holds before after → GoesOn old new
-units_on now locked q old new holds before after u =
-    let s : SameBeside old.kernel new.kernel = made_same (ground old holds locked) u.units old.kernel new.kernel before after u.makes.made in
-    record { stopped = s.stopped; holdings = s.holdings }
-
-pub whole_on : (old new : Standing) → IsSameBeside old new → GoesOn old new → old.before ≡ old.kernel.holdings → new.before ≡ new.kernel.holdings
-whole_on old new r g w = r.before ∙ w ∙ sym g.holdings
-
 pub area_on : (old new : Standing) (n m : ℕ) → IsSameBeside old new → m ≡ n → old.params.swap_blocks ≤ n → new.params.swap_blocks ≤ m
 area_on old new n m r e l = let a = ap (λ (x : Params). x.swap_blocks) r.params in omega arith
 
@@ -176,15 +157,6 @@ one_serves now locked q old new holds before after c u = record {
   leads = (u.next, sym (served_place (ground old holds locked) q now u.entry old.kernel new.kernel before u.next (due_same old.kernel.place.due q c.fresh) u.made));
   makes = record { made = made_one (ground old holds locked) u.entry old.kernel new.kernel before after u.made u.told; beside = u.rest };
   keeps = u.keeps;
-}
-
-pub none_serves : (now : Bool) (locked : List Page) (q : Page) (old new : Standing) (holds : Option (List NamedFile)) (before after : Option (List ℕ))
-    → NoneMade old new before after → ServesTo now locked q old new holds before after
-none_serves now locked q old new holds before after n = record {
-  units = [];
-  leads = ap (λ (s : Standing). s.kernel.place) (sym n.machine);
-  makes = makes_none (ground old holds locked) old new before after n.machine n.image;
-  keeps = subst (λ (i : Option (List ℕ)). KeepsThrough old new holds before i) (sym n.image) (keeps_same old new holds before (ap (λ (s : Standing). s.kernel) (sym n.machine)));
 }
 
 pub both_serve : (now : Bool) (locked : List Page) (q : Page) (old next new : Standing) (holds later : Option (List NamedFile)) (a b c : Option (List ℕ))
@@ -274,8 +246,9 @@ unit_further locked q old new holds before after c u z = record {
 }
 
 pub any_further : (locked : List Page) (q : Page) (old new : Standing) (holds : Option (List NamedFile)) (before after : Option (List ℕ))
-    → CanServe old.kernel.place q → AnyUnit q old new holds before after → Further locked q old new holds before after
-any_further locked q old new holds before after c any =
+    (came : Came) → came ≡ units.Nearer → ComesTo came q old new holds before after → CanServe old.kernel.place q → Further locked q old new holds before after
+any_further locked q old new holds before after came is made c =
+    let any : AnyUnit q old new holds before after = subst (λ (x : Came). ComesTo x q old new holds before after) is made in
     let u : UnitMade true locked q old new holds before after = any true locked in
     let v : UnitMade false locked q old new holds before after = any false locked in
     let same : v.entry ≡ u.entry = (unit_is old.kernel.place q false v.entry v.next).1 ∙ sym (unit_is old.kernel.place q true u.entry u.next).1 in
@@ -294,19 +267,23 @@ pub stop_same : (old next new : Standing) (i h j : Option (List ℕ)) (stop : St
 stop_same old next new i h j stop n m =
     subst (λ (s : Standing). EndStops s new i j stop) n.machine (subst (λ (x : Option (List ℕ)). EndStops next new x j stop) n.image m)
 
-pub end_further : (locked : List Page) (q : Page) (old next new : Standing) (holds later : Option (List NamedFile)) (i h j : Option (List ℕ))
-    → NoneMade old next i h → later ≡ holds
-    → CanServe old.kernel.place q → is_flying (state_of old.kernel.place q) ≡ true → EndMade next new later h j → Further locked q old new holds i j
-end_further locked q old next new holds later i h j n e c f m =
+pub end_further : (locked : List Page) (q : Page) (old next new : Standing) (holds later : Option (List NamedFile)) (i h j : Option (List ℕ)) (came : Came)
+    → came ≡ units.Waits → ComesTo came q old next holds i h → later ≡ holds → CanServe old.kernel.place q → EndMade next new later h j
+    → Further locked q old new holds i j
+end_further locked q old next new holds later i h j came is made e c m =
     unit_further locked q old new holds i j c
-    (record { entry = entries.Done; next = unit_waits old.kernel.place q f; made = d.done; told = d.told; rest = d.rest; keeps = d.keeps })
+    (record { entry = entries.Done; next = unit_waits old.kernel.place q w.1; made = d.done; told = d.told; rest = d.rest; keeps = d.keeps })
     (last_done old.kernel.journal)
   where
-    d : EndMade old new holds i j
-    d = end_same old next new holds later i h j n e m
+    w : NoneMade old next i h × (is_flying (state_of old.kernel.place q) ≡ true)
+    w = subst (λ (x : Came). ComesTo x q old next holds i h) is made
 
-pub end_stops_now : (locked : List Page) (q : Page) (old next new : Standing) (holds : Option (List NamedFile)) (i h j : Option (List ℕ)) (stop : Stop)
-    → NoneMade old next i h
-    → is_flying (state_of old.kernel.place q) ≡ true → EndStops next new h j stop → StopsServing true locked q old new holds i j stop
-end_stops_now locked q old next new holds i h j stop n f m =
-    stops_here true locked q old new holds i j stop (end_stops true q old new i j stop (unit_waits old.kernel.place q f) (stop_same old next new i h j stop n m))
+    d : EndMade old new holds i j
+    d = end_same old next new holds later i h j w.0 e m
+
+pub end_stops_now : (locked : List Page) (q : Page) (old next new : Standing) (holds : Option (List NamedFile)) (i h j : Option (List ℕ))
+    (stop : Stop) (came : Came)
+    → came ≡ units.Waits → ComesTo came q old next holds i h → EndStops next new h j stop → StopsServing true locked q old new holds i j stop
+end_stops_now locked q old next new holds i h j stop came is made m =
+    let w : NoneMade old next i h × (is_flying (state_of old.kernel.place q) ≡ true) = subst (λ (x : Came). ComesTo x q old next holds i h) is made in
+    stops_here true locked q old new holds i j stop (end_stops true q old new i j stop (unit_waits old.kernel.place q w.1) (stop_same old next new i h j stop w.0 m))

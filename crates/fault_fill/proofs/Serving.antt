@@ -216,22 +216,15 @@ still_served p locked q o c = record {
 -- What is so after units of serving.
 pub record Behind (p r : Placement) (locked : List Page) (q : Page) : Type 0 where
   pub can : CanServe r q
-  pub owner : OwnsFrames r
-  pub hands : HandsStand p → HandsStand r
   pub room : HasRoom p locked → HasRoom r locked
 
 pub served_behind : (us : List Entry) (p r : Placement) (locked : List Page) (q : Page) (now : Bool) → OwnsFrames p → CanServe p q
     → Serves us p locked q now r → Behind p r locked q
-served_behind [] p r locked q now o c h = subst (λ (x : Placement). Behind p x locked q) h (record { can = c; owner = o; hands = λ k. k; room = λ k. k })
+served_behind [] p r locked q now o c h = subst (λ (x : Placement). Behind p x locked q) h (record { can = c; room = λ k. k })
 served_behind (e ∷ us) p r locked q now o c h =
     let b : Behind (serve_step p locked q) r locked q =
     served_behind us (serve_step p locked q) r locked q now (serve_owner p locked q o c.there) (still_served p locked q o c) h.1 in
-    record {
-      can = b.can;
-      owner = b.owner;
-      hands = λ k. b.hands (serve_stands p locked q o k);
-      room = λ k. b.room (serve_room p locked q o k);
-    }
+    record { can = b.can; room = λ k. b.room (serve_room p locked q o k) }
 
 -- the rank falls with each unit
 pub rank_falls : (us : List Entry) (p r : Placement) (locked : List Page) (q : Page) (now : Bool) → OwnsFrames p → CanServe p q → HandsStand p

@@ -7,6 +7,7 @@ use Rattle.vm_facts.specs.declared.stop.Stop.TheVariants as stops
 use Rattle.io_edge.specs.FileHolding.{NamedFile}
 use Rattle.page_model.specs.Conditions.{Spares}
 use Rattle.clock_hands.specs.LastMoves.{last_moves}
+use Rattle.machine_state.specs.Going.{CanGoOn}
 use Rattle.machine_state.specs.Machine.{Standing}
 use Rattle.machine_state.specs.Conditions.{HasStopped}
 use Rattle.fault_fill.specs.Serving.{CanServe, StopsServing}
@@ -32,8 +33,7 @@ Reaches (accesses.Growth sid pages) (Err answer) pid old new = (answer ≡ serve
 
 -- the page may be served in this machine, whose bounds are those of the other
 pub record IsReady (q : Page) (old new : Standing) : Type 0 where
-  pub running : new.kernel.stopped ≡ false
-  pub whole : new.before ≡ new.kernel.holdings
+  pub ready : CanGoOn new
   pub params : new.params ≡ old.params
   pub images : new.images ≡ old.images
   pub holds : new.kernel.place.holds ≡ old.kernel.place.holds

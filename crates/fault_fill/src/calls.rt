@@ -2,6 +2,7 @@
 ghost use Rattle.std.specs.Prelude.{◌≡◌, ◌+◌, ◌≤◌, true, false, [], length, OnOk, OnErr, MatchResult};
 ghost use Rattle.page_model.specs.Conditions.{Spares};
 ghost use Rattle.page_model.specs.Rank.{HasRoom};
+ghost use Rattle.machine_state.specs.Going.{CanGoOn};
 ghost use Rattle.machine_state.specs.Files.{AreFiles};
 ghost use Rattle.machine_state.specs.Outside.{stop_of, TransfersPages};
 ghost use Rattle.clock_hands.specs.LastMoves.{last_moves};
@@ -21,8 +22,7 @@ pub fn serve_page<F: Files, D: SwapDev>(
     swap: &mut D,
     page: Page,
 ) -> Result<Served, Stop>
-    requires running { m.old.kernel.stopped ≡ false }
-    requires whole { m.old.before ≡ m.old.kernel.holdings }
+    requires ready { CanGoOn m.old }
     requires area { m.old.params.swap_blocks ≤ D.blocks swap.old }
     requires files { AreFiles m.old.images (F.holds files.old) }
     requires can { CanServe m.old.kernel.place page }
@@ -33,8 +33,8 @@ pub fn serve_page<F: Files, D: SwapDev>(
     ensures low { OnOk result (last_moves m.new.kernel.journal ≤ last_moves m.old.kernel.journal) }
     ensures stay { OnOk result (AllStayValid m.old.kernel.place m.new.kernel.place) }
     ensures outside { TransfersPages F.Files D.SwapDev (stop_of result) files.old files.new swap.old swap.new }
+    ensures goes_on { OnOk result (CanGoOn m.new) }
 {
-    m.sound();
     serve_on(m, files, swap, page)
 }
 
@@ -47,8 +47,7 @@ pub fn serve_page_now<F: Files, D: SwapDev>(
     page: Page,
     locked: &[Page],
 ) -> Result<(), Stop>
-    requires running { m.old.kernel.stopped ≡ false }
-    requires whole { m.old.before ≡ m.old.kernel.holdings }
+    requires ready { CanGoOn m.old }
     requires area { m.old.params.swap_blocks ≤ D.blocks swap.old }
     requires files { AreFiles m.old.images (F.holds files.old) }
     requires can { CanServe m.old.kernel.place page }
@@ -61,7 +60,7 @@ pub fn serve_page_now<F: Files, D: SwapDev>(
     ensures low { OnOk result (last_moves m.new.kernel.journal ≤ last_moves m.old.kernel.journal) }
     ensures spares { OnOk result (Spares m.old.kernel.place m.new.kernel.place locked.now) }
     ensures outside { TransfersPages F.Files D.SwapDev (stop_of result) files.old files.new swap.old swap.new }
+    ensures goes_on { OnOk result (CanGoOn m.new) }
 {
-    m.sound();
     serve_now_on(m, files, swap, page, locked)
 }

@@ -1,5 +1,6 @@
 //! Pages are served, unit by unit.
-ghost use Rattle.std.specs.Prelude.{◌≡◌, ◌≤◌, true, false, [], MatchResult};
+ghost use Rattle.std.specs.Prelude.{◌≡◌, ◌≤◌, true, false, [], OnOk, MatchResult};
+ghost use Rattle.machine_state.specs.Going.{CanGoOn};
 ghost use Rattle.machine_state.specs.Files.{AreFiles};
 ghost use Rattle.machine_state.specs.Outside.{stop_of, TransfersPages};
 ghost use Rattle.page_model.specs.Rank.{HasRoom};
@@ -32,16 +33,15 @@ pub(crate) fn serve_on<F: Files, D: SwapDev>(
     swap: &mut D,
     page: Page,
 ) -> Result<Served, Stop>
-    requires running { m.old.kernel.stopped ≡ false }
-    requires whole { m.old.before ≡ m.old.kernel.holdings }
+    requires ready { CanGoOn m.old }
     requires area { m.old.params.swap_blocks ≤ D.blocks swap.old }
     requires files { AreFiles m.old.images (F.holds files.old) }
     requires can { CanServe m.old.kernel.place page }
     ensures served { MatchResult result (λ answer. ServesAs answer page m.old m.new (F.holds files.old) (D.image swap.old) (D.image swap.new))
         (StopsServing false [] page m.old m.new (F.holds files.old) (D.image swap.old) (D.image swap.new)) }
     ensures outside { TransfersPages F.Files D.SwapDev (stop_of result) files.old files.new swap.old swap.new }
+    ensures goes_on { OnOk result (CanGoOn m.new) }
 {
-    m.sound();
     let unit = match serve_unit(m, files, swap, page) {
         Ok(unit) => unit,
         Err(stop) => return Err(stop),
@@ -62,8 +62,7 @@ fn serve_further<F: Files, D: SwapDev>(
     page: Page,
     locked: &[Page],
 ) -> Result<bool, Stop>
-    requires running { m.old.kernel.stopped ≡ false }
-    requires whole { m.old.before ≡ m.old.kernel.holdings }
+    requires ready { CanGoOn m.old }
     requires area { m.old.params.swap_blocks ≤ D.blocks swap.old }
     requires files { AreFiles m.old.images (F.holds files.old) }
     requires can { CanServe m.old.kernel.place page }
@@ -72,8 +71,8 @@ fn serve_further<F: Files, D: SwapDev>(
     ensures made { MatchResult result (λ more. GoesFurther more locked.now page m.old m.new (F.holds files.old) (D.image swap.old) (D.image swap.new))
         (StopsServing true locked.now page m.old m.new (F.holds files.old) (D.image swap.old) (D.image swap.new)) }
     ensures outside { TransfersPages F.Files D.SwapDev (stop_of result) files.old files.new swap.old swap.new }
+    ensures goes_on { OnOk result (CanGoOn m.new) }
 {
-    m.sound();
     let unit = match serve_unit(m, files, swap, page) {
         Ok(unit) => unit,
         Err(stop) => return Err(stop),
@@ -100,8 +99,7 @@ pub(crate) fn serve_now_on<F: Files, D: SwapDev>(
     page: Page,
     locked: &[Page],
 ) -> Result<(), Stop>
-    requires running { m.old.kernel.stopped ≡ false }
-    requires whole { m.old.before ≡ m.old.kernel.holdings }
+    requires ready { CanGoOn m.old }
     requires area { m.old.params.swap_blocks ≤ D.blocks swap.old }
     requires files { AreFiles m.old.images (F.holds files.old) }
     requires can { CanServe m.old.kernel.place page }
@@ -110,8 +108,8 @@ pub(crate) fn serve_now_on<F: Files, D: SwapDev>(
     ensures served { MatchResult result (λ u. ServesNow locked.now page m.old m.new (F.holds files.old) (D.image swap.old) (D.image swap.new))
         (StopsServing true locked.now page m.old m.new (F.holds files.old) (D.image swap.old) (D.image swap.new)) }
     ensures outside { TransfersPages F.Files D.SwapDev (stop_of result) files.old files.new swap.old swap.new }
+    ensures goes_on { OnOk result (CanGoOn m.new) }
 {
-    m.sound();
     let more = match serve_further(m, files, swap, page, locked) {
         Ok(more) => more,
         Err(stop) => return Err(stop),

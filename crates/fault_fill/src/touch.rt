@@ -4,6 +4,7 @@ ghost use Rattle.core_map.specs.Frames.{Frames};
 ghost use Rattle.page_model.specs.Placement.{image_of};
 ghost use Rattle.page_model.specs.Place.{data_count};
 ghost use Rattle.page_model.specs.Rank.{HasRoom};
+ghost use Rattle.machine_state.specs.Going.{CanGoOn, IsRunning};
 ghost use Rattle.machine_state.specs.Views.{ShowsSpace};
 ghost use Rattle.machine_state.specs.Machine.{proc_shown};
 ghost use Rattle.machine_state.specs.Showing.{ShowsCore};
@@ -43,7 +44,7 @@ pub enum Served {
 
 // The record of a process.
 fn process(m: &Machine, pid: u32) -> Proc
-    requires running { m.now.kernel.stopped ≡ false }
+    requires running { IsRunning m.now }
     requires lends { CanLend m.now.kernel pid }
     ensures { proc_in m.now.kernel pid ≡ Some (proc_shown result) }
 {
@@ -55,7 +56,7 @@ fn process(m: &Machine, pid: u32) -> Proc
 
 // The map of the space that it holds.
 fn map_of(m: &Machine, pid: u32) -> &SpaceMap
-    requires running { m.now.kernel.stopped ≡ false }
+    requires running { IsRunning m.now }
     requires lends { CanLend m.now.kernel pid }
     ensures named { result.now.sid ≡ space_held m.now.kernel pid }
     ensures of_image { result.now.image ≡ image_of m.now.kernel.place (space_held m.now.kernel pid) }
@@ -72,7 +73,7 @@ fn map_of(m: &Machine, pid: u32) -> &SpaceMap
 
 // How many data pages that has.
 fn data_pages_of(m: &Machine, pid: u32) -> u32
-    requires running { m.now.kernel.stopped ≡ false }
+    requires running { IsRunning m.now }
     requires lends { CanLend m.now.kernel pid }
     ensures count { result ≡ data_count m.now.kernel.place (space_held m.now.kernel pid) }
     ensures few { result ≤ 4096 }
@@ -83,7 +84,7 @@ fn data_pages_of(m: &Machine, pid: u32) -> u32
 
 // What an access of the process asks for.
 fn access_of(m: &Machine, pid: u32, address: u32, write: bool) -> Access
-    requires running { m.now.kernel.stopped ≡ false }
+    requires running { IsRunning m.now }
     requires lends { CanLend m.now.kernel pid }
     ensures is { result ≡ access_by m.now.kernel pid address write }
     ensures can { IsAsked m.now.kernel.place (space_held m.now.kernel pid) result }
@@ -94,8 +95,7 @@ fn access_of(m: &Machine, pid: u32, address: u32, write: bool) -> Access
 
 // The stack of a process grows to so many pages. False comes exactly where its pieces find no place.
 fn grow(m: &mut Machine, pid: u32, sid: u32, pages: u32) -> Result<bool, Stop>
-    requires running { m.old.kernel.stopped ≡ false }
-    requires whole { m.old.before ≡ m.old.kernel.holdings }
+    requires ready { CanGoOn m.old }
     requires clear { m.old.kernel.place.due ≡ [] }
     requires lends { CanLend m.old.kernel pid }
     requires growth { IsGrowth m.old.kernel.place (space_held m.old.kernel pid) sid pages }
@@ -104,8 +104,8 @@ fn grow(m: &mut Machine, pid: u32, sid: u32, pages: u32) -> Result<bool, Stop>
     ensures stop { OnErr result (HasStopped m.old m.new) }
     ensures cause { OnErr result ((result ≡ Err Stop.JournalFull) ⊎ (result ≡ Err Stop.NoMemory)) }
     ensures full { result ≡ Err Stop.JournalFull → m.old.params.journal ≤ length m.old.kernel.journal }
+    ensures goes_on { OnOk result (CanGoOn m.new) }
 {
-    m.sound();
     let regs = process(m, pid).regs;
     let data_pages = data_pages_of(m, pid);
     let want = Want {
@@ -134,8 +134,7 @@ fn page_for(
     address: u32,
     write: bool,
 ) -> Result<Result<Page, Served>, Stop>
-    requires running { m.old.kernel.stopped ≡ false }
-    requires whole { m.old.before ≡ m.old.kernel.holdings }
+    requires ready { CanGoOn m.old }
     requires clear { m.old.kernel.place.due ≡ [] }
     requires lends { CanLend m.old.kernel pid }
     ensures reaches { IfOk result (λ page. Reaches (access_by m.old.kernel pid address write) page pid m.old m.new) }
@@ -144,6 +143,7 @@ fn page_for(
     ensures stop { OnErr result (HasStopped m.old m.new) }
     ensures cause { OnErr result ((result ≡ Err Stop.JournalFull) ⊎ (result ≡ Err Stop.NoMemory)) }
     ensures full { result ≡ Err Stop.JournalFull → m.old.params.journal ≤ length m.old.kernel.journal }
+    ensures goes_on { OnOk result (CanGoOn m.new) }
 {
     match access_of(m, pid, address, write) {
         Access::Page(page) => Ok(Ok(page)),
@@ -168,8 +168,7 @@ pub fn serve<F: Files, D: SwapDev>(
     address: u32,
     write: bool,
 ) -> Result<Served, Stop>
-    requires running { m.old.kernel.stopped ≡ false }
-    requires whole { m.old.before ≡ m.old.kernel.holdings }
+    requires ready { CanGoOn m.old }
     requires area { m.old.params.swap_blocks ≤ D.blocks swap.old }
     requires files { AreFiles m.old.images (F.holds files.old) }
     requires clear { m.old.kernel.place.due ≡ [] }
@@ -179,6 +178,7 @@ pub fn serve<F: Files, D: SwapDev>(
         (access_by m.old.kernel pid address write) answer pid m.old m.new (D.image swap.old) (D.image swap.new))
         (AccessStops false [] (access_by m.old.kernel pid address write) pid m.old m.new (F.holds files.old) (D.image swap.old) (D.image swap.new)) }
     ensures outside { TransfersPages F.Files D.SwapDev (stop_of result) files.old files.new swap.old swap.new }
+    ensures goes_on { OnOk result (CanGoOn m.new) }
 {
     match page_for(m, pid, address, write)? {
         Ok(page) => match serve_page(m, files, swap, page) {
@@ -203,8 +203,7 @@ pub fn serve_now<F: Files, D: SwapDev>(
     write: bool,
     locked: &[Page],
 ) -> Result<Served, Stop>
-    requires running { m.old.kernel.stopped ≡ false }
-    requires whole { m.old.before ≡ m.old.kernel.holdings }
+    requires ready { CanGoOn m.old }
     requires area { m.old.params.swap_blocks ≤ D.blocks swap.old }
     requires files { AreFiles m.old.images (F.holds files.old) }
     requires clear { m.old.kernel.place.due ≡ [] }
@@ -216,6 +215,7 @@ pub fn serve_now<F: Files, D: SwapDev>(
         (access_by m.old.kernel pid address write) answer pid m.old m.new (D.image swap.old) (D.image swap.new))
         (AccessStops true locked.now (access_by m.old.kernel pid address write) pid m.old m.new (F.holds files.old) (D.image swap.old) (D.image swap.new)) }
     ensures outside { TransfersPages F.Files D.SwapDev (stop_of result) files.old files.new swap.old swap.new }
+    ensures goes_on { OnOk result (CanGoOn m.new) }
 {
     match page_for(m, pid, address, write)? {
         Ok(page) => match serve_page_now(m, files, swap, page, locked) {

@@ -1,5 +1,5 @@
 //! One unit of serving a page, by the state of the page.
-ghost use Rattle.std.specs.Prelude.{◌≡◌, ◌⊎◌, ◌+◌, ◌<◌, ◌≤◌, ◌^◌, true, false, [], length, None, Err, OnErr, MatchResult};
+ghost use Rattle.std.specs.Prelude.{◌≡◌, ◌⊎◌, ◌<◌, ◌≤◌, true, false, length, None, Err, OnOk, OnErr, MatchResult};
 ghost use Rattle.core_map.specs.Frames.{Frames};
 ghost use Rattle.page_model.specs.Pages.{frame_of};
 ghost use Rattle.page_model.specs.Placement.{IsThere, state_of, filling_of};
@@ -8,6 +8,7 @@ ghost use Rattle.flat_state.specs.PageNames.{number_of};
 ghost use Rattle.vm_facts.specs.declared.page.PageState.TheVariants.{Invalid};
 ghost use Rattle.page_model.specs.Runs.{run_in, spare_frames};
 ghost use Rattle.kernel_model.specs.Asks.{HasSpace};
+ghost use Rattle.machine_state.specs.Going.{CanGoOn, IsRunning};
 ghost use Rattle.machine_state.specs.Views.{IsNamedBy, ShowsSpace};
 ghost use Rattle.machine_state.specs.Showing.{ShowsCore};
 ghost use Rattle.machine_state.specs.PlaceOf.{is_blank};
@@ -40,13 +41,12 @@ pub(crate) enum Unit {
 
 // The space that has a page of its own, or the lowest one that shares the page's text.
 fn home_of(m: &Machine, page: Page) -> u32
-    requires running { m.now.kernel.stopped ≡ false }
+    requires running { IsRunning m.now }
     requires there { IsThere m.now.kernel.place page }
     requires shared { IsShared m.now.kernel.place page }
     ensures space { HasSpace m.now.kernel.place result }
     ensures home { IsHome m.now.kernel.place page result }
 {
-    m.sound();
     match page {
         Page::Data { sid, .. } | Page::Stack { sid, .. } => sid,
         Page::Text { image, .. } => match m.sharer(image) {
@@ -58,7 +58,7 @@ fn home_of(m: &Machine, page: Page) -> u32
 
 // Its map.
 fn space_of(m: &Machine, page: Page) -> &SpaceMap
-    requires running { m.now.kernel.stopped ≡ false }
+    requires running { IsRunning m.now }
     requires there { IsThere m.now.kernel.place page }
     requires shared { IsShared m.now.kernel.place page }
     ensures named { IsNamedBy result.now page }
@@ -72,7 +72,7 @@ fn space_of(m: &Machine, page: Page) -> &SpaceMap
 
 // The frames that the read of a page may take.
 fn spare_of(m: &Machine) -> u32
-    requires { m.now.kernel.stopped ≡ false }
+    requires { IsRunning m.now }
     ensures { result ≡ spare_frames m.now.kernel.place }
 {
     m.free_frames().saturating_sub(m.core().frames() / 8).max(1)
@@ -80,7 +80,7 @@ fn spare_of(m: &Machine) -> u32
 
 // The run of the read of a page.
 fn run_of(m: &Machine, page: Page) -> (u32, u32)
-    requires running { m.now.kernel.stopped ≡ false }
+    requires running { IsRunning m.now }
     requires there { IsThere m.now.kernel.place page }
     requires shared { IsShared m.now.kernel.place page }
     ensures run { run_in m.now.kernel.place page ≡ record { lo = result.0; n = result.1 } }
@@ -94,21 +94,20 @@ fn run_of(m: &Machine, page: Page) -> (u32, u32)
 
 // The page is filled with zeros.
 fn zero(m: &mut Machine, page: Page) -> Result<(), Stop>
-    requires running { m.old.kernel.stopped ≡ false }
-    requires whole { m.old.before ≡ m.old.kernel.holdings }
+    requires ready { CanGoOn m.old }
     requires can { CanServe m.old.kernel.place page }
     requires blank { is_blank (state_of m.old.kernel.place page) (filling_of m.old.kernel.place page) ≡ true }
     requires free { 0 < length m.old.kernel.place.free }
     ensures made { MatchResult result (λ u. PlainMade page m.old m.new) (PlainStop page m.old m.new) }
     ensures cause { OnErr result ((result ≡ Err Stop.JournalFull) ⊎ (result ≡ Err Stop.NoMemory)) }
+    ensures goes_on { OnOk result (CanGoOn m.new) }
 {
     m.fill_zero(page)
 }
 
 // The read of the page begins, with its run.
 fn read(m: &mut Machine, page: Page) -> Result<(), Stop>
-    requires running { m.old.kernel.stopped ≡ false }
-    requires whole { m.old.before ≡ m.old.kernel.holdings }
+    requires ready { CanGoOn m.old }
     requires can { CanServe m.old.kernel.place page }
     requires frameless { frame_of (state_of m.old.kernel.place page) ≡ None }
     requires filled { is_blank (state_of m.old.kernel.place page) (filling_of m.old.kernel.place page) ≡ false }
@@ -116,20 +115,20 @@ fn read(m: &mut Machine, page: Page) -> Result<(), Stop>
     requires few { length m.old.kernel.place.transfers < 16 }
     ensures made { MatchResult result (λ u. PlainMade page m.old m.new) (PlainStop page m.old m.new) }
     ensures cause { OnErr result ((result ≡ Err Stop.JournalFull) ⊎ (result ≡ Err Stop.NoMemory)) }
+    ensures goes_on { OnOk result (CanGoOn m.new) }
 {
-    m.sound();
     let (lo, n) = run_of(m, page);
     m.begin_get(page, lo, n)
 }
 
 // The page is usable again.
 fn revive(m: &mut Machine, page: Page, frame: u32) -> Result<(), Stop>
-    requires running { m.old.kernel.stopped ≡ false }
-    requires whole { m.old.before ≡ m.old.kernel.holdings }
+    requires ready { CanGoOn m.old }
     requires can { CanServe m.old.kernel.place page }
     requires invalid { state_of m.old.kernel.place page ≡ Invalid frame }
     ensures made { MatchResult result (λ u. PlainMade page m.old m.new) (PlainStop page m.old m.new) }
     ensures cause { OnErr result ((result ≡ Err Stop.JournalFull) ⊎ (result ≡ Err Stop.NoMemory)) }
+    ensures goes_on { OnOk result (CanGoOn m.new) }
 {
     m.reclaim(page)
 }
@@ -140,14 +139,14 @@ pub(crate) fn finish<F: Files, D: SwapDev>(
     files: &mut F,
     swap: &mut D,
 ) -> Result<(), Stop>
-    requires running { m.old.kernel.stopped ≡ false }
-    requires whole { m.old.before ≡ m.old.kernel.holdings }
+    requires ready { CanGoOn m.old }
     requires area { m.old.params.swap_blocks ≤ D.blocks swap.old }
     requires files { AreFiles m.old.images (F.holds files.old) }
     requires some { 0 < length m.old.kernel.place.transfers }
     ensures made { MatchResult result (λ u. EndMade m.old m.new (F.holds files.old) (D.image swap.old) (D.image swap.new))
         (EndStops m.old m.new (D.image swap.old) (D.image swap.new)) }
     ensures outside { TransfersPages F.Files D.SwapDev (stop_of result) files.old files.new swap.old swap.new }
+    ensures goes_on { OnOk result (CanGoOn m.new) }
 {
     m.done(files, swap)?;
     Ok(())
@@ -161,8 +160,7 @@ fn fill<F: Files, D: SwapDev>(
     swap: &mut D,
     page: Page,
 ) -> Result<(), Stop>
-    requires running { m.old.kernel.stopped ≡ false }
-    requires whole { m.old.before ≡ m.old.kernel.holdings }
+    requires ready { CanGoOn m.old }
     requires area { m.old.params.swap_blocks ≤ D.blocks swap.old }
     requires files { AreFiles m.old.images (F.holds files.old) }
     requires can { CanServe m.old.kernel.place page }
@@ -171,8 +169,8 @@ fn fill<F: Files, D: SwapDev>(
     ensures made { MatchResult result (λ u. AnyUnit page m.old m.new (F.holds files.old) (D.image swap.old) (D.image swap.new))
         (AnyStop page m.old m.new (D.image swap.old) (D.image swap.new)) }
     ensures outside { TransfersPages F.Files D.SwapDev (stop_of result) files.old files.new swap.old swap.new }
+    ensures goes_on { OnOk result (CanGoOn m.new) }
 {
-    m.sound();
     if m.is_blank(page) {
         return zero(m, page);
     }
@@ -189,14 +187,14 @@ pub(crate) fn serve_unit<F: Files, D: SwapDev>(
     swap: &mut D,
     page: Page,
 ) -> Result<Unit, Stop>
-    requires running { m.old.kernel.stopped ≡ false }
-    requires whole { m.old.before ≡ m.old.kernel.holdings }
+    requires ready { CanGoOn m.old }
     requires area { m.old.params.swap_blocks ≤ D.blocks swap.old }
     requires files { AreFiles m.old.images (F.holds files.old) }
     requires can { CanServe m.old.kernel.place page }
     ensures made { MatchResult result (λ u. ComesTo u page m.old m.new (F.holds files.old) (D.image swap.old) (D.image swap.new))
         (AnyStop page m.old m.new (D.image swap.old) (D.image swap.new)) }
     ensures outside { TransfersPages F.Files D.SwapDev (stop_of result) files.old files.new swap.old swap.new }
+    ensures goes_on { OnOk result (CanGoOn m.new) }
 {
     match m.state_of(page) {
         Some(PageState::Valid(_)) => return Ok(Unit::Served),

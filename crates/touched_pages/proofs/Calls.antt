@@ -1,5 +1,5 @@
 -- The first byte that misses in what an instruction and its call read or test, by what they come to.
-use Rattle.std.proofs.Common.{◌≡◌, ℕ, Bool, List, Option, Some, None, Result, Ok, Err, ℤ, refl, ap, ◌∙◌, subst}
+use Rattle.std.proofs.Common.{◌≡◌, ℕ, Bool, List, Option, Some, None, Result, Ok, Err, ℤ, ap, ◌∙◌, subst}
 use Rattle.std.specs.Prelude.{IfOk}
 use Rattle.vm_facts.specs.Answers.{Answers}
 use Rattle.vm_facts.specs.declared.regs.Regs.{Regs}
@@ -9,7 +9,6 @@ use Rattle.user_vax.specs.Effects.{Effect}
 use Rattle.user_vax.specs.Instruction.{instruction, answer_of, answer_of_call, registers_after}
 use Rattle.user_vax.specs.declared.refused.Refused.{Refused}
 use Rattle.user_vax.specs.declared.refused.Refused.TheVariants.{Miss, Below, Signal}
-use Rattle.user_vax.specs.declared.stepping.Stepped.{Stepped}
 use Rattle.user_vax.specs.declared.stepping.Stepped.TheVariants as steps
 use Rattle.flat_state.specs.Space.{Space}
 use Rattle.flat_state.specs.Flat.{Process, FlatState, NamedImage}
@@ -55,23 +54,3 @@ module _ (known : List NamedImage) (F : FlatState) (p : Process) (s : Space) (me
       → call ≡ call_of number → IfOk r (λ byte. byte ≡ missed_by_call known F p s memory after call) → IfOk r (λ byte. byte ≡ first_missed known F p s memory regs)
   call_missed number call after r e g names h =
       subst (λ (o : Option ℕ). IfOk r (λ byte. byte ≡ o)) (ap (missed_by_call known F p s memory after) names ∙ step_called (run memory (instruction regs)) number after e g) h
-
-  abbrev pub IsOver : Stepped → Type 0
-  IsOver steps.Done = Unit {0}
-  IsOver (steps.Call n) = ⊥
-  IsOver (steps.Miss a w) = ⊥
-  IsOver (steps.Below a) = Unit {0}
-  IsOver (steps.Signal n) = Unit {0}
-
-  step_over : (r : Result Effect Refused) → IsOver (answer_of r) → None ≡ missed_behind known F p s memory r
-  step_over (Ok effect) h = go effect.call h
-    where
-      go : (o : Option ℤ) → IsOver (answer_of_call o) → None ≡ missed_behind_by known F p s memory effect.regs o
-      go None k = refl
-      go (Some n) k = absurd k
-  step_over (Err (Miss a w)) h = absurd h
-  step_over (Err (Below a)) h = refl
-  step_over (Err (Signal n)) h = refl
-
-  pub none_missed : (t : Stepped) → IsOver t → t ≡ answer_of (run memory (instruction regs)) → None ≡ first_missed known F p s memory regs
-  none_missed t h e = step_over (run memory (instruction regs)) (subst IsOver e h)

@@ -4,6 +4,7 @@ ghost use Rattle.user_vax.specs.Program.{run};
 ghost use Rattle.flat_state.specs.Flat.{NamedImage, FlatState, Process};
 ghost use Rattle.flat_state.specs.Space.{Space};
 ghost use Rattle.flat_model.specs.Calls.{argument, three_arguments, write_reply, string_from, string_limit, arguments_at, execve_reply, reply_of};
+ghost use Rattle.machine_state.specs.Going.{CanGoOn};
 ghost use Rattle.machine_state.specs.Machine.{image_shown};
 ghost use Rattle.machine_state.specs.UserMemory.{CanLend};
 ghost use Rattle.proc_calls.specs.Callers.{space_held};
@@ -31,7 +32,7 @@ fn refusal_of<T: Drop>(asked: Asked<T>) -> Asked<()>
 
 // The first argument.
 fn read_argument(m: &mut Machine, pid: u32, regs: &Regs, pages: &[Page]) -> Asked<()>
-    requires running { m.old.kernel.stopped ≡ false }
+    requires ready { CanGoOn m.old }
     requires lends { CanLend m.old.kernel pid }
     ensures value { result ≡ refusal_of (run (shown_in m.old.kernel (space_held m.old.kernel pid) pages.now) (argument regs.now 1)) }
     ensures same { m.new ≡ m.old }
@@ -54,7 +55,7 @@ fn read_write(
     regs: &Regs,
     pages: &[Page],
 ) -> Result<Asked<()>, NoMemory>
-    requires running { m.old.kernel.stopped ≡ false }
+    requires ready { CanGoOn m.old }
     requires lends { CanLend m.old.kernel pid }
     ensures value { IfOk result (λ asked. asked ≡ refusal_of (run (shown_in m.old.kernel (space_held m.old.kernel pid) pages.now) (write_reply regs.now))) }
     ensures same { m.new ≡ m.old }
@@ -71,7 +72,7 @@ fn read_write(
 
 // The three arguments.
 fn read_three(m: &mut Machine, pid: u32, regs: &Regs, pages: &[Page]) -> Asked<(u32, u32, u32)>
-    requires running { m.old.kernel.stopped ≡ false }
+    requires ready { CanGoOn m.old }
     requires lends { CanLend m.old.kernel pid }
     ensures value { result ≡ run (shown_in m.old.kernel (space_held m.old.kernel pid) pages.now) (three_arguments regs.now) }
     ensures same { m.new ≡ m.old }
@@ -93,7 +94,7 @@ fn read_path(
     path: u32,
     pages: &[Page],
 ) -> Result<Asked<Option<Bytes>>, NoMemory>
-    requires running { m.old.kernel.stopped ≡ false }
+    requires ready { CanGoOn m.old }
     requires lends { CanLend m.old.kernel pid }
     ensures value { IfOk result (λ asked. asked ≡ run (shown_in m.old.kernel (space_held m.old.kernel pid) pages.now) (string_from string_limit path)) }
     ensures same { m.new ≡ m.old }
@@ -116,7 +117,7 @@ fn read_arguments(
     argv: u32,
     pages: &[Page],
 ) -> Result<Asked<()>, NoMemory>
-    requires running { m.old.kernel.stopped ≡ false }
+    requires ready { CanGoOn m.old }
     requires lends { CanLend m.old.kernel pid }
     ensures value { IfOk result (λ asked. asked ≡ refusal_of (run (shown_in m.old.kernel (space_held m.old.kernel pid) pages.now) (arguments_at argv))) }
     ensures same { m.new ≡ m.old }
@@ -158,7 +159,7 @@ fn read_image(
     argv: u32,
     pages: &[Page],
 ) -> Result<Asked<()>, NoMemory>
-    requires running { m.old.kernel.stopped ≡ false }
+    requires ready { CanGoOn m.old }
     requires lends { CanLend m.old.kernel pid }
     ensures value { (known : List NamedImage) → AreNamed known m.old.images
         → IfOk result (λ asked. asked ≡ refusal_of (run (shown_in m.old.kernel (space_held m.old.kernel pid) pages.now) (execve_from known path argv))) }
@@ -186,7 +187,7 @@ fn read_execve(
     regs: &Regs,
     pages: &[Page],
 ) -> Result<Asked<()>, NoMemory>
-    requires running { m.old.kernel.stopped ≡ false }
+    requires ready { CanGoOn m.old }
     requires lends { CanLend m.old.kernel pid }
     ensures value { (known : List NamedImage) → AreNamed known m.old.images
         → IfOk result (λ asked. asked ≡ refusal_of (run (shown_in m.old.kernel (space_held m.old.kernel pid) pages.now) (execve_reply known regs.now))) }
@@ -208,7 +209,7 @@ pub fn read_call(
     regs: &Regs,
     pages: &[Page],
 ) -> Result<Asked<()>, NoMemory>
-    requires running { m.old.kernel.stopped ≡ false }
+    requires ready { CanGoOn m.old }
     requires lends { CanLend m.old.kernel pid }
     ensures value { (known : List NamedImage) (F : FlatState) (p : Process) (s : Space) → AreNamed known m.old.images
         → IfOk result (λ asked. asked ≡ refusal_of (run (shown_in m.old.kernel (space_held m.old.kernel pid) pages.now) (reply_of known F p s call regs.now))) }

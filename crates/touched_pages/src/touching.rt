@@ -6,6 +6,7 @@ ghost use Rattle.flat_state.specs.Flat.{NamedImage, FlatState, Process, Inputs};
 ghost use Rattle.flat_state.specs.Space.{Space};
 ghost use Rattle.page_model.specs.Pages.{is_valid};
 ghost use Rattle.page_model.specs.Placement.{state_of};
+ghost use Rattle.machine_state.specs.Going.{CanGoOn, IsRunning};
 ghost use Rattle.machine_state.specs.UserMemory.{CanLend, page_in};
 ghost use Rattle.run_model.specs.State.{State};
 ghost use Rattle.run_model.specs.Wanted.{locked};
@@ -26,7 +27,7 @@ use vm_facts::{NoMemory, Page, PageState, Regs};
 
 // What an instruction that writes nothing comes to where these pages alone are shown.
 fn try_step(m: &mut Machine, pid: u32, regs: &mut Regs, pages: &[Page]) -> Stepped
-    requires running { m.old.kernel.stopped ≡ false }
+    requires ready { CanGoOn m.old }
     requires lends { CanLend m.old.kernel pid }
     requires quiet { WritesNothing m.old.kernel pid regs.old }
     ensures answer { result ≡ answer_of (run (shown_in m.old.kernel (space_held m.old.kernel pid) pages.now) (instruction regs.old)) }
@@ -58,7 +59,7 @@ fn missed_by_call(
     regs: &Regs,
     pages: &[Page],
 ) -> Result<Option<u32>, NoMemory>
-    requires running { m.old.kernel.stopped ≡ false }
+    requires ready { CanGoOn m.old }
     requires lends { CanLend m.old.kernel pid }
     ensures value { (known : List NamedImage) (F : FlatState) (p : Process) (s : Space) → AreNamed known m.old.images
         → IfOk result (λ byte. byte ≡ missed_by_call known F p s (shown_in m.old.kernel (space_held m.old.kernel pid) pages.now) regs.now call) }
@@ -79,7 +80,7 @@ fn first_missed(
     regs: &Regs,
     pages: &[Page],
 ) -> Result<Option<u32>, NoMemory>
-    requires running { m.old.kernel.stopped ≡ false }
+    requires ready { CanGoOn m.old }
     requires lends { CanLend m.old.kernel pid }
     requires quiet { WritesNothing m.old.kernel pid regs.now }
     ensures value { (known : List NamedImage) (F : FlatState) (p : Process) (s : Space) → AreNamed known m.old.images
@@ -98,7 +99,7 @@ fn first_missed(
 
 // The page of an address of a process.
 fn page_at(m: &mut Machine, pid: u32, address: u32) -> Option<Page>
-    requires running { m.old.kernel.stopped ≡ false }
+    requires ready { CanGoOn m.old }
     requires lends { CanLend m.old.kernel pid }
     ensures page { result ≡ page_in m.old.kernel.place (space_held m.old.kernel pid) address }
     ensures same { m.new ≡ m.old }
@@ -114,7 +115,7 @@ fn next_page(
     regs: &Regs,
     pages: &[Page],
 ) -> Result<Option<Page>, NoMemory>
-    requires running { m.old.kernel.stopped ≡ false }
+    requires ready { CanGoOn m.old }
     requires lends { CanLend m.old.kernel pid }
     requires quiet { WritesNothing m.old.kernel pid regs.now }
     ensures value { (known : List NamedImage) (F : FlatState) (p : Process) (s : Space) → AreNamed known m.old.images
@@ -129,7 +130,7 @@ fn next_page(
 }
 
 fn is_valid(m: &Machine, page: Page) -> bool
-    requires { m.now.kernel.stopped ≡ false }
+    requires { IsRunning m.now }
     ensures { result ≡ is_valid (state_of m.now.kernel.place page) }
 {
     matches!(m.state_of(page), Some(PageState::Valid(_)))
@@ -137,7 +138,7 @@ fn is_valid(m: &Machine, page: Page) -> bool
 
 // A page, where it is valid.
 fn valid_only(m: &Machine, page: Option<Page>) -> Option<Page>
-    requires { m.now.kernel.stopped ≡ false }
+    requires { IsRunning m.now }
     ensures { result ≡ valid_only m.now.kernel.place page }
 {
     match page {
@@ -154,7 +155,7 @@ fn next_valid(
     regs: &Regs,
     pages: &[Page],
 ) -> Result<Option<Page>, NoMemory>
-    requires running { m.old.kernel.stopped ≡ false }
+    requires ready { CanGoOn m.old }
     requires lends { CanLend m.old.kernel pid }
     requires quiet { WritesNothing m.old.kernel pid regs.now }
     ensures value { (known : List NamedImage) (F : FlatState) (p : Process) (s : Space) → AreNamed known m.old.images
@@ -174,7 +175,7 @@ pub fn touched_before(
     pid: u32,
     regs: &Regs,
 ) -> Result<Touched, NoMemory>
-    requires running { m.old.kernel.stopped ≡ false }
+    requires ready { CanGoOn m.old }
     requires lends { CanLend m.old.kernel pid }
     requires quiet { WritesNothing m.old.kernel pid regs.now }
     ensures before { (A : Inputs) (s : State) (now : Bool) → RunsWith A s now m.old pid regs.now → IfOk result (λ touched. touched ≡ locked A s) }

@@ -1,10 +1,10 @@
-use Rattle.std.proofs.Common.{◌+◌, ◌≤◌, Bool, true, length, subst, ◌∙◌, arith}
+use Rattle.std.proofs.Common.{◌+◌, ◌≤◌, Bool, true, length, subst, arith}
 use Rattle.page_model.specs.Rank.{rank}
 use Rattle.fault_fill.specs.Serving.{StopsServing}
 use Rattle.fault_fill.specs.Units.{GoesFurther, Further}
 use Rattle.fault_fill.specs.Answers.{ServesNow}
 use Rattle.fault_fill.proofs.Serving.{Behind, served_behind, rank_falls}
-use Rattle.fault_fill.proofs.Leading.{match_map, GoesOn, units_on, whole_on, area_on, files_on, stops_later, served_now_later}
+use Rattle.fault_fill.proofs.Leading.{match_map, area_on, files_on, stops_later, served_now_later}
 use Rattle.fault_fill.proofs.pages.+serve_now_on.Goals as goal
 
 pub serve_now_on-requires : goal.serve_now_on-requires
@@ -17,9 +17,8 @@ serve_now_on-requires g t c κs out =
     let i = g.D.SwapDev.image c.args.swap.now in
     let j = g.D.SwapDev.image c.serve_further.new.swap in
     let f : Further locked q old new holds i j = subst (λ (b : Bool). GoesFurther b locked q old new holds i j) c.if-more.true c.in-Ok.ensures.made in
-    let s = c.sound.ensures.sound in
+    let s = c.requires.ready.running.sound in
     let b : Behind old.kernel.place new.kernel.place locked q = served_behind f.serves.units old.kernel.place new.kernel.place locked q true s.owner.frames c.requires.can f.serves.leads in
-    let o : GoesOn old new = units_on true locked q old new holds i j f.serves in
     let less : length f.serves.units + rank new.kernel.place locked q ≤ rank old.kernel.place locked q =
     rank_falls f.serves.units old.kernel.place new.kernel.place locked q true s.owner.frames c.requires.can s.hands c.requires.room f.serves.leads in
     let some = f.some in (
@@ -29,15 +28,12 @@ serve_now_on-requires g t c κs out =
         (
           out.1,
           (
-            o.stopped ∙ c.requires.running,
+            c.in-Ok.ensures.goes_on,
             (
-              whole_on old new f.serves.makes.beside o c.requires.whole,
+              area_on old new _ _ f.serves.makes.beside c.in-Ok.ensures.outside.swap.blocks c.requires.area,
               (
-                area_on old new _ _ f.serves.makes.beside c.in-Ok.ensures.outside.swap.blocks c.requires.area,
-                (
-                  files_on old new holds _ f.serves.makes.beside c.in-Ok.ensures.outside.files.holds c.requires.files,
-                  (b.can, (b.room c.requires.room, f.low)),
-                ),
+                files_on old new holds _ f.serves.makes.beside c.in-Ok.ensures.outside.files.holds c.requires.files,
+                (b.can, (b.room c.requires.room, f.low)),
               ),
             ),
           ),

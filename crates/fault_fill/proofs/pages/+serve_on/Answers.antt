@@ -1,4 +1,4 @@
-use Rattle.std.proofs.Common.{◌<◌, [], false, subst, ◌∙◌, arith}
+use Rattle.std.proofs.Common.{◌<◌, [], false, subst, arith}
 use Rattle.page_model.specs.Ownership.{OwnsFrames}
 use Rattle.fault_fill.specs.Serving.{UnitMade, ServesTo, StopsServing}
 use Rattle.fault_fill.specs.Units.{ComesTo, AnyUnit}
@@ -6,7 +6,7 @@ use Rattle.fault_fill.specs.Answers.{ServesAs}
 use Rattle.fault_fill.specs.declared.pages.Served.{Served}
 use Rattle.fault_fill.specs.declared.unit.Unit.{Unit as Came}
 use Rattle.fault_fill.proofs.Serving.{near, Behind}
-use Rattle.fault_fill.proofs.Leading.{match_map, GoesOn, unit_on, whole_on, area_on, files_on, one_serves, stops_here, stops_later, unit_behind, unit_nearer, served_later}
+use Rattle.fault_fill.proofs.Leading.{match_map, area_on, files_on, one_serves, stops_here, stops_later, unit_behind, unit_nearer, served_later}
 use Rattle.fault_fill.proofs.pages.+serve_on.Goals as goal
 
 pub returns-in-Err-clause-served : goal.returns-in-Err-clause-served
@@ -24,9 +24,8 @@ serve_on-requires g t c κs out =
     let j = g.D.SwapDev.image c.serve_unit.new.swap in
     let any : AnyUnit q old new holds i j = subst (λ (u : Came). ComesTo u q old new holds i j) c.in-Nearer.is c.in-Ok.ensures.made in
     let u : UnitMade false [] q old new holds i j = any false [] in
-    let owner : OwnsFrames old.kernel.place = c.sound.ensures.sound.owner.frames in
+    let owner : OwnsFrames old.kernel.place = c.requires.ready.running.sound.owner.frames in
     let b : Behind old.kernel.place new.kernel.place [] q = unit_behind false [] q old new holds i j owner c.requires.can u in
-    let o : GoesOn old new = unit_on false [] q old new holds i j u in
     let less : near new.kernel.place q < near old.kernel.place q = unit_nearer q old new holds i j owner c.requires.can u in (
       omega (arith, c.decreases, less),
       (
@@ -34,13 +33,10 @@ serve_on-requires g t c κs out =
         (
           out.1,
           (
-            o.stopped ∙ c.requires.running,
+            c.in-Ok.ensures.goes_on,
             (
-              whole_on old new u.rest o c.requires.whole,
-              (
-                area_on old new _ _ u.rest c.in-Ok.ensures.outside.swap.blocks c.requires.area,
-                (files_on old new holds _ u.rest c.in-Ok.ensures.outside.files.holds c.requires.files, b.can),
-              ),
+              area_on old new _ _ u.rest c.in-Ok.ensures.outside.swap.blocks c.requires.area,
+              (files_on old new holds _ u.rest c.in-Ok.ensures.outside.files.holds c.requires.files, b.can),
             ),
           ),
         ),

@@ -1,7 +1,7 @@
 use Rattle.std.proofs.Common.{◌≡◌, ◌<◌, length, true, subst, sym}
 use Rattle.machine_state.specs.Machine.{Standing}
 use Rattle.page_model.specs.Placement.{state_of}
-use Rattle.fault_fill.specs.Units.{ComesTo, AnyUnit, NoneMade, NeedsFrame, is_flying}
+use Rattle.fault_fill.specs.Units.{ComesTo, NoneMade, is_flying}
 use Rattle.fault_fill.specs.declared.unit.Unit.{Unit as Came}
 use Rattle.fault_fill.proofs.Serving.{flying_some}
 use Rattle.fault_fill.proofs.Leading.{stops_here, any_further, end_further, end_stops_now}
@@ -24,72 +24,32 @@ finish-requires-clause-some g c =
     let h = g.D.SwapDev.image c.serve_unit.new.swap in
     let waits : NoneMade old next i h × (is_flying (state_of old.kernel.place q) ≡ true) =
     subst (λ (u : Came). ComesTo u q old next holds i h) c.in-Waits.is c.in-Ok.ensures.made in
-    subst (λ (s : Standing). 0 < length s.kernel.place.transfers) (sym waits.0.machine) (flying_some old.kernel.place q c.sound.ensures.sound.owner.frames waits.1)
+    subst (λ (s : Standing). 0 < length s.kernel.place.transfers) (sym waits.0.machine) (flying_some old.kernel.place q c.requires.ready.running.sound.owner.frames waits.1)
 
 pub returns-in-Nearer-clause-made : goal.returns-in-Nearer-clause-made
 returns-in-Nearer-clause-made g c =
-    let q = c.args.page in
-    let old = c.args.m.now in
-    let next = c.serve_unit.new.m in
-    let holds = g.F.Files.holds c.args.files.now in
-    let i = g.D.SwapDev.image c.args.swap.now in
-    let h = g.D.SwapDev.image c.serve_unit.new.swap in
-    let any : AnyUnit q old next holds i h = subst (λ (u : Came). ComesTo u q old next holds i h) c.in-Nearer.is c.in-Ok.ensures.made in
-    any_further c.args.locked.now q old next holds i h c.requires.can any
+    any_further c.args.locked.now c.args.page c.args.m.now c.serve_unit.new.m (g.F.Files.holds c.args.files.now) (g.D.SwapDev.image c.args.swap.now)
+    (g.D.SwapDev.image c.serve_unit.new.swap) _ c.in-Nearer.is c.in-Ok.ensures.made c.requires.can
 
 pub returns-in-Ok-finish-clause-made : goal.returns-in-Ok-finish-clause-made
 returns-in-Ok-finish-clause-made g c =
-    let q = c.args.page in
-    let old = c.args.m.now in
-    let next = c.serve_unit.new.m in
-    let holds = g.F.Files.holds c.args.files.now in
-    let later = g.F.Files.holds c.serve_unit.new.files in
-    let i = g.D.SwapDev.image c.args.swap.now in
-    let h = g.D.SwapDev.image c.serve_unit.new.swap in
-    let j = g.D.SwapDev.image c.finish.new.swap in
-    let waits : NoneMade old next i h × (is_flying (state_of old.kernel.place q) ≡ true) =
-    subst (λ (u : Came). ComesTo u q old next holds i h) c.in-Waits.is c.in-Ok.ensures.made in
-    end_further c.args.locked.now q old next c.finish.new.m holds later i h j waits.0 c.in-Ok.ensures.outside.files.holds c.requires.can waits.1 c.in-Ok-finish.ensures.made
+    end_further c.args.locked.now c.args.page c.args.m.now c.serve_unit.new.m c.finish.new.m (g.F.Files.holds c.args.files.now) (g.F.Files.holds c.serve_unit.new.files)
+    (g.D.SwapDev.image c.args.swap.now) (g.D.SwapDev.image c.serve_unit.new.swap) (g.D.SwapDev.image c.finish.new.swap) _ c.in-Waits.is c.in-Ok.ensures.made
+    c.in-Ok.ensures.outside.files.holds c.requires.can c.in-Ok-finish.ensures.made
 
 pub returns-in-Err-finish-clause-made : goal.returns-in-Err-finish-clause-made
 returns-in-Err-finish-clause-made g c =
-    let q = c.args.page in
-    let old = c.args.m.now in
-    let next = c.serve_unit.new.m in
-    let holds = g.F.Files.holds c.args.files.now in
-    let i = g.D.SwapDev.image c.args.swap.now in
-    let h = g.D.SwapDev.image c.serve_unit.new.swap in
-    let j = g.D.SwapDev.image c.finish.new.swap in
-    let waits : NoneMade old next i h × (is_flying (state_of old.kernel.place q) ≡ true) =
-    subst (λ (u : Came). ComesTo u q old next holds i h) c.in-Waits.is c.in-Ok.ensures.made in
-    end_stops_now c.args.locked.now q old next c.finish.new.m holds i h j c.in-Err-finish.stop waits.0 waits.1 c.in-Err-finish.ensures.made
+    end_stops_now c.args.locked.now c.args.page c.args.m.now c.serve_unit.new.m c.finish.new.m (g.F.Files.holds c.args.files.now) (g.D.SwapDev.image c.args.swap.now)
+    (g.D.SwapDev.image c.serve_unit.new.swap) (g.D.SwapDev.image c.finish.new.swap) c.in-Err-finish.stop _ c.in-Waits.is c.in-Ok.ensures.made c.in-Err-finish.ensures.made
 
 pub returns-in-Ok-make_room-clause-made : goal.returns-in-Ok-make_room-clause-made
 returns-in-Ok-make_room-clause-made g c =
-    let q = c.args.page in
-    let old = c.args.m.now in
-    let next = c.serve_unit.new.m in
-    let holds = g.F.Files.holds c.args.files.now in
-    let later = g.F.Files.holds c.serve_unit.new.files in
-    let i = g.D.SwapDev.image c.args.swap.now in
-    let h = g.D.SwapDev.image c.serve_unit.new.swap in
-    let j = g.D.SwapDev.image c.make_room.new.swap in
-    let starves : NoneMade old next i h × NeedsFrame old.kernel.place q =
-    subst (λ (u : Came). ComesTo u q old next holds i h) c.in-Starves.is c.in-Ok.ensures.made in
-    room_further c.args.locked.now q old next c.make_room.new.m holds later i h j starves.0 c.in-Ok.ensures.outside.files.holds c.sound.ensures.sound.owner.frames starves.1
-    c.in-Ok-make_room.ensures.forced c.in-Ok-make_room.ensures.keeps
+    room_further c.args.locked.now c.args.page c.args.m.now c.serve_unit.new.m c.make_room.new.m (g.F.Files.holds c.args.files.now) (g.F.Files.holds c.serve_unit.new.files)
+    (g.D.SwapDev.image c.args.swap.now) (g.D.SwapDev.image c.serve_unit.new.swap) (g.D.SwapDev.image c.make_room.new.swap) _ c.in-Starves.is c.in-Ok.ensures.made
+    c.in-Ok.ensures.outside.files.holds c.requires.ready.running.sound.owner.frames c.in-Ok-make_room.ensures.forced c.in-Ok-make_room.ensures.keeps
 
 pub returns-in-Err-make_room-clause-made : goal.returns-in-Err-make_room-clause-made
 returns-in-Err-make_room-clause-made g c =
-    let q = c.args.page in
-    let old = c.args.m.now in
-    let next = c.serve_unit.new.m in
-    let holds = g.F.Files.holds c.args.files.now in
-    let later = g.F.Files.holds c.serve_unit.new.files in
-    let i = g.D.SwapDev.image c.args.swap.now in
-    let h = g.D.SwapDev.image c.serve_unit.new.swap in
-    let j = g.D.SwapDev.image c.make_room.new.swap in
-    let starves : NoneMade old next i h × NeedsFrame old.kernel.place q =
-    subst (λ (u : Came). ComesTo u q old next holds i h) c.in-Starves.is c.in-Ok.ensures.made in
-    room_stops c.args.locked.now q old next c.make_room.new.m holds later i h j c.in-Err-make_room.stop starves.0 c.in-Ok.ensures.outside.files.holds c.sound.ensures.sound.owner.frames starves.1
-    c.in-Err-make_room.ensures.stopped
+    room_stops c.args.locked.now c.args.page c.args.m.now c.serve_unit.new.m c.make_room.new.m (g.F.Files.holds c.args.files.now) (g.F.Files.holds c.serve_unit.new.files)
+    (g.D.SwapDev.image c.args.swap.now) (g.D.SwapDev.image c.serve_unit.new.swap) (g.D.SwapDev.image c.make_room.new.swap) c.in-Err-make_room.stop _ c.in-Starves.is
+    c.in-Ok.ensures.made c.in-Ok.ensures.outside.files.holds c.requires.ready.running.sound.owner.frames c.in-Err-make_room.ensures.stopped

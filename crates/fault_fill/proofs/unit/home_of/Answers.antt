@@ -6,5 +6,5 @@ use Rattle.fault_fill.proofs.unit.home_of.Goals as goal
 pub unreachable-requires : goal.unreachable-requires
 unreachable-requires c =
     let p = c.args.m.now.kernel.place in
-    let spaces = c.sound.ensures.numbered.spaces_differ in
+    let spaces = c.requires.running.numbered.spaces_differ in
     no_sharer p c.in-Text.image c.in-Text.v spaces (subst (IsShared p) c.in-Text.is c.requires.shared) c.in-None.ensures

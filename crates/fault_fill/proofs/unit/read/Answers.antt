@@ -14,7 +14,7 @@ begin_get-requires-clause-can c =
     let q = c.args.page in
     let p = c.args.m.now.kernel.place in
     subst (λ (r : Run). CanBringIn p q r.lo r.n) c.run_of-lo.ensures.run
-    (can_read p q c.sound.ensures.due c.requires.can.there c.requires.can.shared c.requires.can.fresh c.requires.frameless
+    (can_read p q c.requires.ready.running.due c.requires.can.there c.requires.can.shared c.requires.can.fresh c.requires.frameless
     (of_image (state_of p q) (filling_of p q) c.requires.filled) c.requires.free c.requires.few c.run_of-lo.ensures.small)
 
 pub returns-clause-made : goal.returns-clause-made
@@ -26,4 +26,4 @@ returns-clause-made c =
     plain_either c.begin_get.result q (entries.Get q lo n) c.args.m.now c.begin_get.new.self (get_calls q lo n)
     (λ now. unit_reads p q now false (not_full p c.requires.few) c.requires.frameless c.requires.filled c.requires.free ∙ ap (λ (r : Run). Some (entries.Get q r.lo r.n)) c.run_of-lo.ensures.run)
     (λ h g i. h)
-    c.begin_get.ensures.step c.begin_get.ensures.rest c.begin_get.ensures.keeps c.begin_get.ensures.stop c.requires.whole c.begin_get.ensures.cause c.begin_get.ensures.full
+    c.begin_get.ensures.step c.begin_get.ensures.rest c.begin_get.ensures.keeps c.begin_get.ensures.stop c.requires.ready.whole c.begin_get.ensures.cause c.begin_get.ensures.full

@@ -9,4 +9,4 @@ returns-clause-made c =
     let p = c.args.m.now.kernel.place in
     plain_either c.reclaim.result q (entries.Reclaim q) c.args.m.now c.reclaim.new.self (reclaim_calls q)
     (λ now. unit_reclaims p q now c.args.frame c.requires.invalid) (λ h g i. h)
-    c.reclaim.ensures.step c.reclaim.ensures.rest c.reclaim.ensures.keeps c.reclaim.ensures.stop c.requires.whole c.reclaim.ensures.cause c.reclaim.ensures.full
+    c.reclaim.ensures.step c.reclaim.ensures.rest c.reclaim.ensures.keeps c.reclaim.ensures.stop c.requires.ready.whole c.reclaim.ensures.cause c.reclaim.ensures.full
