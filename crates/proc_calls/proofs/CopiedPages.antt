@@ -1,5 +1,5 @@
 -- A copy of a page as a whole, and copies one after another.
-use Rattle.std.proofs.Common.{◌≡◌, inl, inr, ℕ, suc, ◌<◌, ◌≤◌, false, List, [], ◌∷◌, length, Option, Some, None, refl, sym, ap, ◌∙◌, subst, arith}
+use Rattle.std.proofs.Common.{◌≡◌, inl, inr, ℕ, suc, ◌<◌, ◌≤◌, List, [], ◌∷◌, length, Option, Some, None, refl, sym, ap, ◌∙◌, subst, arith}
 use Rattle.std.specs.Prelude.{Result, Ok, Err, OnOk, OnErr, IfErr, MatchResult}
 use Rattle.std.proofs.lemmas.Option.{same_Some}
 use Rattle.vm_facts.specs.declared.page.Page.{Page}
@@ -8,20 +8,18 @@ use Rattle.vm_facts.specs.declared.stop.Stop.{Stop}
 use Rattle.io_edge.specs.FileHolding.{NamedFile}
 use Rattle.page_model.specs.Placement.{Placement, Due, Start, CopyOf}
 use Rattle.page_model.specs.Place.{due_after}
-use Rattle.page_model.specs.Ownership.{OwnsFrames}
-use Rattle.page_model.specs.Dues.{DueStand}
 use Rattle.kernel_model.specs.Kernel.{Kernel, copy_step}
 use Rattle.vm_facts.specs.declared.params.Params.{Params}
 use Rattle.machine_state.specs.Machine.{Standing}
 use Rattle.machine_state.specs.Sourced.{ImageNamed}
 use Rattle.machine_state.specs.Files.{AreFiles}
+use Rattle.machine_state.specs.Going.{CanGoOn}
 use Rattle.machine_state.specs.Calls.{first_due}
 use Rattle.machine_state.specs.Conditions.{HasStopped, KeepsFlat}
 use Rattle.machine_state.specs.Done.{KeepsThrough}
 use Rattle.fault_fill.specs.LastMoves.{last_moves}
-use Rattle.fault_fill.specs.Made.{ground, SameBeside}
+use Rattle.fault_fill.specs.Made.{ground}
 use Rattle.fault_fill.specs.Stops.{StopsAt}
-use Rattle.fault_fill.proofs.PagingUnitsUnits.{made_same, makes_whole}
 use Rattle.fault_fill.proofs.Keeping.{made_shaped, keeps_flat, keeps_both}
 use Rattle.fault_fill.specs.Forced.{Forced, StopsForcing}
 use Rattle.fault_fill.specs.Answers.{ServesNow}
@@ -30,30 +28,12 @@ use Rattle.proc_calls.proofs.Copies.{Stay, stay_both, serves_stay, forces_stay, 
 
 -- One page.
 
--- what is so of a machine that runs and goes on
-pub record IsOn (s : Standing) : Type 0 where
-  pub running : s.kernel.stopped ≡ false
-  pub whole : s.before ≡ s.kernel.holdings
-
-pub served_on : (parent : Page) (old served : Standing) (holds : Option (List NamedFile)) (i h : Option (List ℕ)) → IsOn old
-    → ServesNow (parent ∷ []) parent old served holds i h → IsOn served
-served_on parent old served holds i h o s = record {
-  running = (let a : SameBeside old.kernel served.kernel = made_same (ground old holds (parent ∷ [])) s.0.units old.kernel served.kernel i h s.0.makes.made in a.stopped) ∙ o.running;
-  whole = makes_whole (ground old holds (parent ∷ [])) s.0.units old served i h s.0.makes o.whole;
-}
-
-pub forced_on : (parent : Page) (served roomy : Standing) (holds : Option (List NamedFile)) (h j : Option (List ℕ)) → IsOn served
-    → Forced (parent ∷ []) served roomy holds h j → IsOn roomy
-forced_on parent served roomy holds h j o f = record {
-  running = (let a : SameBeside served.kernel roomy.kernel = made_same (ground served holds (parent ∷ [])) f.units served.kernel roomy.kernel h j f.makes.made in a.stopped) ∙ o.running;
-  whole = makes_whole (ground served holds (parent ∷ [])) f.units served roomy h j f.makes o.whole;
-}
-
-pub served_stay : (child parent : Page) (old served : Standing) (holds : Option (List NamedFile)) (i h : Option (List ℕ)) → OwnsFrames old.kernel.place
-    → DueStand old.kernel.place → IsCopyFirst old.kernel.place child parent → ServesNow (parent ∷ []) parent old served holds i h
+pub served_stay : (child parent : Page) (old served : Standing) (holds : Option (List NamedFile)) (i h : Option (List ℕ))
+    → CanGoOn old → IsCopyFirst old.kernel.place child parent → ServesNow (parent ∷ []) parent old served holds i h
     → Stay old.kernel.place served.kernel.place
-served_stay child parent old served holds i h o d f s =
-    serves_stay s.0.units old.kernel.place served.kernel.place (parent ∷ []) parent o (can_serve old.kernel.place child parent d f) s.0.leads
+served_stay child parent old served holds i h on f s =
+    serves_stay s.0.units old.kernel.place served.kernel.place (parent ∷ []) parent on.running.sound.owner.frames
+    (can_serve old.kernel.place child parent on.running.due f) s.0.leads
 
 pub forced_stay : (parent : Page) (old served roomy : Standing) (holds : Option (List NamedFile)) (h j : Option (List ℕ))
     → Stay old.kernel.place served.kernel.place
@@ -102,16 +82,14 @@ copied_by (Err stop) child parent old served roomy new holds later i h j e s f k
 
 pub goes_on : {A : Type 0} (r : Result A Stop) (child parent : Page) (old served roomy new : Standing) (holds later : Option (List NamedFile))
     (i h j : Option (List ℕ))
-    → IsOn roomy → Stay old.kernel.place roomy.kernel.place → ServesNow (parent ∷ []) parent old served holds i h → Forced (parent ∷ []) served roomy later h j
+    → Stay old.kernel.place roomy.kernel.place → ServesNow (parent ∷ []) parent old served holds i h → Forced (parent ∷ []) served roomy later h j
     → OnOk r (new.kernel ≡ copy_step roomy.kernel child) → OnOk r (new ≡ record roomy { kernel = new.kernel; room = None }) → OnOk r (GoesOn child old new)
-goes_on (Err stop) child parent old served roomy new holds later i h j o stay s f step rest = tt
-goes_on (Ok x) child parent old served roomy new holds later i h j o stay s f step rest =
+goes_on (Err stop) child parent old served roomy new holds later i h j stay s f step rest = tt
+goes_on (Ok x) child parent old served roomy new holds later i h j stay s f step rest =
     let is : new ≡ copied_from roomy child = copied_as roomy new child step rest in
     record {
       params = ap (λ (n : Standing). n.params) is ∙ f.makes.beside.params ∙ s.0.makes.beside.params;
       images = ap (λ (n : Standing). n.images) is ∙ f.makes.beside.images ∙ s.0.makes.beside.images;
-      running = ap (λ (n : Standing). n.kernel.stopped) is ∙ o.running;
-      whole = ap (λ (n : Standing). n.before) is ∙ o.whole ∙ sym (ap (λ (n : Standing). n.kernel.holdings) is);
       due = ap (λ (n : Standing). n.kernel.place.due) is ∙ ap (λ (ds : List Due). due_after ds child) stay.due;
       frames = ap (λ (n : Standing). length n.kernel.place.holds) is ∙ filled_frames roomy.kernel.place child ∙ stay.frames;
       last = ap (λ (n : Standing). last_moves n.kernel.journal) is ∙ last_copy roomy.kernel.journal child;
@@ -169,14 +147,12 @@ copies_more (Err stop) ds others dues child parent old next new holds later i h 
           (subst (λ (x : Option (List NamedFile)). StopsCopying dues next new x h j stop) same more),
     ))
 
--- the machine goes on after them
+-- what is so after them
 pub copied_on : {A : Type 0} (r : Result A Stop) (child : Page) (old next new : Standing) → GoesOn child old next → OnOk r (HasCopied next new)
     → OnOk r (HasCopied old new)
 copied_on (Ok x) child old next new g h = record {
   params = h.params ∙ g.params;
   images = h.images ∙ g.images;
-  running = h.running;
-  whole = h.whole;
   due = h.due;
   frames = h.frames ∙ g.frames;
   low = let l = h.low in let z = g.last in omega (arith, l, z);
@@ -231,13 +207,11 @@ pub copies_all : (old now : Standing) (holds later : Option (List NamedFile)) (i
 copies_all old now holds later i h e so =
     so.more now h (subst (λ (ds : List Due). CopiesAll ds now now later h h) (sym (none_due now.kernel.place.due e)) (refl, refl))
 
-pub copied_all : (old now : Standing) (holds later : Option (List NamedFile)) (i h : Option (List ℕ)) → IsOn now → first_due now.kernel.place.due ≡ None
+pub copied_all : (old now : Standing) (holds later : Option (List NamedFile)) (i h : Option (List ℕ)) → first_due now.kernel.place.due ≡ None
     → CopiesSoFar old now holds later i h → HasCopied old now
-copied_all old now holds later i h o e so = so.on now (record {
+copied_all old now holds later i h e so = so.on now (record {
   params = refl;
   images = refl;
-  running = o.running;
-  whole = o.whole;
   due = none_due now.kernel.place.due e;
   frames = refl;
   low = omega arith;

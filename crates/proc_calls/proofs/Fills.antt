@@ -1,5 +1,5 @@
 -- A new stack page is filled: what the fill asks, and what is so after it.
-use Rattle.std.proofs.Common.{◌≡◌, ℕ, inr, Bool, false, cond, List, [], ◌∷◌, Option, Some, refl, sym, ap, ◌∙◌, subst}
+use Rattle.std.proofs.Common.{◌≡◌, ℕ, inr, Bool, cond, List, [], ◌∷◌, Option, Some, refl, sym, ap, ◌∙◌, subst}
 use Rattle.std.specs.Prelude.{Result, Ok, Err, OnOk, OnErr, IfErr, MatchResult, None}
 use Rattle.vm_facts.specs.declared.page.Page.{Page}
 use Rattle.vm_facts.specs.declared.entry.Entry.{Entry}
@@ -10,17 +10,17 @@ use Rattle.flat_state.proofs.PageNames.{same_page_self}
 use Rattle.page_model.specs.Placement.{Placement, Due, Start, due_at}
 use Rattle.page_model.specs.Serve.{Forces, force}
 use Rattle.page_model.specs.Ownership.{OwnsFrames}
-use Rattle.page_model.specs.Dues.{IsDue, DueStand}
+use Rattle.page_model.specs.Dues.{IsDue}
 use Rattle.page_laws.proofs.Moves.Stays.{Stays, force_stays}
 use Rattle.page_laws.proofs.Ownership.Serve.{force_owner}
 use Rattle.kernel_model.specs.Kernel.{Kernel, zero_step}
 use Rattle.machine_state.specs.Machine.{Standing}
 use Rattle.machine_state.specs.Due.{IsFirstStart}
+use Rattle.machine_state.specs.Going.{CanGoOn}
 use Rattle.machine_state.specs.Conditions.{CanZero, HasStopped, KeepsFlat}
 use Rattle.machine_state.specs.Done.{KeepsThrough}
-use Rattle.fault_fill.specs.Made.{SameBeside, ground}
+use Rattle.fault_fill.specs.Made.{ground}
 use Rattle.fault_fill.specs.Stops.{StopsAt}
-use Rattle.fault_fill.proofs.PagingUnitsUnits.{made_same, makes_whole}
 use Rattle.fault_fill.proofs.Keeping.{made_shaped, keeps_flat, keeps_both}
 use Rattle.fault_fill.specs.Forced.{Forced}
 use Rattle.proc_calls.specs.Filling.{IsStartFirst, FillsStart, StopsStart}
@@ -34,21 +34,11 @@ due_stays (e ∷ us) p r locked o s =
 start_at : (page : Page) (ds : List Due) → due_at (Start page ∷ ds) page ≡ Some (Start page)
 start_at page ds = ap (λ (b : Bool). cond b (Some (Start page)) (due_at ds page)) (same_page_self page)
 
-pub forced_runs : (locked : List Page) (old roomy : Standing) (holds : Option (List NamedFile)) (i j : Option (List ℕ)) → Forced locked old roomy holds i j
-    → old.kernel.stopped ≡ false → roomy.kernel.stopped ≡ false
-forced_runs locked old roomy holds i j f r =
-    (let a : SameBeside old.kernel roomy.kernel = made_same (ground old holds locked) f.units old.kernel roomy.kernel i j f.makes.made in a.stopped) ∙ r
-
-pub forced_whole : (locked : List Page) (old roomy : Standing) (holds : Option (List NamedFile)) (i j : Option (List ℕ)) → Forced locked old roomy holds i j
-    → old.before ≡ old.kernel.holdings → roomy.before ≡ roomy.kernel.holdings
-forced_whole locked old roomy holds i j f w = makes_whole (ground old holds locked) f.units old roomy i j f.makes w
-
-pub can_fill : (page : Page) (old roomy : Standing) (holds : Option (List NamedFile)) (i j : Option (List ℕ)) → OwnsFrames old.kernel.place
-    → DueStand roomy.kernel.place
-    → IsStartFirst old.kernel.place page → Forced [] old roomy holds i j → CanZero roomy.kernel.place page
-can_fill page old roomy holds i j o d s f =
-    let e : roomy.kernel.place.due ≡ Start page ∷ s.others = due_stays f.units old.kernel.place roomy.kernel.place [] o f.forces ∙ s.first in
-    let due : IsDue roomy.kernel.place page (Start page) = d page (Start page) (ap (λ (ds : List Due). due_at ds page) e ∙ start_at page s.others) in
+pub can_fill : (page : Page) (old roomy : Standing) (holds : Option (List NamedFile)) (i j : Option (List ℕ)) → CanGoOn old
+    → CanGoOn roomy → IsStartFirst old.kernel.place page → Forced [] old roomy holds i j → CanZero roomy.kernel.place page
+can_fill page old roomy holds i j on later s f =
+    let e : roomy.kernel.place.due ≡ Start page ∷ s.others = due_stays f.units old.kernel.place roomy.kernel.place [] on.running.sound.owner.frames f.forces ∙ s.first in
+    let due : IsDue roomy.kernel.place page (Start page) = later.running.due page (Start page) (ap (λ (ds : List Due). due_at ds page) e ∙ start_at page s.others) in
     record {
       writable = due.writable;
       there = due.there;

@@ -32,6 +32,7 @@ use Rattle.kernel_model.specs.Asks.{asked, HasSpace}
 use Rattle.kernel_model.specs.ChangeStep.{space_of_life, life_of_proc, change_if, change_step}
 use Rattle.machine_state.proofs.Numbered.{absent_none, below_absent}
 use Rattle.machine_state.specs.Want.{Want}
+use Rattle.machine_state.specs.Going.{CanGoOn}
 use Rattle.machine_state.specs.Wants.{wanted_of}
 use Rattle.machine_state.specs.Machine.{Standing}
 use Rattle.machine_state.specs.Applying.{CanApply, MayAct, facts_named}
@@ -45,7 +46,7 @@ use Rattle.proc_calls.specs.Callers.{proc_in, space_held, IsCaller}
 use Rattle.proc_calls.specs.Making.{is_below_limit, finds_pieces, with_pieces, without_pieces, HasChild, MakesChildBy, MakesChild}
 use Rattle.proc_calls.specs.Copying.{in_space, AreCopiesFrom, HasCopied}
 use Rattle.proc_calls.specs.Forking.{fork_wants, HasNewSpace, ForkAnswered}
-use Rattle.proc_calls.proofs.Callers.{caller_there, caller_lives}
+use Rattle.proc_calls.proofs.Callers.{caller_there, caller_lives, sound_now}
 use Rattle.proc_calls.proofs.Makes.{no_u_page, all_pieces, u_want, u_asked, no_place, goes_on, has_child}
 
 -- The next space has no number yet, and no pieces.
@@ -89,11 +90,11 @@ module _ (k : Kernel) (size : ℕ) (s : Sound size k) (n : Numbered k) (parent :
       (all_pieces k.holdings (owners.Stack k.next_sid) (2 * stack_count k.place parent) (no_stack size k k.holdings s n))
 
 pub fork_asks : (m : Standing) (pid child parent : ℕ) (ws : List Want) → ws ≡ fork_wants m.kernel parent → parent ≡ space_held m.kernel pid
-    → child ≡ m.kernel.next_pid
-    → m.before ≡ m.kernel.holdings → Sound m.params.swap_blocks (record m.kernel { holdings = m.before }) → Numbered m.kernel
+    → child ≡ m.kernel.next_pid → CanGoOn m
     → wanted_of m.kernel.holdings ws ≡ asked (facts_named m.images) m.kernel pid (Fork child)
-fork_asks m pid child parent ws wants held named whole s n =
-    let now : Sound m.params.swap_blocks m.kernel = subst (λ (hs : Holdings). Sound m.params.swap_blocks (record m.kernel { holdings = hs })) whole s in
+fork_asks m pid child parent ws wants held named on =
+    let now : Sound m.params.swap_blocks m.kernel = sound_now m on in
+    let n = on.running.numbered in
     ap (wanted_of m.kernel.holdings) (wants ∙ ap (fork_wants m.kernel) held)
     ∙ all_looked m.kernel m.params.swap_blocks now n (space_held m.kernel pid)
     ∙ ap (λ (xs : List Wanted). data_pieces m.kernel m.params.swap_blocks now n (space_held m.kernel pid) ++ (stack_pieces m.kernel m.params.swap_blocks now n (space_held m.kernel pid) ++ xs))
@@ -119,7 +120,7 @@ can_fork m pid call regs hs few c found = record {
   entry = (refl, tt);
   whole = tt;
   few = λ t. ltb-true (length m.kernel.processes) 64 few;
-  found = ap (λ (h : Holdings). place_all m.params.swap_blocks h (asked (facts_named m.images) m.kernel pid (Fork m.kernel.next_pid))) c.whole ∙ found;
+  found = ap (λ (h : Holdings). place_all m.params.swap_blocks h (asked (facts_named m.images) m.kernel pid (Fork m.kernel.next_pid))) c.ready.whole ∙ found;
 }
 
 pub may_fork : (m asks : Standing) (pid child : ℕ) (call : SystemCall) (regs : Regs) (hs : Holdings) → asks ≡ with_pieces m hs → child ≡ m.kernel.next_pid
@@ -246,8 +247,6 @@ pub copied_behind : (old between new : Standing) → IsLow old between → HasCo
 copied_behind old between new l h = record {
   params = h.params ∙ l.params;
   images = h.images ∙ l.images;
-  running = h.running;
-  whole = h.whole;
   due = h.due;
   frames = h.frames ∙ l.frames;
   low = let a = h.low in let z = l.last in omega (arith, a, z);

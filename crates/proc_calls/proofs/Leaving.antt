@@ -36,13 +36,12 @@ use Rattle.proc_calls.proofs.Callers.{caller_lives}
 pub record GoesOn (old new : Kernel) : Type 0 where
   pub processes : new.processes ≡ old.processes
   pub holdings : new.holdings ≡ old.holdings
-  pub stopped : new.stopped ≡ old.stopped
   pub residents : new.place.residents ≡ old.place.residents
   pub due : new.place.due ≡ old.place.due
   pub spaces : SameSpaces old.place new.place
 
 stays : (k : Kernel) → GoesOn k k
-stays k = record { processes = refl; holdings = refl; stopped = refl; residents = refl; due = refl; spaces = refl }
+stays k = record { processes = refl; holdings = refl; residents = refl; due = refl; spaces = refl }
 
 done_goes : (k : Kernel) (read : List (List ℕ)) → GoesOn k (done_step k read)
 done_goes k read =
@@ -50,7 +49,6 @@ done_goes k read =
     record {
       processes = refl;
       holdings = refl;
-      stopped = refl;
       residents = rest.residents;
       due = rest.due;
       spaces = entry_numbers [] (length (append k.journal entries.Done)) k.place entries.Done;
@@ -60,7 +58,6 @@ both_go : (k l m : Kernel) → GoesOn k l → GoesOn l m → GoesOn k m
 both_go k l m a b = record {
   processes = b.processes ∙ a.processes;
   holdings = b.holdings ∙ a.holdings;
-  stopped = b.stopped ∙ a.stopped;
   residents = b.residents ∙ a.residents;
   due = b.due ∙ a.due;
   spaces = b.spaces ∙ a.spaces;
@@ -103,7 +100,7 @@ can_end_settled m n pid status holds before after c alone s = record {
   entry = (refl, refl);
   whole = tt;
   few = λ t. absurd (let z : false ≡ true = t in cc);
-  found = none_asked n.params.swap_blocks n.before n.kernel.holdings (s.rest.before ∙ c.whole ∙ sym on.holdings);
+  found = none_asked n.params.swap_blocks n.before n.kernel.holdings (s.rest.before ∙ c.ready.whole ∙ sym on.holdings);
 }
   where
     on : GoesOn m.kernel n.kernel
@@ -114,10 +111,6 @@ can_end_settled m n pid status holds before after c alone s = record {
 
     space : space_of_life (life_in n.kernel pid) ≡ c.lends.sid
     space = ap space_of_life held
-
-pub settled_runs : (from : Sources) (sid : ℕ) (old new : Kernel) (before after : Option (List ℕ)) → old.stopped ≡ false
-    → SettledBy from sid old new before after → new.stopped ≡ false
-settled_runs from sid old new before after r s = let on = settled_goes from sid old new before after s in on.stopped ∙ r
 
 -- Once the space that it borrowed went back.
 
@@ -143,7 +136,7 @@ can_end_returned m pid status c g = record {
   entry = (refl, refl);
   whole = tt;
   few = λ t. absurd (let z : false ≡ true = t in cc);
-  found = none_asked m.params.swap_blocks m.before m.kernel.holdings c.whole;
+  found = none_asked m.params.swap_blocks m.before m.kernel.holdings c.ready.whole;
 }
   where
     lender : ℕ
@@ -158,13 +151,6 @@ can_end_returned m pid status c g = record {
 -- Either way.
 
 module _ (m n : Standing) (pid : ℕ) (holds : Option (List NamedFile)) (before after : Option (List ℕ)) (c : IsCaller m pid) where
-  runs_by : (b : Bool) → HasLeftBy b m n pid holds before after → n.kernel.stopped ≡ false
-  runs_by true r = ap (λ (s : Standing). s.kernel.stopped) r.step ∙ c.running
-  runs_by false r = settled_runs (sources m holds) (space_held m.kernel pid) m.kernel n.kernel before after c.running r.settled
-
-  pub left_runs : HasLeft m n pid holds before after → n.kernel.stopped ≡ false
-  left_runs h = runs_by (has_lender m.kernel.processes pid) h
-
   can_by : (b : Bool) (status : ℕ) → has_lender m.kernel.processes pid ≡ b → HasLeftBy b m n pid holds before after
       → (has_lender m.kernel.processes pid ≡ true → HasGivenBack m.kernel n.kernel pid (lender_among m.kernel.processes pid))
       → CanApply n pid (entries.Ended pid status) (End status)

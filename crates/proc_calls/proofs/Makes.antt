@@ -1,5 +1,5 @@
 -- What a call that makes a process asks of the machine, and what is so after its entry.
-use Rattle.std.proofs.Common.{◌≡◌, ◌≢◌, ◌⊎◌, ◌↔◌, inl, inr, ℕ, ◌<◌, ◌≤◌, nat_lt, Bool, true, false, List, [], ◌∷◌, ◌++◌, length, drop, map, Option, Some, None, refl, sym, ap, ◌∙◌, subst}
+use Rattle.std.proofs.Common.{◌≡◌, ◌≢◌, ◌⊎◌, ◌↔◌, inr, ℕ, ◌<◌, ◌≤◌, nat_lt, Bool, true, false, List, [], ◌∷◌, ◌++◌, length, drop, map, Option, Some, None, refl, sym, ap, ◌∙◌, subst}
 use Rattle.std.specs.Prelude.{Result, Ok, Err, IfOk, OnOk, OnErr, is_ok}
 use Rattle.std.proofs.lemmas.Bool.{ltb-true}
 use Rattle.std.proofs.lemmas.List.{append-nil, length-map}
@@ -35,6 +35,7 @@ use Rattle.machine_state.specs.Wants.{wanted_of, found_for, fits_for}
 use Rattle.machine_state.specs.Calls.{life_in}
 use Rattle.machine_state.specs.Machine.{Standing, processes_of}
 use Rattle.machine_state.specs.Alike.{AreRecords}
+use Rattle.machine_state.specs.Going.{CanGoOn}
 use Rattle.machine_state.specs.Applying.{CanApply, MayAct, facts_named}
 use Rattle.machine_state.specs.Conditions.{HasStopped, KeepsFlat}
 use Rattle.machine_state.specs.UserMemory.{CanLend}
@@ -45,8 +46,9 @@ use Rattle.proc_calls.specs.Callers.{proc_in, IsCaller}
 use Rattle.proc_calls.specs.declared.replying.Called.{Called}
 use Rattle.proc_calls.specs.Answered.{Answered, Replied}
 use Rattle.proc_calls.specs.Making.{is_below_limit, finds_pieces, with_pieces, without_pieces, HasChild, MakesChildBy, MakesChild, HasLentSpace, Vforked, StopsMakingBy}
-use Rattle.proc_calls.proofs.Callers.{caller_lives}
+use Rattle.proc_calls.proofs.Callers.{caller_lives, sound_now}
 use Rattle.proc_calls.proofs.Crowded.{crowd}
+use Rattle.proc_calls.proofs.Stopping.{stops_before}
 
 -- There are as many processes as records.
 
@@ -88,7 +90,7 @@ can_vfork m pid call regs hs c few e = record {
   entry = (refl, tt);
   whole = tt;
   few = λ t. few;
-  found = ap (λ (h : Holdings). place_all m.params.swap_blocks h (wanted (owners.U m.kernel.next_pid) (u_pieces 2))) c.whole ∙ e;
+  found = ap (λ (h : Holdings). place_all m.params.swap_blocks h (wanted (owners.U m.kernel.next_pid) (u_pieces 2))) c.ready.whole ∙ e;
 }
 
 -- After the entry the process holds its space, and the child is there and has none.
@@ -140,11 +142,11 @@ pub is_behind : (k : Kernel) (images : List Image) (pid : ℕ) (regs : Regs) (e 
 is_behind k images pid regs e c n = behind_by images k pid regs e c.sid (proc_in k pid) refl c.holds (no_child k n)
 
 -- so it is of a machine whose pieces were found before
-pub behind_found : (m asked new : Standing) (pid : ℕ) (regs : Regs) (e : Entry) (hs : Holdings) → asked ≡ with_pieces m hs → IsCaller m pid → Numbered m.kernel
+pub behind_found : (m asked new : Standing) (pid : ℕ) (regs : Regs) (e : Entry) (hs : Holdings) → asked ≡ with_pieces m hs → IsCaller m pid
     → (child : ℕ) → child ≡ m.kernel.next_pid → new.kernel ≡ change_step (facts_named asked.images) asked.kernel pid regs e (Lend child)
     → IsHolder (life_in new.kernel pid) × (lives new.kernel.processes child ≡ true) × (life_in new.kernel child ≡ New)
-behind_found m asked new pid regs e hs is c n child named step =
-    let b : IsBehind (facts_named m.images) m.kernel pid regs e = is_behind m.kernel (facts_named m.images) pid regs e c.lends n in
+behind_found m asked new pid regs e hs is c child named step =
+    let b : IsBehind (facts_named m.images) m.kernel pid regs e = is_behind m.kernel (facts_named m.images) pid regs e c.lends c.ready.running.numbered in
     let k : Kernel = change_step (facts_named m.images) (with_pieces m hs).kernel pid regs e (Lend m.kernel.next_pid) in
     let same : new.kernel ≡ k = step ∙ ap (λ (i : ℕ). change_step (facts_named asked.images) asked.kernel pid regs e (Lend i)) named
     ∙ ap (λ (s : Standing). change_step (facts_named s.images) s.kernel pid regs e (Lend m.kernel.next_pid)) is in
@@ -167,19 +169,16 @@ behind_found m asked new pid regs e hs is c n child named step =
 -- What is found for the u page.
 
 -- the pieces that are looked for are those that the change asks for
-pub u_pieces_asked : (m : Standing) (pid : ℕ) → m.before ≡ m.kernel.holdings
-    → Sound m.params.swap_blocks (record m.kernel { holdings = m.before }) → Numbered m.kernel
+pub u_pieces_asked : (m : Standing) (pid : ℕ) → CanGoOn m
     → wanted_of m.kernel.holdings (u_want m.kernel.next_pid ∷ []) ≡ asked (facts_named m.images) m.kernel pid (Lend m.kernel.next_pid)
-u_pieces_asked m pid whole s n =
-    u_asked m.kernel.holdings m.kernel.next_pid
-    (no_u_page m.params.swap_blocks m.kernel m.kernel.holdings (subst (λ (hs : Holdings). Sound m.params.swap_blocks (record m.kernel { holdings = hs })) whole s) n)
+u_pieces_asked m pid on =
+    u_asked m.kernel.holdings m.kernel.next_pid (no_u_page m.params.swap_blocks m.kernel m.kernel.holdings (sound_now m on) on.running.numbered)
 
 -- so they are where the number of the child was told
-pub vfork_asks : (m : Standing) (pid child : ℕ) (w : Want) → w ≡ u_want child → child ≡ m.kernel.next_pid → m.before ≡ m.kernel.holdings
-    → Sound m.params.swap_blocks (record m.kernel { holdings = m.before }) → Numbered m.kernel
+pub vfork_asks : (m : Standing) (pid child : ℕ) (w : Want) → w ≡ u_want child → child ≡ m.kernel.next_pid → CanGoOn m
     → wanted_of m.kernel.holdings (w ∷ []) ≡ asked (facts_named m.images) m.kernel pid (Lend child)
-vfork_asks m pid child w wants named whole s n =
-    ap (λ (x : Want). wanted_of m.kernel.holdings (x ∷ [])) (wants ∙ ap u_want named) ∙ u_pieces_asked m pid whole s n
+vfork_asks m pid child w wants named on =
+    ap (λ (x : Want). wanted_of m.kernel.holdings (x ∷ [])) (wants ∙ ap u_want named) ∙ u_pieces_asked m pid on
     ∙ ap (λ (i : ℕ). asked (facts_named m.images) m.kernel pid (Lend i)) (sym named)
 
 -- What an answer of `ask` says of the pieces that a change asks for.
@@ -234,25 +233,25 @@ refused_ok (Ok called) old between new pid child regs is keeps named few none h 
     (no_place old new pid Vfork regs (Lend child) (HasLentSpace old new pid regs child) between is keeps few none h.1)
 refused_ok (Err stop) old between new pid child regs is keeps named few none h = tt
 
-same_stop : (s t : Stop) → (let r : Result Called Stop = Err s in r) ≡ Err t → s ≡ t
-same_stop s t e = cc
-
 -- the run stops after the entry that says so
 pub stops_refused : (r : Result Called Stop) (old between new : Standing) (pid child : ℕ) (change : ℕ → Change) → between ≡ without_pieces old pid
     → child ≡ old.kernel.next_pid
-    → is_below_limit old.kernel ≡ true → finds_pieces old pid (change child) ≡ false → old.before ≡ old.kernel.holdings → OnErr r (HasStopped between new)
+    → is_below_limit old.kernel ≡ true → finds_pieces old pid (change child) ≡ false → between.before ≡ between.kernel.holdings
+    → OnErr r (HasStopped between new)
     → OnErr r ((r ≡ Err stops.JournalFull) ⊎ (r ≡ Err stops.NoMemory))
     → ((r ≡ Err stops.JournalFull) ↔ (between.params.journal ≤ length between.kernel.journal))
     → StopsMakingBy old new pid (change old.kernel.next_pid) r
 stops_refused (Ok called) old between new pid child change is named few none whole stopped cause full = tt
-stops_refused (Err stop) old between new pid child change is named few none whole stopped cause full = record {
-  between = between;
-  reached = inr (record { below = few; none = subst (λ (n : ℕ). finds_pieces old pid (change n) ≡ false) named none; refused = is });
-  stopped = stopped;
-  whole = ap (λ (m : Standing). m.before) is ∙ whole ∙ sym (ap (λ (m : Standing). m.kernel.holdings) is);
-  cause = elim cause [ inl e ↦ inl (same_stop stop stops.JournalFull e) | inr e ↦ inr (same_stop stop stops.NoMemory e) ];
-  full = λ e. full.0 (ap (λ (s : Stop). let r : Result Called Stop = Err s in r) e);
-}
+stops_refused (Err stop) old between new pid child change is named few none whole stopped cause full =
+    let b = stops_before {A = Called} between new stop whole stopped cause full.0 in
+    record {
+      between = between;
+      reached = inr (record { below = few; none = subst (λ (n : ℕ). finds_pieces old pid (change n) ≡ false) named none; refused = is });
+      stopped = stopped;
+      whole = whole;
+      cause = b.cause;
+      full = b.full;
+    }
 
 pub lent_ok : (old between new : Standing) (pid child : ℕ) (regs : Regs) → child ≡ old.kernel.next_pid → is_below_limit old.kernel ≡ true
     → HasChild old between pid Vfork regs child (Lend child) → new ≡ record between { kernel = pass_step between.kernel pid child }

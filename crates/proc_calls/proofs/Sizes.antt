@@ -1,6 +1,6 @@
 -- The sizes of a process, and what a change of its data asks.
 use Rattle.std.proofs.Common.{◌≡◌, ℕ, ◌+◌, ◌*◌, ◌/◌, ◌%◌, ◌<◌, ◌≤◌, min, Bool, true, false, List, Option, [], ◌∷◌, ◌++◌, length, drop, refl, sym, ap, ◌∙◌, subst, inl, inr, arith}
-use Rattle.std.specs.Prelude.{Result, Ok, Err, IfOk}
+use Rattle.std.specs.Prelude.{Ok}
 use Rattle.std.proofs.lemmas.Bool.{cases_lt, le-leb, lt-leb}
 use Rattle.vm_facts.specs.declared.regs.Regs.{Regs}
 use Rattle.vm_facts.specs.declared.page.Page.TheVariants as pages
@@ -42,7 +42,7 @@ use Rattle.machine_state.specs.UserMemory.{CanLend}
 use Rattle.machine_state.specs.Wants.{wanted_of, found_for}
 use Rattle.machine_state.specs.Want.{Want}
 use Rattle.proc_calls.specs.Callers.{space_held, IsCaller}
-use Rattle.proc_calls.specs.Sizing.{data_pages_of, stack_pages_of, break_at, pieces_found, with_pieces, with_refusal}
+use Rattle.proc_calls.specs.Sizing.{data_pages_of, stack_pages_of, break_at, pieces_found, with_pieces}
 use Rattle.proc_calls.specs.Leaving.{HasSettled}
 use Rattle.proc_calls.proofs.Callers.{caller_lives}
 use Rattle.proc_calls.proofs.Leaving.{GoesOn, settled_goes, space_stays}
@@ -177,14 +177,14 @@ module _ (m : Standing) (pid : ℕ) (regs : Regs) (c : IsCaller m pid) (wanted s
         | inr l ↦ absurd (omega (arith, l, is))
       ])
       few short
-      (none_placed m.params.swap_blocks m.before m.kernel.holdings (asked (facts_named m.images) m.kernel pid (Resize wanted stack)) c.whole
+      (none_placed m.params.swap_blocks m.before m.kernel.holdings (asked (facts_named m.images) m.kernel pid (Resize wanted stack)) c.ready.whole
       (ap (λ (t : ℕ). asked (facts_named m.images) m.kernel pid (Resize wanted t)) is
       ∙ none_asked (facts_named m.images) m.kernel.place (space_held m.kernel pid) m.kernel.next_sid wanted (omega (arith, same))))
 
   -- with more, whose pieces are found
-  module _ (size : ℕ) (sound : Sound size (record m.kernel { holdings = m.before })) (sid : ℕ) (own : sid ≡ space_held m.kernel pid) where
+  module _ (sid : ℕ) (own : sid ≡ space_held m.kernel pid) where
     held : lengths (owners.Data (space_held m.kernel pid)) m.kernel.holdings ≡ pieces (2 * data_pages_of m.kernel pid)
-    held = ap (λ (hs : Holdings). lengths (owners.Data (space_held m.kernel pid)) hs) (sym c.whole) ∙ sound.owner.blocks.data_held (space_held m.kernel pid)
+    held = ap (λ (hs : Holdings). lengths (owners.Data (space_held m.kernel pid)) hs) (sym c.ready.whole) ∙ c.ready.running.sound.owner.blocks.data_held (space_held m.kernel pid)
 
     asks : asked (facts_named m.images) m.kernel pid (Resize wanted stack) ≡ wanted_of m.kernel.holdings (data_want sid wanted)
     asks =
@@ -207,7 +207,7 @@ module _ (m : Standing) (pid : ℕ) (regs : Regs) (c : IsCaller m pid) (wanted s
           | inr l ↦ absurd (omega (arith, l, is))
         ])
         few short
-        (ap (λ (b : Holdings). place_all m.params.swap_blocks b (asked (facts_named m.images) m.kernel pid (Resize wanted stack))) c.whole
+        (ap (λ (b : Holdings). place_all m.params.swap_blocks b (asked (facts_named m.images) m.kernel pid (Resize wanted stack))) c.ready.whole
         ∙ ap (place_all m.params.swap_blocks m.kernel.holdings) asks ∙ found))
 
 -- with fewer, once the space is settled
@@ -231,14 +231,14 @@ module _ (m n : Standing) (pid : ℕ) (regs : Regs) (c : IsCaller m pid) (holds 
     resident = same_out m.kernel.place n.kernel.place pid on.residents ∙ c.lends.resident;
   }
 
-  module _ (size since : ℕ) (sound : Sound size (record m.kernel { holdings = m.before })) (later : Sound since (record n.kernel { holdings = n.before })) where
+  module _ (since : ℕ) (later : Sound since (record n.kernel { holdings = n.before })) where
     same_data : (sid : ℕ) → pieces (2 * data_count n.kernel.place sid) ≡ pieces (2 * data_count m.kernel.place sid)
     same_data sid =
-        sym (later.owner.blocks.data_held sid) ∙ ap (λ (hs : Holdings). lengths (owners.Data sid) hs) s.rest.before ∙ sound.owner.blocks.data_held sid
+        sym (later.owner.blocks.data_held sid) ∙ ap (λ (hs : Holdings). lengths (owners.Data sid) hs) s.rest.before ∙ c.ready.running.sound.owner.blocks.data_held sid
 
     same_stacks : (sid : ℕ) → pieces (2 * stack_count n.kernel.place sid) ≡ pieces (2 * stack_count m.kernel.place sid)
     same_stacks sid =
-        sym (later.owner.blocks.stack_held sid) ∙ ap (λ (hs : Holdings). lengths (owners.Stack sid) hs) s.rest.before ∙ sound.owner.blocks.stack_held sid
+        sym (later.owner.blocks.stack_held sid) ∙ ap (λ (hs : Holdings). lengths (owners.Stack sid) hs) s.rest.before ∙ c.ready.running.sound.owner.blocks.stack_held sid
 
     still_none : (images : List Image) (sid next wanted : ℕ) → wanted ≤ data_count m.kernel.place sid
         → change_asks images n.kernel.place sid next (Resize wanted (stack_count m.kernel.place sid)) ≡ []
@@ -252,23 +252,10 @@ module _ (m n : Standing) (pid : ℕ) (regs : Regs) (c : IsCaller m pid) (holds 
         → CanApply n pid (call_entry pid Break regs) (Resize wanted stack)
     can_cut wanted stack is short few fewer =
         can_size n pid regs lends_on wanted stack (on.due ∙ c.clear) (λ _. ap (is_settled n.kernel.place) same_space ∙ s.settled.settled) few short
-        (none_placed n.params.swap_blocks n.before n.kernel.holdings (asked (facts_named n.images) n.kernel pid (Resize wanted stack)) (s.rest.before ∙ c.whole ∙ sym on.holdings)
+        (none_placed n.params.swap_blocks n.before n.kernel.holdings (asked (facts_named n.images) n.kernel pid (Resize wanted stack)) (s.rest.before ∙ c.ready.whole ∙ sym on.holdings)
         (ap (λ (t : ℕ). asked (facts_named n.images) n.kernel pid (Resize wanted t)) is
         ∙ ap (λ (x : ℕ). change_asks (facts_named n.images) n.kernel.place x n.kernel.next_sid (Resize wanted (stack_pages_of m.kernel pid))) same_space
         ∙ still_none (facts_named n.images) (space_held m.kernel pid) n.kernel.next_sid wanted (omega (arith, fewer))))
-
--- After a refusal the process may go on.
-
-pub refused_calls : (m n : Standing) (pid : ℕ) → n ≡ with_refusal m pid → IsCaller m pid → IsCaller n pid
-refused_calls m n pid e c =
-    subst (λ (x : Standing). IsCaller x pid) (sym e)
-    (record { running = c.running; whole = c.whole; clear = c.clear; lends = record { sid = c.lends.sid; holds = c.lends.holds; there = c.lends.there; resident = c.lends.resident } })
-
--- What is so of a value is so by what follows from it.
-
-pub if_ok : {A E : Type 0} (r : Result A E) (P Q : A → Type 0) → ((x : A) → P x → Q x) → IfOk r P → IfOk r Q
-if_ok (Ok x) P Q f p = f x p
-if_ok (Err x) P Q f p = tt
 
 -- The reply.
 

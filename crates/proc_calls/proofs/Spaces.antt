@@ -32,14 +32,15 @@ use Rattle.kernel_model.specs.Asks.{text_asked, image_pieces, image_asked}
 use Rattle.machine_state.proofs.Numbered.{absent_none}
 use Rattle.machine_state.proofs.KernelLawsSoundAllowed.{new_number}
 use Rattle.machine_state.specs.Want.{Want}
+use Rattle.machine_state.specs.Going.{CanGoOn}
 use Rattle.machine_state.specs.Named.{Named}
 use Rattle.machine_state.specs.Machine.{Standing, image_shown}
 use Rattle.machine_state.specs.Sourced.{ImageNamed, named_at}
 use Rattle.machine_state.specs.Applying.{facts_named}
 use Rattle.machine_state.specs.Sharing.{IsSharer}
 use Rattle.machine_state.specs.Wants.{CanAsk, wanted_of}
-use Rattle.machine_state.specs.Texts.{TextsStand}
 use Rattle.proc_calls.specs.Starting.{image_wanted, image_found, wants_found, FindsBy, Finds, StopsFinding, is_shared, three_wants, AreNextWants}
+use Rattle.proc_calls.proofs.Callers.{sound_now}
 use Rattle.proc_calls.proofs.Starts.{IsReady, is_ready}
 
 -- Who shares an image's text.
@@ -190,12 +191,9 @@ can_three p hs sid image facts h none = record {
   each = ((mul-mod_right 2 (text_pages_of facts), nil_of (of_owner (owners.Text image) hs) (none_held hs (owners.Text image) (h.of_text none))), (tt, (tt, tt)));
 }
 
-module _ (m : Standing) (image : ℕ) (ws : List Want) (whole : m.before ≡ m.kernel.holdings) (sound : Sound m.params.swap_blocks (record m.kernel { holdings = m.before }))
-    (numbers : Numbered m.kernel) (stand : TextsStand m) (next : AreNextWants m image ws) where
+module _ (m : Standing) (image : ℕ) (ws : List Want) (on : CanGoOn m) (next : AreNextWants m image ws) where
   none : HoldsNone m.kernel.place m.kernel.holdings m.kernel.next_sid image
-  none = subst (λ (hs : Holdings). HoldsNone m.kernel.place hs m.kernel.next_sid image) whole
-      (holds_none m.params.swap_blocks (record m.kernel { holdings = m.before }) image sound
-      (record { spaces_differ = numbers.spaces_differ; spaces_below = numbers.spaces_below; pids_differ = numbers.pids_differ; pids_below = numbers.pids_below; residents = numbers.residents }))
+  none = holds_none m.params.swap_blocks m.kernel image (sound_now m on) on.running.numbered
 
   facts_are : image_wanted m image ≡ image_pieces m.kernel.place m.kernel.next_sid image next.named.facts
   facts_are = ap (image_asked m.kernel.place m.kernel.next_sid image) (facts_of_named m.images image next.named next.is)
@@ -212,7 +210,7 @@ module _ (m : Standing) (image : ℕ) (ws : List Want) (whole : m.before ≡ m.k
   pub first_asks : is_shared m.kernel.place image ≡ false → wanted_of m.kernel.holdings (all_asked ws) ≡ image_wanted m image
   first_asks s =
       ap (λ (rs : List Want). wanted_of m.kernel.holdings (all_asked rs)) next.are
-      ∙ asks_first m.kernel.place m.kernel.holdings m.kernel.next_sid image next.named.facts none (nobody s) (sym (stand image next.named next.is))
+      ∙ asks_first m.kernel.place m.kernel.holdings m.kernel.next_sid image next.named.facts none (nobody s) (sym (on.running.texts image next.named next.is))
       ∙ sym facts_are
 
   pub first_can : is_shared m.kernel.place image ≡ false → CanAsk m.kernel.holdings (all_asked ws)

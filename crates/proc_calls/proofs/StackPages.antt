@@ -42,13 +42,12 @@ has_header : (images : List ImageNamed) (image : ℕ) → 0 < image → image �
 has_header images zero l m = absurd (omega arith)
 has_header images (suc place) l m = header_at images place (omega arith)
 
--- The kernel after the entry: the new page alone is due, there are as many frames, and it runs on.
+-- The kernel after the entry: the new page alone is due, and there are as many frames.
 
 pub record HasNewStack (k l : Kernel) (e : Entry) : Type 0 where
   pub due : l.place.due ≡ Start (Stack k.next_sid 0) ∷ []
   pub frames : length l.place.holds ≡ length k.place.holds
   pub journal : l.journal ≡ append k.journal e
-  pub stopped : l.stopped ≡ k.stopped
 
 entered_due : (p : Placement) (next image : ℕ) (o : Option Image) (facts : Image) → o ≡ Some facts
     → (enter_image p next image o).due ≡ Start (Stack next 0) ∷ []
@@ -65,7 +64,6 @@ image_by images k p e image top facts h =
       due = unless_due borrowed (enter_image k.place k.next_sid image (facts_numbered images image)) sid ∙ entered_due k.place k.next_sid image (facts_numbered images image) facts h;
       frames = u.hands.frames;
       journal = refl;
-      stopped = refl;
     }
 
 image_if : (images : List Image) (k : Kernel) (regs : Regs) (e : Entry) (image : ℕ) (top : List ℕ) (facts : Image) (o : Option Proc)
@@ -77,8 +75,6 @@ image_if images k regs e image top facts (Some p) h alive = image_by images k (r
 -- From the machine before the call.
 
 pub record IsStarted (old new : Standing) : Type 0 where
-  pub running : new.kernel.stopped ≡ old.kernel.stopped
-  pub whole : new.before ≡ new.kernel.holdings
   pub params : new.params ≡ old.params
   pub images : new.images ≡ old.images
   pub due : new.kernel.place.due ≡ Start (Stack old.kernel.next_sid 0) ∷ []
@@ -97,8 +93,6 @@ is_started old asked new pid image regs top holds before after above within left
     subst (λ (l : Kernel). HasNewStack asked.kernel l e) (sym answer.step)
     (image_if (facts_named asked.images) asked.kernel regs e image top header.0 (proc_in asked.kernel pid) header.1 can.ready.alive) in
     record {
-      running = b.stopped ∙ ap (λ (s : Standing). s.kernel.stopped) left.step ∙ r.kernel.stopped;
-      whole = ap (λ (s : Standing). s.before) answer.rest;
       params = ap (λ (s : Standing). s.params) answer.rest ∙ ap (λ (s : Standing). s.params) left.step ∙ r.params;
       images = ap (λ (s : Standing). s.images) answer.rest ∙ images;
       due = b.due ∙ ap (λ (n : ℕ). Start (Stack n 0) ∷ []) (ap (λ (s : Standing). s.kernel.next_sid) left.step ∙ r.kernel.number);

@@ -28,14 +28,13 @@ use Rattle.proc_calls.specs.Starting.{wants_found, Finds}
 
 pub record StaysFor (k l : Kernel) : Type 0 where
   pub holdings : l.holdings ≡ k.holdings
-  pub stopped : l.stopped ≡ k.stopped
   pub number : l.next_sid ≡ k.next_sid
   pub sharing : (image : ℕ) → sharers l.place image ≡ sharers k.place image
   pub texts : (image : ℕ) → length (slots_of l.place (Text image 0)) ≡ length (slots_of k.place (Text image 0))
   pub frames : length l.place.holds ≡ length k.place.holds
 
 stays_for : (k : Kernel) → StaysFor k k
-stays_for k = record { holdings = refl; stopped = refl; number = refl; sharing = λ i. refl; texts = λ i. refl; frames = refl }
+stays_for k = record { holdings = refl; number = refl; sharing = λ i. refl; texts = λ i. refl; frames = refl }
 
 abbrev ShareAlike : Placement → Placement → Type 0
 ShareAlike p q = (image : ℕ) → sharers q image ≡ sharers p image
@@ -50,7 +49,6 @@ sharing_by_puts = record {
 done_stays : (k : Kernel) (read : List (List ℕ)) → StaysFor k (done_step k read)
 done_stays k read = record {
   holdings = refl;
-  stopped = refl;
   number = refl;
   sharing = done_kept sharing_by_puts k.place;
   texts = λ i. sizes_kept k.place (done k.place) (done_shaped k.place) (Text i 0);
@@ -60,7 +58,6 @@ done_stays k read = record {
 both_stay : (k l m : Kernel) → StaysFor k l → StaysFor l m → StaysFor k m
 both_stay k l m a b = record {
   holdings = b.holdings ∙ a.holdings;
-  stopped = b.stopped ∙ a.stopped;
   number = b.number ∙ a.number;
   sharing = λ i. b.sharing i ∙ a.sharing i;
   texts = λ i. b.texts i ∙ a.texts i;
@@ -83,7 +80,7 @@ pub record IsReady (old new : Standing) : Type 0 where
 ready_by : (lent : Bool) (m n : Standing) (pid : ℕ) (holds : Option (List NamedFile)) (before after : Option (List ℕ))
     → HasLeftBy lent m n pid holds before after → IsReady m n
 ready_by true m n pid holds before after h = subst (IsReady m) (sym h.step) (record {
-  kernel = record { holdings = refl; stopped = refl; number = refl; sharing = λ i. refl; texts = λ i. refl; frames = refl };
+  kernel = record { holdings = refl; number = refl; sharing = λ i. refl; texts = λ i. refl; frames = refl };
   params = refl;
   images = refl;
   before = refl;

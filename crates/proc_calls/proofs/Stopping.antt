@@ -11,7 +11,6 @@ use Rattle.kernel_model.specs.ChangeStep.{pass_step}
 use Rattle.kernel_model.specs.Unit.{has_lender, lender_among}
 use Rattle.machine_state.specs.Machine.{Standing}
 use Rattle.machine_state.specs.Conditions.{HasStopped}
-use Rattle.machine_state.specs.Done.{sources}
 use Rattle.machine_state.specs.Settled.{StopsSettling}
 use Rattle.machine_state.proofs.Asked.{stopped_found}
 use Rattle.proc_calls.specs.Answered.{StopsEntering, StopsBefore}
@@ -20,8 +19,24 @@ use Rattle.proc_calls.specs.Leaving.{HasSettled, HasLeftBy, HasLeft, StopsLeavin
 use Rattle.proc_calls.specs.Making.{with_pieces}
 use Rattle.proc_calls.specs.Starting.{StopsFinding}
 use Rattle.proc_calls.specs.Writing.{StopsOut}
-use Rattle.proc_calls.specs.Sizing.{data_pages_of, StopsPlain, StopsCutting, StopsMoving}
-use Rattle.proc_calls.proofs.Leaving.{settled_goes}
+use Rattle.proc_calls.specs.Sizing.{data_pages_of, StopsPlain, StopsCutting}
+
+same_stop : {A : Type 0} (s t : Stop) → (let r : Result A Stop = Err s in r) ≡ Err t → s ≡ t
+same_stop s t e = cc
+
+-- where no pieces wait, by what the call that stops says of its result
+pub stops_before : {A : Type 0} (old new : Standing) (stop : Stop) → old.before ≡ old.kernel.holdings → HasStopped old new
+    → (let r : Result A Stop = Err stop in (r ≡ Err stops.JournalFull) ⊎ (r ≡ Err stops.NoMemory))
+    → (let r : Result A Stop = Err stop in r ≡ Err stops.JournalFull → old.params.journal ≤ length old.kernel.journal) → StopsBefore old new stop
+stops_before {A} old new stop w s c f = record {
+  stopped = s;
+  whole = w;
+  cause = elim c [
+    | inl e ↦ inl (same_stop {A = A} stop stops.JournalFull e)
+    | inr e ↦ inr (same_stop {A = A} stop stops.NoMemory e)
+  ];
+  full = λ e. f (ap (λ (t : Stop). let r : Result A Stop = Err t in r) e);
+}
 
 pub whole_stops : (m new : Standing) (stop : Stop) → m.before ≡ m.kernel.holdings → StopsEntering m new stop → StopsBefore m new stop
 whole_stops m new stop w s = record { stopped = s.stopped; whole = w; cause = s.cause; full = s.full }
@@ -40,57 +55,24 @@ pub grown_stops : {A : Type 0} (r : Result A Stop) (m asked new : Standing) (pid
 grown_stops (Ok x) m asked new pid pages hs e w room s = tt
 grown_stops (Err stop) m asked new pid pages hs e w room s = inl (found_stops m asked new hs stop e w room s)
 
--- transfers that end take no pieces
-settled_whole : (m b : Standing) (sid : ℕ) (holds : Option (List NamedFile)) (i j : Option (List ℕ)) → HasSettled m b sid holds i j
-    → m.before ≡ m.kernel.holdings → b.before ≡ b.kernel.holdings
-settled_whole m b sid holds i j h w = h.rest.before ∙ w ∙ sym (settled_goes (sources m holds) sid m.kernel b.kernel i j h.settled).holdings
-
 pub cut_stops : {A : Type 0} (r : Result A Stop) (m b new : Standing) (pid pages : ℕ) (holds : Option (List NamedFile)) (i j : Option (List ℕ))
     → pages < data_pages_of m.kernel pid
-    → HasSettled m b (space_held m.kernel pid) holds i j → m.before ≡ m.kernel.holdings → IfErr r (StopsEntering b new)
+    → HasSettled m b (space_held m.kernel pid) holds i j → b.before ≡ b.kernel.holdings → IfErr r (StopsEntering b new)
     → IfErr r (StopsCutting m new pid pages holds i j)
 cut_stops (Ok x) m b new pid pages holds i j l h w s = tt
 cut_stops (Err stop) m b new pid pages holds i j l h w s = record {
   fewer = l;
-  stops = inr (record { between = b; settled = h; stops = whole_stops b new stop (settled_whole m b (space_held m.kernel pid) holds i j h w) s });
+  stops = inr (record { between = b; settled = h; stops = whole_stops b new stop w s });
 }
-
--- as many pages as before need no pieces
-pub moved_stops : {A : Type 0} (r : Result A Stop) (m new : Standing) (pid pages : ℕ) (holds : Option (List NamedFile)) (i : Option (List ℕ))
-    → m.before ≡ m.kernel.holdings → IfErr r (StopsEntering m new)
-    → IfErr r (StopsMoving m new pid pages holds i i)
-moved_stops (Ok x) m new pid pages holds i w s = tt
-moved_stops (Err stop) m new pid pages holds i w s = inl (inl (whole_stops m new stop w s), refl)
-
--- a process that leaves its space takes no pieces
-pub left_whole : (lent : Bool) (m b : Standing) (pid : ℕ) (holds : Option (List NamedFile)) (i j : Option (List ℕ)) → HasLeftBy lent m b pid holds i j
-    → m.before ≡ m.kernel.holdings → b.before ≡ b.kernel.holdings
-left_whole true m b pid holds i j left w = ap (λ (s : Standing). s.before) left.step ∙ w ∙ sym (ap (λ (s : Standing). s.kernel.holdings) left.step)
-left_whole false m b pid holds i j left w = settled_whole m b (space_held m.kernel pid) holds i j left w
-
-same_stop : {A : Type 0} (s t : Stop) → (let r : Result A Stop = Err s in r) ≡ Err t → s ≡ t
-same_stop s t e = cc
 
 -- a call that stops once the process has left its space
 pub once_left : {A : Type 0} (r : Result A Stop) (m b new : Standing) (pid : ℕ) (holds : Option (List NamedFile)) (i j : Option (List ℕ))
-    → m.before ≡ m.kernel.holdings → HasLeft m b pid holds i j
-    → OnErr r (HasStopped b new) → OnErr r ((r ≡ Err stops.JournalFull) ⊎ (r ≡ Err stops.NoMemory))
+    → b.before ≡ b.kernel.holdings → HasLeft m b pid holds i j → OnErr r (HasStopped b new)
+    → OnErr r ((r ≡ Err stops.JournalFull) ⊎ (r ≡ Err stops.NoMemory))
     → (r ≡ Err stops.JournalFull → b.params.journal ≤ length b.kernel.journal)
     → IfErr r (StopsAlive m new pid holds i j)
 once_left (Ok x) m b new pid holds i j w left s c f = tt
-once_left {A} (Err stop) m b new pid holds i j w left s c f = inr (record {
-  between = b;
-  left = left;
-  stops = record {
-    stopped = s;
-    whole = left_whole (has_lender m.kernel.processes pid) m b pid holds i j left w;
-    cause = elim c [
-      | inl e ↦ inl (same_stop {A = A} stop stops.JournalFull e)
-      | inr e ↦ inr (same_stop {A = A} stop stops.NoMemory e)
-    ];
-    full = λ e. f (ap (λ (t : Stop). let r : Result A Stop = Err t in r) e);
-  };
-})
+once_left {A} (Err stop) m b new pid holds i j w left s c f = inr (record { between = b; left = left; stops = stops_before {A = A} b new stop w s c f })
 
 -- Where a process leaves its space.
 
@@ -118,19 +100,7 @@ pub lent_stops : (stop : Stop) (m new : Standing) (pid : ℕ) (holds : Option (L
     → (let r : Result (Unit {0}) Stop = Err stop in (r ≡ Err stops.JournalFull) ⊎ (r ≡ Err stops.NoMemory))
     → (let r : Result (Unit {0}) Stop = Err stop in r ≡ Err stops.JournalFull → m.params.journal ≤ length m.kernel.journal)
     → StopsLeaving m new pid holds i i stop
-lent_stops stop m new pid holds i e w s c f = inr (record {
-  lent = e;
-  stops = record {
-    stopped = s;
-    whole = w;
-    cause = elim c [
-      | inl e ↦ inl (same_stop {A = Unit {0}} stop stops.JournalFull e)
-      | inr e ↦ inr (same_stop {A = Unit {0}} stop stops.NoMemory e)
-    ];
-    full = λ e. f (ap (λ (t : Stop). let r : Result (Unit {0}) Stop = Err t in r) e);
-  };
-  image = refl;
-})
+lent_stops stop m new pid holds i e w s c f = inr (record { lent = e; stops = stops_before {A = Unit {0}} m new stop w s c f; image = refl })
 
 -- Where memory is wanted before anything is done.
 
@@ -158,23 +128,13 @@ out_starved m new pid (Err (Signal number)) stop e w c = starved_before m new st
 
 -- before the process has left its space
 pub asked_before : {A : Type 0} (r : Result A Stop) (pieces : Standing → Result Holdings ℕ) (m b new : Standing) (pid : ℕ) (holds : Option (List NamedFile))
-    (i : Option (List ℕ)) → b ≡ m
-    → m.before ≡ m.kernel.holdings → OnErr r (HasStopped b new) → OnErr r ((r ≡ Err stops.JournalFull) ⊎ (r ≡ Err stops.NoMemory))
+    (i : Option (List ℕ)) → b ≡ m → b.before ≡ b.kernel.holdings → OnErr r (HasStopped b new)
+    → OnErr r ((r ≡ Err stops.JournalFull) ⊎ (r ≡ Err stops.NoMemory))
     → (r ≡ Err stops.JournalFull → b.params.journal ≤ length b.kernel.journal)
     → IfErr r (StopsFinding pieces m new pid holds i i)
 asked_before (Ok x) pieces m b new pid holds i e w s c f = tt
-asked_before {A} (Err stop) pieces m b new pid holds i e w s c f = inl (
-  record {
-    stopped = subst (λ (x : Standing). HasStopped x new) e s;
-    whole = w;
-    cause = elim c [
-      | inl e ↦ inl (same_stop {A = A} stop stops.JournalFull e)
-      | inr e ↦ inr (same_stop {A = A} stop stops.NoMemory e)
-    ];
-    full = λ h. subst (λ (x : Standing). x.params.journal ≤ length x.kernel.journal) e (f (ap (λ (t : Stop). let r : Result A Stop = Err t in r) h));
-  },
-  refl,
-)
+asked_before {A} (Err stop) pieces m b new pid holds i e w s c f =
+    inl (subst (λ (x : Standing). StopsBefore x new stop) e (stops_before {A = A} b new stop w s c f), refl)
 
 -- once it has, since they find their places
 pub asked_alive : {A : Type 0} (r : Result A Stop) (pieces : Standing → Result Holdings ℕ) (m new : Standing) (pid : ℕ) (holds : Option (List NamedFile))

@@ -1,10 +1,11 @@
 -- The process that makes a call.
-use Rattle.std.specs.Prelude.{◌≡◌, ℕ, false, [], Option, Some, None}
+use Rattle.std.specs.Prelude.{◌≡◌, ℕ, [], Option, Some, None}
 use Rattle.vm_facts.specs.declared.regs.Regs.{Regs}
 use Rattle.flat_state.specs.Flat.{cleared}
 use Rattle.page_model.specs.Pages.{numbered}
 use Rattle.kernel_model.specs.Kernel.{Kernel, Proc}
 use Rattle.kernel_model.specs.ChangeStep.{space_of_life}
+use Rattle.machine_state.specs.Going.{CanGoOn}
 use Rattle.machine_state.specs.Machine.{Standing}
 use Rattle.machine_state.specs.Calls.{life_in}
 use Rattle.machine_state.specs.UserMemory.{CanLend}
@@ -35,10 +36,8 @@ parent_by (Some p) = p.parent
 abbrev pub parent_of : Kernel → ℕ → ℕ
 parent_of k pid = parent_by (proc_in k pid)
 
--- The machine runs, no page is due, and no pieces wait for an entry; the process is there, holds a space that is there, and
--- is in.
+-- the machine can go on, and no page is due; the process is there, holds a space that is there, and is in
 pub record IsCaller (m : Standing) (pid : ℕ) : Type 0 where
-  pub running : m.kernel.stopped ≡ false
-  pub whole : m.before ≡ m.kernel.holdings
+  pub ready : CanGoOn m
   pub clear : m.kernel.place.due ≡ []
   pub lends : CanLend m.kernel pid

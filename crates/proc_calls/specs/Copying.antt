@@ -1,5 +1,5 @@
 -- The pages of a child are copied, each from its parent's page.
-use Rattle.std.specs.Prelude.{◌≡◌, ◌⊎◌, ℕ, ◌≤◌, true, false, List, [], ◌∷◌, length, Option, None}
+use Rattle.std.specs.Prelude.{◌≡◌, ◌⊎◌, ℕ, ◌≤◌, true, List, [], ◌∷◌, length, Option, None}
 use Rattle.vm_facts.specs.declared.page.Page.{Page}
 use Rattle.vm_facts.specs.declared.page.Page.TheVariants.{Data, Stack, Text}
 use Rattle.vm_facts.specs.declared.entry.Entry.TheVariants.{Copy}
@@ -59,12 +59,10 @@ abbrev pub StopsPage : Page → Page → Standing → Standing → Option (List 
 StopsPage child parent old new holds before after stop =
     StopsServing true (parent ∷ []) parent old new holds before after stop ⊎ StopsBehind child parent old new holds before after stop
 
--- a machine from which a page was copied goes on: it runs, the page isn't due, and there are as many frames as before
+-- once a page is copied it isn't due, and there are as many frames as before
 pub record GoesOn (child : Page) (old new : Standing) : Type 0 where
   pub params : new.params ≡ old.params
   pub images : new.images ≡ old.images
-  pub running : new.kernel.stopped ≡ false
-  pub whole : new.before ≡ new.kernel.holdings
   pub due : new.kernel.place.due ≡ due_after old.kernel.place.due child
   pub frames : length new.kernel.place.holds ≡ length old.kernel.place.holds
   pub last : last_moves new.kernel.journal ≡ 0
@@ -76,13 +74,10 @@ CopiesAll (Start q ∷ ds) old new holds before after = ⊥
 CopiesAll (CopyOf child parent ∷ ds) old new holds before after =
     (next : Standing) × (between : Option (List ℕ)) × CopiesPage child parent old next holds before between × CopiesAll ds next new holds between after
 
--- After the copies the machine goes on: it runs, no page is due, there are as many frames as before, and the last entry counts
--- no more moves of the hands.
+-- after the copies no page is due, there are as many frames as before, and the last entry counts no more moves of the hands
 pub record HasCopied (old new : Standing) : Type 0 where
   pub params : new.params ≡ old.params
   pub images : new.images ≡ old.images
-  pub running : new.kernel.stopped ≡ false
-  pub whole : new.before ≡ new.kernel.holdings
   pub due : new.kernel.place.due ≡ []
   pub frames : length new.kernel.place.holds ≡ length old.kernel.place.holds
   pub low : last_moves new.kernel.journal ≤ last_moves old.kernel.journal

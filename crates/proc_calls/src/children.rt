@@ -1,13 +1,13 @@
 // Calls that ask for processes.
-ghost use Rattle.std.specs.Prelude.{◌≡◌, ◌⊎◌, ◌<◌, ◌≤◌, ◌↔◌, [], false, length, IfOk, OnErr, Err};
+ghost use Rattle.std.specs.Prelude.{◌≡◌, ◌⊎◌, ◌<◌, ◌≤◌, ◌↔◌, length, IfOk, OnOk, OnErr, Err};
 ghost use Rattle.flat_state.specs.declared.change.Change.TheVariants.{Keep};
 ghost use Rattle.flat_model.specs.Calls.{replied_both};
 ghost use Rattle.flat_model.specs.declared.calls.Reply.TheVariants.{Does};
 ghost use Rattle.flat_model.specs.declared.calls.SystemCall.TheVariants.{Getpid, Wait};
+ghost use Rattle.machine_state.specs.Going.{CanGoOn};
 ghost use Rattle.machine_state.specs.Conditions.{HasStopped};
-ghost use Rattle.machine_state.specs.UserMemory.{CanLend};
 ghost use Rattle.proc_calls.specs.Answered.{Replied};
-ghost use Rattle.proc_calls.specs.Callers.{parent_of};
+ghost use Rattle.proc_calls.specs.Callers.{parent_of, IsCaller};
 ghost use Rattle.proc_calls.specs.Waiting.{wait_reply, FoundAmong};
 
 use crate::replying::{Called, fail, process, replied_both, reply};
@@ -50,14 +50,12 @@ fn children_of(processes: &ProcTable, parent: u32) -> Children
 
 /// The process waits for the end of a child.
 pub fn wait(m: &mut Machine, pid: u32, regs: &Regs) -> Result<Called, Stop>
-    requires running { m.old.kernel.stopped ≡ false }
-    requires whole { m.old.before ≡ m.old.kernel.holdings }
-    requires clear { m.old.kernel.place.due ≡ [] }
-    requires lends { CanLend m.old.kernel pid }
+    requires calls { IsCaller m.old pid }
     ensures replied { IfOk result (Replied m.old m.new pid Wait regs.now (wait_reply m.old.kernel pid regs.now)) }
     ensures stop { OnErr result (HasStopped m.old m.new) }
     ensures cause { OnErr result ((result ≡ Err Stop.JournalFull) ⊎ (result ≡ Err Stop.NoMemory)) }
     ensures full { (result ≡ Err Stop.JournalFull) ↔ (m.old.params.journal ≤ length m.old.kernel.journal) }
+    ensures goes_on { OnOk result (CanGoOn m.new) }
 {
     match children_of(m.processes(), pid) {
         Children::None => fail(m, pid, SystemCall::Wait, regs, ECHILD),
@@ -75,14 +73,12 @@ pub fn wait(m: &mut Machine, pid: u32, regs: &Regs) -> Result<Called, Stop>
 
 /// The process asks for its number, and its parent's.
 pub fn getpid(m: &mut Machine, pid: u32, regs: &Regs) -> Result<Called, Stop>
-    requires running { m.old.kernel.stopped ≡ false }
-    requires whole { m.old.before ≡ m.old.kernel.holdings }
-    requires clear { m.old.kernel.place.due ≡ [] }
-    requires lends { CanLend m.old.kernel pid }
+    requires calls { IsCaller m.old pid }
     ensures replied { IfOk result (Replied m.old m.new pid Getpid regs.now (Does (replied_both regs.now pid (parent_of m.old.kernel pid)) Keep)) }
     ensures stop { OnErr result (HasStopped m.old m.new) }
     ensures cause { OnErr result ((result ≡ Err Stop.JournalFull) ⊎ (result ≡ Err Stop.NoMemory)) }
     ensures full { (result ≡ Err Stop.JournalFull) ↔ (m.old.params.journal ≤ length m.old.kernel.journal) }
+    ensures goes_on { OnOk result (CanGoOn m.new) }
 {
     let parent = process(m, pid).parent;
     let after = replied_both(regs, pid, parent);

@@ -1,6 +1,7 @@
 //! The pages of a child are copied from its parent's.
-ghost use Rattle.std.specs.Prelude.{◌≡◌, ◌≤◌, ◌∷◌, [], false, OnOk, MatchResult};
+ghost use Rattle.std.specs.Prelude.{◌≡◌, ◌≤◌, ◌∷◌, [], OnOk, MatchResult};
 ghost use Rattle.page_model.specs.Rank.{HasRoom};
+ghost use Rattle.machine_state.specs.Going.{CanGoOn};
 ghost use Rattle.machine_state.specs.Files.{AreFiles};
 ghost use Rattle.machine_state.specs.Outside.{stop_of, TransfersPages};
 ghost use Rattle.fault_fill.specs.LastMoves.{last_moves};
@@ -31,8 +32,7 @@ pub fn copy_page<F: Files, D: SwapDev>(
     child: Page,
     parent: Page,
 ) -> Result<(), Stop>
-    requires running { m.old.kernel.stopped ≡ false }
-    requires whole { m.old.before ≡ m.old.kernel.holdings }
+    requires ready { CanGoOn m.old }
     requires area { m.old.params.swap_blocks ≤ D.blocks swap.old }
     requires files { AreFiles m.old.images (F.holds files.old) }
     requires first { IsCopyFirst m.old.kernel.place child parent }
@@ -42,11 +42,10 @@ pub fn copy_page<F: Files, D: SwapDev>(
         (StopsPage child parent m.old m.new (F.holds files.old) (D.image swap.old) (D.image swap.new)) }
     ensures on { OnOk result (GoesOn child m.old m.new) }
     ensures outside { TransfersPages F.Files D.SwapDev (stop_of result) files.old files.new swap.old swap.new }
+    ensures goes_on { OnOk result (CanGoOn m.new) }
 {
-    m.sound();
     serve_page_now(m, files, swap, parent, &[parent])?;
     make_room(m, files, swap, &[parent])?;
-    m.sound();
     m.copy(child, parent)
 }
 
@@ -57,8 +56,7 @@ pub fn copy_due<F: Files, D: SwapDev>(
     swap: &mut D,
     parent: u32,
 ) -> Result<(), Stop>
-    requires running { m.old.kernel.stopped ≡ false }
-    requires whole { m.old.before ≡ m.old.kernel.holdings }
+    requires ready { CanGoOn m.old }
     requires area { m.old.params.swap_blocks ≤ D.blocks swap.old }
     requires files { AreFiles m.old.images (F.holds files.old) }
     requires due { AreCopiesFrom parent m.old.kernel.place.due }
@@ -68,6 +66,7 @@ pub fn copy_due<F: Files, D: SwapDev>(
         (StopsCopying m.old.kernel.place.due m.old m.new (F.holds files.old) (D.image swap.old) (D.image swap.new)) }
     ensures on { OnOk result (HasCopied m.old m.new) }
     ensures outside { TransfersPages F.Files D.SwapDev (stop_of result) files.old files.new swap.old swap.new }
+    ensures goes_on { OnOk result (CanGoOn m.new) }
 {
     while let Some(child) = m.due() {
         copy_page(m, files, swap, child, page_in(parent, child))?;

@@ -1,9 +1,10 @@
 //! Ends of processes.
-ghost use Rattle.std.specs.Prelude.{◌≡◌, ◌≤◌, true, false, IsSome, IfOk, OnOk, IfErr, Ok, Some};
+ghost use Rattle.std.specs.Prelude.{◌≡◌, ◌≤◌, true, IsSome, IfOk, OnOk, IfErr, Ok, Some};
 ghost use Rattle.user_vax.specs.Program.{run};
 ghost use Rattle.flat_model.specs.Calls.{exit_reply};
 ghost use Rattle.flat_model.specs.declared.calls.Reply.TheVariants.{Exits};
 ghost use Rattle.kernel_model.specs.Unit.{has_lender, lender_among};
+ghost use Rattle.machine_state.specs.Going.{CanGoOn, IsRunning};
 ghost use Rattle.machine_state.specs.Files.{AreFiles};
 ghost use Rattle.machine_state.specs.UserMemory.{CanLend, kernel_answers};
 ghost use Rattle.machine_state.specs.Outside.{stop_of, TransfersPages};
@@ -22,7 +23,7 @@ use vm_facts::{Entry, Regs, Stop};
 
 // Whether some process lends its space to this one.
 fn is_borrower(m: &Machine, pid: u32) -> bool
-    requires running { m.now.kernel.stopped ≡ false }
+    requires running { IsRunning m.now }
     requires there { IsSome (proc_in m.now.kernel pid) }
     ensures { result ≡ has_lender m.now.kernel.processes pid }
 {
@@ -34,7 +35,7 @@ fn is_borrower(m: &Machine, pid: u32) -> bool
 
 // The number of the space that a process holds.
 pub fn space_held(m: &Machine, pid: u32) -> u32
-    requires running { m.now.kernel.stopped ≡ false }
+    requires running { IsRunning m.now }
     requires lends { CanLend m.now.kernel pid }
     ensures { result ≡ space_held m.now.kernel pid }
 {
@@ -60,6 +61,7 @@ pub fn leave_space<F: Files, D: SwapDev>(
         (has_lender m.old.kernel.processes pid ≡ true → HasGivenBack m.old.kernel m.new.kernel pid (lender_among m.old.kernel.processes pid)) }
     ensures stops { IfErr result (StopsLeaving m.old m.new pid (F.holds files.old) (D.image swap.old) (D.image swap.new)) }
     ensures outside { TransfersPages F.Files D.SwapDev (stop_of result) files.old files.new swap.old swap.new }
+    ensures goes_on { OnOk result (CanGoOn m.new) }
 {
     if is_borrower(m, pid) {
         m.make_room()?;
@@ -84,6 +86,7 @@ pub fn end<F: Files, D: SwapDev>(
     ensures ended { OnOk result (HasEnded m.old m.new pid status (F.holds files.old) (D.image swap.old) (D.image swap.new)) }
     ensures stops { IfErr result (StopsAlive m.old m.new pid (F.holds files.old) (D.image swap.old) (D.image swap.new)) }
     ensures outside { TransfersPages F.Files D.SwapDev (stop_of result) files.old files.new swap.old swap.new }
+    ensures goes_on { OnOk result (CanGoOn m.new) }
 {
     let regs = process(m, pid).regs;
     leave_space(m, files, swap, pid)?;
@@ -109,13 +112,14 @@ pub fn kill<F: Files, D: SwapDev>(
     ensures ended { OnOk result (HasEnded m.old m.new pid signal (F.holds files.old) (D.image swap.old) (D.image swap.new)) }
     ensures stops { IfErr result (StopsAlive m.old m.new pid (F.holds files.old) (D.image swap.old) (D.image swap.new)) }
     ensures outside { TransfersPages F.Files D.SwapDev (stop_of result) files.old files.new swap.old swap.new }
+    ensures goes_on { OnOk result (CanGoOn m.new) }
 {
     end(m, files, swap, pid, u32::from(signal))
 }
 
 // What the exit of a process comes to, by its memory.
 fn read_status(m: &mut Machine, pid: u32, regs: &Regs) -> Asked<Reply>
-    requires running { m.old.kernel.stopped ≡ false }
+    requires ready { CanGoOn m.old }
     requires lends { CanLend m.old.kernel pid }
     ensures value { result ≡ run (kernel_answers m.old.kernel (space_held m.old.kernel pid)) (exit_reply regs.now) }
     ensures same { m.new ≡ m.old }
@@ -150,6 +154,7 @@ pub fn exit<F: Files, D: SwapDev>(
     ensures stops { IfErr result (StopsExit m.old m.new pid (run (kernel_answers m.old.kernel (space_held m.old.kernel pid)) (exit_reply regs.now))
         (F.holds files.old) (D.image swap.old) (D.image swap.new)) }
     ensures outside { TransfersPages F.Files D.SwapDev (stop_of result) files.old files.new swap.old swap.new }
+    ensures goes_on { OnOk result (CanGoOn m.new) }
 {
     match read_status(m, pid, regs) {
         Err(refused) => refuse(m, pid, SystemCall::Exit, regs, refused),

@@ -1,9 +1,10 @@
 //! The call that starts another image.
-ghost use Rattle.std.specs.Prelude.{◌≡◌, ℕ, ◌+◌, ◌^◌, ◌<◌, ◌≤◌, List, [], false, length, Some, IfOk, IfErr};
+ghost use Rattle.std.specs.Prelude.{◌≡◌, ℕ, ◌+◌, ◌^◌, ◌<◌, ◌≤◌, List, [], length, Some, IfOk, OnOk, IfErr};
 ghost use Rattle.user_vax.specs.Program.{run};
 ghost use Rattle.flat_state.specs.Flat.{NamedImage};
 ghost use Rattle.flat_model.specs.Calls.{three_arguments, string_limit, string_from, execve_of, execve_reply};
 ghost use Rattle.page_model.specs.Rank.{HasRoom};
+ghost use Rattle.machine_state.specs.Going.{CanGoOn};
 ghost use Rattle.machine_state.specs.Files.{AreFiles};
 ghost use Rattle.machine_state.specs.UserMemory.{CanLend, kernel_answers};
 ghost use Rattle.machine_state.specs.Outside.{stop_of, TransfersPages};
@@ -23,7 +24,7 @@ use vm_facts::{Bytes, NoMemory, Regs, Stop};
 
 // The three arguments, by the memory of the process.
 fn read_arguments(m: &mut Machine, pid: u32, regs: &Regs) -> Asked<(u32, u32, u32)>
-    requires running { m.old.kernel.stopped ≡ false }
+    requires ready { CanGoOn m.old }
     requires lends { CanLend m.old.kernel pid }
     ensures value { result ≡ run (kernel_answers m.old.kernel (space_held m.old.kernel pid)) (three_arguments regs.now) }
     ensures same { m.new ≡ m.old }
@@ -38,7 +39,7 @@ fn read_path(
     pid: u32,
     path: u32,
 ) -> Result<Asked<Option<Bytes>>, NoMemory>
-    requires running { m.old.kernel.stopped ≡ false }
+    requires ready { CanGoOn m.old }
     requires lends { CanLend m.old.kernel pid }
     ensures value { IfOk result (λ asked. asked ≡ run (kernel_answers m.old.kernel (space_held m.old.kernel pid)) (string_from string_limit path)) }
     ensures same { m.new ≡ m.old }
@@ -55,7 +56,7 @@ fn read_start(
     entry: u32,
     argv: u32,
 ) -> Result<Asked<Reply>, NoMemory>
-    requires running { m.old.kernel.stopped ≡ false }
+    requires ready { CanGoOn m.old }
     requires lends { CanLend m.old.kernel pid }
     requires entry { entry + 2 < 2 ^ 32 }
     ensures value { (known : NamedImage) → known.image.facts.entry ≡ entry
@@ -74,7 +75,7 @@ fn read_image(
     path: u32,
     argv: u32,
 ) -> Result<Asked<Reply>, NoMemory>
-    requires running { m.old.kernel.stopped ≡ false }
+    requires ready { CanGoOn m.old }
     requires lends { CanLend m.old.kernel pid }
     ensures value { (known : List NamedImage) → AreNamed known m.old.images
         → IfOk result (λ asked. asked ≡ run (kernel_answers m.old.kernel (space_held m.old.kernel pid)) (execve_from known path argv)) }
@@ -82,7 +83,6 @@ fn read_image(
     ensures same { m.new ≡ m.old }
 {
     let name = read_path(alloc, m, pid, path)?;
-    m.sound();
     let images = m.images();
     match image_at(images, name) {
         Err(refused) => Ok(Err(refused)),
@@ -102,7 +102,7 @@ fn read_call(
     pid: u32,
     regs: &Regs,
 ) -> Result<Asked<Reply>, NoMemory>
-    requires running { m.old.kernel.stopped ≡ false }
+    requires ready { CanGoOn m.old }
     requires lends { CanLend m.old.kernel pid }
     ensures value { (known : List NamedImage) → AreNamed known m.old.images
         → IfOk result (λ asked. asked ≡ run (kernel_answers m.old.kernel (space_held m.old.kernel pid)) (execve_reply known regs.now)) }
@@ -136,6 +136,7 @@ pub fn execve<F: Files, D: SwapDev>(
     ensures stops { (known : List NamedImage) → AreNamed known m.old.images
         → IfErr result (StopsExec m.old m.new pid (execve_read known m.old pid regs.now) (F.holds files.old) (D.image swap.old) (D.image swap.new)) }
     ensures outside { TransfersPages F.Files D.SwapDev (stop_of result) files.old files.new swap.old swap.new }
+    ensures goes_on { OnOk result (CanGoOn m.new) }
 {
     let asked = read_call(alloc, m, pid, regs);
     match or_stop(asked)? {

@@ -1,6 +1,7 @@
 //! The fill of a new stack page.
-ghost use Rattle.std.specs.Prelude.{◌≡◌, ◌≤◌, [], false, OnOk, MatchResult};
+ghost use Rattle.std.specs.Prelude.{◌≤◌, [], OnOk, MatchResult};
 ghost use Rattle.page_model.specs.Rank.{HasRoom};
+ghost use Rattle.machine_state.specs.Going.{CanGoOn};
 ghost use Rattle.machine_state.specs.Files.{AreFiles};
 ghost use Rattle.machine_state.specs.Outside.{stop_of, TransfersPages};
 ghost use Rattle.fault_fill.specs.LastMoves.{last_moves};
@@ -19,8 +20,7 @@ pub fn fill_start<F: Files, D: SwapDev>(
     swap: &mut D,
     page: Page,
 ) -> Result<(), Stop>
-    requires running { m.old.kernel.stopped ≡ false }
-    requires whole { m.old.before ≡ m.old.kernel.holdings }
+    requires ready { CanGoOn m.old }
     requires area { m.old.params.swap_blocks ≤ D.blocks swap.old }
     requires files { AreFiles m.old.images (F.holds files.old) }
     requires first { IsStartFirst m.old.kernel.place page }
@@ -29,9 +29,8 @@ pub fn fill_start<F: Files, D: SwapDev>(
     ensures filled { MatchResult result (λ u. FillsStart page m.old m.new (F.holds files.old) (D.image swap.old) (D.image swap.new))
         (StopsStart page m.old m.new (F.holds files.old) (D.image swap.old) (D.image swap.new)) }
     ensures outside { TransfersPages F.Files D.SwapDev (stop_of result) files.old files.new swap.old swap.new }
+    ensures goes_on { OnOk result (CanGoOn m.new) }
 {
-    m.sound();
     make_room(m, files, swap, &[])?;
-    m.sound();
     m.fill_zero(page)
 }

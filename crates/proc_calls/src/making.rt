@@ -1,10 +1,11 @@
 //! Calls that make processes.
-ghost use Rattle.std.specs.Prelude.{◌≡◌, ◌≤◌, ◌∷◌, [], false, IfOk, IfErr, OnOk};
+ghost use Rattle.std.specs.Prelude.{◌≡◌, ◌≤◌, ◌∷◌, [], IfOk, IfErr, OnOk};
 ghost use Rattle.vm_facts.specs.declared.page.Page.{Page};
 ghost use Rattle.swap_book.specs.declared.Owner.TheVariants.{U as UOf};
 ghost use Rattle.page_model.specs.Rank.{HasRoom};
 ghost use Rattle.flat_state.specs.declared.change.Change.TheVariants.{Fork as ForkOf, Lend as LendOf};
 ghost use Rattle.kernel_model.specs.Asks.{HasSpace};
+ghost use Rattle.machine_state.specs.Going.{CanGoOn, IsRunning};
 ghost use Rattle.machine_state.specs.Files.{AreFiles};
 ghost use Rattle.machine_state.specs.Outside.{stop_of, TransfersPages};
 ghost use Rattle.proc_calls.specs.Callers.{space_held, IsCaller};
@@ -25,7 +26,7 @@ use vm_facts::{Regs, Stop};
 
 // Whether there are fewer processes than may be.
 fn is_below_limit(m: &Machine) -> bool
-    requires running { m.now.kernel.stopped ≡ false }
+    requires running { IsRunning m.now }
     ensures { result ≡ is_below_limit m.now.kernel }
 {
     m.processes().len() < PROCESS_LIMIT
@@ -47,12 +48,12 @@ pub fn vfork(m: &mut Machine, pid: u32, regs: &Regs) -> Result<Called, Stop>
     ensures ready { IfOk result (λ called. called ≡ Called.Ready) }
     ensures vforked { OnOk result (Vforked m.old m.new pid regs.now) }
     ensures stop { StopsMakingBy m.old m.new pid (LendOf m.old.kernel.next_pid) result }
+    ensures goes_on { OnOk result (CanGoOn m.new) }
 {
     if !is_below_limit(m) {
         return fail(m, pid, SystemCall::Vfork, regs, EAGAIN);
     }
     let child = m.next_numbers().0;
-    m.sound();
     if !m.ask(pid, &[u_want(child)])? {
         return fail(m, pid, SystemCall::Vfork, regs, ENOMEM);
     }
@@ -64,7 +65,7 @@ pub fn vfork(m: &mut Machine, pid: u32, regs: &Regs) -> Result<Called, Stop>
 
 // What a child wants that copies a space.
 fn fork_wants(m: &Machine, parent: u32) -> [Want; 3]
-    requires running { m.now.kernel.stopped ≡ false }
+    requires running { IsRunning m.now }
     requires there { HasSpace m.now.kernel.place parent }
     ensures { result ≡ fork_wants m.now.kernel parent }
 {
@@ -91,12 +92,12 @@ fn enter_fork(m: &mut Machine, pid: u32, parent: u32, regs: &Regs) -> Result<Cal
     ensures ready { IfOk result (λ called. called ≡ Called.Ready) }
     ensures answer { OnOk result (ForkAnswered m.old m.new pid regs.now) }
     ensures stop { StopsMakingBy m.old m.new pid (ForkOf m.old.kernel.next_pid) result }
+    ensures goes_on { OnOk result (CanGoOn m.new) }
 {
     if !is_below_limit(m) {
         return fail(m, pid, SystemCall::Fork, regs, EAGAIN);
     }
     let child = m.next_numbers().0;
-    m.sound();
     let wants = fork_wants(m, parent);
     if !m.ask(pid, &wants)? {
         return fail(m, pid, SystemCall::Fork, regs, ENOMEM);
@@ -124,6 +125,7 @@ pub fn fork<F: Files, D: SwapDev>(
     ensures on { OnOk result (HasCopied m.old m.new) }
     ensures stop { IfErr result (StopsForking m.old m.new pid regs.now (F.holds files.old) (D.image swap.old) (D.image swap.new)) }
     ensures outside { TransfersPages F.Files D.SwapDev (stop_of result) files.old files.new swap.old swap.new }
+    ensures goes_on { OnOk result (CanGoOn m.new) }
 {
     let parent = space_held(m, pid);
     let called = enter_fork(m, pid, parent, regs)?;

@@ -1,15 +1,15 @@
 // Replies of calls.
-ghost use Rattle.std.specs.Prelude.{◌≡◌, ◌⊎◌, ◌≤◌, ◌↔◌, [], true, false, length, Some, IsSome, IfOk, OnOk, IfErr, OnErr, Ok, Err};
+ghost use Rattle.std.specs.Prelude.{◌≡◌, ◌⊎◌, ◌≤◌, ◌↔◌, true, false, length, Some, IsSome, IfOk, OnOk, IfErr, OnErr, Ok, Err};
 ghost use Rattle.flat_state.specs.declared.change.Change.TheVariants.{Keep};
 ghost use Rattle.flat_model.specs.Calls.{no_memory, replied, replied_both};
 ghost use Rattle.flat_model.specs.declared.calls.Reply.TheVariants.{Fails};
 ghost use Rattle.flat_model.specs.Step.{call_entry};
+ghost use Rattle.machine_state.specs.Going.{CanGoOn, IsRunning};
 ghost use Rattle.machine_state.specs.Machine.{proc_shown};
 ghost use Rattle.machine_state.specs.Applying.{CanApply};
 ghost use Rattle.machine_state.specs.Conditions.{HasStopped};
-ghost use Rattle.machine_state.specs.UserMemory.{CanLend};
 ghost use Rattle.proc_calls.specs.Answered.{Answered, Replied, Comes, StopsBefore, StopsReading};
-ghost use Rattle.proc_calls.specs.Callers.{proc_in};
+ghost use Rattle.proc_calls.specs.Callers.{proc_in, IsCaller};
 
 use flat_model::{EFAULT, ENOMEM, SystemCall};
 use flat_state::Change;
@@ -33,7 +33,7 @@ pub enum Called {
 
 /// The record of a process that there is.
 pub fn process(m: &Machine, pid: u32) -> Proc
-    requires running { m.now.kernel.stopped ≡ false }
+    requires running { IsRunning m.now }
     requires there { IsSome (proc_in m.now.kernel pid) }
     ensures { proc_in m.now.kernel pid ≡ Some (proc_shown result) }
 {
@@ -78,13 +78,14 @@ pub fn reply(
     regs: &Regs,
     change: Change,
 ) -> Result<Called, Stop>
-    requires running { m.old.kernel.stopped ≡ false }
+    requires running { IsRunning m.old }
     requires can { CanApply m.old pid (call_entry pid call regs.now) change }
     ensures ready { IfOk result (λ called. called ≡ Called.Ready) }
     ensures answered { OnOk result (Answered m.old m.new pid call regs.now change) }
     ensures stop { OnErr result (HasStopped m.old m.new) }
     ensures cause { OnErr result ((result ≡ Err Stop.JournalFull) ⊎ (result ≡ Err Stop.NoMemory)) }
     ensures full { (result ≡ Err Stop.JournalFull) ↔ (m.old.params.journal ≤ length m.old.kernel.journal) }
+    ensures goes_on { OnOk result (CanGoOn m.new) }
 {
     let entry = Entry::Call {
         pid,
@@ -105,14 +106,12 @@ pub fn fail(
     regs: &Regs,
     error: u32,
 ) -> Result<Called, Stop>
-    requires running { m.old.kernel.stopped ≡ false }
-    requires whole { m.old.before ≡ m.old.kernel.holdings }
-    requires clear { m.old.kernel.place.due ≡ [] }
-    requires lends { CanLend m.old.kernel pid }
+    requires calls { IsCaller m.old pid }
     ensures replied { IfOk result (Replied m.old m.new pid call regs.now (Fails error)) }
     ensures stop { OnErr result (HasStopped m.old m.new) }
     ensures cause { OnErr result ((result ≡ Err Stop.JournalFull) ⊎ (result ≡ Err Stop.NoMemory)) }
     ensures full { (result ≡ Err Stop.JournalFull) ↔ (m.old.params.journal ≤ length m.old.kernel.journal) }
+    ensures goes_on { OnOk result (CanGoOn m.new) }
 {
     reply(m, pid, call, &replied(regs, true, error), Change::Keep)
 }
@@ -125,12 +124,10 @@ pub fn refuse(
     regs: &Regs,
     refused: Refused,
 ) -> Result<Called, Stop>
-    requires running { m.old.kernel.stopped ≡ false }
-    requires whole { m.old.before ≡ m.old.kernel.holdings }
-    requires clear { m.old.kernel.place.due ≡ [] }
-    requires lends { CanLend m.old.kernel pid }
+    requires calls { IsCaller m.old pid }
     ensures comes { IfOk result (Comes m.old m.new pid call regs.now (Err refused)) }
     ensures stops { IfErr result (StopsReading m.old m.new refused) }
+    ensures goes_on { OnOk result (CanGoOn m.new) }
 {
     match refused {
         Refused::Miss { address, .. } => Ok(Called::Miss { address }),
@@ -146,12 +143,10 @@ pub fn answer_sent(
     regs: &Regs,
     count: u32,
 ) -> Result<Called, Stop>
-    requires running { m.old.kernel.stopped ≡ false }
-    requires whole { m.old.before ≡ m.old.kernel.holdings }
-    requires clear { m.old.kernel.place.due ≡ [] }
-    requires lends { CanLend m.old.kernel pid }
+    requires calls { IsCaller m.old pid }
     ensures answered { OnOk result (Answered m.old m.new pid call (replied regs.now false count) Keep) }
     ensures stops { IfErr result (StopsBefore m.old m.new) }
+    ensures goes_on { OnOk result (CanGoOn m.new) }
 {
     reply(m, pid, call, &replied_one(regs, count), Change::Keep)
 }
@@ -163,12 +158,10 @@ pub fn answer_refused(
     call: SystemCall,
     regs: &Regs,
 ) -> Result<Called, Stop>
-    requires running { m.old.kernel.stopped ≡ false }
-    requires whole { m.old.before ≡ m.old.kernel.holdings }
-    requires clear { m.old.kernel.place.due ≡ [] }
-    requires lends { CanLend m.old.kernel pid }
+    requires calls { IsCaller m.old pid }
     ensures answered { OnOk result (Answered m.old m.new pid call (replied regs.now true no_memory) Keep) }
     ensures stops { IfErr result (StopsBefore m.old m.new) }
+    ensures goes_on { OnOk result (CanGoOn m.new) }
 {
     fail(m, pid, call, regs, ENOMEM)
 }

@@ -1,5 +1,5 @@
 //! The call that moves the end of the data.
-ghost use Rattle.std.specs.Prelude.{◌≡◌, ◌<◌, ◌≤◌, false, IfOk, IfErr};
+ghost use Rattle.std.specs.Prelude.{◌≡◌, ◌<◌, ◌≤◌, false, IfOk, OnOk, IfErr};
 ghost use Rattle.core_map.specs.Frames.{Frames};
 ghost use Rattle.user_vax.specs.Program.{run};
 ghost use Rattle.flat_state.specs.declared.change.Change.TheVariants.{Resize};
@@ -8,6 +8,7 @@ ghost use Rattle.flat_model.specs.declared.calls.Reply.TheVariants.{Does};
 ghost use Rattle.flat_model.specs.declared.calls.SystemCall.TheVariants.{Break};
 ghost use Rattle.flat_model.specs.Step.{call_entry};
 ghost use Rattle.page_model.specs.Placement.{image_of};
+ghost use Rattle.machine_state.specs.Going.{CanGoOn, IsRunning};
 ghost use Rattle.machine_state.specs.Views.{ShowsSpace};
 ghost use Rattle.machine_state.specs.Showing.{ShowsCore};
 ghost use Rattle.machine_state.specs.Applying.{CanApply};
@@ -39,7 +40,7 @@ struct Sizes {
 
 // The map of the space that a process holds.
 fn space_of(m: &Machine, pid: u32) -> &SpaceMap
-    requires running { m.now.kernel.stopped ≡ false }
+    requires running { IsRunning m.now }
     requires lends { CanLend m.now.kernel pid }
     ensures named { result.now.sid ≡ space_held m.now.kernel pid }
     ensures of_image { result.now.image ≡ image_of m.now.kernel.place (space_held m.now.kernel pid) }
@@ -56,7 +57,7 @@ fn space_of(m: &Machine, pid: u32) -> &SpaceMap
 
 // The sizes of a process, whose data is to end at an address.
 fn sizes_to(m: &Machine, pid: u32, address: u32) -> Sizes
-    requires running { m.now.kernel.stopped ≡ false }
+    requires running { IsRunning m.now }
     requires lends { CanLend m.now.kernel pid }
     ensures named { result.sid ≡ space_held m.now.kernel pid }
     ensures holds { result.data_pages ≡ data_pages_of m.now.kernel pid }
@@ -77,10 +78,11 @@ fn sizes_to(m: &Machine, pid: u32, address: u32) -> Sizes
 
 // The data gets the pages that are wanted.
 fn resize(m: &mut Machine, pid: u32, regs: &Regs, sizes: Sizes) -> Result<Called, Stop>
-    requires running { m.old.kernel.stopped ≡ false }
+    requires running { IsRunning m.old }
     requires can { CanApply m.old pid (call_entry pid Break (replied regs.now false 0)) (Resize sizes.wanted sizes.stack_pages) }
     ensures replied { IfOk result (Replied m.old m.new pid Break regs.now (Does (replied regs.now false 0) (Resize sizes.wanted sizes.stack_pages))) }
     ensures stops { IfErr result (StopsEntering m.old m.new) }
+    ensures goes_on { OnOk result (CanGoOn m.new) }
 {
     let change = Change::Resize {
         data_pages: sizes.wanted,
@@ -99,8 +101,8 @@ fn grow(m: &mut Machine, pid: u32, regs: &Regs, sizes: Sizes) -> Result<Called, 
     requires more { data_pages_of m.old.kernel pid < sizes.wanted }
     ensures grows { IfOk result (Grows m.old m.new pid regs.now sizes.wanted) }
     ensures stops { IfErr result (StopsPlain m.old m.new pid sizes.wanted) }
+    ensures goes_on { OnOk result (CanGoOn m.new) }
 {
-    m.sound();
     let want = Want {
         owner: Owner::Data(sizes.sid),
         blocks: 2 * sizes.wanted,
@@ -132,16 +134,15 @@ fn cut<F: Files, D: SwapDev>(
     ensures cut { IfOk result (CutData m.old m.new pid regs.now sizes.wanted (F.holds files.old) (D.image swap.old) (D.image swap.new)) }
     ensures stops { IfErr result (StopsCutting m.old m.new pid sizes.wanted (F.holds files.old) (D.image swap.old) (D.image swap.new)) }
     ensures outside { TransfersPages F.Files D.SwapDev (stop_of result) files.old files.new swap.old swap.new }
+    ensures goes_on { OnOk result (CanGoOn m.new) }
 {
-    m.sound();
     m.settle(files, swap, sizes.sid)?;
-    m.sound();
     resize(m, pid, regs, sizes)
 }
 
 // What the argument of a break reads as, by the memory of the process.
 fn read_address(m: &mut Machine, pid: u32, regs: &Regs) -> Asked<u32>
-    requires running { m.old.kernel.stopped ≡ false }
+    requires ready { CanGoOn m.old }
     requires lends { CanLend m.old.kernel pid }
     ensures value { result ≡ run (kernel_answers m.old.kernel (space_held m.old.kernel pid)) (argument regs.now 1) }
     ensures same { m.new ≡ m.old }
@@ -165,6 +166,7 @@ fn move_end<F: Files, D: SwapDev>(
         (MovesEnd m.old m.new pid regs.now (pages_to m.old.kernel pid address) (F.holds files.old) (D.image swap.old) (D.image swap.new)) }
     ensures stops { IfErr result (StopsMoving m.old m.new pid (pages_to m.old.kernel pid address) (F.holds files.old) (D.image swap.old) (D.image swap.new)) }
     ensures outside { TransfersPages F.Files D.SwapDev (stop_of result) files.old files.new swap.old swap.new }
+    ensures goes_on { OnOk result (CanGoOn m.new) }
 {
     let sizes = sizes_to(m, pid, address);
     if sizes.wanted > DATA_LIMIT {
@@ -174,7 +176,6 @@ fn move_end<F: Files, D: SwapDev>(
     } else if sizes.wanted < sizes.data_pages {
         cut(m, files, swap, pid, regs, sizes)
     } else {
-        m.sound();
         resize(m, pid, regs, sizes)
     }
 }
@@ -196,6 +197,7 @@ pub fn brk<F: Files, D: SwapDev>(
     ensures stops { IfErr result (StopsBreak m.old m.new pid (run (kernel_answers m.old.kernel (space_held m.old.kernel pid)) (argument regs.now 1))
         (F.holds files.old) (D.image swap.old) (D.image swap.new)) }
     ensures outside { TransfersPages F.Files D.SwapDev (stop_of result) files.old files.new swap.old swap.new }
+    ensures goes_on { OnOk result (CanGoOn m.new) }
 {
     match read_address(m, pid, regs) {
         Err(refused) => refuse(m, pid, SystemCall::Break, regs, refused),

@@ -2,6 +2,7 @@
 ghost use Rattle.std.specs.Prelude.{◌≡◌, ◌<◌, ◌≤◌, [], true, false, length, IfOk, OnOk, IfErr, Ok};
 ghost use Rattle.page_model.specs.Rank.{HasRoom};
 ghost use Rattle.kernel_model.specs.Unit.{has_lender, lender_among};
+ghost use Rattle.machine_state.specs.Going.{CanGoOn, IsRunning};
 ghost use Rattle.machine_state.specs.Files.{AreFiles};
 ghost use Rattle.machine_state.specs.Wants.{CanAsk};
 ghost use Rattle.machine_state.specs.Outside.{stop_of, TransfersPages};
@@ -37,6 +38,8 @@ fn find_pieces<F: Files, D: SwapDev>(
     ensures has_room { result ≡ Ok true → length m.new.kernel.journal < m.new.params.journal }
     ensures stops { IfErr result (StopsFinding (wants_found wants.now) m.old m.new pid (F.holds files.old) (D.image swap.old) (D.image swap.new)) }
     ensures outside { TransfersPages F.Files D.SwapDev (stop_of result) files.old files.new swap.old swap.new }
+    ensures running { result ≡ Ok true → IsRunning m.new }
+    ensures goes_on { result ≡ Ok false → CanGoOn m.new }
 {
     if !m.fits(wants)? {
         return m.ask(pid, wants);
@@ -47,21 +50,19 @@ fn find_pieces<F: Files, D: SwapDev>(
 
 // Whether some space shares an image's text.
 fn is_shared(m: &Machine, image: u32) -> bool
-    requires { m.now.kernel.stopped ≡ false }
+    requires { IsRunning m.now }
     ensures { result ≡ is_shared m.now.kernel.place image }
 {
-    m.sound();
     m.sharer(image).is_some()
 }
 
 // What an image wants in the next space.
 fn next_wants(m: &Machine, image: u32) -> [Want; 3]
-    requires running { m.now.kernel.stopped ≡ false }
+    requires running { IsRunning m.now }
     requires above { 0 < image }
     requires within { image ≤ length m.now.images }
     ensures { AreNextWants m.now image result }
 {
-    m.sound();
     let facts = m.images()[image as usize - 1].facts;
     image_wants(&facts, image, m.next_numbers().1)
 }
@@ -85,8 +86,9 @@ fn find_space<F: Files, D: SwapDev>(
     ensures has_room { result ≡ Ok true → length m.new.kernel.journal < m.new.params.journal }
     ensures stops { IfErr result (StopsFinding (image_found image) m.old m.new pid (F.holds files.old) (D.image swap.old) (D.image swap.new)) }
     ensures outside { TransfersPages F.Files D.SwapDev (stop_of result) files.old files.new swap.old swap.new }
+    ensures running { result ≡ Ok true → IsRunning m.new }
+    ensures goes_on { result ≡ Ok false → CanGoOn m.new }
 {
-    m.sound();
     let [text, data, stack] = next_wants(m, image);
     if is_shared(m, image) {
         find_pieces(m, files, swap, pid, &[data, stack])
@@ -118,6 +120,7 @@ pub fn start_image<F: Files, D: SwapDev>(
     ensures starts { OnOk result (Starts m.old m.new pid regs.now after.now image top (F.holds files.old) (D.image swap.old) (D.image swap.new)) }
     ensures stops { IfErr result (StopsImage m.old m.new pid after.now image top (F.holds files.old) (D.image swap.old) (D.image swap.new)) }
     ensures outside { TransfersPages F.Files D.SwapDev (stop_of result) files.old files.new swap.old swap.new }
+    ensures goes_on { OnOk result (CanGoOn m.new) }
 {
     let page = Page::Stack {
         sid: m.next_numbers().1,

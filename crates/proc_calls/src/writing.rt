@@ -1,9 +1,10 @@
 // The call that writes to the output.
-ghost use Rattle.std.specs.Prelude.{◌≡◌, ◌⊎◌, ◌≤◌, [], false, length, IfOk, OnOk, IfErr, OnErr, Ok, Err};
+ghost use Rattle.std.specs.Prelude.{◌≡◌, ◌⊎◌, ◌≤◌, length, IfOk, OnOk, IfErr, OnErr, Ok, Err};
 ghost use Rattle.user_vax.specs.Program.{run};
 ghost use Rattle.flat_model.specs.Calls.{write_limit, write_reply};
 ghost use Rattle.flat_model.specs.declared.calls.Reply.TheVariants.{Writes};
 ghost use Rattle.flat_model.specs.declared.calls.SystemCall.TheVariants.{Write};
+ghost use Rattle.machine_state.specs.Going.{CanGoOn};
 ghost use Rattle.machine_state.specs.Conditions.{HasStopped};
 ghost use Rattle.machine_state.specs.UserMemory.{CanLend, kernel_answers};
 ghost use Rattle.proc_calls.specs.Answered.{GoneOut, Replied, Comes};
@@ -19,10 +20,7 @@ use vm_facts::{Bytes, Entry, NoMemory, Regs, Stop};
 
 // Bytes of the process go out, where there are any. Its record keeps its registers.
 fn send(m: &mut Machine, pid: u32, bytes: Bytes) -> Result<(), Stop>
-    requires running { m.old.kernel.stopped ≡ false }
-    requires whole { m.old.before ≡ m.old.kernel.holdings }
-    requires clear { m.old.kernel.place.due ≡ [] }
-    requires lends { CanLend m.old.kernel pid }
+    requires calls { IsCaller m.old pid }
     ensures out { OnOk result (GoneOut m.old m.new pid bytes) }
     ensures calls { OnOk result (IsCaller m.new pid) }
     ensures stop { OnErr result (HasStopped m.old m.new) }
@@ -38,13 +36,11 @@ fn send(m: &mut Machine, pid: u32, bytes: Bytes) -> Result<(), Stop>
 
 // The process writes bytes, if any.
 fn put_out(m: &mut Machine, pid: u32, regs: &Regs, bytes: Bytes) -> Result<Called, Stop>
-    requires running { m.old.kernel.stopped ≡ false }
-    requires whole { m.old.before ≡ m.old.kernel.holdings }
-    requires clear { m.old.kernel.place.due ≡ [] }
-    requires lends { CanLend m.old.kernel pid }
+    requires calls { IsCaller m.old pid }
     requires few { length bytes ≤ write_limit }
     ensures replied { IfOk result (Replied m.old m.new pid Write regs.now (Writes bytes)) }
     ensures stop { StopsBy m.old m.new pid bytes result }
+    ensures goes_on { OnOk result (CanGoOn m.new) }
 {
     let count = bytes.as_slice().len() as u32;
     send(m, pid, bytes)?;
@@ -64,7 +60,7 @@ fn read_bytes(
     pid: u32,
     regs: &Regs,
 ) -> Result<Asked<Reply>, NoMemory>
-    requires running { m.old.kernel.stopped ≡ false }
+    requires ready { CanGoOn m.old }
     requires lends { CanLend m.old.kernel pid }
     ensures value { IfOk result (λ asked. asked ≡ run (kernel_answers m.old.kernel (space_held m.old.kernel pid)) (write_reply regs.now)) }
     ensures same { m.new ≡ m.old }
@@ -74,13 +70,11 @@ fn read_bytes(
 
 // A reply of write.
 fn answer(m: &mut Machine, pid: u32, regs: &Regs, reply: Reply) -> Result<Called, Stop>
-    requires running { m.old.kernel.stopped ≡ false }
-    requires whole { m.old.before ≡ m.old.kernel.holdings }
-    requires clear { m.old.kernel.place.due ≡ [] }
-    requires lends { CanLend m.old.kernel pid }
+    requires calls { IsCaller m.old pid }
     requires writes { IsWrite reply }
     ensures replied { IfOk result (Replied m.old m.new pid Write regs.now reply) }
     ensures stop { StopsBy m.old m.new pid (bytes_of (Ok reply)) result }
+    ensures goes_on { OnOk result (CanGoOn m.new) }
 {
     match reply {
         Reply::Writes(bytes) => put_out(m, pid, regs, bytes),
@@ -91,13 +85,11 @@ fn answer(m: &mut Machine, pid: u32, regs: &Regs, reply: Reply) -> Result<Called
 
 /// The process writes bytes to the output.
 pub fn write(alloc: Global, m: &mut Machine, pid: u32, regs: &Regs) -> Result<Called, Stop>
-    requires running { m.old.kernel.stopped ≡ false }
-    requires whole { m.old.before ≡ m.old.kernel.holdings }
-    requires clear { m.old.kernel.place.due ≡ [] }
-    requires lends { CanLend m.old.kernel pid }
+    requires calls { IsCaller m.old pid }
     ensures comes { IfOk result
         (Comes m.old m.new pid Write regs.now (run (kernel_answers m.old.kernel (space_held m.old.kernel pid)) (write_reply regs.now))) }
     ensures stop { IfErr result (StopsOut m.old m.new pid (run (kernel_answers m.old.kernel (space_held m.old.kernel pid)) (write_reply regs.now))) }
+    ensures goes_on { OnOk result (CanGoOn m.new) }
 {
     let asked = read_bytes(alloc, m, pid, regs);
     match or_stop(asked)? {

@@ -6,4 +6,4 @@ use Rattle.proc_calls.proofs.children.getpid.Goals as goal
 
 pub reply-requires-clause-can : goal.reply-requires-clause-can
 reply-requires-clause-can c =
-    can_keep c.args.m.now c.args.pid (call_entry c.args.pid Getpid c.replied_both-after.result) c.requires.whole c.requires.clear c.requires.lends (refl, tt)
+    can_keep c.args.m.now c.args.pid (call_entry c.args.pid Getpid c.replied_both-after.result) c.requires.calls (refl, tt)

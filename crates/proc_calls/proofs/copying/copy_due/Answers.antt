@@ -8,7 +8,7 @@ use Rattle.proc_calls.proofs.copying.copy_due.Goals as goal
 
 pub loop-child-init : goal.loop-child-init
 loop-child-init g c = record {
-  on = record { running = c.requires.running; whole = c.requires.whole };
+  ready = c.requires.ready;
   area = c.requires.area;
   files = c.requires.files;
   due = c.requires.due;
@@ -65,7 +65,7 @@ loop-child-preserved g c =
     let f : FirstOf c.args.parent now.kernel.place.due child = first_of c.args.parent now.kernel.place.due child so.due (sym c.due.ensures ∙ c.in-Some.is) in
     let zero = on.last in
     record {
-      on = record { running = on.running; whole = on.whole };
+      ready = c.in_ok-copy_page.ensures.goes_on;
       area = area_next now next _ _ on.params c.in_ok-copy_page.ensures.outside.swap.blocks so.area;
       files = files_next now next (g.F.Files.holds c.loop-child.files) _ on.images c.in_ok-copy_page.ensures.outside.files.holds so.files;
       due = subst (AreCopiesFrom c.args.parent) (sym (others_due now.kernel.place next.kernel.place c.args.parent child f on.due)) f.rest;
@@ -88,4 +88,4 @@ pub returns-clause-on : goal.returns-clause-on
 returns-clause-on g c =
     let so = c.loop-child.invariant in
     copied_all c.args.m.now c.loop-child.m (g.F.Files.holds c.args.files.now) (g.F.Files.holds c.loop-child.files) (g.D.SwapDev.image c.args.swap.now) (g.D.SwapDev.image c.loop-child.swap)
-    so.on (sym c.due.ensures ∙ c.in_default.is) so.so_far
+    (sym c.due.ensures ∙ c.in_default.is) so.so_far

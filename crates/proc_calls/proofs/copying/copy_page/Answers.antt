@@ -5,35 +5,21 @@ use Rattle.page_laws.proofs.Ends.Hands.{room_still}
 use Rattle.fault_fill.proofs.Stopping.{call_stops, plain_full}
 use Rattle.fault_fill.specs.Answers.{ServesNow}
 use Rattle.proc_calls.proofs.Copies.{can_serve, can_copy, first_stays}
-use Rattle.proc_calls.proofs.CopiedPages.{IsOn, served_on, forced_on, served_stay, forced_stay, forcing_stops, copied_by, goes_on}
+use Rattle.proc_calls.proofs.CopiedPages.{served_stay, forced_stay, forcing_stops, copied_by, goes_on}
 use Rattle.proc_calls.proofs.copying.copy_page.Goals as goal
 
 pub serve_page_now-requires-clause-can : goal.serve_page_now-requires-clause-can
-serve_page_now-requires-clause-can g c = can_serve c.args.m.now.kernel.place c.args.child c.args.parent c.sound.ensures.due c.requires.first
+serve_page_now-requires-clause-can g c = can_serve c.args.m.now.kernel.place c.args.child c.args.parent c.requires.ready.running.due c.requires.first
 
 pub returns-in_err-serve_page_now-clause-copied : goal.returns-in_err-serve_page_now-clause-copied
 returns-in_err-serve_page_now-clause-copied g c =
     let p = err_from_is_err_and c.from_residual.result c.from_residual.ensures.1 in
     rw (p.1, p.2) (inl c.in_err-serve_page_now.ensures.served)
 
-pub make_room-requires-clause-running : goal.make_room-requires-clause-running
-make_room-requires-clause-running g c =
-    let o : IsOn c.serve_page_now.new.m = served_on c.args.parent c.args.m.now c.serve_page_now.new.m (g.F.Files.holds c.args.files.now)
-    (g.D.SwapDev.image c.args.swap.now) (g.D.SwapDev.image c.serve_page_now.new.swap) (record { running = c.requires.running; whole = c.requires.whole })
-    (c.in_ok-serve_page_now.ensures.served.0.serves, c.in_ok-serve_page_now.ensures.served.1) in
-    o.running
-
-pub make_room-requires-clause-whole : goal.make_room-requires-clause-whole
-make_room-requires-clause-whole g c =
-    let o : IsOn c.serve_page_now.new.m = served_on c.args.parent c.args.m.now c.serve_page_now.new.m (g.F.Files.holds c.args.files.now)
-    (g.D.SwapDev.image c.args.swap.now) (g.D.SwapDev.image c.serve_page_now.new.swap) (record { running = c.requires.running; whole = c.requires.whole })
-    (c.in_ok-serve_page_now.ensures.served.0.serves, c.in_ok-serve_page_now.ensures.served.1) in
-    o.whole
-
 pub make_room-requires-clause-room : goal.make_room-requires-clause-room
 make_room-requires-clause-room g c =
     let stay = served_stay c.args.child c.args.parent c.args.m.now c.serve_page_now.new.m (g.F.Files.holds c.args.files.now)
-    (g.D.SwapDev.image c.args.swap.now) (g.D.SwapDev.image c.serve_page_now.new.swap) c.sound.ensures.sound.owner.frames c.sound.ensures.due c.requires.first
+    (g.D.SwapDev.image c.args.swap.now) (g.D.SwapDev.image c.serve_page_now.new.swap) c.requires.ready c.requires.first
     (c.in_ok-serve_page_now.ensures.served.0.serves, c.in_ok-serve_page_now.ensures.served.1) in
     room_still c.args.m.now.kernel.place c.serve_page_now.new.m.kernel.place (c.args.parent ∷ []) stay.frames c.requires.room
 
@@ -49,33 +35,6 @@ returns-in_err-make_room-clause-copied g c =
           c.in_ok-serve_page_now.ensures.outside.files.holds c.in_err-make_room.ensures.stopped);
     }))
 
-pub sound-requires-2 : goal.sound-requires-2
-sound-requires-2 g c =
-    let o : IsOn c.serve_page_now.new.m = served_on c.args.parent c.args.m.now c.serve_page_now.new.m (g.F.Files.holds c.args.files.now)
-    (g.D.SwapDev.image c.args.swap.now) (g.D.SwapDev.image c.serve_page_now.new.swap) (record { running = c.requires.running; whole = c.requires.whole })
-    (c.in_ok-serve_page_now.ensures.served.0.serves, c.in_ok-serve_page_now.ensures.served.1) in
-    (forced_on c.args.parent c.serve_page_now.new.m c.make_room.new.m (g.F.Files.holds c.serve_page_now.new.files)
-    (g.D.SwapDev.image c.serve_page_now.new.swap) (g.D.SwapDev.image c.make_room.new.swap) o
-    c.in_ok-make_room.ensures.forced).running
-
-pub copy-requires-clause-running : goal.copy-requires-clause-running
-copy-requires-clause-running g c =
-    let o : IsOn c.serve_page_now.new.m = served_on c.args.parent c.args.m.now c.serve_page_now.new.m (g.F.Files.holds c.args.files.now)
-    (g.D.SwapDev.image c.args.swap.now) (g.D.SwapDev.image c.serve_page_now.new.swap) (record { running = c.requires.running; whole = c.requires.whole })
-    (c.in_ok-serve_page_now.ensures.served.0.serves, c.in_ok-serve_page_now.ensures.served.1) in
-    (forced_on c.args.parent c.serve_page_now.new.m c.make_room.new.m (g.F.Files.holds c.serve_page_now.new.files)
-    (g.D.SwapDev.image c.serve_page_now.new.swap) (g.D.SwapDev.image c.make_room.new.swap) o
-    c.in_ok-make_room.ensures.forced).running
-
-pub copy-requires-clause-whole : goal.copy-requires-clause-whole
-copy-requires-clause-whole g c =
-    let o : IsOn c.serve_page_now.new.m = served_on c.args.parent c.args.m.now c.serve_page_now.new.m (g.F.Files.holds c.args.files.now)
-    (g.D.SwapDev.image c.args.swap.now) (g.D.SwapDev.image c.serve_page_now.new.swap) (record { running = c.requires.running; whole = c.requires.whole })
-    (c.in_ok-serve_page_now.ensures.served.0.serves, c.in_ok-serve_page_now.ensures.served.1) in
-    (forced_on c.args.parent c.serve_page_now.new.m c.make_room.new.m (g.F.Files.holds c.serve_page_now.new.files)
-    (g.D.SwapDev.image c.serve_page_now.new.swap) (g.D.SwapDev.image c.make_room.new.swap) o
-    c.in_ok-make_room.ensures.forced).whole
-
 pub copy-requires-clause-can : goal.copy-requires-clause-can
 copy-requires-clause-can g c =
     let served = c.serve_page_now.new.m in
@@ -84,9 +43,9 @@ copy-requires-clause-can g c =
     let serves : ServesNow (c.args.parent ∷ []) c.args.parent c.args.m.now served (g.F.Files.holds c.args.files.now) (g.D.SwapDev.image c.args.swap.now) h =
     (c.in_ok-serve_page_now.ensures.served.0.serves, c.in_ok-serve_page_now.ensures.served.1) in
     let stay = served_stay c.args.child c.args.parent c.args.m.now served (g.F.Files.holds c.args.files.now)
-    (g.D.SwapDev.image c.args.swap.now) h c.sound.ensures.sound.owner.frames c.sound.ensures.due c.requires.first serves in
+    (g.D.SwapDev.image c.args.swap.now) h c.requires.ready c.requires.first serves in
     let both = forced_stay c.args.parent c.args.m.now served roomy (g.F.Files.holds c.serve_page_now.new.files) h (g.D.SwapDev.image c.make_room.new.swap) stay c.in_ok-make_room.ensures.forced in
-    can_copy served.kernel.place roomy.kernel.place c.args.child c.args.parent c.sound-2.ensures.due
+    can_copy served.kernel.place roomy.kernel.place c.args.child c.args.parent c.in_ok-make_room.ensures.goes_on.running.due
     (first_stays c.args.m.now.kernel.place roomy.kernel.place c.args.child c.args.parent both.due c.requires.first)
     c.in_ok-make_room.ensures.spares serves.1 c.in_ok-make_room.ensures.forced.free
 
@@ -100,10 +59,7 @@ returns-clause-copied g c =
     c.in_ok-make_room.ensures.forced c.in_ok-make_room.ensures.keeps c.copy.ensures.step c.copy.ensures.rest c.copy.ensures.keeps
     (call_stops c.copy.result (entries.Copy c.args.child) roomy c.copy.new.self j (λ s h. h) (λ s. refl)
     (plain_full (entries.Copy c.args.child) roomy.kernel.journal roomy.params.journal _ tt c.copy.ensures.full) c.copy.ensures.stop c.copy.ensures.cause
-    (forced_on c.args.parent c.serve_page_now.new.m roomy (g.F.Files.holds c.serve_page_now.new.files) (g.D.SwapDev.image c.serve_page_now.new.swap) j
-    (served_on c.args.parent c.args.m.now c.serve_page_now.new.m (g.F.Files.holds c.args.files.now) (g.D.SwapDev.image c.args.swap.now) (g.D.SwapDev.image c.serve_page_now.new.swap)
-    (record { running = c.requires.running; whole = c.requires.whole }) (c.in_ok-serve_page_now.ensures.served.0.serves, c.in_ok-serve_page_now.ensures.served.1))
-    c.in_ok-make_room.ensures.forced).whole)
+    c.in_ok-make_room.ensures.goes_on.whole)
     c.copy.ensures.stop
 
 pub returns-clause-on : goal.returns-clause-on
@@ -116,9 +72,7 @@ returns-clause-on g c =
     let j = g.D.SwapDev.image c.make_room.new.swap in
     let serves : ServesNow (c.args.parent ∷ []) c.args.parent c.args.m.now served holds i h =
     (c.in_ok-serve_page_now.ensures.served.0.serves, c.in_ok-serve_page_now.ensures.served.1) in
-    let stay = served_stay c.args.child c.args.parent c.args.m.now served holds i h c.sound.ensures.sound.owner.frames c.sound.ensures.due c.requires.first serves in
+    let stay = served_stay c.args.child c.args.parent c.args.m.now served holds i h c.requires.ready c.requires.first serves in
     let both = forced_stay c.args.parent c.args.m.now served roomy (g.F.Files.holds c.serve_page_now.new.files) h j stay c.in_ok-make_room.ensures.forced in
-    let on = forced_on c.args.parent served roomy (g.F.Files.holds c.serve_page_now.new.files) h j
-    (served_on c.args.parent c.args.m.now served holds i h (record { running = c.requires.running; whole = c.requires.whole }) serves) c.in_ok-make_room.ensures.forced in
-    goes_on c.copy.result c.args.child c.args.parent c.args.m.now served roomy c.copy.new.self holds (g.F.Files.holds c.serve_page_now.new.files) i h j on both serves c.in_ok-make_room.ensures.forced
+    goes_on c.copy.result c.args.child c.args.parent c.args.m.now served roomy c.copy.new.self holds (g.F.Files.holds c.serve_page_now.new.files) i h j both serves c.in_ok-make_room.ensures.forced
     c.copy.ensures.step c.copy.ensures.rest

@@ -1,11 +1,6 @@
-use Rattle.proc_calls.proofs.Leaving.{left_runs, can_end}
+use Rattle.proc_calls.proofs.Leaving.{can_end}
 use Rattle.proc_calls.proofs.Stopping.{once_left}
 use Rattle.proc_calls.proofs.ending.end.Goals as goal
-
-pub flat-requires-clause-running : goal.flat-requires-clause-running
-flat-requires-clause-running g c =
-    left_runs c.args.m.now c.leave_space.new.m c.args.pid (g.F.Files.holds c.args.files.now) (g.D.SwapDev.image c.args.swap.now) (g.D.SwapDev.image c.leave_space.new.swap)
-    c.requires.calls c.in_ok-leave_space.ensures.left
 
 pub flat-requires-clause-can : goal.flat-requires-clause-can
 flat-requires-clause-can g c =
@@ -16,4 +11,4 @@ pub returns-clause-stops : goal.returns-clause-stops
 returns-clause-stops g c =
     once_left c.flat.result c.args.m.now c.leave_space.new.m c.flat.new.self c.args.pid (g.F.Files.holds c.args.files.now) (g.D.SwapDev.image c.args.swap.now)
     (g.D.SwapDev.image c.leave_space.new.swap)
-    c.requires.calls.whole c.in_ok-leave_space.ensures.left c.flat.ensures.stop c.flat.ensures.cause c.flat.ensures.full.0
+    c.in_ok-leave_space.ensures.goes_on.whole c.in_ok-leave_space.ensures.left c.flat.ensures.stop c.flat.ensures.cause c.flat.ensures.full.0

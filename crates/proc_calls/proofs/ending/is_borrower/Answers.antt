@@ -8,5 +8,5 @@ use Rattle.proc_calls.proofs.ending.is_borrower.Goals as goal
 pub unreachable-requires : goal.unreachable-requires
 unreachable-requires c =
     not_there (proc_in c.args.m.now.kernel c.args.pid) c.requires.there
-    (record_shown c.args.m.now.kernel c.processes.result.now c.args.pid c.processes.ensures.processes (c.processes.ensures.records c.requires.running)
+    (record_shown c.args.m.now.kernel c.processes.result.now c.args.pid c.processes.ensures.processes (c.processes.ensures.records c.requires.running.runs)
     ∙ ap proc_of (sym c.get.ensures.value ∙ ap option_copied c.in-None.is))

@@ -8,7 +8,7 @@ returns-in_err-make_room-clause-stops g c =
     let p = err_from_is_err_and c.from_residual.result c.from_residual.ensures.1 in
     rw (p.1, p.2)
     (lent_stops _ c.args.m.now c.make_room.new.self c.args.pid (g.F.Files.holds c.args.files.now) (g.D.SwapDev.image c.args.swap.now) (sym c.is_borrower.ensures ∙ c.if-is_borrower.true)
-    c.requires.calls.whole c.in_err-make_room.ensures.stop c.in_err-make_room.ensures.cause c.in_err-make_room.ensures.full.0)
+    c.requires.calls.ready.whole c.in_err-make_room.ensures.stop c.in_err-make_room.ensures.cause c.in_err-make_room.ensures.full.0)
 
 pub returns-then-is_borrower-clause-left : goal.returns-then-is_borrower-clause-left
 returns-then-is_borrower-clause-left g c =

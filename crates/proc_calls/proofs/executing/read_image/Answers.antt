@@ -21,7 +21,7 @@ pub read_start-requires-clause-entry : goal.read_start-requires-clause-entry
 read_start-requires-clause-entry c =
     let e : c.in-Ok-Some.field-0 ≡ Some c.in-Ok-Some.image = cc in
     entry_fits c.images-images.result.now c.in-Ok-Some.image c.index-images-image.result
-    (subst (λ (ns : List ImageNamed). AreSound (facts_named ns)) (sym c.images-images.ensures) c.sound.ensures.images)
+    (subst (λ (ns : List ImageNamed). AreSound (facts_named ns)) (sym (c.images-images.ensures ∙ ap (λ (s : Standing). s.images) c.read_path.ensures.same)) c.requires.ready.running.images)
     (subst (λ (o : Option ℕ). IfSome o (IsAmong c.images-images.result.now)) e c.in-Ok-Some.ensures.within)
 
 pub returns-in-Err-clause-value : goal.returns-in-Err-clause-value

@@ -1,8 +1,8 @@
-use Rattle.std.proofs.Common.{inl, [], refl}
+use Rattle.std.proofs.Common.{inl, refl}
 use Rattle.std.proofs.lemmas.Result.{err_from_is_err_and}
 use Rattle.vm_facts.specs.declared.entry.Entry.TheVariants as entries
 use Rattle.fault_fill.proofs.Stopping.{call_stops, plain_full}
-use Rattle.proc_calls.proofs.Fills.{forced_runs, forced_whole, can_fill, filled_by}
+use Rattle.proc_calls.proofs.Fills.{can_fill, filled_by}
 use Rattle.proc_calls.proofs.filling.fill_start.Goals as goal
 
 pub returns-in_err-make_room-clause-filled : goal.returns-in_err-make_room-clause-filled
@@ -10,25 +10,10 @@ returns-in_err-make_room-clause-filled g c =
     let p = err_from_is_err_and c.from_residual.result c.from_residual.ensures.1 in
     rw (p.1, p.2) (inl c.in_err-make_room.ensures.stopped)
 
-pub sound-requires-2 : goal.sound-requires-2
-sound-requires-2 g c =
-    forced_runs [] c.args.m.now c.make_room.new.m (g.F.Files.holds c.args.files.now) (g.D.SwapDev.image c.args.swap.now) (g.D.SwapDev.image c.make_room.new.swap)
-    c.in_ok-make_room.ensures.forced c.requires.running
-
-pub fill_zero-requires-clause-running : goal.fill_zero-requires-clause-running
-fill_zero-requires-clause-running g c =
-    forced_runs [] c.args.m.now c.make_room.new.m (g.F.Files.holds c.args.files.now) (g.D.SwapDev.image c.args.swap.now) (g.D.SwapDev.image c.make_room.new.swap)
-    c.in_ok-make_room.ensures.forced c.requires.running
-
-pub fill_zero-requires-clause-whole : goal.fill_zero-requires-clause-whole
-fill_zero-requires-clause-whole g c =
-    forced_whole [] c.args.m.now c.make_room.new.m (g.F.Files.holds c.args.files.now) (g.D.SwapDev.image c.args.swap.now) (g.D.SwapDev.image c.make_room.new.swap)
-    c.in_ok-make_room.ensures.forced c.requires.whole
-
 pub fill_zero-requires-clause-can : goal.fill_zero-requires-clause-can
 fill_zero-requires-clause-can g c =
     can_fill c.args.page c.args.m.now c.make_room.new.m (g.F.Files.holds c.args.files.now) (g.D.SwapDev.image c.args.swap.now) (g.D.SwapDev.image c.make_room.new.swap)
-    c.sound.ensures.sound.owner.frames c.sound-2.ensures.due c.requires.first c.in_ok-make_room.ensures.forced
+    c.requires.ready c.in_ok-make_room.ensures.goes_on c.requires.first c.in_ok-make_room.ensures.forced
 
 pub returns-clause-filled : goal.returns-clause-filled
 returns-clause-filled g c =
@@ -39,4 +24,4 @@ returns-clause-filled g c =
     c.in_ok-make_room.ensures.forced c.in_ok-make_room.ensures.keeps c.fill_zero.ensures.step c.fill_zero.ensures.rest c.fill_zero.ensures.keeps
     (call_stops c.fill_zero.result (entries.Zero c.args.page) roomy c.fill_zero.new.self j (λ s h. h) (λ s. refl)
     (plain_full (entries.Zero c.args.page) roomy.kernel.journal roomy.params.journal _ tt c.fill_zero.ensures.full) c.fill_zero.ensures.stop c.fill_zero.ensures.cause
-    (forced_whole [] c.args.m.now roomy (g.F.Files.holds c.args.files.now) (g.D.SwapDev.image c.args.swap.now) j c.in_ok-make_room.ensures.forced c.requires.whole)) c.fill_zero.ensures.stop
+    c.in_ok-make_room.ensures.goes_on.whole) c.fill_zero.ensures.stop

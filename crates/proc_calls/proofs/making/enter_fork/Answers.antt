@@ -11,8 +11,7 @@ returns-then-not-branch-clause-answer c =
     let child = c.next_numbers-child.result.0 in
     let no = ap (λ (b : Bool). Ok b) c.if-not-branch.true in
     let asks =
-    fork_asks c.args.m.now c.args.pid child c.args.parent c.fork_wants-wants.result c.fork_wants-wants.ensures c.requires.held c.next_numbers-child.ensures.process
-    c.requires.calls.whole c.sound.ensures.sound c.sound.ensures.numbered in
+    fork_asks c.args.m.now c.args.pid child c.args.parent c.fork_wants-wants.result c.fork_wants-wants.ensures c.requires.held c.next_numbers-child.ensures.process c.requires.calls.ready in
     fork_refused c.fail-then-not-branch.result c.args.m.now c.ask.new.self c.fail-then-not-branch.new.m c.args.pid child c.args.regs.now
     (c.in_ok-ask.ensures.refused no) (c.in_ok-ask.ensures.keeps no) c.next_numbers-child.ensures.process
     (sym c.is_below_limit.ensures ∙ c.if-not-is_below_limit.false)
@@ -24,20 +23,18 @@ returns-then-not-branch-clause-stop c =
     let child = c.next_numbers-child.result.0 in
     let no = ap (λ (b : Bool). Ok b) c.if-not-branch.true in
     let asks =
-    fork_asks c.args.m.now c.args.pid child c.args.parent c.fork_wants-wants.result c.fork_wants-wants.ensures c.requires.held c.next_numbers-child.ensures.process
-    c.requires.calls.whole c.sound.ensures.sound c.sound.ensures.numbered in
+    fork_asks c.args.m.now c.args.pid child c.args.parent c.fork_wants-wants.result c.fork_wants-wants.ensures c.requires.held c.next_numbers-child.ensures.process c.requires.calls.ready in
     stops_refused c.fail-then-not-branch.result c.args.m.now c.ask.new.self c.fail-then-not-branch.new.m c.args.pid child (λ n. Fork n)
     (c.in_ok-ask.ensures.refused no) c.next_numbers-child.ensures.process (sym c.is_below_limit.ensures ∙ c.if-not-is_below_limit.false)
     (asked_fits c.args.m.now c.args.pid (Fork child) c.fork_wants-wants.result c.in_ok-ask.field-0 asks c.in_ok-ask.ensures.answer ∙ c.if-not-branch.true)
-    c.requires.calls.whole c.fail-then-not-branch.ensures.stop c.fail-then-not-branch.ensures.cause c.fail-then-not-branch.ensures.full
+    (c.in_ok-ask.ensures.goes_on no).whole c.fail-then-not-branch.ensures.stop c.fail-then-not-branch.ensures.cause c.fail-then-not-branch.ensures.full
 
 pub reply-requires-clause-can : goal.reply-requires-clause-can
 reply-requires-clause-can c =
     let found = c.in_ok-ask.ensures.found (ap (λ (b : Bool). Ok b) c.if-not-branch.false) in
     let child = c.next_numbers-child.result.0 in
     let asks =
-    fork_asks c.args.m.now c.args.pid child c.args.parent c.fork_wants-wants.result c.fork_wants-wants.ensures c.requires.held c.next_numbers-child.ensures.process
-    c.requires.calls.whole c.sound.ensures.sound c.sound.ensures.numbered in
+    fork_asks c.args.m.now c.args.pid child c.args.parent c.fork_wants-wants.result c.fork_wants-wants.ensures c.requires.held c.next_numbers-child.ensures.process c.requires.calls.ready in
     may_fork c.args.m.now c.ask.new.self c.args.pid child calls.Fork c.replied_both-after.result found.0 found.2 c.next_numbers-child.ensures.process
     (sym c.is_below_limit.ensures ∙ c.if-not-is_below_limit.false) c.requires.calls
     (asked_found c.args.m.now c.args.pid (Fork child) c.fork_wants-wants.result found.0 asks found.1)
@@ -47,8 +44,7 @@ returns-clause-answer c =
     let found = c.in_ok-ask.ensures.found (ap (λ (b : Bool). Ok b) c.if-not-branch.false) in
     let child = c.next_numbers-child.result.0 in
     let asks =
-    fork_asks c.args.m.now c.args.pid child c.args.parent c.fork_wants-wants.result c.fork_wants-wants.ensures c.requires.held c.next_numbers-child.ensures.process
-    c.requires.calls.whole c.sound.ensures.sound c.sound.ensures.numbered in
+    fork_asks c.args.m.now c.args.pid child c.args.parent c.fork_wants-wants.result c.fork_wants-wants.ensures c.requires.held c.next_numbers-child.ensures.process c.requires.calls.ready in
     fork_entered c.reply.result c.args.m.now c.ask.new.self c.reply.new.m c.args.pid child c.args.regs.now c.replied_both-after.result found.0 c.requires.calls found.2
     c.replied_both-after.ensures c.next_numbers-child.ensures.process (sym c.is_below_limit.ensures ∙ c.if-not-is_below_limit.false)
     (asked_found c.args.m.now c.args.pid (Fork child) c.fork_wants-wants.result found.0 asks found.1) c.reply.ensures.answered

@@ -5,4 +5,4 @@ use Rattle.proc_calls.proofs.replying.fail.Goals as goal
 
 pub reply-requires-clause-can : goal.reply-requires-clause-can
 reply-requires-clause-can c =
-    can_keep c.args.m.now c.args.pid (call_entry c.args.pid c.args.call c.replied.result) c.requires.whole c.requires.clear c.requires.lends (refl, tt)
+    can_keep c.args.m.now c.args.pid (call_entry c.args.pid c.args.call c.replied.result) c.requires.calls (refl, tt)

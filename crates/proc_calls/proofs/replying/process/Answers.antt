@@ -8,10 +8,10 @@ use Rattle.proc_calls.proofs.replying.process.Goals as goal
 pub unreachable-requires : goal.unreachable-requires
 unreachable-requires c =
     not_there (proc_in c.args.m.now.kernel c.args.pid) c.requires.there
-    (record_shown c.args.m.now.kernel c.processes.result.now c.args.pid c.processes.ensures.processes (c.processes.ensures.records c.requires.running)
+    (record_shown c.args.m.now.kernel c.processes.result.now c.args.pid c.processes.ensures.processes (c.processes.ensures.records c.requires.running.runs)
     ∙ ap proc_of (sym c.get.ensures.value ∙ ap option_copied c.in-None.is))
 
 pub returns : goal.returns
 returns c =
-    record_shown c.args.m.now.kernel c.processes.result.now c.args.pid c.processes.ensures.processes (c.processes.ensures.records c.requires.running)
+    record_shown c.args.m.now.kernel c.processes.result.now c.args.pid c.processes.ensures.processes (c.processes.ensures.records c.requires.running.runs)
     ∙ ap proc_of (sym c.get.ensures.value ∙ ap option_copied c.in-Some.is)

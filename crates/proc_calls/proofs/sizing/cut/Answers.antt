@@ -1,21 +1,9 @@
 use Rattle.std.proofs.Common.{ℕ, false, subst}
 use Rattle.flat_model.specs.Calls.{replied}
-use Rattle.machine_state.specs.Done.{sources}
 use Rattle.proc_calls.specs.Leaving.{HasSettled}
-use Rattle.proc_calls.proofs.Leaving.{settled_runs}
 use Rattle.proc_calls.proofs.Sizes.{can_cut}
 use Rattle.proc_calls.proofs.Stopping.{cut_stops}
 use Rattle.proc_calls.proofs.sizing.cut.Goals as goal
-
-pub sound-requires-2 : goal.sound-requires-2
-sound-requires-2 g c =
-    settled_runs (sources c.args.m.now (g.F.Files.holds c.args.files.now)) c.args.sizes.sid c.args.m.now.kernel c.settle.new.self.kernel
-    (g.D.SwapDev.image c.args.swap.now) (g.D.SwapDev.image c.settle.new.swap) c.requires.calls.running c.in_ok-settle.ensures.settled
-
-pub resize-requires-clause-running : goal.resize-requires-clause-running
-resize-requires-clause-running g c =
-    settled_runs (sources c.args.m.now (g.F.Files.holds c.args.files.now)) c.args.sizes.sid c.args.m.now.kernel c.settle.new.self.kernel
-    (g.D.SwapDev.image c.args.swap.now) (g.D.SwapDev.image c.settle.new.swap) c.requires.calls.running c.in_ok-settle.ensures.settled
 
 pub resize-requires-clause-can : goal.resize-requires-clause-can
 resize-requires-clause-can g c =
@@ -27,7 +15,7 @@ resize-requires-clause-can g c =
     can_cut m n c.args.pid (replied c.args.regs.now false 0) c.requires.calls holds i j
     (subst (λ (x : ℕ). HasSettled m n x holds i j) c.requires.named
     (record { settled = c.in_ok-settle.ensures.settled; rest = c.in_ok-settle.ensures.rest; keeps = c.in_ok-settle.ensures.keeps }))
-    m.params.swap_blocks n.params.swap_blocks c.sound.ensures.sound c.sound-2.ensures.sound c.args.sizes.wanted c.args.sizes.stack_pages
+    n.params.swap_blocks c.in_ok-settle.ensures.goes_on.running.sound c.args.sizes.wanted c.args.sizes.stack_pages
     c.requires.stack c.requires.few c.requires.most c.requires.fewer
 
 pub returns-clause-stops : goal.returns-clause-stops
@@ -40,4 +28,4 @@ returns-clause-stops g c =
     cut_stops c.resize.result m n c.resize.new.m c.args.pid c.args.sizes.wanted holds i j c.requires.fewer
     (subst (λ (x : ℕ). HasSettled m n x holds i j) c.requires.named
     (record { settled = c.in_ok-settle.ensures.settled; rest = c.in_ok-settle.ensures.rest; keeps = c.in_ok-settle.ensures.keeps }))
-    c.requires.calls.whole c.resize.ensures.stops
+    c.in_ok-settle.ensures.goes_on.whole c.resize.ensures.stops

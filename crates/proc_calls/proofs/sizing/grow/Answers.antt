@@ -11,11 +11,11 @@ resize-requires-clause-can c =
     let e : c.ask.result ≡ Ok true = let t = c.if-branch.true in let w = c.in_ok-ask.was in cc in
     let f = c.ask.ensures.found e in
     can_grow m c.args.pid (replied c.args.regs.now false 0) c.requires.calls c.args.sizes.wanted c.args.sizes.stack_pages c.requires.stack c.requires.few c.requires.most
-    m.params.swap_blocks c.sound.ensures.sound c.args.sizes.sid c.requires.named c.ask.new.self f.0 f.1 f.2 c.requires.more
+    c.args.sizes.sid c.requires.named c.ask.new.self f.0 f.1 f.2 c.requires.more
 
 pub returns-then-branch-clause-stops : goal.returns-then-branch-clause-stops
 returns-then-branch-clause-stops c =
     let e : c.ask.result ≡ Ok true = let t = c.if-branch.true in let w = c.in_ok-ask.was in cc in
     let f = c.ask.ensures.found e in
-    grown_stops c.resize.result c.args.m.now c.ask.new.self c.resize.new.m c.args.pid c.args.sizes.wanted f.0 f.2 c.requires.calls.whole c.in_ok-ask.ensures.has_room
+    grown_stops c.resize.result c.args.m.now c.ask.new.self c.resize.new.m c.args.pid c.args.sizes.wanted f.0 f.2 c.requires.calls.ready.whole c.in_ok-ask.ensures.has_room
     c.resize.ensures.stops

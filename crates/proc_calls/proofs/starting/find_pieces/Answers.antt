@@ -13,25 +13,6 @@ returns-then-not-branch-clause-finds g c =
     none_found c.ask.result c.args.m.now c.fits.new.self c.ask.new.self c.args.pid c.args.wants.now (g.F.Files.holds c.args.files.now) (g.D.SwapDev.image c.args.swap.now)
     c.in_ok-fits.ensures.same (sym c.in_ok-fits.ensures.answer ∙ c.if-not-branch.true) c.ask.ensures.answer c.ask.ensures.refused c.ask.ensures.keeps
 
-pub ask-requires-2-clause-running : goal.ask-requires-2-clause-running
-ask-requires-2-clause-running g c =
-    let holds = g.F.Files.holds c.args.files.now in
-    let i = g.D.SwapDev.image c.args.swap.now in
-    let j = g.D.SwapDev.image c.leave_space.new.swap in
-    let n = c.leave_space.new.m in
-    let left = subst (λ (x : Standing). HasLeft x n c.args.pid holds i j) c.in_ok-fits.ensures.same c.in_ok-leave_space.ensures.left in
-    (is_ready c.args.m.now n c.args.pid holds i j left).kernel.stopped ∙ c.requires.calls.running
-
-pub ask-requires-2-clause-whole : goal.ask-requires-2-clause-whole
-ask-requires-2-clause-whole g c =
-    let holds = g.F.Files.holds c.args.files.now in
-    let i = g.D.SwapDev.image c.args.swap.now in
-    let j = g.D.SwapDev.image c.leave_space.new.swap in
-    let n = c.leave_space.new.m in
-    let left = subst (λ (x : Standing). HasLeft x n c.args.pid holds i j) c.in_ok-fits.ensures.same c.in_ok-leave_space.ensures.left in
-    let r = is_ready c.args.m.now n c.args.pid holds i j left in
-    r.before ∙ c.requires.calls.whole ∙ sym r.kernel.holdings
-
 pub ask-requires-2-clause-can : goal.ask-requires-2-clause-can
 ask-requires-2-clause-can g c =
     let holds = g.F.Files.holds c.args.files.now in
@@ -55,7 +36,7 @@ returns-clause-finds g c =
 pub returns-then-not-branch-clause-stops : goal.returns-then-not-branch-clause-stops
 returns-then-not-branch-clause-stops g c =
     asked_before c.ask.result (wants_found c.args.wants.now) c.args.m.now c.fits.new.self c.ask.new.self c.args.pid (g.F.Files.holds c.args.files.now) (g.D.SwapDev.image c.args.swap.now)
-    c.in_ok-fits.ensures.same c.requires.calls.whole c.ask.ensures.stop c.ask.ensures.cause c.ask.ensures.full.0
+    c.in_ok-fits.ensures.same c.fits.ensures.goes_on.whole c.ask.ensures.stop c.ask.ensures.cause c.ask.ensures.full.0
 
 pub returns-clause-stops : goal.returns-clause-stops
 returns-clause-stops g c =
@@ -65,4 +46,4 @@ returns-clause-stops g c =
     let n = c.leave_space.new.m in
     let left = subst (λ (x : Standing). HasLeft x n c.args.pid holds i j) c.in_ok-fits.ensures.same c.in_ok-leave_space.ensures.left in
     asked_alive c.ask-2.result (wants_found c.args.wants.now) c.args.m.now c.ask-2.new.self c.args.pid holds i j (sym c.in_ok-fits.ensures.answer ∙ c.if-not-branch.false)
-    (once_left c.ask-2.result c.args.m.now n c.ask-2.new.self c.args.pid holds i j c.requires.calls.whole left c.ask-2.ensures.stop c.ask-2.ensures.cause c.ask-2.ensures.full.0)
+    (once_left c.ask-2.result c.args.m.now n c.ask-2.new.self c.args.pid holds i j c.in_ok-leave_space.ensures.goes_on.whole left c.ask-2.ensures.stop c.ask-2.ensures.cause c.ask-2.ensures.full.0)

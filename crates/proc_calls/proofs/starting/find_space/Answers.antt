@@ -4,14 +4,14 @@ use Rattle.proc_calls.proofs.starting.find_space.Goals as goal
 
 pub find_pieces-requires-else-is_shared-clause-can : goal.find_pieces-requires-else-is_shared-clause-can
 find_pieces-requires-else-is_shared-clause-can g c =
-    first_can c.args.m.now c.args.image c.next_wants.result c.requires.calls.whole c.sound.ensures.sound c.sound.ensures.numbered c.sound.ensures.texts c.next_wants.ensures
+    first_can c.args.m.now c.args.image c.next_wants.result c.requires.calls.ready c.next_wants.ensures
     (sym c.is_shared.ensures ∙ c.if-is_shared.false)
 
 pub returns-then-is_shared-clause-finds : goal.returns-then-is_shared-clause-finds
 returns-then-is_shared-clause-finds g c =
     finds c.find_pieces.result c.args.m.now c.find_pieces.new.m c.args.pid c.args.image (own_asked c.next_wants.result)
     (g.F.Files.holds c.args.files.now) (g.D.SwapDev.image c.args.swap.now) (g.D.SwapDev.image c.find_pieces.new.swap)
-    (shared_asks c.args.m.now c.args.image c.next_wants.result c.requires.calls.whole c.sound.ensures.sound c.sound.ensures.numbered c.sound.ensures.texts c.next_wants.ensures
+    (shared_asks c.args.m.now c.args.image c.next_wants.result c.requires.calls.ready c.next_wants.ensures
     (sym c.is_shared.ensures ∙ c.if-is_shared.true))
     c.find_pieces.ensures.finds
 
@@ -19,7 +19,7 @@ pub returns-else-is_shared-clause-finds : goal.returns-else-is_shared-clause-fin
 returns-else-is_shared-clause-finds g c =
     finds c.find_pieces-else-is_shared.result c.args.m.now c.find_pieces-else-is_shared.new.m c.args.pid c.args.image (all_asked c.next_wants.result)
     (g.F.Files.holds c.args.files.now) (g.D.SwapDev.image c.args.swap.now) (g.D.SwapDev.image c.find_pieces-else-is_shared.new.swap)
-    (first_asks c.args.m.now c.args.image c.next_wants.result c.requires.calls.whole c.sound.ensures.sound c.sound.ensures.numbered c.sound.ensures.texts c.next_wants.ensures
+    (first_asks c.args.m.now c.args.image c.next_wants.result c.requires.calls.ready c.next_wants.ensures
     (sym c.is_shared.ensures ∙ c.if-is_shared.false))
     c.find_pieces-else-is_shared.ensures.finds
 
@@ -27,7 +27,7 @@ pub returns-then-is_shared-clause-stops : goal.returns-then-is_shared-clause-sto
 returns-then-is_shared-clause-stops g c =
     finding_stops c.find_pieces.result c.args.m.now c.find_pieces.new.m c.args.pid c.args.image (own_asked c.next_wants.result)
     (g.F.Files.holds c.args.files.now) (g.D.SwapDev.image c.args.swap.now) (g.D.SwapDev.image c.find_pieces.new.swap)
-    (shared_asks c.args.m.now c.args.image c.next_wants.result c.requires.calls.whole c.sound.ensures.sound c.sound.ensures.numbered c.sound.ensures.texts c.next_wants.ensures
+    (shared_asks c.args.m.now c.args.image c.next_wants.result c.requires.calls.ready c.next_wants.ensures
     (sym c.is_shared.ensures ∙ c.if-is_shared.true))
     c.find_pieces.ensures.stops
 
@@ -35,6 +35,6 @@ pub returns-else-is_shared-clause-stops : goal.returns-else-is_shared-clause-sto
 returns-else-is_shared-clause-stops g c =
     finding_stops c.find_pieces-else-is_shared.result c.args.m.now c.find_pieces-else-is_shared.new.m c.args.pid c.args.image (all_asked c.next_wants.result)
     (g.F.Files.holds c.args.files.now) (g.D.SwapDev.image c.args.swap.now) (g.D.SwapDev.image c.find_pieces-else-is_shared.new.swap)
-    (first_asks c.args.m.now c.args.image c.next_wants.result c.requires.calls.whole c.sound.ensures.sound c.sound.ensures.numbered c.sound.ensures.texts c.next_wants.ensures
+    (first_asks c.args.m.now c.args.image c.next_wants.result c.requires.calls.ready c.next_wants.ensures
     (sym c.is_shared.ensures ∙ c.if-is_shared.false))
     c.find_pieces-else-is_shared.ensures.stops

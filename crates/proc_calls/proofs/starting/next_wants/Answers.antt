@@ -10,7 +10,7 @@ use Rattle.proc_calls.proofs.starting.next_wants.Goals as goal
 pub image_wants-requires : goal.image_wants-requires
 image_wants-requires c =
     let n = image_shown (slice_index_or c.images.result.now (c.args.image - 1) c.index-images-image.result) in
-    sound_number (facts_named c.args.m.now.images) c.args.image n.facts c.sound.ensures.images
+    sound_number (facts_named c.args.m.now.images) c.args.image n.facts c.requires.running.images
     (facts_of_named c.args.m.now.images c.args.image n
     (named_there c.args.m.now.images c.images.result.now c.args.image c.index-images-image.result c.images.ensures c.requires.above c.requires.within))
 

@@ -1,19 +1,11 @@
-use Rattle.std.proofs.Common.{ℕ, true, sym, ap, ◌∙◌, subst, arith}
+use Rattle.std.proofs.Common.{ℕ, true, sym, ap, subst, arith}
 use Rattle.std.specs.Prelude.{Ok}
 use Rattle.std.proofs.lemmas.Result.{err_from_is_err_and}
 use Rattle.vm_facts.specs.declared.page.Page.TheVariants.{Stack}
 use Rattle.proc_calls.specs.Filling.{IsStartFirst}
-use Rattle.proc_calls.proofs.Begins.{found_of, started_runs, can_start, reply_stops, fill_stops}
+use Rattle.proc_calls.proofs.Begins.{found_of, can_start, reply_stops, fill_stops}
 use Rattle.proc_calls.proofs.StackPages.{is_started, start_first, room_behind}
 use Rattle.proc_calls.proofs.starting.start_image.Goals as goal
-
-pub reply-requires-clause-running : goal.reply-requires-clause-running
-reply-requires-clause-running g c =
-    let holds = g.F.Files.holds c.args.files.now in
-    let i = g.D.SwapDev.image c.args.swap.now in
-    let j = g.D.SwapDev.image c.find_space.new.swap in
-    started_runs c.args.m.now c.find_space.new.m c.args.pid c.args.image holds i j c.requires.calls
-    (found_of c.in_ok-find_space.field-0 true c.args.m.now c.find_space.new.m c.args.pid c.args.image holds i j c.if-not-branch.false c.in_ok-find_space.ensures.finds)
 
 pub reply-requires-clause-can : goal.reply-requires-clause-can
 reply-requires-clause-can g c =
@@ -23,18 +15,6 @@ reply-requires-clause-can g c =
     can_start c.args.m.now c.find_space.new.m c.args.pid c.args.image holds i j c.requires.calls c.args.after.now c.args.top
     (found_of c.in_ok-find_space.field-0 true c.args.m.now c.find_space.new.m c.args.pid c.args.image holds i j c.if-not-branch.false c.in_ok-find_space.ensures.finds)
     (c.in_ok-find_space.ensures.given (ap (λ b. Ok b) c.if-not-branch.false)) c.requires.above c.requires.within c.requires.page
-
-pub fill_start-requires-clause-running : goal.fill_start-requires-clause-running
-fill_start-requires-clause-running g c =
-    let holds = g.F.Files.holds c.args.files.now in
-    let i = g.D.SwapDev.image c.args.swap.now in
-    let j = g.D.SwapDev.image c.find_space.new.swap in
-    let f = found_of c.in_ok-find_space.field-0 true c.args.m.now c.find_space.new.m c.args.pid c.args.image holds i j c.if-not-branch.false c.in_ok-find_space.ensures.finds in
-    let can = can_start c.args.m.now c.find_space.new.m c.args.pid c.args.image holds i j c.requires.calls c.args.after.now c.args.top f
-    (c.in_ok-find_space.ensures.given (ap (λ b. Ok b) c.if-not-branch.false)) c.requires.above c.requires.within c.requires.page in
-    let s =
-    is_started c.args.m.now c.find_space.new.m c.reply.new.m c.args.pid c.args.image c.args.after.now c.args.top holds i j c.requires.above c.requires.within f can c.in_ok-called.ensures.answered in
-    s.running ∙ c.requires.calls.running
 
 pub fill_start-requires-clause-first : goal.fill_start-requires-clause-first
 fill_start-requires-clause-first g c =
@@ -79,7 +59,7 @@ returns-in_err-called-clause-stops g c =
     rw (p.1, p.2)
     (reply_stops _ c.in_ok-find_space.field-0 c.args.m.now c.find_space.new.m c.reply.new.m c.args.pid c.args.image c.args.after.now c.args.top
     (g.F.Files.holds c.args.files.now) (g.D.SwapDev.image c.args.swap.now) (g.D.SwapDev.image c.find_space.new.swap) c.if-not-branch.false c.in_ok-find_space.ensures.finds
-    c.requires.calls.whole (c.in_ok-find_space.ensures.has_room (ap (λ b. Ok b) c.if-not-branch.false)) c.in_err-called.ensures.stop c.in_err-called.ensures.cause c.in_err-called.ensures.full.0)
+    c.requires.calls.ready.whole (c.in_ok-find_space.ensures.has_room (ap (λ b. Ok b) c.if-not-branch.false)) c.in_err-called.ensures.stop c.in_err-called.ensures.cause c.in_err-called.ensures.full.0)
 
 pub returns-in_err-fill_start-clause-stops : goal.returns-in_err-fill_start-clause-stops
 returns-in_err-fill_start-clause-stops g c =

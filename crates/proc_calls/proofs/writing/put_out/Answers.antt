@@ -6,5 +6,4 @@ use Rattle.proc_calls.proofs.writing.put_out.Goals as goal
 
 pub reply-requires-clause-can : goal.reply-requires-clause-can
 reply-requires-clause-can c =
-    can_keep c.send.new.m c.args.pid (call_entry c.args.pid Write c.replied_one.result) c.in_ok-send.ensures.calls.whole c.in_ok-send.ensures.calls.clear
-    c.in_ok-send.ensures.calls.lends (refl, tt)
+    can_keep c.send.new.m c.args.pid (call_entry c.args.pid Write c.replied_one.result) c.in_ok-send.ensures.calls (refl, tt)

@@ -29,4 +29,4 @@ returns-in_err-refused-clause-stop c =
     let p = err_from_is_err_and c.from_residual.result c.from_residual.ensures.1 in
     rw (p.1, p.2)
     (out_starved c.args.m.now c.read_bytes-asked.new.m c.args.pid (run (kernel_answers c.args.m.now.kernel (space_held c.args.m.now.kernel c.args.pid)) (write_reply c.args.regs.now))
-    c.in_err-refused.field-0.0 c.read_bytes-asked.ensures.same c.requires.whole cause)
+    c.in_err-refused.field-0.0 c.read_bytes-asked.ensures.same c.requires.calls.ready.whole cause)
