@@ -20,12 +20,10 @@ use Rattle.machine_state.specs.Machine.{Standing}
 use Rattle.machine_state.specs.Sourced.{ImageNamed}
 use Rattle.steady_laws.specs.Copying.{IsCopyFirst, CopiesPage, StopsPage, GoesOn}
 use Rattle.steady_laws.specs.Filling.{IsStartFirst, FillsStart, StopsStart}
-use Rattle.steady_laws.specs.Holders.{HoldersStand}
 use Rattle.steady_laws.specs.LastMoves.{last_moves}
-use Rattle.steady_laws.specs.Ready.{IsRunning, RunsOn, RunsDue, Continues}
+use Rattle.steady_laws.specs.Ready.{RunsOn, RunsDue, Continues}
 use Rattle.steady_laws.specs.Sizes.{KeptAtStop}
 use Rattle.steady_laws.proofs.Lines.{fill_continues}
-use Rattle.steady_laws.proofs.Making.{filled_keeps, copied_keeps}
 use Rattle.steady_laws.proofs.Running.{runs_self, runs_both, continues}
 use Rattle.steady_laws.proofs.SpacesContinue.{page_counts}
 use Rattle.steady_laws.proofs.StopsKeep.{kept_through, start_same, page_same}
@@ -102,29 +100,21 @@ pub start_fills : {A : Type 0} (r : Result A Stop) (page : Page) (o : Option Pag
 start_fills r page o old new holds i j e m =
     subst (λ (x : Option Page). MatchResult r (λ y. FillsDue (due_of page x) old new holds i j) (StopsDue (due_of page x) old new holds i j)) (sym e) m
 
-pub due_filled : (d : Due) (ds : List Due) (old next : Standing) (holds : Option (List NamedFile)) (i j : Option (List ℕ)) → IsRunning old
-    → old.kernel.place.due ≡ d ∷ ds → FillsDue d old next holds i j
-    → RunsDue old next 0 ds
-due_filled (Start q) ds old next holds i j r e f = fill_continues old next q ds holds i j r e f
-due_filled (CopyOf q parent) ds old next holds i j r e f =
+pub due_filled : (d : Due) (ds : List Due) (old next : Standing) (holds : Option (List NamedFile)) (i j : Option (List ℕ))
+    → old.kernel.place.due ≡ d ∷ ds → FillsDue d old next holds i j → RunsDue old next 0 ds
+due_filled (Start q) ds old next holds i j e f = fill_continues old next q ds holds i j e f
+due_filled (CopyOf q parent) ds old next holds i j e f =
     let g : GoesOn q old next = f.1 in
     record {
       on = record {
         params = g.params;
         images = g.images;
-        running = g.running;
-        whole = g.whole;
         frames = g.frames;
         counted = let c = page_counts q parent old next holds i j f.0 in omega (arith, c);
       };
       due = g.due ∙ ap (λ (xs : List Due). due_after xs q) e ∙ ap (λ (b : Bool). cond b ds (CopyOf q parent ∷ ds)) (same_page_self q);
       low = let last = g.last in omega (arith, last);
     }
-
-due_keeps : (d : Due) (old next : Standing) (holds : Option (List NamedFile)) (i j : Option (List ℕ)) → FillsDue d old next holds i j → HoldersStand old.kernel
-    → HoldersStand next.kernel
-due_keeps (Start q) old next holds i j f h = filled_keeps q old next holds i j f h
-due_keeps (CopyOf q parent) old next holds i j f h = copied_keeps q parent old next holds i j f.0 h
 
 stop_keeps : (d : Due) (old new : Standing) (holds : Option (List NamedFile)) (i j : Option (List ℕ)) (stop : Stop) → StopsDue d old new holds i j stop
     → KeptAtStop old new stop
@@ -164,16 +154,14 @@ due_stops (CopyOf q parent) ds A s old new holds image j stop at e f = page_stop
 pub record FilledSoFar (old now : Standing) (holds later : Option (List NamedFile)) (i h : Option (List ℕ)) : Type 0 where
   pub on : RunsOn old now 0
   pub low : last_moves now.kernel.journal ≤ last_moves old.kernel.journal
-  pub holders : HoldersStand old.kernel → HoldersStand now.kernel
   pub files : later ≡ holds
   pub leads : (A : Inputs) (s : State) (image : List ℕ) → MachineAt A s old holds image → i ≡ Some image
       → LeadsTo A s old.kernel image now.kernel.place.due now.kernel h
 
-pub filled_none : (old : Standing) (holds : Option (List NamedFile)) (i : Option (List ℕ)) → IsRunning old → FilledSoFar old old holds holds i i
-filled_none old holds i r = record {
-  on = runs_self old r;
+pub filled_none : (old : Standing) (holds : Option (List NamedFile)) (i : Option (List ℕ)) → FilledSoFar old old holds holds i i
+filled_none old holds i = record {
+  on = runs_self old;
   low = omega arith;
-  holders = λ h. h;
   files = refl;
   leads = λ A s image at e.
       subst (λ (o : Option (List ℕ)). LeadsTo A s old.kernel image old.kernel.place.due old.kernel o) (sym e)
@@ -191,17 +179,13 @@ there A s old now holds image h ds at on led = record {
 }
 
 module _ (old now : Standing) (holds later : Option (List NamedFile)) (i h : Option (List ℕ)) (so : FilledSoFar old now holds later i h) where
-  pub filled_on : IsRunning now
-  filled_on = record { running = so.on.running; whole = so.on.whole }
-
   pub filled_one : (next : Standing) (latest : Option (List NamedFile)) (k : Option (List ℕ)) (d : Due) → IsDueFirst now.kernel.place d → latest ≡ later → FillsDue d now next later h k
       → FilledSoFar old next holds latest i k
   filled_one next latest k d first same f =
-      let one : RunsDue now next 0 first.others = due_filled d first.others now next later h k filled_on first.first f in
+      let one : RunsDue now next 0 first.others = due_filled d first.others now next later h k first.first f in
       record {
         on = runs_both old now next 0 0 so.on one.on;
         low = let a = so.low in let b = one.low in omega (arith, a, b);
-        holders = λ x. due_keeps d now next later h k f (so.holders x);
         files = same ∙ so.files;
         leads = λ A s image at e.
             let led : LeadsTo A s old.kernel image now.kernel.place.due now.kernel h = so.leads A s image at e in

@@ -12,7 +12,7 @@ use Rattle.kernel_model.specs.Kernel.{Kernel}
 use Rattle.machine_state.specs.Files.{AreImages}
 use Rattle.machine_state.specs.Machine.{Standing}
 use Rattle.machine_state.specs.Sourced.{ImageNamed}
-use Rattle.steady_laws.specs.Ready.{RunsOn}
+use Rattle.steady_laws.specs.Sizes.{SameSizes}
 use Rattle.run_model.specs.State.{start}
 use Rattle.step_units.specs.RunLawsRunning.{CanRun}
 use Rattle.step_units.proofs.RunLawsBeginning.{run_start}
@@ -22,10 +22,17 @@ use Rattle.step_units.specs.Machines.{MachineAt}
 use Rattle.step_units.specs.Serving.{At}
 use Rattle.step_units.specs.Stepped.{StopLeads}
 use Rattle.run_start.specs.Starting.{IsNew}
-use Rattle.run_start.specs.Beginning.{BeginsAll}
+use Rattle.run_start.specs.Beginning.{BeginsAll, Begins}
+use Rattle.run_start.specs.declared.starting.Started.{Started}
+use Rattle.run_start.specs.declared.starting.Started.TheVariants as starteds
 use Rattle.run_start.specs.Leading.{IsTold, machine_at_start, StartLeads, FillsLead, FillsRest, StopsRest, StartStops}
 use Rattle.run_start.proofs.Kernels.{IsBegun, begun_at}
 use Rattle.run_start.proofs.Placing.{start_finds}
+
+-- where all began
+pub all_began : (started : Started) (numbers : List ℕ) (old begun : Standing) → started ≡ starteds.Ok → Begins started numbers old begun
+    → BeginsAll numbers old begun
+all_began started numbers old begun e b = subst (λ (s : Started). Begins s numbers old begun) e b
 
 -- the machine at the start stands there
 pub stands_at_start : (A : Inputs) (hs : Holdings) (image : List ℕ) → CanRun A hs → 512 * A.swap_blocks ≤ length image
@@ -37,7 +44,7 @@ stands_at_start A hs image can room = record {
 }
 
 module _ (A : Inputs) (numbers : List ℕ) (old begun : Standing) (holds : Option (List NamedFile)) (image : List ℕ) (is_new : IsNew old) (big : 64 ≤ old.params.frames)
-    (told : IsTold A old numbers holds image) (began : BeginsAll numbers old begun) (on : RunsOn old begun 0) where
+    (told : IsTold A old numbers holds image) (began : BeginsAll numbers old begun) (on : SameSizes old begun) where
   abbrev hs : Holdings
   hs = begun.kernel.holdings
 

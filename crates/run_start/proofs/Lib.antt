@@ -1,8 +1,6 @@
 pub use Rattle.steady_laws.proofs.Entries
 pub use Rattle.steady_laws.proofs.Journals
-pub use Rattle.steady_laws.proofs.Kernels as SteadyLawsKernels
 pub use Rattle.steady_laws.proofs.Lines
-pub use Rattle.steady_laws.proofs.Pages
 pub use Rattle.steady_laws.proofs.StopsKeep
 pub use Rattle.steady_laws.proofs.Transfers
 pub use Rattle.step_units.proofs.Asking
@@ -14,7 +12,6 @@ pub use Rattle.step_units.proofs.Turning
 pub use Rattle.steady_laws.proofs.Numbers
 pub mod Images
 pub mod Placing
-pub mod Begun
 pub mod Filled
 pub mod Going
 pub mod Kernels

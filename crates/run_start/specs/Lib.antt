@@ -1,5 +1,4 @@
 pub use Rattle.steady_laws.specs.Reading
-pub use Rattle.steady_laws.specs.Holders
 pub use Rattle.steady_laws.specs.Ready
 pub use Rattle.steady_laws.specs.Sizes
 pub use Rattle.step_units.specs.Lines

@@ -1,20 +1,21 @@
 -- The start of a run.
-use Rattle.std.specs.Prelude.{◌≡◌, ℕ, ◌≤◌, false, List, [], ◌∷◌, length, None, Result, Ok, Err}
+use Rattle.std.specs.Prelude.{◌≡◌, ℕ, ◌≤◌, List, [], ◌∷◌, length, None, Result, Ok, Err}
 use Rattle.swap_book.specs.Holdings.{Holdings}
 use Rattle.flat_state.specs.Flat.{Inputs}
 use Rattle.flat_state.specs.Journal.{instructions_of}
+use Rattle.machine_state.specs.Going.{CanGoOn}
 use Rattle.machine_state.specs.New.{fresh_kernel}
 use Rattle.machine_state.specs.Applying.{facts_named}
 use Rattle.machine_state.specs.Machine.{Standing}
 use Rattle.machine_state.specs.Sourced.{ImageNamed}
 use Rattle.steady_laws.specs.LastMoves.{last_moves}
 use Rattle.steady_laws.specs.Reading.{AreNamed}
-use Rattle.steady_laws.specs.Holders.{HoldersStand}
 use Rattle.run_start.specs.declared.starting.Started.{Started}
 use Rattle.run_start.specs.declared.starting.Started.TheVariants as starteds
 
--- The machine is as it was made: with no process yet.
+-- The machine is as it was made: it can go on, with no process yet.
 pub record IsNew (m : Standing) : Type 0 where
+  pub ready : CanGoOn m
   pub kernel : m.kernel ≡ fresh_kernel (facts_named m.images) m.params.frames
   pub before : m.before ≡ []
   pub room : m.room ≡ None
@@ -36,16 +37,13 @@ abbrev pub started_by : Result Holdings ℕ → Started
 started_by (Ok hs) = starteds.Ok
 started_by (Err pid) = starteds.NoSpace pid
 
--- After the start the machine goes on, whatever the devices gave: it runs, no pieces wait for an entry, nothing is due, who holds
--- a space holds one that is there, and alone, it has its frames, and the last entry counts no move of the hands. No instruction is
--- counted.
+-- After the start the machine can go on, whatever the devices gave: nothing is due, it has its frames, the last entry counts no
+-- move of the hands, and no instruction is counted.
 pub record HasStarted (old new : Standing) : Type 0 where
   pub params : new.params ≡ old.params
   pub images : new.images ≡ old.images
-  pub running : new.kernel.stopped ≡ false
-  pub whole : new.before ≡ new.kernel.holdings
+  pub ready : CanGoOn new
   pub due : new.kernel.place.due ≡ []
-  pub holders : HoldersStand new.kernel
   pub frames : length new.kernel.place.holds ≡ old.params.frames
   pub moves : last_moves new.kernel.journal ≡ 0
   pub counted : instructions_of new.kernel.journal ≡ 0

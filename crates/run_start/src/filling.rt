@@ -1,11 +1,11 @@
 //! What is due is filled in turn.
-ghost use Rattle.std.specs.Prelude.{◌≡◌, ◌≤◌, ◌∷◌, [], length, false, OnOk, IfErr, MatchResult};
+ghost use Rattle.std.specs.Prelude.{◌≤◌, ◌∷◌, [], length, OnOk, IfErr, MatchResult};
 ghost use Rattle.vm_facts.specs.declared.page.Page.{Page as AnyPage};
 ghost use Rattle.page_model.specs.Rank.{HasRoom};
+ghost use Rattle.machine_state.specs.Going.{CanGoOn};
 ghost use Rattle.machine_state.specs.Files.{AreFiles};
 ghost use Rattle.machine_state.specs.Outside.{stop_of, TransfersPages};
 ghost use Rattle.steady_laws.specs.LastMoves.{last_moves};
-ghost use Rattle.steady_laws.specs.Holders.{HoldersStand};
 ghost use Rattle.steady_laws.specs.Ready.{Continues};
 ghost use Rattle.steady_laws.specs.Sizes.{KeptAtStop};
 ghost use Rattle.run_start.specs.Filling.{due_of, IsDueFirst, FillsDue, StopsDue};
@@ -25,8 +25,7 @@ fn fill_first<F: Files, D: SwapDev>(
     page: Page,
     parent: Option<Page>,
 ) -> Result<(), Stop>
-    requires running { m.old.kernel.stopped ≡ false }
-    requires whole { m.old.before ≡ m.old.kernel.holdings }
+    requires ready { CanGoOn m.old }
     requires area { m.old.params.swap_blocks ≤ D.blocks swap.old }
     requires files { AreFiles m.old.images (F.holds files.old) }
     requires first { IsDueFirst m.old.kernel.place (due_of page parent) }
@@ -35,6 +34,7 @@ fn fill_first<F: Files, D: SwapDev>(
     ensures filled { MatchResult result (λ u. FillsDue (due_of page parent) m.old m.new (F.holds files.old) (D.image swap.old) (D.image swap.new))
         (StopsDue (due_of page parent) m.old m.new (F.holds files.old) (D.image swap.old) (D.image swap.new)) }
     ensures outside { TransfersPages F.Files D.SwapDev (stop_of result) files.old files.new swap.old swap.new }
+    ensures goes_on { OnOk result (CanGoOn m.new) }
 {
     match parent {
         Some(parent) => copy_page(m, files, swap, page, parent),
@@ -49,18 +49,17 @@ pub fn fill_rest<F: Files, D: SwapDev>(
     files: &mut F,
     swap: &mut D,
 ) -> Result<(), Stop>
-    requires running { m.old.kernel.stopped ≡ false }
-    requires whole { m.old.before ≡ m.old.kernel.holdings }
+    requires ready { CanGoOn m.old }
     requires frames { 64 ≤ length m.old.kernel.place.holds }
     requires low { last_moves m.old.kernel.journal ≤ 1000000 }
     requires area { m.old.params.swap_blocks ≤ D.blocks swap.old }
     requires files { AreFiles m.old.images (F.holds files.old) }
     ensures leads { OnOk result (FillsRest m.old m.new (F.holds files.old) (D.image swap.old) (D.image swap.new)) }
     ensures stops { IfErr result (StopsRest m.old m.new (F.holds files.old) (D.image swap.old) (D.image swap.new)) }
-    ensures goes_on { OnOk result (Continues m.old m.new 0) }
-    ensures holders { OnOk result (HoldersStand m.old.kernel → HoldersStand m.new.kernel) }
+    ensures continues { OnOk result (Continues m.old m.new 0) }
     ensures kept { IfErr result (KeptAtStop m.old m.new) }
     ensures outside { TransfersPages F.Files D.SwapDev (stop_of result) files.old files.new swap.old swap.new }
+    ensures goes_on { OnOk result (CanGoOn m.new) }
 {
     while let Some((page, parent)) = m.due_at(0) {
         fill_first(m, files, swap, page, parent)?;

@@ -1,8 +1,9 @@
 //! The first processes of a run start.
-ghost use Rattle.std.specs.Prelude.{◌≡◌, ◌≤◌, ℕ, false, List, [], length, Some, IfOk, IfErr, Ok};
+ghost use Rattle.std.specs.Prelude.{◌≡◌, ◌≤◌, ℕ, List, [], length, Some, IfOk, IfErr, Ok};
 ghost use Rattle.flat_state.specs.Flat.{Inputs};
 ghost use Rattle.flat_model.specs.Asked.{start_held};
 ghost use Rattle.machine_state.specs.Files.{AreFiles};
+ghost use Rattle.machine_state.specs.Going.{CanGoOn};
 ghost use Rattle.machine_state.specs.Outside.{stop_of, TransfersPages};
 ghost use Rattle.steady_laws.specs.Sizes.{KeptAtStop};
 ghost use Rattle.run_start.specs.Starting.{IsNew, AreAmong, StartsFrom, started_by, HasStarted};
@@ -39,7 +40,7 @@ pub fn start<F: Files, D: SwapDev>(
     ensures space { (A : Inputs) → StartsFrom A m.old first.now → IfOk result (λ started. started ≡ started_by (start_held A)) }
     ensures none_made { (pid : ℕ) → result ≡ Ok (Started.NoSpace pid) → m.new.kernel.journal ≡ [] }
     ensures untouched { (pid : ℕ) → result ≡ Ok (Started.NoSpace pid) → swap.new ≡ swap.old }
-    ensures kept_running { (pid : ℕ) → result ≡ Ok (Started.NoSpace pid) → m.new.kernel.stopped ≡ false }
+    ensures kept_ready { (pid : ℕ) → result ≡ Ok (Started.NoSpace pid) → CanGoOn m.new }
     ensures kept_params { (pid : ℕ) → result ≡ Ok (Started.NoSpace pid) → m.new.params ≡ m.old.params }
     ensures kept_images { (pid : ℕ) → result ≡ Ok (Started.NoSpace pid) → m.new.images ≡ m.old.images }
     ensures kept { IfErr result (KeptAtStop m.old m.new) }
@@ -50,11 +51,12 @@ pub fn start<F: Files, D: SwapDev>(
         → IfErr result (λ stop. StartStops A m.new image stop (D.image swap.new)) }
     ensures outside { TransfersPages F.Files D.SwapDev (stop_of result) files.old files.new swap.old swap.new }
 {
-    m.sound();
     let started = begin_all(m, first)?;
     match started {
-        Started::Ok => fill_rest(m, files, swap)?,
-        Started::NoSpace(_) => {}
+        Started::Ok => {
+            fill_rest(m, files, swap)?;
+            Ok(Started::Ok)
+        }
+        Started::NoSpace(pid) => Ok(Started::NoSpace(pid)),
     }
-    Ok(started)
 }

@@ -13,6 +13,7 @@ use Rattle.page_model.specs.Placement.{Residence}
 use Rattle.page_model.specs.Swapper as swapper
 use Rattle.page_laws.proofs.Lists.Local.{none_some}
 use Rattle.kernel_model.specs.ChangeStep.{life_of_proc}
+use Rattle.machine_state.specs.Going.{CanGoOn}
 use Rattle.machine_state.specs.Machine.{Standing, life_shown, processes_of, proc_of, residence_by, residence_of, residents_of}
 use Rattle.machine_state.specs.Alike.{AreRecords}
 use Rattle.machine_state.proofs.Records.{keeps_none, keeps_some}
@@ -21,7 +22,6 @@ use Rattle.proc_calls.proofs.Touching.{record_shown}
 use Rattle.proc_calls.specs.Callers.{IsCaller}
 use Rattle.kernel_model.specs.Kernel.{HoldsSpace}
 use Rattle.machine_state.specs.Calls.{life_in}
-use Rattle.steady_laws.specs.Holders.{HoldersStand}
 
 -- A process whose record isn't out is in.
 
@@ -56,18 +56,16 @@ is_in (n ∷ ns) ps pid p f o = go (residence_of (find n ps)) refl (is_in ns ps 
       | inr d ↦ ap (λ (y : Residence). y.out) (first_miss pid r rs d) ∙ more
     ]
 
-pub is_caller : (m : Standing) (ps : List Record) (p : Record) (pid sid : ℕ) → m.kernel.stopped ≡ false → m.before ≡ m.kernel.holdings
-    → m.kernel.place.due ≡ [] → HoldersStand m.kernel
+pub is_caller : (m : Standing) (ps : List Record) (p : Record) (pid sid : ℕ) → CanGoOn m → m.kernel.place.due ≡ []
     → m.kernel.processes ≡ processes_of ps m.kernel.next_pid → m.kernel.place.residents ≡ residents_of ps m.kernel.next_pid → AreRecords ps m.kernel.next_pid
     → find pid ps ≡ Some p → p.state ≡ lives.Holds sid → p.out ≡ false → IsCaller m pid
-is_caller m ps p pid sid running whole clear stand procs residents records f s o = record {
-  running = running;
-  whole = whole;
+is_caller m ps p pid sid ready clear procs residents records f s o = record {
+  ready = ready;
   clear = clear;
   lends = record {
     sid = sid;
     holds = holds;
-    there = stand.spaces pid sid holds;
+    there = ready.running.holders.spaces pid sid holds;
     resident = ap (λ (l : List Residence). (swapper.residence_of l pid).out) residents ∙ is_in (range_with_len 1 (m.kernel.next_pid - 1)) ps pid p f o;
   };
 }

@@ -36,32 +36,36 @@ use Rattle.proc_calls.proofs.Callers.{caller_there, still_calls}
 use Rattle.steady_laws.specs.Calls.{called_count, RepliesNone, AnswersNone}
 use Rattle.steady_laws.specs.Ready.{Continues}
 use Rattle.steady_laws.proofs.Transfers.{settled_on}
-use Rattle.steady_laws.proofs.Running.{continues_self, continues_both, continues_from, caller_ready}
-use Rattle.steady_laws.proofs.Entries.{entered_on, entry_continues, from_found, found_continues, note_continues, pass_continues}
+use Rattle.steady_laws.proofs.Running.{continues_self, continues_both, continues_from}
+use Rattle.steady_laws.proofs.Entries.{MayEnter, may_enter, entered_on, entry_continues, from_found, found_enters, found_continues, note_continues, pass_continues}
 
 -- A call that answers.
 
-out_on : (old between : Standing) (pid : ℕ) (bytes : List ℕ) → IsCaller old pid → GoneOut old between pid bytes → IsCaller between pid × Continues old between 0
+out_on : (old between : Standing) (pid : ℕ) (bytes : List ℕ) → IsCaller old pid → GoneOut old between pid bytes → MayEnter between pid × Continues old between 0
 out_on old between pid [] c h = (
-  subst (λ (m : Standing). IsCaller m pid) (sym h) c,
-  subst (λ (m : Standing). Continues old m 0) (sym h) (continues_self old (caller_ready old pid c)),
+  subst (λ (m : Standing). MayEnter m pid) (sym h) (may_enter old pid c),
+  subst (λ (m : Standing). Continues old m 0) (sym h) (continues_self old c.clear),
 )
-out_on old between pid (byte ∷ bytes) c h = (
-  still_calls old pid (regs_of old.kernel pid) (entries.Out pid (byte ∷ bytes)) between h c,
-  entry_continues old between pid (regs_of old.kernel pid) (entries.Out pid (byte ∷ bytes)) Keep c tt tt h,
-)
+out_on old between pid (byte ∷ bytes) c h =
+    let e = entries.Out pid (byte ∷ bytes) in
+    let on = entry_continues old between pid (regs_of old.kernel pid) e Keep c tt tt h in
+    (record { clear = on.clear; there = caller_there between.kernel pid (still_calls old pid (regs_of old.kernel pid) e between h.step c.lends).lends }, on)
 
 written_on : (old new : Standing) (pid : ℕ) (call : SystemCall) (bytes : List ℕ) (regs : Regs) → IsCaller old pid
     → Written old new pid call bytes regs → Continues old new 1
 written_on old new pid call bytes regs c h =
     let o = out_on old h.between pid bytes c h.out in
-    continues_both old h.between new 0 1 o.1 (entry_continues h.between new pid regs (call_entry pid call regs) Keep o.0 tt tt h.answer)
+    continues_both old h.between new 0 1 o.1 (entered_on h.between new pid regs (call_entry pid call regs) Keep o.0 tt tt h.answer)
+
+fails_on : (old new : Standing) (pid : ℕ) (call : SystemCall) (regs : Regs) (error : ℕ) (called : Called) → MayEnter old pid
+    → Replied old new pid call regs (Fails error) called → Continues old new (called_count called)
+fails_on old new pid call regs error called s h =
+    subst (λ (y : Called). Continues old new (called_count y)) (sym h.0)
+    (entered_on old new pid (replied regs true error) (call_entry pid call (replied regs true error)) Keep s tt tt h.1)
 
 pub reply_continues : (old new : Standing) (pid : ℕ) (call : SystemCall) (regs : Regs) (reply : Reply) (called : Called) → IsCaller old pid → RepliesNone reply
     → Replied old new pid call regs reply called → Continues old new (called_count called)
-reply_continues old new pid call regs (Fails error) called c n h =
-    subst (λ (y : Called). Continues old new (called_count y)) (sym h.0)
-    (entry_continues old new pid (replied regs true error) (call_entry pid call (replied regs true error)) Keep c tt tt h.1)
+reply_continues old new pid call regs (Fails error) called c n h = fails_on old new pid call regs error called (may_enter old pid c) h
 reply_continues old new pid call regs (Does after change) called c n h =
     subst (λ (y : Called). Continues old new (called_count y)) (sym h.0) (entry_continues old new pid after (call_entry pid call after) change c tt n h.1)
 reply_continues old new pid call regs (Writes bytes) called c n h =
@@ -76,7 +80,7 @@ pub call_continues : (old new : Standing) (pid : ℕ) (call : SystemCall) (regs 
 call_continues old new pid call regs (Ok reply) called c n h = reply_continues old new pid call regs reply called c n h
 call_continues old new pid call regs (Err (Miss address write)) called c n h =
     subst (λ (y : Called). Continues old new (called_count y)) (sym h.0)
-    (subst (λ (m : Standing). Continues old m 0) (sym h.1) (continues_self old (caller_ready old pid c)))
+    (subst (λ (m : Standing). Continues old m 0) (sym h.1) (continues_self old c.clear))
 call_continues old new pid call regs (Err (Below address)) called c n h = reply_continues old new pid call regs (Fails fault) called c tt h
 call_continues old new pid call regs (Err (Signal number)) called c n h = reply_continues old new pid call regs (Fails fault) called c tt h
 
@@ -109,24 +113,16 @@ wait_continues old new pid regs called c h =
 
 -- A call whose pieces find no place.
 
-refusal_there : (old : Standing) (pid : ℕ) → IsCaller old pid → IsCaller (without_pieces old pid) pid
-refusal_there old pid c = record {
-  running = c.running;
-  whole = c.whole;
-  clear = c.clear;
-  lends = record { sid = c.lends.sid; holds = c.lends.holds; there = c.lends.there; resident = c.lends.resident };
-}
-
-pub behind_refusal : (old new : Standing) (pid n : ℕ) → IsCaller old pid
-    → (IsCaller (without_pieces old pid) pid → Continues (without_pieces old pid) new n) → Continues old new n
-behind_refusal old new pid n c h =
-    continues_from old (without_pieces old pid) new n (note_continues old (without_pieces old pid) (entries.Refused pid) (caller_ready old pid c) tt refl) (h (refusal_there old pid c))
+pub behind_refusal : (old new : Standing) (pid n : ℕ) → MayEnter old pid
+    → (MayEnter (without_pieces old pid) pid → Continues (without_pieces old pid) new n) → Continues old new n
+behind_refusal old new pid n s h =
+    continues_from old (without_pieces old pid) new n (note_continues old (without_pieces old pid) (entries.Refused pid) s.clear tt refl) (h (record { clear = s.clear; there = s.there }))
 
 pub refusal_continues : (old new : Standing) (pid : ℕ) (call : SystemCall) (regs : Regs) → IsCaller old pid → IsRefused old new pid call regs
     → Continues old new 1
 refusal_continues old new pid call regs c h =
-    behind_refusal old new pid 1 c
-    (λ d. entry_continues (without_pieces old pid) new pid (replied regs true no_memory) (call_entry pid call (replied regs true no_memory)) Keep d tt tt h.answer)
+    behind_refusal old new pid 1 (may_enter old pid c)
+    (λ s. entered_on (without_pieces old pid) new pid (replied regs true no_memory) (call_entry pid call (replied regs true no_memory)) Keep s tt tt h.answer)
 
 -- A child.
 
@@ -142,8 +138,7 @@ lent_continues : (old new : Standing) (pid : ℕ) (regs : Regs) (child : ℕ) �
 lent_continues old new pid regs child c h =
     let made : Continues old h.between 1 =
     found_continues old h.between h.made.found pid (replied_both regs child 0) (call_entry pid system_calls.Vfork (replied_both regs child 0)) (Lend child) c tt tt h.made.answer in
-    continues_both old h.between new 1 0 made
-    (pass_continues h.between new pid child (record { running = made.running; whole = made.whole; clear = made.clear }) h.passed)
+    continues_both old h.between new 1 0 made (pass_continues h.between new pid child made.clear h.passed)
 
 pub vfork_continues : (old new : Standing) (pid : ℕ) (regs : Regs) → IsCaller old pid → Vforked old new pid regs → Continues old new 1
 vfork_continues old new pid regs c h =
@@ -165,30 +160,38 @@ passed_there k from to pid s =
     go : (f : Proc → Proc) → ((q : Proc) → (f q).pid ≡ q.pid) → IsSome (numbered (λ (p : Proc). p.pid) pid (map f k.processes))
     go f same = subst IsSome (sym (numbered_map (λ (p : Proc). p.pid) f same pid k.processes)) (some f (proc_in k pid) s)
 
--- it went on, and the process is there
+-- it went on, and the process may make an entry
 pub record Left (old new : Standing) (pid : ℕ) : Type 0 where
   pub on : Continues old new 0
-  pub there : IsSome (proc_in new.kernel pid)
+  pub may : MayEnter new pid
   pub numbers : new.kernel.next_sid ≡ old.kernel.next_sid
 
 pub left_settled : (old new : Standing) (pid : ℕ) (holds : Option (List NamedFile)) (i j : Option (List ℕ)) → IsCaller old pid
     → HasSettled old new (space_held old.kernel pid) holds i j → Left old new pid
 left_settled old new pid holds i j c h =
-    let e = settled_on (sources old holds) (space_held old.kernel pid) old new i j (caller_ready old pid c) h.settled h.rest in
+    let e = settled_on (sources old holds) (space_held old.kernel pid) old new i j c.clear h.settled h.rest in
     record {
       on = e.on;
-      there = subst (λ (ps : List Proc). IsSome (numbered (λ (p : Proc). p.pid) pid ps)) (sym e.processes) (caller_there old.kernel pid c.lends);
+      may = record {
+        clear = e.on.clear;
+        there = subst (λ (ps : List Proc). IsSome (numbered (λ (p : Proc). p.pid) pid ps)) (sym e.processes) (caller_there old.kernel pid c.lends);
+      };
       numbers = e.numbers;
     }
 
 left_by : (lent : Bool) (old new : Standing) (pid : ℕ) (holds : Option (List NamedFile)) (i j : Option (List ℕ)) → IsCaller old pid
     → HasLeftBy lent old new pid holds i j → Left old new pid
-left_by true old new pid holds i j c h = record {
-  on = pass_continues old new pid (lender_among old.kernel.processes pid) (caller_ready old pid c) h.step;
-  there = subst (λ (m : Standing). IsSome (proc_in m.kernel pid)) (sym h.step)
-      (passed_there old.kernel pid (lender_among old.kernel.processes pid) pid (caller_there old.kernel pid c.lends));
-  numbers = ap (λ (m : Standing). m.kernel.next_sid) h.step;
-}
+left_by true old new pid holds i j c h =
+    let lender = lender_among old.kernel.processes pid in
+    let on = pass_continues old new pid lender c.clear h.step in
+    record {
+      on = on;
+      may = record {
+        clear = on.clear;
+        there = subst (λ (m : Standing). IsSome (proc_in m.kernel pid)) (sym h.step) (passed_there old.kernel pid lender pid (caller_there old.kernel pid c.lends));
+      };
+      numbers = ap (λ (m : Standing). m.kernel.next_sid) h.step;
+    }
 left_by false old new pid holds i j c h = left_settled old new pid holds i j c h
 
 pub left_on : (old new : Standing) (pid : ℕ) (holds : Option (List NamedFile)) (i j : Option (List ℕ)) → IsCaller old pid
@@ -201,7 +204,7 @@ pub end_continues : (old new : Standing) (pid status : ℕ) (holds : Option (Lis
 end_continues old new pid status holds i j c h =
     let l = left_on old h.between pid holds i j c h.left in
     continues_both old h.between new 0 1 l.on
-    (entered_on h.between new pid (regs_of old.kernel pid) (entries.Ended pid status) (End status) l.on.running l.on.clear l.there tt tt h.ended)
+    (entered_on h.between new pid (regs_of old.kernel pid) (entries.Ended pid status) (End status) l.may tt tt h.ended)
 
 pub exit_continues : (old new : Standing) (pid : ℕ) (regs : Regs) (r : Result Reply Refused) (holds : Option (List NamedFile))
     (i j : Option (List ℕ)) (called : Called)
@@ -217,42 +220,38 @@ exit_continues old new pid regs (Err refused) holds i j called c h = call_contin
 -- A break.
 
 -- a reply of a break, of a process that is there
-break_on : (fits : Bool) (old new : Standing) (pid : ℕ) (regs : Regs) (pages stack : ℕ) (called : Called) → old.kernel.stopped ≡ false
-    → old.kernel.place.due ≡ []
-    → IsSome (proc_in old.kernel pid) → Replied old new pid system_calls.Break regs (break_by fits regs pages stack) called
+break_on : (fits : Bool) (old new : Standing) (pid : ℕ) (regs : Regs) (pages stack : ℕ) (called : Called) → MayEnter old pid
+    → Replied old new pid system_calls.Break regs (break_by fits regs pages stack) called
     → Continues old new (called_count called)
-break_on true old new pid regs pages stack called r d s h =
+break_on true old new pid regs pages stack called s h =
     subst (λ (y : Called). Continues old new (called_count y)) (sym h.0)
-    (entered_on old new pid (replied regs false 0) (call_entry pid system_calls.Break (replied regs false 0)) (Resize pages stack) r d s tt tt h.1)
-break_on false old new pid regs pages stack called r d s h =
-    subst (λ (y : Called). Continues old new (called_count y)) (sym h.0)
-    (entered_on old new pid (replied regs true no_memory) (call_entry pid system_calls.Break (replied regs true no_memory)) Keep r d s tt tt h.1)
+    (entered_on old new pid (replied regs false 0) (call_entry pid system_calls.Break (replied regs false 0)) (Resize pages stack) s tt tt h.1)
+break_on false old new pid regs pages stack called s h = fails_on old new pid system_calls.Break regs no_memory called s h
 
 grown_on : (old new : Standing) (pid : ℕ) (regs : Regs) (pages : ℕ) (called : Called) → IsCaller old pid → GrownData old new pid regs pages called
     → Continues old new (called_count called)
 grown_on old new pid regs pages called c s =
     from_found old new s.found (called_count called)
-    (break_on (nat_le pages data_limit) (with_pieces old s.found) new pid regs pages (stack_pages_of old.kernel pid) called c.running c.clear
-    (caller_there old.kernel pid c.lends) s.replied)
+    (break_on (nat_le pages data_limit) (with_pieces old s.found) new pid regs pages (stack_pages_of old.kernel pid) called
+    (found_enters old s.found pid (may_enter old pid c)) s.replied)
 
 none_on : (old new : Standing) (pid : ℕ) (regs : Regs) (pages : ℕ) (called : Called) → IsCaller old pid → NoPieces old new pid regs pages called
     → Continues old new (called_count called)
 none_on old new pid regs pages called c s =
-    behind_refusal old new pid (called_count called) c
-    (λ d. reply_continues (without_pieces old pid) new pid system_calls.Break regs (Fails no_memory) called d tt s.replied)
+    behind_refusal old new pid (called_count called) (may_enter old pid c) (λ may. fails_on (without_pieces old pid) new pid system_calls.Break regs no_memory called may s.replied)
 
 cut_on : (old new : Standing) (pid : ℕ) (regs : Regs) (pages : ℕ) (holds : Option (List NamedFile)) (i j : Option (List ℕ)) (called : Called) → IsCaller old pid
     → CutData old new pid regs pages holds i j called → Continues old new (called_count called)
 cut_on old new pid regs pages holds i j called c s =
     let l = left_settled old s.between pid holds i j c s.settled in
     continues_from old s.between new (called_count called) l.on
-    (break_on (nat_le pages data_limit) s.between new pid regs pages (stack_pages_of old.kernel pid) called l.on.running l.on.clear l.there s.replied)
+    (break_on (nat_le pages data_limit) s.between new pid regs pages (stack_pages_of old.kernel pid) called l.may s.replied)
 
 sized_on : (old new : Standing) (pid : ℕ) (regs : Regs) (pages : ℕ) (holds : Option (List NamedFile)) (i j : Option (List ℕ)) (called : Called)
     → IsCaller old pid
     → MovesEnd old new pid regs pages holds i j called → Continues old new (called_count called)
 sized_on old new pid regs pages holds i j called c (inl (inl s, e)) =
-    break_on (nat_le pages data_limit) old new pid regs pages (stack_pages_of old.kernel pid) called c.running c.clear (caller_there old.kernel pid c.lends) s.replied
+    break_on (nat_le pages data_limit) old new pid regs pages (stack_pages_of old.kernel pid) called (may_enter old pid c) s.replied
 sized_on old new pid regs pages holds i j called c (inl (inr (inl s), e)) = grown_on old new pid regs pages called c s
 sized_on old new pid regs pages holds i j called c (inl (inr (inr s), e)) = none_on old new pid regs pages called c s
 sized_on old new pid regs pages holds i j called c (inr s) = cut_on old new pid regs pages holds i j called c s

@@ -1,5 +1,5 @@
 -- Machines that go on after entries.
-use Rattle.std.proofs.Common.{◌≡◌, ℕ, ◌/◌, ◌%◌, false, List, [], ◌∷◌, length, Option, Some, None, refl, sym, ap, ◌∙◌, subst, arith}
+use Rattle.std.proofs.Common.{◌≡◌, ℕ, ◌/◌, ◌%◌, List, [], ◌∷◌, length, Option, Some, None, refl, sym, ap, ◌∙◌, subst, arith}
 use Rattle.std.specs.Prelude.{IsSome}
 use Rattle.vm_facts.specs.Answers.{ByteWrite}
 use Rattle.vm_facts.specs.declared.page.Page.{Page}
@@ -17,7 +17,7 @@ use Rattle.flat_state.specs.declared.spot.Spot.{Spot}
 use Rattle.flat_state.specs.declared.spot.Spot.TheVariants.{Text, Data, Stack, Below, Outside}
 use Rattle.page_model.specs.Placement.{state_of}
 use Rattle.kernel_model.specs.Kernel.{Proc, Kernel, note_step}
-use Rattle.kernel_model.specs.ChangeStep.{space_of_life, gave_back, change_if, change_step, ran_by, pass_step}
+use Rattle.kernel_model.specs.ChangeStep.{space_of_life, gave_back, change_if, ran_by, pass_step}
 use Rattle.machine_state.specs.Machine.{Standing}
 use Rattle.machine_state.specs.Applying.{facts_named}
 use Rattle.machine_state.specs.UserMemory.{spot_in, write_by_state, write_page, write_spot, write_in, writes_in}
@@ -27,16 +27,23 @@ use Rattle.proc_calls.specs.Callers.{proc_in, IsCaller}
 use Rattle.proc_calls.specs.Making.{with_pieces}
 use Rattle.proc_calls.proofs.Callers.{caller_there}
 use Rattle.steady_laws.specs.Entries.{LeavesNone}
-use Rattle.steady_laws.specs.Ready.{IsReady, RunsOn, Continues, RunsMoved}
-use Rattle.steady_laws.proofs.Placements.{Keeps, keeps_self, touch_keeps, change_frames, change_due}
+use Rattle.steady_laws.specs.Ready.{RunsOn, Continues}
+use Rattle.steady_laws.proofs.Placements.{Keeps, keeps_self, keeps_both, touch_keeps, change_frames, change_due}
 use Rattle.steady_laws.proofs.Journals.{last_plain, last_ran, counts_one}
-use Rattle.steady_laws.proofs.Running.{continues}
+use Rattle.steady_laws.proofs.Running.{entry_on}
 
--- The kernel after an entry of a process.
+-- Nothing is due, and the process is there.
+pub record MayEnter (m : Standing) (pid : ℕ) : Type 0 where
+  pub clear : m.kernel.place.due ≡ []
+  pub there : IsSome (proc_in m.kernel pid)
+
+pub may_enter : (m : Standing) (pid : ℕ) → IsCaller m pid → MayEnter m pid
+may_enter m pid c = record { clear = c.clear; there = caller_there m.kernel pid c.lends }
+
+-- The kernel after its entry.
 
 pub record IsBehind (k l : Kernel) (e : Entry) : Type 0 where
   pub frames : length l.place.holds ≡ length k.place.holds
-  pub stopped : l.stopped ≡ k.stopped
   pub journal : l.journal ≡ append k.journal e
 
 behind_by : (images : List Image) (k : Kernel) (regs : Regs) (e : Entry) (change : Change) (o : Option Proc) → IsSome o
@@ -44,7 +51,6 @@ behind_by : (images : List Image) (k : Kernel) (regs : Regs) (e : Entry) (change
 behind_by images k regs e change None s = absurd cc
 behind_by images k regs e change (Some p) s = record {
   frames = change_frames images k.place p.pid (space_of_life p.life) (gave_back p.life) k.next_sid (length (append k.journal e)) change;
-  stopped = refl;
   journal = refl;
 }
 
@@ -53,166 +59,96 @@ clear_by : (images : List Image) (k : Kernel) (regs : Regs) (e : Entry) (change 
 clear_by images k regs e change None n = refl
 clear_by images k regs e change (Some p) n = change_due images k.place p.pid (space_of_life p.life) (gave_back p.life) k.next_sid (length (append k.journal e)) change n
 
-pub change_behind : (images : List Image) (k : Kernel) (pid : ℕ) (regs : Regs) (e : Entry) (change : Change) → IsSome (proc_in k pid)
-    → IsBehind k (change_step images k pid regs e change) e
-change_behind images k pid regs e change s = behind_by images k regs e change (proc_in k pid) s
+entered_behind : (old new : Standing) (pid : ℕ) (regs : Regs) (e : Entry) (change : Change) → IsSome (proc_in old.kernel pid)
+    → Entered old new pid regs e change → IsBehind old.kernel new.kernel e
+entered_behind old new pid regs e change s h =
+    subst (λ (l : Kernel). IsBehind old.kernel l e) (sym h.step) (behind_by (facts_named old.images) old.kernel regs e change (proc_in old.kernel pid) s)
 
 -- The machine.
 
-pub entered_behind : (old new : Standing) (pid : ℕ) (regs : Regs) (e : Entry) (change : Change) → IsSome (proc_in old.kernel pid)
-    → Entered old new pid regs e change → IsBehind old.kernel new.kernel e
-entered_behind old new pid regs e change s h =
-    subst (λ (l : Kernel). IsBehind old.kernel l e) (sym h.step) (change_behind (facts_named old.images) old.kernel pid regs e change s)
-
 -- where a process is there that made an entry, the machine runs on
-pub entered_runs : (old new : Standing) (pid : ℕ) (regs : Regs) (e : Entry) (change : Change) → old.kernel.stopped ≡ false → IsSome (proc_in old.kernel pid)
+pub entered_runs : (old new : Standing) (pid : ℕ) (regs : Regs) (e : Entry) (change : Change) → IsSome (proc_in old.kernel pid)
     → Entered old new pid regs e change → RunsOn old new (counted e)
-entered_runs old new pid regs e change r s h =
+entered_runs old new pid regs e change s h =
     let b = entered_behind old new pid regs e change s h in
     record {
       params = ap (λ (m : Standing). m.params) h.rest;
       images = ap (λ (m : Standing). m.images) h.rest;
-      running = b.stopped ∙ r;
-      whole = ap (λ (m : Standing). m.before) h.rest;
       frames = b.frames;
       counted = counts_one old.kernel.journal new.kernel.journal e b.journal;
     }
 
-pub entered_due : (old new : Standing) (pid : ℕ) (regs : Regs) (e : Entry) (change : Change) → LeavesNone change → Entered old new pid regs e change
-    → new.kernel.place.due ≡ old.kernel.place.due
-entered_due old new pid regs e change n h =
-    ap (λ (l : Kernel). l.place.due) h.step ∙ clear_by (facts_named old.images) old.kernel regs e change (proc_in old.kernel pid) n
-
-pub entered_last : (old new : Standing) (pid : ℕ) (regs : Regs) (e : Entry) (change : Change) → IsPlain e → IsSome (proc_in old.kernel pid)
-    → Entered old new pid regs e change → last_moves new.kernel.journal ≡ 0
-entered_last old new pid regs e change plain s h =
-    let b = entered_behind old new pid regs e change s h in ap last_moves b.journal ∙ last_plain old.kernel.journal e plain
-
--- so it goes on
-pub entered_on : (old new : Standing) (pid : ℕ) (regs : Regs) (e : Entry) (change : Change) → old.kernel.stopped ≡ false → old.kernel.place.due ≡ []
-    → IsSome (proc_in old.kernel pid) → IsPlain e → LeavesNone change → Entered old new pid regs e change → Continues old new (counted e)
-entered_on old new pid regs e change r c s plain n h =
-    continues old new (counted e) (entered_runs old new pid regs e change r s h) (entered_due old new pid regs e change n h ∙ c)
-    (let last = entered_last old new pid regs e change plain s h in omega arith)
+-- it goes on
+pub entered_on : (old new : Standing) (pid : ℕ) (regs : Regs) (e : Entry) (change : Change) → MayEnter old pid → IsPlain e → LeavesNone change
+    → Entered old new pid regs e change → Continues old new (counted e)
+entered_on old new pid regs e change s plain n h =
+    let b = entered_behind old new pid regs e change s.there h in
+    entry_on old new e (record { params = ap (λ (m : Standing). m.params) h.rest; images = ap (λ (m : Standing). m.images) h.rest })
+    (ap (λ (l : Kernel). l.place.due) h.step ∙ clear_by (facts_named old.images) old.kernel regs e change (proc_in old.kernel pid) n ∙ s.clear)
+    b.frames b.journal (last_plain old.kernel.journal e plain)
 
 pub entry_continues : (old new : Standing) (pid : ℕ) (regs : Regs) (e : Entry) (change : Change) → IsCaller old pid → IsPlain e → LeavesNone change
     → Entered old new pid regs e change → Continues old new (counted e)
-entry_continues old new pid regs e change c plain n h =
-    entered_on old new pid regs e change c.running c.clear (caller_there old.kernel pid c.lends) plain n h
+entry_continues old new pid regs e change c plain n h = entered_on old new pid regs e change (may_enter old pid c) plain n h
 
 -- what goes on from a machine with the same but for its holdings goes on from it
 pub from_found : (old new : Standing) (found : Holdings) (n : ℕ) → Continues (with_pieces old found) new n → Continues old new n
-from_found old new found n c = record {
-  params = c.params;
-  images = c.images;
-  running = c.running;
-  whole = c.whole;
-  clear = c.clear;
-  frames = c.frames;
-  low = c.low;
-  counted = c.counted;
-}
+from_found old new found n c = record { params = c.params; images = c.images; clear = c.clear; frames = c.frames; low = c.low; counted = c.counted }
+
+pub found_enters : (m : Standing) (found : Holdings) (pid : ℕ) → MayEnter m pid → MayEnter (with_pieces m found) pid
+found_enters m found pid s = record { clear = s.clear; there = s.there }
 
 pub found_continues : (old new : Standing) (found : Holdings) (pid : ℕ) (regs : Regs) (e : Entry) (change : Change) → IsCaller old pid → IsPlain e
     → LeavesNone change
     → Entered (with_pieces old found) new pid regs e change → Continues old new (counted e)
 found_continues old new found pid regs e change c plain n h =
-    from_found old new found (counted e) (entered_on (with_pieces old found) new pid regs e change c.running c.clear (caller_there old.kernel pid c.lends) plain n h)
+    from_found old new found (counted e) (entered_on (with_pieces old found) new pid regs e change (found_enters old found pid (may_enter old pid c)) plain n h)
 
 -- The journal alone, and instructions.
 
-note_on : (old : Standing) (e : Entry) → IsReady old → IsPlain e
-    → (let new : Standing = record old { kernel = note_step old.kernel e; room = None } in Continues old new (counted e))
-note_on old e r plain = record {
-  params = refl;
-  images = refl;
-  running = r.running;
-  whole = r.whole;
-  clear = r.clear;
-  frames = refl;
-  low = let last = last_plain old.kernel.journal e plain in omega arith;
-  counted = counts_one old.kernel.journal (append old.kernel.journal e) e refl;
-}
+pub note_continues : (old new : Standing) (e : Entry) → old.kernel.place.due ≡ [] → IsPlain e
+    → new ≡ record old { kernel = note_step old.kernel e; room = None } → Continues old new (counted e)
+note_continues old new e d plain h =
+    subst (λ (m : Standing). Continues old m (counted e)) (sym h)
+    (entry_on old (record old { kernel = note_step old.kernel e; room = None }) e (record { params = refl; images = refl }) d refl refl (last_plain old.kernel.journal e plain))
 
-pub note_continues : (old new : Standing) (e : Entry) → IsReady old → IsPlain e → new ≡ record old { kernel = note_step old.kernel e; room = None }
-    → Continues old new (counted e)
-note_continues old new e r plain h = subst (λ (m : Standing). Continues old m (counted e)) (sym h) (note_on old e r plain)
-
-pub note_counts_none : (old new : Standing) (e : Entry) → IsPlain e → new ≡ record old { kernel = note_step old.kernel e; room = None }
-    → last_moves new.kernel.journal ≡ 0
-note_counts_none old new e plain h = ap (λ (m : Standing). last_moves m.kernel.journal) h ∙ last_plain old.kernel.journal e plain
-
-pub moved_note_continues : (old between new : Standing) (moves : ℕ) (e : Entry) → RunsMoved old between moves → IsPlain e
-    → new ≡ record between { kernel = note_step between.kernel e; room = None } → Continues old new (counted e)
-moved_note_continues old between new moves e m plain h =
-    let noted = note_continues between new e (record { running = m.on.running; whole = m.on.whole; clear = m.clear }) plain h in
-    record {
-      params = noted.params ∙ m.on.params;
-      images = noted.images ∙ m.on.images;
-      running = noted.running;
-      whole = noted.whole;
-      clear = noted.clear;
-      frames = noted.frames ∙ m.on.frames;
-      low = let none = note_counts_none between new e plain h in omega arith;
-      counted = let first = m.on.counted in let then = noted.counted in omega arith;
-    }
-
-ran_on : (old : Standing) (pid : ℕ) (regs : Regs) → IsReady old
-    → (let new : Standing = record old { kernel = ran_by old.kernel pid regs (entries.Ran pid 1); room = None } in Continues old new 1)
-ran_on old pid regs r = record {
-  params = refl;
-  images = refl;
-  running = r.running;
-  whole = r.whole;
-  clear = r.clear;
-  frames = refl;
-  low = let last = last_ran old.kernel.journal pid 1 in omega arith;
-  counted = counts_one old.kernel.journal (append old.kernel.journal (entries.Ran pid 1)) (entries.Ran pid 1) refl;
-}
-
-pub ran_continues : (old new : Standing) (pid : ℕ) (regs : Regs) → IsReady old
-    → new ≡ record old { kernel = ran_by old.kernel pid regs (entries.Ran pid 1); room = None }
-    → Continues old new 1
-ran_continues old new pid regs r h = subst (λ (m : Standing). Continues old m 1) (sym h) (ran_on old pid regs r)
+pub ran_continues : (old new : Standing) (pid : ℕ) (regs : Regs) → old.kernel.place.due ≡ []
+    → new ≡ record old { kernel = ran_by old.kernel pid regs (entries.Ran pid 1); room = None } → Continues old new 1
+ran_continues old new pid regs d h =
+    subst (λ (m : Standing). Continues old m 1) (sym h)
+    (entry_on old (record old { kernel = ran_by old.kernel pid regs (entries.Ran pid 1); room = None }) (entries.Ran pid 1) (record { params = refl; images = refl }) d refl refl
+    (last_ran old.kernel.journal pid 1))
 
 -- a kernel with the same but for processes, marks and bytes
 record SameJournal (k l : Kernel) : Type 0 where
   keeps : Keeps k.place l.place
-  holdings : l.holdings ≡ k.holdings
   journal : l.journal ≡ k.journal
-  stopped : l.stopped ≡ k.stopped
 
-same_on : (old : Standing) (l : Kernel) (room : Option ℕ) → IsReady old → SameJournal old.kernel l
+same_on : (old : Standing) (l : Kernel) (room : Option ℕ) → old.kernel.place.due ≡ [] → SameJournal old.kernel l
     → (let new : Standing = record old { kernel = l; room = room } in Continues old new 0)
-same_on old l room r s = record {
+same_on old l room d s = record {
   params = refl;
   images = refl;
-  running = s.stopped ∙ r.running;
-  whole = r.whole ∙ sym s.holdings;
-  clear = s.keeps.due ∙ r.clear;
+  clear = s.keeps.due ∙ d;
   frames = s.keeps.count;
   low = let same = ap last_moves s.journal in omega arith;
   counted = let same = ap instructions_of s.journal in omega arith;
 }
 
 same_self : (k : Kernel) → SameJournal k k
-same_self k = record { keeps = keeps_self k.place; holdings = refl; journal = refl; stopped = refl }
+same_self k = record { keeps = keeps_self k.place; journal = refl }
 
 same_then : (k l m : Kernel) → SameJournal k l → SameJournal l m → SameJournal k m
-same_then k l m s t = record {
-  keeps = record { due = t.keeps.due ∙ s.keeps.due; count = t.keeps.count ∙ s.keeps.count };
-  holdings = t.holdings ∙ s.holdings;
-  journal = t.journal ∙ s.journal;
-  stopped = t.stopped ∙ s.stopped;
-}
+same_then k l m s t = record { keeps = keeps_both k.place l.place m.place s.keeps t.keeps; journal = t.journal ∙ s.journal }
 
-pub room_continues : (old new : Standing) (made : Option ℕ) → IsReady old → new ≡ record old { room = made } → Continues old new 0
-room_continues old new made r h = subst (λ (m : Standing). Continues old m 0) (sym h) (same_on old old.kernel made r (same_self old.kernel))
+pub room_continues : (old new : Standing) (made : Option ℕ) → old.kernel.place.due ≡ [] → new ≡ record old { room = made } → Continues old new 0
+room_continues old new made d h = subst (λ (m : Standing). Continues old m 0) (sym h) (same_on old old.kernel made d (same_self old.kernel))
 
-pub pass_continues : (old new : Standing) (from to : ℕ) → IsReady old → new ≡ record old { kernel = pass_step old.kernel from to } → Continues old new 0
-pass_continues old new from to r h =
+pub pass_continues : (old new : Standing) (from to : ℕ) → old.kernel.place.due ≡ []
+    → new ≡ record old { kernel = pass_step old.kernel from to } → Continues old new 0
+pass_continues old new from to d h =
     subst (λ (m : Standing). Continues old m 0) (sym h)
-    (same_on old (pass_step old.kernel from to) old.room r (record { keeps = keeps_self old.kernel.place; holdings = refl; journal = refl; stopped = refl }))
+    (same_on old (pass_step old.kernel from to) old.room d (record { keeps = keeps_self old.kernel.place; journal = refl }))
 
 -- Writes.
 
@@ -220,7 +156,7 @@ page_written : (k : Kernel) (q : Page) (at byte : ℕ) → SameJournal k (write_
 page_written k q at byte = go (state_of k.place q)
   where
     go : (s : PageState) → SameJournal k (write_by_state k q s at byte)
-    go (Valid f) = record { keeps = touch_keeps k.place q; holdings = refl; journal = refl; stopped = refl }
+    go (Valid f) = record { keeps = touch_keeps k.place q; journal = refl }
     go Unfilled = same_self k
     go (Invalid f) = same_self k
     go (Coming f) = same_self k
@@ -241,7 +177,7 @@ all_written : (k : Kernel) (sid : ℕ) (ws : List ByteWrite) → SameJournal k (
 all_written k sid [] = same_self k
 all_written k sid (w ∷ ws) = same_then k (write_in k sid w) (writes_in (write_in k sid w) sid ws) (byte_written k sid w) (all_written (write_in k sid w) sid ws)
 
-pub writes_continue : (old new : Standing) (sid : ℕ) (ws : List ByteWrite) → IsReady old → new ≡ record old { kernel = writes_in old.kernel sid ws }
-    → Continues old new 0
-writes_continue old new sid ws r h =
-    subst (λ (m : Standing). Continues old m 0) (sym h) (same_on old (writes_in old.kernel sid ws) old.room r (all_written old.kernel sid ws))
+pub writes_continue : (old new : Standing) (sid : ℕ) (ws : List ByteWrite) → old.kernel.place.due ≡ []
+    → new ≡ record old { kernel = writes_in old.kernel sid ws } → Continues old new 0
+writes_continue old new sid ws d h =
+    subst (λ (m : Standing). Continues old m 0) (sym h) (same_on old (writes_in old.kernel sid ws) old.room d (all_written old.kernel sid ws))

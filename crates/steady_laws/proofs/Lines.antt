@@ -1,7 +1,6 @@
--- Machines that go on after what a line of the schedule asks for, and after what begins a run.
-use Rattle.std.proofs.Common.{◌≡◌, ℕ, ◌+◌, ◌≤◌, List, [], ◌∷◌, ◌++◌, length, Option, None, refl, sym, ap, ◌∙◌, subst, arith}
+-- Machines that go on after what a line of the schedule asks for, and after the fill of a stack page.
+use Rattle.std.proofs.Common.{◌≡◌, ℕ, ◌+◌, ◌≤◌, List, [], ◌∷◌, length, Option, None, refl, sym, ap, ◌∙◌, subst, arith}
 use Rattle.vm_facts.specs.declared.page.Page.{Page}
-use Rattle.vm_facts.specs.declared.page.Page.TheVariants.{Stack}
 use Rattle.vm_facts.specs.declared.entry.Entry.{Entry}
 use Rattle.vm_facts.specs.declared.entry.Entry.TheVariants as entries
 use Rattle.io_edge.specs.FileHolding.{NamedFile}
@@ -10,25 +9,23 @@ use Rattle.page_model.specs.Placement.{Due, Start}
 use Rattle.page_model.specs.Place.{due_after}
 use Rattle.proc_calls.specs.Spans.{moves, moves_of}
 use Rattle.kernel_model.specs.Kernel.{Kernel, zero_step}
-use Rattle.machine_state.specs.Beginning.{StartedFirst}
 use Rattle.machine_state.specs.Machine.{Standing}
 use Rattle.machine_state.specs.Settled.{IsSameBeside}
 use Rattle.machine_state.specs.Swapping.{IsIn}
 use Rattle.swapper.specs.LastMoves.{last_moves}
-use Rattle.swapper.specs.Made.{Ground, ground, MadeBy, Made, Makes}
+use Rattle.swapper.specs.Made.{Ground, ground, MadeBy, Made}
 use Rattle.swapper.proofs.LastMoves.{last_more}
-use Rattle.swapper.proofs.PagingUnitsUnits.{unit_journal, made_same}
-use Rattle.proc_calls.specs.Forced.{Forced}
+use Rattle.swapper.proofs.PagingUnitsUnits.{unit_journal}
 use Rattle.proc_calls.specs.Moved.{Moved}
 use Rattle.proc_calls.specs.Filling.{FillsStart}
 use Rattle.swapper.specs.declared.Turned.{Turned}
 use Rattle.swapper.specs.declared.Turned.TheVariants as turns
 use Rattle.swapper.specs.Putting.{PutOut}
 use Rattle.swapper.specs.Turns.{Turns}
-use Rattle.steady_laws.specs.Ready.{IsRunning, IsReady, RunsOn, Continues, RunsDue, RunsMoved}
+use Rattle.steady_laws.specs.Ready.{RunsOn, Continues, RunsDue, RunsMoved}
 use Rattle.steady_laws.proofs.Placements.{entry_frames, forces_due, first_gone}
 use Rattle.steady_laws.proofs.Journals.{last_plain, counts_one}
-use Rattle.steady_laws.proofs.Running.{continues_self, ready_runs, runs_both, made_counted, made_frames, made_clear, units_run}
+use Rattle.steady_laws.proofs.Running.{continues_self, entry_on, runs_both, made_counted, made_frames, made_clear, units_run}
 
 -- Moves of the hands.
 
@@ -52,53 +49,33 @@ made_last g (e ∷ us) k l i j m =
     let same = ap last_moves (unit_journal g e k m.next i m.made) in
     omega arith
 
-units_moved : (g : Ground) (us : List Entry) (old new : Standing) (i j : Option (List ℕ)) (most : ℕ) → IsReady old → Makes g us old new i j
-    → moves_of us ≤ most → RunsMoved old new most
-units_moved g us old new i j most r m few = record {
-  on = units_run g us old new i j (ready_runs old r) m;
-  clear = made_clear g us old.kernel new.kernel i j r.clear m.made;
-  most = let last = made_last g us old.kernel new.kernel i j m.made in omega arith;
-}
-
-pub moves_continue : (old new : Standing) (n made : ℕ) (holds : Option (List NamedFile)) (i j : Option (List ℕ)) → IsReady old
+pub moves_continue : (old new : Standing) (n made : ℕ) (holds : Option (List NamedFile)) (i j : Option (List ℕ)) → old.kernel.place.due ≡ []
     → Moved n old new made holds i j → RunsMoved old new made
-moves_continue old new n made holds i j r m = units_moved (ground old holds []) m.units old new i j made r m.makes (let same = m.counted in omega arith)
-
-pub forced_continues : (old new : Standing) (locked : List Page) (holds : Option (List NamedFile)) (i j : Option (List ℕ)) → IsReady old
-    → Forced locked old new holds i j
-    → RunsMoved old new (length old.kernel.place.holds)
-forced_continues old new locked holds i j r f = units_moved (ground old holds locked) f.units old new i j (length old.kernel.place.holds) r f.makes f.moves
+moves_continue old new n made holds i j d m =
+    let g = ground old holds [] in
+    record {
+      on = units_run g m.units old new i j m.makes;
+      clear = made_clear g m.units old.kernel new.kernel i j d m.makes.made;
+      most = let last = made_last g m.units old.kernel new.kernel i j m.makes.made in let same = m.counted in omega arith;
+    }
 
 -- The swapper.
 
-in_continues : (old new : Standing) (pid : ℕ) (i : Option (List ℕ)) → IsReady old → IsIn old.kernel new.kernel pid i → IsSameBeside old new
+in_continues : (old new : Standing) (pid : ℕ) (i : Option (List ℕ)) → old.kernel.place.due ≡ [] → IsIn old.kernel new.kernel pid i → IsSameBeside old new
     → Continues old new 0
-in_continues old new pid i r h b =
-    let e : Entry = entries.SwapIn pid in
-    let journal : new.kernel.journal ≡ append old.kernel.journal e = ap (λ (k : Kernel). k.journal) h.step in
-    record {
-      params = b.params;
-      images = b.images;
-      running = ap (λ (k : Kernel). k.stopped) h.step ∙ r.running;
-      whole = b.before ∙ r.whole ∙ sym (ap (λ (k : Kernel). k.holdings) h.step);
-      clear = ap (λ (k : Kernel). k.place.due) h.step ∙ r.clear;
-      frames = ap (λ (k : Kernel). length k.place.holds) h.step;
-      low = let last = ap last_moves journal ∙ last_plain old.kernel.journal e tt in omega arith;
-      counted = counts_one old.kernel.journal new.kernel.journal e journal;
-    }
+in_continues old new pid i d h b =
+    entry_on old new (entries.SwapIn pid) (record { params = b.params; images = b.images }) (ap (λ (k : Kernel). k.place.due) h.step ∙ d)
+    (ap (λ (k : Kernel). length k.place.holds) h.step) (ap (λ (k : Kernel). k.journal) h.step) (last_plain old.kernel.journal (entries.SwapIn pid) tt)
 
-out_continues : (old new : Standing) (pid sid : ℕ) (holds : Option (List NamedFile)) (i j : Option (List ℕ)) → IsReady old
+out_continues : (old new : Standing) (pid sid : ℕ) (holds : Option (List NamedFile)) (i j : Option (List ℕ)) → old.kernel.place.due ≡ []
     → PutOut pid sid old new holds i j → Continues old new 0
-out_continues old new pid sid holds i j r h =
+out_continues old new pid sid holds i j d h =
     let e : Entry = entries.SwapOut pid in
     let journal : new.kernel.journal ≡ append h.at.journal e = ap (λ (k : Kernel). k.journal) h.step in
-    let same = made_same (ground old holds []) h.units old.kernel h.at i h.image h.made in
     record {
       params = h.beside.params;
       images = h.beside.images;
-      running = ap (λ (k : Kernel). k.stopped) h.step ∙ same.stopped ∙ r.running;
-      whole = h.beside.before ∙ r.whole ∙ sym (ap (λ (k : Kernel). k.holdings) h.step ∙ same.holdings);
-      clear = ap (λ (k : Kernel). k.place.due) h.step ∙ made_clear (ground old holds []) h.units old.kernel h.at i h.image r.clear h.made;
+      clear = ap (λ (k : Kernel). k.place.due) h.step ∙ made_clear (ground old holds []) h.units old.kernel h.at i h.image d h.made;
       frames = ap (λ (k : Kernel). length k.place.holds) h.step ∙ made_frames (ground old holds []) h.units old.kernel h.at i h.image h.made;
       low = let last = ap last_moves journal ∙ last_plain h.at.journal e tt in omega arith;
       counted =
@@ -107,40 +84,13 @@ out_continues old new pid sid holds i j r h =
           omega arith;
     }
 
-pub turn_continues : (turned : Turned) (old new : Standing) (holds : Option (List NamedFile)) (i j : Option (List ℕ)) → IsReady old
+pub turn_continues : (turned : Turned) (old new : Standing) (holds : Option (List NamedFile)) (i j : Option (List ℕ)) → old.kernel.place.due ≡ []
     → Turns turned old new holds i j → Continues old new 0
-turn_continues turns.Nothing old new holds i j r h = subst (λ (m : Standing). Continues old m 0) (sym h.0) (continues_self old r)
-turn_continues (turns.In pid) old new holds i j r h = in_continues old new pid i r h.0 h.1
-turn_continues (turns.Out pid) old new holds i j r h = out_continues old new pid h.0 holds i j r h.2
+turn_continues turns.Nothing old new holds i j d h = subst (λ (m : Standing). Continues old m 0) (sym h.0) (continues_self old d)
+turn_continues (turns.In pid) old new holds i j d h = in_continues old new pid i d h.0 h.1
+turn_continues (turns.Out pid) old new holds i j d h = out_continues old new pid h.0 holds i j d h.2
 
--- The beginning of a run.
-
-pub begin_continues : (old new : Standing) (image : ℕ) → IsRunning old → StartedFirst old new image
-    → RunsDue old new 0 (old.kernel.place.due ++ Start (Stack old.kernel.next_pid 0) ∷ [])
-begin_continues old new image r s = subst (λ (m : Standing). RunsDue old m 0 (old.kernel.place.due ++ Start (Stack old.kernel.next_pid 0) ∷ [])) (sym s.step) (record {
-  on = record { params = refl; images = refl; running = r.running; whole = refl; frames = refl; counted = omega arith };
-  due = refl;
-  low = omega arith;
-})
-
-zero_on : (old : Standing) (page : Page) (ds : List Due) → IsRunning old → old.kernel.place.due ≡ Start page ∷ ds
-    → (let new : Standing = record old { kernel = zero_step old.kernel page; room = None } in RunsDue old new 0 ds)
-zero_on old page ds r d = record {
-  on = record {
-    params = refl;
-    images = refl;
-    running = r.running;
-    whole = r.whole;
-    frames = entry_frames [] 0 old.kernel.place (entries.Zero page);
-    counted = counts_one old.kernel.journal (append old.kernel.journal (entries.Zero page)) (entries.Zero page) refl;
-  };
-  due = ap (λ (xs : List Due). due_after xs page) d ∙ first_gone page ds;
-  low = let last = last_plain old.kernel.journal (entries.Zero page) tt in omega arith;
-}
-
-pub zero_continues : (old new : Standing) (page : Page) (ds : List Due) → IsRunning old → old.kernel.place.due ≡ Start page ∷ ds
-    → new ≡ record old { kernel = zero_step old.kernel page; room = None } → RunsDue old new 0 ds
-zero_continues old new page ds r d h = subst (λ (m : Standing). RunsDue old m 0 ds) (sym h) (zero_on old page ds r d)
+-- The fill of a stack page.
 
 -- after a fill the pages are due that were after this one, and the last entry counts no moves
 pub record Filled (page : Page) (old new : Standing) : Type 0 where
@@ -148,14 +98,12 @@ pub record Filled (page : Page) (old new : Standing) : Type 0 where
   pub due : new.kernel.place.due ≡ due_after old.kernel.place.due page
   pub last : last_moves new.kernel.journal ≡ 0
 
-zero_fills : (roomy : Standing) (page : Page) → IsRunning roomy
+zero_fills : (roomy : Standing) (page : Page)
     → (let new : Standing = record roomy { kernel = zero_step roomy.kernel page; room = None } in Filled page roomy new)
-zero_fills roomy page r = record {
+zero_fills roomy page = record {
   on = record {
     params = refl;
     images = refl;
-    running = r.running;
-    whole = r.whole;
     frames = entry_frames [] 0 roomy.kernel.place (entries.Zero page);
     counted = counts_one roomy.kernel.journal (append roomy.kernel.journal (entries.Zero page)) (entries.Zero page) refl;
   };
@@ -163,21 +111,20 @@ zero_fills roomy page r = record {
   last = last_plain roomy.kernel.journal (entries.Zero page) tt;
 }
 
-pub start_fills : (old new : Standing) (page : Page) (holds : Option (List NamedFile)) (i j : Option (List ℕ)) → IsRunning old
-    → FillsStart page old new holds i j → Filled page old new
-start_fills old new page holds i j r f =
-    let on = units_run (ground old holds []) f.forces.units old f.roomy i j r f.forces.makes in
-    let z : Filled page f.roomy new = subst (Filled page f.roomy) (sym f.fills) (zero_fills f.roomy page (record { running = on.running; whole = on.whole })) in
+pub start_fills : (old new : Standing) (page : Page) (holds : Option (List NamedFile)) (i j : Option (List ℕ)) → FillsStart page old new holds i j
+    → Filled page old new
+start_fills old new page holds i j f =
+    let z : Filled page f.roomy new = subst (Filled page f.roomy) (sym f.fills) (zero_fills f.roomy page) in
     record {
-      on = runs_both old f.roomy new 0 0 on z.on;
+      on = runs_both old f.roomy new 0 0 (units_run (ground old holds []) f.forces.units old f.roomy i j f.forces.makes) z.on;
       due = z.due ∙ ap (λ (ds : List Due). due_after ds page) (forces_due f.forces.units old.kernel.place f.roomy.kernel.place [] f.forces.forces);
       last = z.last;
     }
 
-pub fill_continues : (old new : Standing) (page : Page) (ds : List Due) (holds : Option (List NamedFile)) (i j : Option (List ℕ)) → IsRunning old
+pub fill_continues : (old new : Standing) (page : Page) (ds : List Due) (holds : Option (List NamedFile)) (i j : Option (List ℕ))
     → old.kernel.place.due ≡ Start page ∷ ds → FillsStart page old new holds i j → RunsDue old new 0 ds
-fill_continues old new page ds holds i j r d f =
-    let z = start_fills old new page holds i j r f in
+fill_continues old new page ds holds i j d f =
+    let z = start_fills old new page holds i j f in
     record {
       on = z.on;
       due = z.due ∙ ap (λ (xs : List Due). due_after xs page) d ∙ first_gone page ds;

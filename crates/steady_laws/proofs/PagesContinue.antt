@@ -1,5 +1,5 @@
 -- Machines that go on after accesses that were served.
-use Rattle.std.proofs.Common.{ℕ, ◌-◌, List, [], Option, sym, subst}
+use Rattle.std.proofs.Common.{◌≡◌, ℕ, ◌-◌, List, [], Option, sym, subst}
 use Rattle.vm_facts.specs.declared.page.Page.{Page}
 use Rattle.vm_facts.specs.declared.page.Page.TheVariants.{Stack}
 use Rattle.vm_facts.specs.declared.entry.Entry.TheVariants as entries
@@ -15,24 +15,24 @@ use Rattle.proc_calls.specs.FaultFillTouchServed.TheVariants as served
 use Rattle.proc_calls.specs.Growth.{growth, Grown}
 use Rattle.proc_calls.specs.Touches.{PageComes, PageComesNow, TouchedAs, TouchedNow, GrownFirst, AccessComes}
 use Rattle.proc_calls.specs.Callers.{IsCaller}
-use Rattle.steady_laws.specs.Ready.{IsReady, Continues}
-use Rattle.steady_laws.proofs.Running.{continues_self, continues_both, caller_ready, stays_ready, units_continue}
+use Rattle.steady_laws.specs.Ready.{Continues}
+use Rattle.steady_laws.proofs.Running.{continues_self, continues_both, units_continue}
 use Rattle.steady_laws.proofs.Entries.{found_continues, note_continues}
 
 -- A page.
 
-page_on : (answer : Came) (q : Page) (old new : Standing) (holds : Option (List NamedFile)) (i j : Option (List ℕ)) → IsReady old
+page_on : (answer : Came) (q : Page) (old new : Standing) (holds : Option (List NamedFile)) (i j : Option (List ℕ)) → old.kernel.place.due ≡ []
     → PageComes answer q old new holds i j → Continues old new 0
 page_on answer q old new holds i j r p =
     units_continue (ground old holds []) p.serves.0.serves.units old new i j r p.serves.0.serves.makes p.low
 
-page_now_on : (locked : List Page) (q : Page) (old new : Standing) (holds : Option (List NamedFile)) (i j : Option (List ℕ)) → IsReady old
+page_now_on : (locked : List Page) (q : Page) (old new : Standing) (holds : Option (List NamedFile)) (i j : Option (List ℕ)) → old.kernel.place.due ≡ []
     → PageComesNow locked q old new holds i j
     → Continues old new 0
 page_now_on locked q old new holds i j r p =
     units_continue (ground old holds locked) p.serves.0.serves.units old new i j r p.serves.0.serves.makes p.low
 
-touched_on : (answer : Served) (q : Page) (old new : Standing) (holds : Option (List NamedFile)) (i j : Option (List ℕ)) → IsReady old
+touched_on : (answer : Served) (q : Page) (old new : Standing) (holds : Option (List NamedFile)) (i j : Option (List ℕ)) → old.kernel.place.due ≡ []
     → TouchedAs answer q old new holds i j → Continues old new 0
 touched_on served.Valid q old new holds i j r h = page_on came.Valid q old new holds i j r h
 touched_on (served.Asleep p) q old new holds i j r h = page_on (came.Asleep p) q old new holds i j r h
@@ -40,8 +40,8 @@ touched_on served.NoFrame q old new holds i j r h = page_on came.NoFrame q old n
 touched_on served.NoSpace q old new holds i j r h = absurd h
 touched_on (served.Signal signal) q old new holds i j r h = absurd h
 
-touched_now_on : (locked : List Page) (answer : Served) (q : Page) (old new : Standing) (holds : Option (List NamedFile)) (i j : Option (List ℕ)) → IsReady old
-    → TouchedNow locked answer q old new holds i j → Continues old new 0
+touched_now_on : (locked : List Page) (answer : Served) (q : Page) (old new : Standing) (holds : Option (List NamedFile)) (i j : Option (List ℕ))
+    → old.kernel.place.due ≡ [] → TouchedNow locked answer q old new holds i j → Continues old new 0
 touched_now_on locked served.Valid q old new holds i j r h = page_now_on locked q old new holds i j r h
 touched_now_on locked (served.Asleep p) q old new holds i j r h = absurd h
 touched_now_on locked served.NoFrame q old new holds i j r h = absurd h
@@ -59,20 +59,20 @@ grown_on old between pid pages c g =
 
 access_on : (Touched : Served → Page → Standing → Type 0) (old new : Standing) (pid : ℕ) (access : Access) (answer : Served) (i j : Option (List ℕ))
     → IsCaller old pid
-    → ((a : Served) (q : Page) (from : Standing) → IsReady from → Touched a q from → Continues from new 0)
+    → ((a : Served) (q : Page) (from : Standing) → from.kernel.place.due ≡ [] → Touched a q from → Continues from new 0)
     → AccessComes Touched access answer pid old new i j → Continues old new 0
-access_on Touched old new pid (accesses.Page q) answer i j c on h = on answer q old (caller_ready old pid c) h
+access_on Touched old new pid (accesses.Page q) answer i j c on h = on answer q old c.clear h
 access_on Touched old new pid (accesses.Refused signal) answer i j c on h =
-    subst (λ (m : Standing). Continues old m 0) (sym h.1.machine) (continues_self old (caller_ready old pid c))
+    subst (λ (m : Standing). Continues old m 0) (sym h.1.machine) (continues_self old c.clear)
 access_on Touched old new pid (accesses.Growth sid pages) answer i j c on h = by answer h
   where
     behind : (a : Served) → GrownFirst old pid pages (Touched a (Stack sid (pages - 1))) → Continues old new 0
     behind a g =
         let first = grown_on old g.between pid pages c g.grown in
-        continues_both old g.between new 0 0 first (on a (Stack sid (pages - 1)) g.between (stays_ready old g.between 0 first) g.behind)
+        continues_both old g.between new 0 0 first (on a (Stack sid (pages - 1)) g.between first.clear g.behind)
 
     by : (a : Served) → AccessComes Touched (accesses.Growth sid pages) a pid old new i j → Continues old new 0
-    by served.NoSpace g = note_continues old new (entries.Refused pid) (caller_ready old pid c) tt g.refused.machine
+    by served.NoSpace g = note_continues old new (entries.Refused pid) c.clear tt g.refused.machine
     by served.Valid g = behind served.Valid g
     by (served.Asleep r) g = behind (served.Asleep r) g
     by served.NoFrame g = behind served.NoFrame g

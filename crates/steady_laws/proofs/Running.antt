@@ -1,20 +1,16 @@
 -- Machines that run on, and units of paging behind which they do.
 use Rattle.std.proofs.Common.{◌≡◌, ℕ, ◌+◌, ◌≤◌, List, [], ◌∷◌, length, Option, refl, sym, ap, ◌∙◌, subst, arith}
-use Rattle.vm_facts.specs.declared.page.Page.{Page}
 use Rattle.vm_facts.specs.declared.entry.Entry.{Entry}
 use Rattle.vm_facts.specs.declared.entry.Entry.TheVariants as entries
 use Rattle.flat_state.specs.Journal.{append, counted, instructions_of}
-use Rattle.page_model.specs.Placement.{Placement, Due}
-use Rattle.page_model.specs.Rank.{HasRoom}
-use Rattle.page_laws.proofs.Ends.Hands.{room_still}
+use Rattle.page_model.specs.Placement.{Placement}
 use Rattle.kernel_model.specs.Kernel.{Kernel}
 use Rattle.machine_state.specs.Machine.{Standing}
-use Rattle.machine_state.specs.UserMemory.{CanLend}
 use Rattle.swapper.specs.LastMoves.{last_moves}
 use Rattle.swapper.specs.Made.{Ground, MadeBy, Made, Makes}
-use Rattle.swapper.proofs.PagingUnitsUnits.{unit_place, unit_journal, made_same, makes_whole}
-use Rattle.proc_calls.specs.Callers.{IsCaller}
-use Rattle.steady_laws.specs.Ready.{IsRunning, IsReady, RunsOn, Continues, RunsDue, RunsMoved}
+use Rattle.swapper.proofs.PagingUnitsUnits.{unit_place, unit_journal}
+use Rattle.steady_laws.specs.Ready.{RunsOn, Continues}
+use Rattle.steady_laws.specs.Sizes.{SameSizes}
 use Rattle.steady_laws.proofs.Placements.{entry_frames, entry_clear}
 use Rattle.steady_laws.proofs.Journals.{counts_one}
 
@@ -22,29 +18,18 @@ use Rattle.steady_laws.proofs.Journals.{counts_one}
 
 pub continues : (old new : Standing) (n : ℕ) → RunsOn old new n → new.kernel.place.due ≡ []
     → last_moves new.kernel.journal ≤ last_moves old.kernel.journal → Continues old new n
-continues old new n on clear low = record {
-  params = on.params;
-  images = on.images;
-  running = on.running;
-  whole = on.whole;
-  clear = clear;
-  frames = on.frames;
-  low = low;
-  counted = on.counted;
-}
+continues old new n on clear low = record { params = on.params; images = on.images; clear = clear; frames = on.frames; low = low; counted = on.counted }
 
 pub runs_on : (old new : Standing) (n : ℕ) → Continues old new n → RunsOn old new n
-runs_on old new n c = record { params = c.params; images = c.images; running = c.running; whole = c.whole; frames = c.frames; counted = c.counted }
+runs_on old new n c = record { params = c.params; images = c.images; frames = c.frames; counted = c.counted }
 
-pub runs_self : (m : Standing) → IsRunning m → RunsOn m m 0
-runs_self m r = record { params = refl; images = refl; running = r.running; whole = r.whole; frames = refl; counted = omega arith }
+pub runs_self : (m : Standing) → RunsOn m m 0
+runs_self m = record { params = refl; images = refl; frames = refl; counted = omega arith }
 
 pub runs_both : (a b c : Standing) (m n : ℕ) → RunsOn a b m → RunsOn b c n → RunsOn a c (m + n)
 runs_both a b c m n s t = record {
   params = t.params ∙ s.params;
   images = t.images ∙ s.images;
-  running = t.running;
-  whole = t.whole;
   frames = t.frames ∙ s.frames;
   counted = sum (instructions_of a.kernel.journal) (instructions_of b.kernel.journal) (instructions_of c.kernel.journal) s.counted t.counted;
 }
@@ -52,43 +37,28 @@ runs_both a b c m n s t = record {
     sum : (x y z : ℕ) → y ≡ x + m → z ≡ y + n → z ≡ x + (m + n)
     sum x y z e f = omega arith
 
-pub ready_runs : (m : Standing) → IsReady m → IsRunning m
-ready_runs m r = record { running = r.running; whole = r.whole }
-
-pub caller_ready : (m : Standing) (pid : ℕ) → IsCaller m pid → IsReady m
-caller_ready m pid c = record { running = c.running; whole = c.whole; clear = c.clear }
-
-pub continues_self : (m : Standing) → IsReady m → Continues m m 0
-continues_self m r = continues m m 0 (runs_self m (ready_runs m r)) r.clear (omega arith)
+pub continues_self : (m : Standing) → m.kernel.place.due ≡ [] → Continues m m 0
+continues_self m d = continues m m 0 (runs_self m) d (omega arith)
 
 pub continues_both : (a b c : Standing) (m n : ℕ) → Continues a b m → Continues b c n → Continues a c (m + n)
 continues_both a b c m n s t = continues a c (m + n) (runs_both a b c m n (runs_on a b m s) (runs_on b c n t)) t.clear (let x = s.low in let y = t.low in omega arith)
-
-pub stays_ready : (old new : Standing) (n : ℕ) → Continues old new n → IsReady new
-stays_ready old new n c = record { running = c.running; whole = c.whole; clear = c.clear }
-
-pub stays_caller : (old new : Standing) (n pid : ℕ) → Continues old new n → CanLend new.kernel pid → IsCaller new pid
-stays_caller old new n pid c l = record { running = c.running; whole = c.whole; clear = c.clear; lends = l }
-
-pub stays_roomy : (old new : Standing) (n : ℕ) (locked : List Page) → Continues old new n → HasRoom old.kernel.place locked → HasRoom new.kernel.place locked
-stays_roomy old new n locked c r = room_still old.kernel.place new.kernel.place locked c.frames r
-
-pub none_due : (old new : Standing) (n : ℕ) → RunsDue old new n [] → Continues old new n
-none_due old new n d = continues old new n d.on d.due d.low
-
-pub due_roomy : (old new : Standing) (n : ℕ) (ds : List Due) (locked : List Page) → RunsDue old new n ds → HasRoom old.kernel.place locked
-    → IsRunning new × HasRoom new.kernel.place locked
-due_roomy old new n ds locked d r = (record { running = d.on.running; whole = d.on.whole }, room_still old.kernel.place new.kernel.place locked d.on.frames r)
-
-pub moved_ready : (old new : Standing) (moves : ℕ) (locked : List Page) → RunsMoved old new moves → HasRoom old.kernel.place locked
-    → IsReady new × HasRoom new.kernel.place locked
-moved_ready old new moves locked d r =
-    (record { running = d.on.running; whole = d.on.whole; clear = d.clear }, room_still old.kernel.place new.kernel.place locked d.on.frames r)
 
 -- after a call that counts none
 pub continues_from : (a b c : Standing) (n : ℕ) → Continues a b 0 → Continues b c n → Continues a c n
 continues_from a b c n s t =
     let e : 0 + n ≡ n = omega arith in subst (λ (x : ℕ). Continues a c x) e (continues_both a b c 0 n s t)
+
+-- after an entry behind which the last one counts no moves
+pub entry_on : (old new : Standing) (e : Entry) → SameSizes old new → new.kernel.place.due ≡ [] → length new.kernel.place.holds ≡ length old.kernel.place.holds
+    → new.kernel.journal ≡ append old.kernel.journal e → last_moves (append old.kernel.journal e) ≡ 0 → Continues old new (counted e)
+entry_on old new e same clear frames journal none = record {
+  params = same.params;
+  images = same.images;
+  clear = clear;
+  frames = frames;
+  low = let last = ap last_moves journal ∙ none in omega arith;
+  counted = counts_one old.kernel.journal new.kernel.journal e journal;
+}
 
 -- Units.
 
@@ -120,20 +90,14 @@ made_clear g (e ∷ us) k l i j c m =
     made_clear g us m.next l m.image j
     (ap (λ (p : Placement). p.due) (unit_place g e k m.next i m.made) ∙ entry_clear g.locked (length (append k.journal e)) k.place e c) m.rest
 
-pub units_run : (g : Ground) (us : List Entry) (old new : Standing) (i j : Option (List ℕ)) → IsRunning old → Makes g us old new i j → RunsOn old new 0
-units_run g us old new i j r m =
-    let same = made_same g us old.kernel new.kernel i j m.made in
-    let count = made_counted g us old.kernel new.kernel i j m.made in
-    record {
-      params = m.beside.params;
-      images = m.beside.images;
-      running = same.stopped ∙ r.running;
-      whole = makes_whole g us old new i j m r.whole;
-      frames = made_frames g us old.kernel new.kernel i j m.made;
-      counted = omega arith;
-    }
+pub units_run : (g : Ground) (us : List Entry) (old new : Standing) (i j : Option (List ℕ)) → Makes g us old new i j → RunsOn old new 0
+units_run g us old new i j m = record {
+  params = m.beside.params;
+  images = m.beside.images;
+  frames = made_frames g us old.kernel new.kernel i j m.made;
+  counted = let count = made_counted g us old.kernel new.kernel i j m.made in omega arith;
+}
 
-pub units_continue : (g : Ground) (us : List Entry) (old new : Standing) (i j : Option (List ℕ)) → IsReady old → Makes g us old new i j
+pub units_continue : (g : Ground) (us : List Entry) (old new : Standing) (i j : Option (List ℕ)) → old.kernel.place.due ≡ [] → Makes g us old new i j
     → last_moves new.kernel.journal ≤ last_moves old.kernel.journal → Continues old new 0
-units_continue g us old new i j r m low =
-    continues old new 0 (units_run g us old new i j (ready_runs old r) m) (made_clear g us old.kernel new.kernel i j r.clear m.made) low
+units_continue g us old new i j d m low = continues old new 0 (units_run g us old new i j m) (made_clear g us old.kernel new.kernel i j d m.made) low

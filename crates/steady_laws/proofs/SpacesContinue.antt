@@ -1,6 +1,6 @@
 -- Machines that go on after calls that make a space.
 use Rattle.std.specs.Prelude.{Result, Ok, Err, is_ok}
-use Rattle.std.proofs.Common.{Bool, true}
+use Rattle.std.proofs.Common.{Bool, true, false}
 use Rattle.vm_facts.specs.Answers.{Answers}
 use Rattle.user_vax.specs.Program.{run}
 use Rattle.user_vax.specs.declared.refused.Refused.{Refused}
@@ -13,7 +13,7 @@ use Rattle.proc_calls.specs.Starting.{image_found, StartsBy, ExecComes}
 use Rattle.steady_laws.specs.Calls.{called_count, StartsOrFails}
 use Rattle.steady_laws.proofs.Executing.{exec_starts}
 use Rattle.steady_laws.proofs.CallsContinue.{call_continues, refusal_continues}
-use Rattle.std.proofs.Common.{◌≡◌, ℕ, ◌+◌, false, List, [], ◌∷◌, length, Option, Some, None, sym, ap, ◌∙◌, subst, arith}
+use Rattle.std.proofs.Common.{◌≡◌, ℕ, ◌+◌, List, [], ◌∷◌, length, Option, Some, None, sym, ap, ◌∙◌, subst, arith}
 use Rattle.std.specs.Prelude.{IsSome}
 use Rattle.vm_facts.specs.declared.page.Page.{Page}
 use Rattle.vm_facts.specs.declared.page.Page.TheVariants.{Stack}
@@ -46,7 +46,7 @@ use Rattle.steady_laws.specs.Ready.{RunsOn, Continues}
 use Rattle.steady_laws.proofs.Placements.{exec_filled}
 use Rattle.steady_laws.proofs.Journals.{counts_one}
 use Rattle.steady_laws.proofs.Running.{continues, runs_on, runs_both, made_counted}
-use Rattle.steady_laws.proofs.Entries.{entered_runs}
+use Rattle.steady_laws.proofs.Entries.{MayEnter, found_enters, entered_runs}
 use Rattle.steady_laws.proofs.CallsContinue.{child_by, left_on}
 use Rattle.steady_laws.proofs.Lines.{start_fills}
 
@@ -55,7 +55,7 @@ use Rattle.steady_laws.proofs.Lines.{start_fills}
 forked_counts : (old between : Standing) (pid : ℕ) (regs : Regs) (child : ℕ) → IsCaller old pid → HasNewSpace old between pid regs child
     → instructions_of between.kernel.journal ≡ instructions_of old.kernel.journal + 1
 forked_counts old between pid regs child c h =
-    let on = entered_runs (with_pieces old h.made.found) between pid (replied_both regs child 0) (call_entry pid system_calls.Fork (replied_both regs child 0)) (Fork child) c.running
+    let on = entered_runs (with_pieces old h.made.found) between pid (replied_both regs child 0) (call_entry pid system_calls.Fork (replied_both regs child 0)) (Fork child)
     (caller_there old.kernel pid c.lends) h.made.answer in
     on.counted
 
@@ -86,8 +86,6 @@ fork_continues old new pid regs holds i j c f h =
     record {
       params = h.params;
       images = h.images;
-      running = h.running;
-      whole = h.whole;
       clear = h.due;
       frames = h.frames;
       low = h.low;
@@ -107,14 +105,13 @@ record ExecOn (asked new : Standing) : Type 0 where
   on : RunsOn asked new 1
   filled : due_after new.kernel.place.due (Stack asked.kernel.next_sid 0) ≡ []
 
-exec_on : (asked new : Standing) (pid : ℕ) (after : Regs) (image : ℕ) (top : List ℕ) → asked.kernel.stopped ≡ false → asked.kernel.place.due ≡ []
-    → IsSome (proc_in asked.kernel pid)
+exec_on : (asked new : Standing) (pid : ℕ) (after : Regs) (image : ℕ) (top : List ℕ) → MayEnter asked pid
     → Answered asked new pid system_calls.Execve after (Exec image top) → ExecOn asked new
-exec_on asked new pid after image top r d s h = record {
-  on = entered_runs asked new pid after (call_entry pid system_calls.Execve after) (Exec image top) r s h;
+exec_on asked new pid after image top s h = record {
+  on = entered_runs asked new pid after (call_entry pid system_calls.Execve after) (Exec image top) s.there h;
   filled =
       ap (λ (k : Kernel). due_after k.place.due (Stack asked.kernel.next_sid 0)) h.step
-      ∙ filled_by (facts_named asked.images) asked.kernel after (call_entry pid system_calls.Execve after) image top (proc_in asked.kernel pid) s d;
+      ∙ filled_by (facts_named asked.images) asked.kernel after (call_entry pid system_calls.Execve after) image top (proc_in asked.kernel pid) s.there s.clear;
 }
 
 pub start_continues : (old between new : Standing) (pid : ℕ) (after : Regs) (image : ℕ) (top : List ℕ) (holds later : Option (List NamedFile))
@@ -125,11 +122,10 @@ start_continues old between new pid after image top holds later h i j c s f =
     let went : Standing = s.finds.between in
     let l = left_on old went pid holds h i c s.finds.left in
     let x : ExecOn (with_pieces went s.finds.found) between =
-    exec_on (with_pieces went s.finds.found) between pid after image top l.on.running l.on.clear l.there
+    exec_on (with_pieces went s.finds.found) between pid after image top (found_enters went s.finds.found pid l.may)
     (subst (λ (m : Standing). Answered m between pid system_calls.Execve after (Exec image top)) s.finds.step s.answer) in
-    let z = start_fills between new (Stack old.kernel.next_sid 0) later i j (record { running = x.on.running; whole = x.on.whole }) f in
-    let started : RunsOn went between 1 =
-    record { params = x.on.params; images = x.on.images; running = x.on.running; whole = x.on.whole; frames = x.on.frames; counted = x.on.counted } in
+    let z = start_fills between new (Stack old.kernel.next_sid 0) later i j f in
+    let started : RunsOn went between 1 = record { params = x.on.params; images = x.on.images; frames = x.on.frames; counted = x.on.counted } in
     continues old new 1 (runs_both old between new 1 0 (runs_both old went between 0 1 (runs_on old went 0 l.on) started) z.on)
     (z.due ∙ ap (λ (n : ℕ). due_after between.kernel.place.due (Stack n 0)) (sym l.numbers) ∙ x.filled)
     (let last = z.last in omega arith)

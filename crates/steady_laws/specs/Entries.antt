@@ -1,5 +1,5 @@
 -- A machine goes on after an entry.
-use Rattle.std.specs.Prelude.{◌≡◌, ℕ, List, Option, None}
+use Rattle.std.specs.Prelude.{◌≡◌, ℕ, List, [], Option, None}
 use Rattle.vm_facts.specs.Answers.{ByteWrite}
 use Rattle.vm_facts.specs.declared.regs.Regs.{Regs}
 use Rattle.vm_facts.specs.declared.entry.Entry.{Entry}
@@ -12,11 +12,10 @@ use Rattle.kernel_model.specs.Kernel.{note_step}
 use Rattle.kernel_model.specs.ChangeStep.{ran_by, pass_step}
 use Rattle.machine_state.specs.Machine.{Standing}
 use Rattle.machine_state.specs.UserMemory.{writes_in}
-use Rattle.swapper.specs.LastMoves.{last_moves}
 use Rattle.proc_calls.specs.Answered.{Entered}
 use Rattle.proc_calls.specs.Callers.{IsCaller}
 use Rattle.proc_calls.specs.Making.{with_pieces}
-use Rattle.steady_laws.specs.Ready.{IsReady, Continues, RunsMoved}
+use Rattle.steady_laws.specs.Ready.{Continues}
 
 -- a change after which no page is due, where none was
 abbrev pub LeavesNone : Change → Type 0
@@ -40,36 +39,26 @@ FoundContinues =
 -- An entry that goes into the journal alone.
 abbrev pub NoteContinues : Type 0
 NoteContinues =
-    (old new : Standing) (e : Entry) → IsReady old → IsPlain e → new ≡ record old { kernel = note_step old.kernel e; room = None }
+    (old new : Standing) (e : Entry) → old.kernel.place.due ≡ [] → IsPlain e → new ≡ record old { kernel = note_step old.kernel e; room = None }
     → Continues old new (counted e)
-
--- After it the last entry counts no moves of the hands, so after moves of them the machine goes on from before these.
-abbrev pub NoteCountsNone : Type 0
-NoteCountsNone =
-    (old new : Standing) (e : Entry) → IsPlain e → new ≡ record old { kernel = note_step old.kernel e; room = None }
-    → last_moves new.kernel.journal ≡ 0
-
--- an entry that goes into the journal alone, after moves of the hands
-abbrev pub MovedNoteContinues : Type 0
-MovedNoteContinues =
-    (old between new : Standing) (moves : ℕ) (e : Entry) → RunsMoved old between moves → IsPlain e
-    → new ≡ record between { kernel = note_step between.kernel e; room = None } → Continues old new (counted e)
 
 -- An instruction that is counted.
 abbrev pub RanContinues : Type 0
 RanContinues =
-    (old new : Standing) (pid : ℕ) (regs : Regs) → IsReady old → new ≡ record old { kernel = ran_by old.kernel pid regs (entries.Ran pid 1); room = None }
-    → Continues old new 1
+    (old new : Standing) (pid : ℕ) (regs : Regs) → old.kernel.place.due ≡ []
+    → new ≡ record old { kernel = ran_by old.kernel pid regs (entries.Ran pid 1); room = None } → Continues old new 1
 
 -- room for an instruction that is to be counted
 abbrev pub RoomContinues : Type 0
-RoomContinues = (old new : Standing) (made : Option ℕ) → IsReady old → new ≡ record old { room = made } → Continues old new 0
+RoomContinues = (old new : Standing) (made : Option ℕ) → old.kernel.place.due ≡ [] → new ≡ record old { room = made } → Continues old new 0
 
 -- the writes of an instruction
 abbrev pub WritesContinue : Type 0
 WritesContinue =
-    (old new : Standing) (sid : ℕ) (ws : List ByteWrite) → IsReady old → new ≡ record old { kernel = writes_in old.kernel sid ws } → Continues old new 0
+    (old new : Standing) (sid : ℕ) (ws : List ByteWrite) → old.kernel.place.due ≡ []
+    → new ≡ record old { kernel = writes_in old.kernel sid ws } → Continues old new 0
 
 -- A space that passes from a process to another, with no entry.
 abbrev pub PassContinues : Type 0
-PassContinues = (old new : Standing) (from to : ℕ) → IsReady old → new ≡ record old { kernel = pass_step old.kernel from to } → Continues old new 0
+PassContinues =
+    (old new : Standing) (from to : ℕ) → old.kernel.place.due ≡ [] → new ≡ record old { kernel = pass_step old.kernel from to } → Continues old new 0

@@ -20,9 +20,7 @@ pub use Rattle.proc_calls.specs.declared.replying.Called
 pub use Rattle.swapper.specs.Runners
 pub use Rattle.swapper.specs.Turns
 pub use Rattle.swapper.specs.declared.Turned
-pub mod Holders
-pub mod Coming
-pub mod Keeping
+pub mod Seen
 pub mod Ready
 pub mod Sizes
 pub mod Entries

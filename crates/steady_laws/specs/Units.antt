@@ -1,17 +1,17 @@
 -- A machine goes on after units of paging.
-use Rattle.std.specs.Prelude.{ℕ, ◌≤◌, List, Option}
+use Rattle.std.specs.Prelude.{◌≡◌, ℕ, ◌≤◌, List, [], Option}
 use Rattle.vm_facts.specs.declared.entry.Entry.{Entry}
 use Rattle.machine_state.specs.Machine.{Standing}
 use Rattle.swapper.specs.LastMoves.{last_moves}
 use Rattle.swapper.specs.Made.{Ground, Makes}
-use Rattle.steady_laws.specs.Ready.{IsRunning, IsReady, RunsOn, Continues}
+use Rattle.steady_laws.specs.Ready.{RunsOn, Continues}
 
 -- whatever is due, and however many moves of the hands they are
 abbrev pub UnitsRunOn : Type 0
-UnitsRunOn = (g : Ground) (us : List Entry) (old new : Standing) (i j : Option (List ℕ)) → IsRunning old → Makes g us old new i j → RunsOn old new 0
+UnitsRunOn = (g : Ground) (us : List Entry) (old new : Standing) (i j : Option (List ℕ)) → Makes g us old new i j → RunsOn old new 0
 
 -- where nothing is due, and the last entry counts no more moves than before
 abbrev pub UnitsContinue : Type 0
 UnitsContinue =
-    (g : Ground) (us : List Entry) (old new : Standing) (i j : Option (List ℕ)) → IsReady old → Makes g us old new i j
+    (g : Ground) (us : List Entry) (old new : Standing) (i j : Option (List ℕ)) → old.kernel.place.due ≡ [] → Makes g us old new i j
     → last_moves new.kernel.journal ≤ last_moves old.kernel.journal → Continues old new 0

@@ -1,22 +1,17 @@
-ghost use Rattle.steady_laws.specs.Ready.{SelfContinues, BothContinue, StaysReady, StaysCaller, StaysRoomy, LastCountsFew, NoneDueContinues, DueStaysRoomy, MovedStaysReady};
-ghost use Rattle.steady_laws.specs.Entries.{EntryContinues, FoundContinues, NoteContinues, NoteCountsNone, MovedNoteContinues, RanContinues, RoomContinues, WritesContinue, PassContinues};
+ghost use Rattle.steady_laws.specs.Seen.{CallerIsSeen};
+ghost use Rattle.steady_laws.specs.Ready.{SelfContinues, BothContinue, LastCountsFew};
+ghost use Rattle.steady_laws.specs.Entries.{EntryContinues, FoundContinues, NoteContinues, RanContinues, RoomContinues, WritesContinue, PassContinues};
 ghost use Rattle.steady_laws.specs.Units.{UnitsRunOn, UnitsContinue};
 ghost use Rattle.steady_laws.specs.Calls.{ReplyContinues, CallContinues, WriteContinues, WaitContinues, VforkContinues, ForkContinues, EndContinues, ExitContinues, BreakContinues, RefusalContinues, StartContinues, ExecStarts, ExecContinues};
 ghost use Rattle.steady_laws.specs.Pages.{AccessContinues, AccessNowContinues};
-ghost use Rattle.steady_laws.specs.Lines.{MovesContinue, ForcedContinues, DoneContinues, TurnContinues, BeginContinues, ZeroContinues, FillContinues};
+ghost use Rattle.steady_laws.specs.Lines.{MovesContinue, DoneContinues, TurnContinues, FillContinues};
 
-/// A machine that goes on may be called again, and goes on then as the two calls together: it runs, no pieces wait for an
-/// entry, nothing is due, and the hands have the room that they had.
-pub fn readiness_lasts()
+/// A machine goes on as it is, and after two calls as by both together. A last entry of instructions counts no more than the whole
+/// journal.
+pub fn going_on_adds()
     ensures same { SelfContinues }
     ensures both { BothContinue }
-    ensures ready { StaysReady }
-    ensures calls { StaysCaller }
-    ensures roomy { StaysRoomy }
     ensures counts { LastCountsFew }
-    ensures none_due { NoneDueContinues }
-    ensures due { DueStaysRoomy }
-    ensures moved { MovedStaysReady }
 {}
 
 /// A machine goes on after an entry of a process that makes no page due, with pieces that were found before or not, after an
@@ -26,8 +21,6 @@ pub fn entries_continue()
     ensures entries { EntryContinues }
     ensures found { FoundContinues }
     ensures notes { NoteContinues }
-    ensures notes_none { NoteCountsNone }
-    ensures notes_moves { MovedNoteContinues }
     ensures ran { RanContinues }
     ensures room { RoomContinues }
     ensures writes { WritesContinue }
@@ -35,7 +28,7 @@ pub fn entries_continue()
 {}
 
 /// A machine goes on after units of paging, which count no instruction, where its last entry counts no more moves of the
-/// hands than before; whatever is due, and however many moves it counts, it runs on.
+/// hands than before; whatever is due, and however many moves it counts, it has its sizes, images and frames.
 pub fn units_continue()
     ensures runs_on { UnitsRunOn }
     ensures goes_on { UnitsContinue }
@@ -66,14 +59,15 @@ pub fn pages_continue()
 {}
 
 /// A machine goes on after the end of a transfer and a turn of the swapper; after moves of the hands, but that its last entry
-/// counts so many more; and after the beginning of a first process and each fill of a page that is due first, but for the
-/// pages that are due then.
+/// counts so many more; and after the fill of a stack page that is due first, but for the pages that are due then.
 pub fn lines_continue()
     ensures moves { MovesContinue }
-    ensures forced { ForcedContinues }
     ensures done { DoneContinues }
     ensures turns { TurnContinues }
-    ensures begins { BeginContinues }
-    ensures zero { ZeroContinues }
     ensures fills { FillContinues }
+{}
+
+/// A process whose record says that it holds a space and isn't out may make a call, where nothing is due.
+pub fn callers_are_seen()
+    ensures { CallerIsSeen }
 {}

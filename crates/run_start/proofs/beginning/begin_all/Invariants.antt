@@ -1,4 +1,5 @@
-use Rattle.std.proofs.Common.{◌≡◌, ◌+◌, ◌≤◌, false, [], length, drop}
+use Rattle.std.proofs.Common.{◌≡◌, ◌+◌, ◌≤◌, [], length, drop}
+use Rattle.machine_state.specs.Going.{CanGoOn}
 use Rattle.machine_state.specs.Machine.{Standing}
 use Rattle.run_start.specs.declared.starting.Started.{Started}
 use Rattle.run_start.specs.Starting.{AreAmong}
@@ -10,8 +11,8 @@ abbrev pub invariant-loop-image : goal.invariant-loop-image
 invariant-loop-image l = record {
   params : l.m.params ≡ l.fn.m.params;
   images : l.m.images ≡ l.fn.m.images;
-  running : l.m.kernel.stopped ≡ false;
-  whole : l.m.before ≡ l.m.kernel.holdings;
+  frames : length l.m.kernel.place.holds ≡ length l.fn.m.kernel.place.holds;
+  ready : CanGoOn l.m;
   empty : l.m.kernel.journal ≡ [];
   few : l.m.kernel.next_pid + length (drop l.image-index l.first) ≤ 17;
   numbers : AreAmong l.m.images (drop l.image-index l.first);

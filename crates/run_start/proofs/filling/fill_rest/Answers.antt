@@ -2,24 +2,19 @@ use Rattle.std.proofs.Common.{◌∙◌, sym, arith, None}
 use Rattle.std.proofs.lemmas.Result.{err_from_is_err_and}
 use Rattle.machine_state.proofs.Transfers.{transfers_none, transfers_then}
 use Rattle.steady_laws.proofs.CopiedPages.{area_next, files_next}
-use Rattle.steady_laws.specs.Ready.{IsRunning, RunsDue}
+use Rattle.steady_laws.specs.Ready.{RunsDue}
 use Rattle.run_start.specs.Filling.{due_of, IsDueFirst}
 use Rattle.run_start.proofs.Filled.{first_of, none_due, fewer, room_one, due_filled, filled_none, filled_one, filled_all, filled_goes_on, filled_stops, filled_kept}
 use Rattle.run_start.proofs.filling.fill_rest.Goals as goal
 
 pub loop-page-init : goal.loop-page-init
 loop-page-init g c = record {
-  so_far = filled_none c.args.m.now (g.F.Files.holds c.args.files.now) (g.D.SwapDev.image c.args.swap.now) (record { running = c.requires.running; whole = c.requires.whole });
+  so_far = filled_none c.args.m.now (g.F.Files.holds c.args.files.now) (g.D.SwapDev.image c.args.swap.now);
+  ready = c.requires.ready;
   area = c.requires.area;
   files = c.requires.files;
   outside = transfers_none g.met.F.Files.leads_nowhere g.met.D.SwapDev.leads_nowhere c.args.files.now c.args.swap.now;
 }
-
-pub fill_first-requires-clause-running : goal.fill_first-requires-clause-running
-fill_first-requires-clause-running g c = c.loop-page.invariant.so_far.on.running
-
-pub fill_first-requires-clause-whole : goal.fill_first-requires-clause-whole
-fill_first-requires-clause-whole g c = c.loop-page.invariant.so_far.on.whole
 
 pub fill_first-requires-clause-first : goal.fill_first-requires-clause-first
 fill_first-requires-clause-first g c = first_of c.loop-page.m.kernel.place c.in-Some.page c.in-Some.parent (sym c.due_at.ensures ∙ c.in-Some.is)
@@ -27,9 +22,6 @@ fill_first-requires-clause-first g c = first_of c.loop-page.m.kernel.place c.in-
 pub fill_first-requires-clause-room : goal.fill_first-requires-clause-room
 fill_first-requires-clause-room g c =
     λ q. room_one c.loop-page.m.kernel.place q (let so = c.loop-page.invariant.so_far in let same = so.on.frames in let many = c.requires.frames in omega (arith, same, many))
-
-pub fill_first-requires-clause-low : goal.fill_first-requires-clause-low
-fill_first-requires-clause-low g c = let so = c.loop-page.invariant.so_far in let few = so.low in let low = c.requires.low in omega (arith, few, low)
 
 pub returns-in_err-fill_first-clause-stops : goal.returns-in_err-fill_first-clause-stops
 returns-in_err-fill_first-clause-stops g c =
@@ -53,10 +45,9 @@ loop-page-smaller g c =
     let next = c.fill_first.new.m in
     let d = due_of c.in-Some.page c.in-Some.parent in
     let first : IsDueFirst now.kernel.place d = first_of now.kernel.place c.in-Some.page c.in-Some.parent (sym c.due_at.ensures ∙ c.in-Some.is) in
-    let on : IsRunning now = record { running = c.loop-page.invariant.so_far.on.running; whole = c.loop-page.invariant.so_far.on.whole } in
     fewer now next d first
     (due_filled d first.others now next (g.F.Files.holds c.loop-page.files) (g.D.SwapDev.image c.loop-page.swap)
-    (g.D.SwapDev.image c.fill_first.new.swap) on first.first c.in_ok-fill_first.ensures.filled)
+    (g.D.SwapDev.image c.fill_first.new.swap) first.first c.in_ok-fill_first.ensures.filled)
 
 pub loop-page-preserved : goal.loop-page-preserved
 loop-page-preserved g c =
@@ -64,14 +55,14 @@ loop-page-preserved g c =
     let next = c.fill_first.new.m in
     let d = due_of c.in-Some.page c.in-Some.parent in
     let first : IsDueFirst now.kernel.place d = first_of now.kernel.place c.in-Some.page c.in-Some.parent (sym c.due_at.ensures ∙ c.in-Some.is) in
-    let on : IsRunning now = record { running = c.loop-page.invariant.so_far.on.running; whole = c.loop-page.invariant.so_far.on.whole } in
     let one : RunsDue now next 0 first.others =
     due_filled d first.others now next (g.F.Files.holds c.loop-page.files) (g.D.SwapDev.image c.loop-page.swap)
-    (g.D.SwapDev.image c.fill_first.new.swap) on first.first c.in_ok-fill_first.ensures.filled in
+    (g.D.SwapDev.image c.fill_first.new.swap) first.first c.in_ok-fill_first.ensures.filled in
     record {
       so_far = filled_one c.args.m.now now (g.F.Files.holds c.args.files.now) (g.F.Files.holds c.loop-page.files) (g.D.SwapDev.image c.args.swap.now) (g.D.SwapDev.image c.loop-page.swap)
           c.loop-page.invariant.so_far next (g.F.Files.holds c.fill_first.new.files) (g.D.SwapDev.image c.fill_first.new.swap) d first c.in_ok-fill_first.ensures.outside.files.holds
           c.in_ok-fill_first.ensures.filled;
+      ready = c.in_ok-fill_first.ensures.goes_on;
       area = area_next now next _ _ one.on.params c.in_ok-fill_first.ensures.outside.swap.blocks c.loop-page.invariant.area;
       files = files_next now next (g.F.Files.holds c.loop-page.files) _ one.on.images c.in_ok-fill_first.ensures.outside.files.holds c.loop-page.invariant.files;
       outside = transfers_then {stop = None} g.met.F.Files.leads_through g.met.D.SwapDev.leads_through c.loop-page.invariant.outside c.in_ok-fill_first.ensures.outside;
@@ -82,10 +73,7 @@ returns-clause-leads g c =
     filled_all c.args.m.now c.loop-page.m (g.F.Files.holds c.args.files.now) (g.F.Files.holds c.loop-page.files) (g.D.SwapDev.image c.args.swap.now) (g.D.SwapDev.image c.loop-page.swap)
     c.loop-page.invariant.so_far (none_due c.loop-page.m.kernel.place.due (sym c.due_at.ensures ∙ c.in_default.is))
 
-pub returns-clause-goes_on : goal.returns-clause-goes_on
-returns-clause-goes_on g c =
+pub returns-clause-continues : goal.returns-clause-continues
+returns-clause-continues g c =
     filled_goes_on c.args.m.now c.loop-page.m (g.F.Files.holds c.args.files.now) (g.F.Files.holds c.loop-page.files) (g.D.SwapDev.image c.args.swap.now) (g.D.SwapDev.image c.loop-page.swap)
     c.loop-page.invariant.so_far (none_due c.loop-page.m.kernel.place.due (sym c.due_at.ensures ∙ c.in_default.is))
-
-pub returns-clause-holders : goal.returns-clause-holders
-returns-clause-holders g c = c.loop-page.invariant.so_far.holders

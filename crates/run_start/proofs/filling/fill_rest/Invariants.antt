@@ -1,5 +1,6 @@
 use Rattle.std.proofs.Common.{◌≤◌, length, None}
 use Rattle.machine_state.specs.Files.{AreFiles}
+use Rattle.machine_state.specs.Going.{CanGoOn}
 use Rattle.machine_state.specs.Outside.{TransfersPages}
 use Rattle.run_start.proofs.Filled.{FilledSoFar}
 use Rattle.run_start.proofs.filling.fill_rest.Given as goal
@@ -8,6 +9,7 @@ use Rattle.run_start.proofs.filling.fill_rest.Given as goal
 abbrev pub invariant-loop-page : goal.invariant-loop-page
 invariant-loop-page g l = record {
   so_far : FilledSoFar l.fn.m l.m (g.F.Files.holds l.fn.files) (g.F.Files.holds l.files) (g.D.SwapDev.image l.fn.swap) (g.D.SwapDev.image l.swap);
+  ready : CanGoOn l.m;
   area : l.m.params.swap_blocks ≤ g.D.SwapDev.blocks l.swap;
   files : AreFiles l.m.images (g.F.Files.holds l.files);
   outside : TransfersPages g.F.Files g.D.SwapDev None l.fn.files l.files l.fn.swap l.swap;

@@ -1,70 +1,41 @@
-use Rattle.std.proofs.Common.{◌≡◌, ◌≤◌, ◌∙◌, length, refl, arith}
+use Rattle.std.proofs.Common.{◌≡◌, ◌≤◌, ◌∙◌, length, sym, arith}
 use Rattle.std.proofs.lemmas.Result.{err_from_is_err_and}
-use Rattle.steady_laws.proofs.CopiedPages.{area_next, files_next}
-use Rattle.run_start.proofs.Begun.{AllBegan, all_began, new_frames, never_both, space_kept}
-use Rattle.run_start.proofs.Going.{goes_on}
-use Rattle.run_start.proofs.Led.{start_leads, start_stops, begin_stops}
+use Rattle.run_start.proofs.Going.{new_frames, goes_on}
+use Rattle.run_start.proofs.Led.{all_began, start_leads, start_stops, begin_stops}
 use Rattle.run_start.proofs.Placing.{answers_as}
 use Rattle.steady_laws.proofs.StopsKeep.{kept_through, never_full}
 use Rattle.run_start.proofs.starting.start.Goals as goal
 
-pub fill_rest-requires-clause-running : goal.fill_rest-requires-clause-running
-fill_rest-requires-clause-running g c =
-    let b : AllBegan c.args.first.now c.args.m.now c.begin_all.new.m =
-    all_began c.in_ok-started.started c.args.first.now c.args.m.now c.begin_all.new.m c.requires.new c.sound.ensures.numbered c.in-Ok.is c.in_ok-started.ensures.began in
-    b.may.running.running
-
-pub fill_rest-requires-clause-whole : goal.fill_rest-requires-clause-whole
-fill_rest-requires-clause-whole g c =
-    let b : AllBegan c.args.first.now c.args.m.now c.begin_all.new.m =
-    all_began c.in_ok-started.started c.args.first.now c.args.m.now c.begin_all.new.m c.requires.new c.sound.ensures.numbered c.in-Ok.is c.in_ok-started.ensures.began in
-    b.may.running.whole
-
-pub fill_rest-requires-clause-area : goal.fill_rest-requires-clause-area
-fill_rest-requires-clause-area g c =
-    let b : AllBegan c.args.first.now c.args.m.now c.begin_all.new.m =
-    all_began c.in_ok-started.started c.args.first.now c.args.m.now c.begin_all.new.m c.requires.new c.sound.ensures.numbered c.in-Ok.is c.in_ok-started.ensures.began in
-    area_next c.args.m.now c.begin_all.new.m (g.D.SwapDev.blocks c.args.swap.now) (g.D.SwapDev.blocks c.args.swap.now) b.on.params refl c.requires.area
-
-pub fill_rest-requires-clause-files : goal.fill_rest-requires-clause-files
-fill_rest-requires-clause-files g c =
-    let b : AllBegan c.args.first.now c.args.m.now c.begin_all.new.m =
-    all_began c.in_ok-started.started c.args.first.now c.args.m.now c.begin_all.new.m c.requires.new c.sound.ensures.numbered c.in-Ok.is c.in_ok-started.ensures.began in
-    files_next c.args.m.now c.begin_all.new.m (g.F.Files.holds c.args.files.now) (g.F.Files.holds c.args.files.now) b.on.images refl c.requires.files
-
 pub fill_rest-requires-clause-frames : goal.fill_rest-requires-clause-frames
 fill_rest-requires-clause-frames g c =
-    let b : AllBegan c.args.first.now c.args.m.now c.begin_all.new.m =
-    all_began c.in_ok-started.started c.args.first.now c.args.m.now c.begin_all.new.m c.requires.new c.sound.ensures.numbered c.in-Ok.is c.in_ok-started.ensures.began in
     let many = c.requires.frames in
-    let same : length c.begin_all.new.m.kernel.place.holds ≡ c.args.m.now.params.frames = b.on.frames ∙ new_frames c.args.m.now c.requires.new in
+    let same : length c.begin_all.new.m.kernel.place.holds ≡ c.args.m.now.params.frames = c.in_ok-started.ensures.frames ∙ new_frames c.args.m.now c.requires.new in
     omega (arith, many, same)
 
 pub returns-in_ok-fill_rest-in-Ok-clause-space : goal.returns-in_ok-fill_rest-in-Ok-clause-space
-returns-in_ok-fill_rest-in-Ok-clause-space g c A s = answers_as A c.in_ok-started.started c.args.first.now c.args.m.now c.begin_all.new.m c.requires.new s c.in_ok-started.ensures.began
+returns-in_ok-fill_rest-in-Ok-clause-space g c A s =
+    sym c.in-Ok.is ∙ answers_as A c.in_ok-started.started c.args.first.now c.args.m.now c.begin_all.new.m c.requires.new s c.in_ok-started.ensures.began
 
 pub returns-in-NoSpace-clause-space : goal.returns-in-NoSpace-clause-space
-returns-in-NoSpace-clause-space g c A s = answers_as A c.in_ok-started.started c.args.first.now c.args.m.now c.begin_all.new.m c.requires.new s c.in_ok-started.ensures.began
+returns-in-NoSpace-clause-space g c A s = sym c.in-NoSpace.is ∙ answers_as A c.in_ok-started.started c.args.first.now c.args.m.now c.begin_all.new.m c.requires.new s c.in_ok-started.ensures.began
 
 pub returns-in_ok-fill_rest-in-Ok-clause-goes_on : goal.returns-in_ok-fill_rest-in-Ok-clause-goes_on
 returns-in_ok-fill_rest-in-Ok-clause-goes_on g c _ =
-    let b : AllBegan c.args.first.now c.args.m.now c.begin_all.new.m =
-    all_began c.in_ok-started.started c.args.first.now c.args.m.now c.begin_all.new.m c.requires.new c.sound.ensures.numbered c.in-Ok.is c.in_ok-started.ensures.began in
-    goes_on c.args.m.now c.begin_all.new.m c.fill_rest.new.m c.requires.new b.on b.may c.begin_all.ensures.journal c.in_ok-fill_rest-in-Ok.ensures.goes_on c.in_ok-fill_rest-in-Ok.ensures.holders
+    goes_on c.args.m.now c.begin_all.new.m c.fill_rest.new.m c.requires.new c.begin_all.ensures.sizes c.in_ok-started.ensures.frames c.begin_all.ensures.journal
+    c.in_ok-fill_rest-in-Ok.ensures.continues c.in_ok-fill_rest-in-Ok.ensures.goes_on
 
 pub returns-in_ok-fill_rest-in-Ok-clause-leads : goal.returns-in_ok-fill_rest-in-Ok-clause-leads
 returns-in_ok-fill_rest-in-Ok-clause-leads g c A image told e _ =
-    let b : AllBegan c.args.first.now c.args.m.now c.begin_all.new.m =
-    all_began c.in_ok-started.started c.args.first.now c.args.m.now c.begin_all.new.m c.requires.new c.sound.ensures.numbered c.in-Ok.is c.in_ok-started.ensures.began in
-    start_leads A c.args.first.now c.args.m.now c.begin_all.new.m (g.F.Files.holds c.args.files.now) image c.requires.new c.requires.frames told b.all b.on c.fill_rest.new.m
+    let b = all_began c.in_ok-started.started c.args.first.now c.args.m.now c.begin_all.new.m c.in-Ok.is c.in_ok-started.ensures.began in
+    start_leads A c.args.first.now c.args.m.now c.begin_all.new.m (g.F.Files.holds c.args.files.now) image c.requires.new c.requires.frames told b c.begin_all.ensures.sizes c.fill_rest.new.m
     (g.D.SwapDev.image c.args.swap.now) (g.D.SwapDev.image c.fill_rest.new.swap) e c.in_ok-fill_rest-in-Ok.ensures.leads
 
 pub returns-in_err-fill_rest-in-Ok-clause-stops : goal.returns-in_err-fill_rest-in-Ok-clause-stops
 returns-in_err-fill_rest-in-Ok-clause-stops g c A image told e =
-    let b : AllBegan c.args.first.now c.args.m.now c.begin_all.new.m =
-    all_began c.in_ok-started.started c.args.first.now c.args.m.now c.begin_all.new.m c.requires.new c.sound.ensures.numbered c.in-Ok.is c.in_ok-started.ensures.began in
+    let b = all_began c.in_ok-started.started c.args.first.now c.args.m.now c.begin_all.new.m c.in-Ok.is c.in_ok-started.ensures.began in
     let p = err_from_is_err_and c.from_residual-in_err-fill_rest-in-Ok.result c.from_residual-in_err-fill_rest-in-Ok.ensures.1 in
-    rw (p.1, p.2) (start_stops A c.args.first.now c.args.m.now c.begin_all.new.m (g.F.Files.holds c.args.files.now) image c.requires.new c.requires.frames told b.all b.on c.fill_rest.new.m
+    rw (p.1, p.2)
+    (start_stops A c.args.first.now c.args.m.now c.begin_all.new.m (g.F.Files.holds c.args.files.now) image c.requires.new c.requires.frames told b c.begin_all.ensures.sizes c.fill_rest.new.m
     (g.D.SwapDev.image c.args.swap.now) (g.D.SwapDev.image c.fill_rest.new.swap) c.in_err-fill_rest-in-Ok.field-0.0 e c.in_err-fill_rest-in-Ok.ensures.stops)
 
 pub returns-in_err-started-clause-stops : goal.returns-in_err-started-clause-stops
@@ -73,45 +44,15 @@ returns-in_err-started-clause-stops g c A image told e =
     rw (p.1, p.2)
     (begin_stops A c.begin_all.new.m image c.in_err-started.field-0.0 (g.D.SwapDev.image c.args.swap.now) c.in_err-started.ensures.cause c.in_err-started.ensures.stopped c.begin_all.ensures.journal e)
 
-pub returns-in-NoSpace-clause-none_made : goal.returns-in-NoSpace-clause-none_made
-returns-in-NoSpace-clause-none_made g c pid e = c.begin_all.ensures.journal
-
-pub returns-in_ok-fill_rest-in-Ok-clause-none_made : goal.returns-in_ok-fill_rest-in-Ok-clause-none_made
-returns-in_ok-fill_rest-in-Ok-clause-none_made g c pid e = never_both c.in_ok-started.started pid c.in-Ok.is (cc)
-
-pub returns-in_ok-fill_rest-in-Ok-clause-untouched : goal.returns-in_ok-fill_rest-in-Ok-clause-untouched
-returns-in_ok-fill_rest-in-Ok-clause-untouched g c pid e = never_both c.in_ok-started.started pid c.in-Ok.is (cc)
-
-pub returns-in-NoSpace-clause-kept_params : goal.returns-in-NoSpace-clause-kept_params
-returns-in-NoSpace-clause-kept_params g c pid e = (space_kept c.in_ok-started.started pid c.args.first.now c.args.m.now c.begin_all.new.m (cc) c.in_ok-started.ensures.began).0
-
-pub returns-in_ok-fill_rest-in-Ok-clause-kept_params : goal.returns-in_ok-fill_rest-in-Ok-clause-kept_params
-returns-in_ok-fill_rest-in-Ok-clause-kept_params g c pid e = never_both c.in_ok-started.started pid c.in-Ok.is (cc)
-
-pub returns-in-NoSpace-clause-kept_images : goal.returns-in-NoSpace-clause-kept_images
-returns-in-NoSpace-clause-kept_images g c pid e = (space_kept c.in_ok-started.started pid c.args.first.now c.args.m.now c.begin_all.new.m (cc) c.in_ok-started.ensures.began).1
-
-pub returns-in_ok-fill_rest-in-Ok-clause-kept_images : goal.returns-in_ok-fill_rest-in-Ok-clause-kept_images
-returns-in_ok-fill_rest-in-Ok-clause-kept_images g c pid e = never_both c.in_ok-started.started pid c.in-Ok.is (cc)
-
-pub returns-in-NoSpace-clause-kept_running : goal.returns-in-NoSpace-clause-kept_running
-returns-in-NoSpace-clause-kept_running g c pid e = c.in_ok-started.ensures.running
-
-pub returns-in_ok-fill_rest-in-Ok-clause-kept_running : goal.returns-in_ok-fill_rest-in-Ok-clause-kept_running
-returns-in_ok-fill_rest-in-Ok-clause-kept_running g c pid e = never_both c.in_ok-started.started pid c.in-Ok.is (cc)
-
 pub returns-in_err-started-clause-kept : goal.returns-in_err-started-clause-kept
 returns-in_err-started-clause-kept g c =
     let p = err_from_is_err_and c.from_residual.result c.from_residual.ensures.1 in
     rw (p.1, p.2) (record {
-      sizes = c.in_err-started.ensures.sizes;
+      sizes = c.begin_all.ensures.sizes;
       full = λ e. never_full c.in_err-started.field-0.0 (c.begin_all.new.m.params.journal ≤ length c.begin_all.new.m.kernel.journal) c.in_err-started.ensures.cause e;
     })
 
 pub returns-in_err-fill_rest-in-Ok-clause-kept : goal.returns-in_err-fill_rest-in-Ok-clause-kept
 returns-in_err-fill_rest-in-Ok-clause-kept g c =
-    let b : AllBegan c.args.first.now c.args.m.now c.begin_all.new.m =
-    all_began c.in_ok-started.started c.args.first.now c.args.m.now c.begin_all.new.m c.requires.new c.sound.ensures.numbered c.in-Ok.is c.in_ok-started.ensures.began in
     let p = err_from_is_err_and c.from_residual-in_err-fill_rest-in-Ok.result c.from_residual-in_err-fill_rest-in-Ok.ensures.1 in
-    rw (p.1, p.2) (kept_through c.args.m.now c.begin_all.new.m c.fill_rest.new.m c.in_err-fill_rest-in-Ok.field-0.0 (record { params = b.on.params; images = b.on.images })
-    c.in_err-fill_rest-in-Ok.ensures.kept)
+    rw (p.1, p.2) (kept_through c.args.m.now c.begin_all.new.m c.fill_rest.new.m c.in_err-fill_rest-in-Ok.field-0.0 c.begin_all.ensures.sizes c.in_err-fill_rest-in-Ok.ensures.kept)

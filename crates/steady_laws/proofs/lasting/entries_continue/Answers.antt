@@ -1,4 +1,4 @@
-use Rattle.steady_laws.proofs.Entries.{entry_continues, found_continues, note_continues, ran_continues, room_continues, writes_continue, pass_continues, note_counts_none, moved_note_continues}
+use Rattle.steady_laws.proofs.Entries.{entry_continues, found_continues, note_continues, ran_continues, room_continues, writes_continue, pass_continues}
 use Rattle.steady_laws.proofs.lasting.entries_continue.Goals as goal
 
 pub returns-clause-entries : goal.returns-clause-entries
@@ -21,9 +21,3 @@ returns-clause-writes c = writes_continue
 
 pub returns-clause-passes : goal.returns-clause-passes
 returns-clause-passes c = pass_continues
-
-pub returns-clause-notes_none : goal.returns-clause-notes_none
-returns-clause-notes_none c = note_counts_none
-
-pub returns-clause-notes_moves : goal.returns-clause-notes_moves
-returns-clause-notes_moves c = moved_note_continues

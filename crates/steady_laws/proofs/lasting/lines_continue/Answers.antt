@@ -1,24 +1,15 @@
-use Rattle.steady_laws.proofs.Lines.{moves_continue, forced_continues, turn_continues, begin_continues, zero_continues, fill_continues}
+use Rattle.steady_laws.proofs.Lines.{moves_continue, turn_continues, fill_continues}
 use Rattle.steady_laws.proofs.Transfers.{done_continues}
 use Rattle.steady_laws.proofs.lasting.lines_continue.Goals as goal
 
 pub returns-clause-moves : goal.returns-clause-moves
 returns-clause-moves c = moves_continue
 
-pub returns-clause-forced : goal.returns-clause-forced
-returns-clause-forced c = forced_continues
-
 pub returns-clause-done : goal.returns-clause-done
 returns-clause-done c = done_continues
 
 pub returns-clause-turns : goal.returns-clause-turns
 returns-clause-turns c = turn_continues
-
-pub returns-clause-begins : goal.returns-clause-begins
-returns-clause-begins c = begin_continues
-
-pub returns-clause-zero : goal.returns-clause-zero
-returns-clause-zero c = zero_continues
 
 pub returns-clause-fills : goal.returns-clause-fills
 returns-clause-fills c = fill_continues
