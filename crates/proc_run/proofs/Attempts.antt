@@ -1,6 +1,6 @@
 -- What an instruction that was tried came to, and the machine that it was tried in.
-use Rattle.std.proofs.Common.{◌≡◌, ◌≢◌, arith, ◌+◌, ℕ, ℤ, Bool, List, [], Option, Some, None, Result, Ok, Err, refl, sym, ap, ◌∙◌, subst}
-use Rattle.vm_facts.specs.Answers.{ByteWrite}
+use Rattle.std.proofs.Common.{◌≡◌, ◌≢◌, ℕ, ℤ, Bool, List, [], Option, Some, None, Result, Ok, Err, refl, sym, ap, ◌∙◌, subst}
+use Rattle.vm_facts.specs.Answers.{Answers, ByteWrite}
 use Rattle.vm_facts.specs.declared.regs.Regs.{Regs}
 use Rattle.io_edge.specs.FileHolding.{NamedFile}
 use Rattle.user_vax.specs.Program.{run}
@@ -12,16 +12,18 @@ use Rattle.user_vax.specs.declared.stepping.Stepped.{Stepped}
 use Rattle.user_vax.specs.declared.stepping.Stepped.TheVariants as steps
 use Rattle.flat_state.specs.Space.{Space}
 use Rattle.flat_state.specs.Flat.{Process, Inputs}
+use Rattle.machine_state.specs.Going.{CanGoOn}
 use Rattle.machine_state.specs.Machine.{Standing}
 use Rattle.machine_state.specs.UserMemory.{CanLend, Wrote, writes_in}
 use Rattle.steady_laws.specs.Callers.{regs_of}
 use Rattle.run_model.specs.State.{State}
 use Rattle.touched_pages.proofs.RunUnitsCalling.{calls_write_none}
-use Rattle.steady_laws.specs.Ready.{IsReady, Continues}
-use Rattle.steady_laws.proofs.Running.{continues_both}
+use Rattle.steady_laws.specs.Ready.{Continues}
+use Rattle.steady_laws.proofs.Running.{continues_from}
 use Rattle.steady_laws.proofs.Entries.{room_continues}
 use Rattle.proc_run.specs.Calls.{own_answers, MadeCall}
 use Rattle.proc_run.specs.Runs.{IsSteady, RunsAt}
+use Rattle.proc_run.specs.Stretch.{Leaves}
 
 -- What a step answers.
 
@@ -79,21 +81,13 @@ no_room m = record { made = m.room; only = refl }
 pub room_kernel : (P : Standing → Type 0) (old new : Standing) (o : RoomOnly old new) → P (record old { room = o.made }) → P new
 room_kernel P old new o h = subst P (sym o.only) h
 
--- a step that wrote nothing left no more
-pub wrote_none : (old mid new : Standing) (sid : ℕ) (ws : List ByteWrite) → RoomOnly old mid → ws ≡ [] → Wrote mid sid ws new → RoomOnly old new
-wrote_none old mid new sid ws o e w = record {
-  made = o.made;
-  only = w.machine ∙ ap (λ (vs : List ByteWrite). let m : Standing = record mid { kernel = writes_in mid.kernel sid vs } in m) e ∙ o.only;
-}
-
 pub room_answers : (old new : Standing) (pid : ℕ) (regs : Regs) → RoomOnly old new
     → run (own_answers new pid) (instruction regs) ≡ run (own_answers old pid) (instruction regs)
 room_answers old new pid regs o = ap (λ (m : Standing). run (own_answers m pid) (instruction regs)) o.only
 
-pub room_steady : (old new : Standing) → RoomOnly old new → IsSteady old → IsSteady new
+pub room_steady : (old new : Standing) → RoomOnly old new → IsSteady old → CanGoOn new → IsSteady new
 room_steady old new o h =
-    room_kernel IsSteady old new o
-    (record { running = h.running; whole = h.whole; clear = h.clear; holders = h.holders; frames = h.frames; low = h.low })
+    room_kernel (λ m. CanGoOn m → IsSteady m) old new o (λ ready. record { ready = ready; clear = h.clear; frames = h.frames; low = h.low })
 
 pub room_lends : (old new : Standing) (pid : ℕ) → RoomOnly old new → CanLend old.kernel pid → CanLend new.kernel pid
 room_lends old new pid o h = room_kernel (λ m. CanLend m.kernel pid) old new o h
@@ -101,12 +95,8 @@ room_lends old new pid o h = room_kernel (λ m. CanLend m.kernel pid) old new o 
 pub room_regs : (old new : Standing) (pid : ℕ) (regs : Regs) → RoomOnly old new → regs ≡ regs_of old.kernel pid → regs ≡ regs_of new.kernel pid
 room_regs old new pid regs o h = room_kernel (λ m. regs ≡ regs_of m.kernel pid) old new o h
 
-pub ready_of : (m : Standing) → IsSteady m → IsReady m
-ready_of m h = record { running = h.running; whole = h.whole; clear = h.clear }
-
-pub room_goes_on : (old mid new : Standing) (n : ℕ) → RoomOnly old mid → IsSteady old → Continues mid new n → Continues old new n
-room_goes_on old mid new n o h c =
-    let e : 0 + n ≡ n = omega arith in subst (λ (k : ℕ). Continues old new k) e (continues_both old mid new 0 n (room_continues old mid o.made (ready_of old h) o.only) c)
+pub room_goes_on : (old mid new : Standing) (n : ℕ) → RoomOnly old mid → old.kernel.place.due ≡ [] → Continues mid new n → Continues old new n
+room_goes_on old mid new n o clear c = continues_from old mid new n (room_continues old mid o.made clear o.only) c
 
 pub room_runs : (A : Inputs) (s : State) (old new : Standing) (holds : Option (List NamedFile)) (i : Option (List ℕ)) (image : List ℕ) (pid : ℕ) (now : Bool)
     (p : Process) (x : Space)
@@ -123,29 +113,31 @@ room_runs A s old new holds i image pid now p x o r =
       told = r.told;
     })
 
--- An instruction that makes a call writes nothing.
-pub call_quiet : (m : Standing) (pid : ℕ) (before : Regs) (number : ℤ) (r : Result Effect Refused) → run (own_answers m pid) (instruction before) ≡ r
-    → answer_of r ≡ steps.Call number → writes_of r ≡ []
-call_quiet m pid before number r e a =
-    let c = called r number a in
-    ap writes_of c.1 ∙ calls_write_none (own_answers m pid) before c.0 number (e ∙ c.1) c.2
+-- An instruction that isn't carried out, or makes a call, writes nothing.
+pub writes_none : (memory : Answers) (before : Regs) (r : Result Effect Refused) → run memory (instruction before) ≡ r → answer_of r ≢ steps.Done
+    → writes_of r ≡ []
+writes_none memory before (Err refused) e d = refl
+writes_none memory before (Ok effect) e d = go effect.call refl
+  where
+    go : (o : Option ℤ) → effect.call ≡ o → effect.writes ≡ []
+    go None c = absurd (d (ap answer_of_call c))
+    go (Some number) c = calls_write_none memory before effect number e c
 
-pub made_quiet : (m : Standing) (pid : ℕ) (before : Regs) (number : ℤ) (after : Regs) → MadeCall m pid before number after
-    → writes_of (run (own_answers m pid) (instruction before)) ≡ []
-made_quiet m pid before number after c = ap writes_of c.made ∙ calls_write_none (own_answers m pid) before c.effect number c.made c.number_is
+pub wrote_none : (old new : Standing) (sid : ℕ) (memory : Answers) (before : Regs) → Wrote old sid (writes_of (run memory (instruction before))) new
+    → answer_of (run memory (instruction before)) ≢ steps.Done → new ≡ old
+wrote_none old new sid memory before w d =
+    w.machine ∙ ap (λ (ws : List ByteWrite). let m : Standing = record old { kernel = writes_in old.kernel sid ws } in m)
+    (writes_none memory before (run memory (instruction before)) refl d)
 
--- nor does one that is refused
-pub refused_quiet : (r : Result Effect Refused) (refused : Refused) → r ≡ Err refused → writes_of r ≡ []
-refused_quiet r refused e = ap writes_of e
+pub leaves : (s : Stepped) (old new : Standing) → (s ≢ steps.Done → new ≡ old) → Leaves s old new
+leaves steps.Done old new h = tt
+leaves (steps.Call number) old new h = h (λ z. absurd cc)
+leaves (steps.Miss address write) old new h = h (λ z. absurd cc)
+leaves (steps.Below address) old new h = h (λ z. absurd cc)
+leaves (steps.Signal number) old new h = h (λ z. absurd cc)
 
-pub call_made : (old mid : Standing) (pid : ℕ) (before after : Regs) (number : ℤ) → RoomOnly old mid
-    → answer_of (run (own_answers old pid) (instruction before)) ≡ steps.Call number
-    → after ≡ registers_after before (run (own_answers old pid) (instruction before)) → MadeCall mid pid before number after
-call_made old mid pid before after number o a e =
-    let c = called (run (own_answers old pid) (instruction before)) number a in
-    record {
-      effect = c.0;
-      made = room_answers old mid pid before o ∙ c.1;
-      number_is = c.2;
-      left = sym (e ∙ ap (registers_after before) c.1);
-    }
+pub call_made : (m : Standing) (pid : ℕ) (before after : Regs) (number : ℤ) → answer_of (run (own_answers m pid) (instruction before)) ≡ steps.Call number
+    → after ≡ registers_after before (run (own_answers m pid) (instruction before)) → MadeCall m pid before number after
+call_made m pid before after number a e =
+    let c = called (run (own_answers m pid) (instruction before)) number a in
+    record { effect = c.0; made = c.1; number_is = c.2; left = sym (e ∙ ap (registers_after before) c.1) }

@@ -21,19 +21,15 @@ use Rattle.flat_state.specs.declared.change.Change.TheVariants.{Keep}
 use Rattle.flat_model.specs.Calls.{call_of, replied}
 use Rattle.flat_model.specs.declared.calls.Reply.TheVariants.{Does}
 use Rattle.flat_model.specs.declared.calls.SystemCall.{SystemCall}
-use Rattle.kernel_model.specs.Kernel.{Kernel}
-use Rattle.kernel_model.specs.Numbers.{Numbered}
+use Rattle.machine_state.specs.Going.{CanGoOn}
 use Rattle.machine_state.specs.Machine.{Standing}
 use Rattle.machine_state.specs.UserMemory.{CanLend, kernel_answers}
 use Rattle.steady_laws.specs.Answered.{Answered, StopsBefore}
 use Rattle.steady_laws.specs.Called.TheVariants as calls
-use Rattle.steady_laws.specs.Callers.{IsCaller, regs_of}
-use Rattle.steady_laws.specs.Holders.{HoldersStand}
+use Rattle.steady_laws.specs.Callers.{regs_of}
 use Rattle.steady_laws.specs.Leaving.{HasEnded, StopsAlive}
 use Rattle.steady_laws.specs.Ready.{Continues}
-use Rattle.steady_laws.proofs.Calls.{caller_holds, replied_keeps}
 use Rattle.steady_laws.proofs.CallsContinue.{reply_continues, end_continues}
-use Rattle.steady_laws.proofs.Leaving.{ended_keeps}
 use Rattle.run_model.specs.State.{State}
 use Rattle.touched_pages.proofs.Flows.{on_steps}
 use Rattle.touched_pages.specs.RunUnitsTouching.{IsRunning}
@@ -51,7 +47,7 @@ use Rattle.proc_run.specs.Choosing.{may_run}
 use Rattle.proc_run.specs.Rests.{begun_by, pid_of, carry_of, r0_of, SentFew, BegunAt, IsBegun, FinishesStep, StopsStep}
 use Rattle.proc_run.specs.Running.{CountsTo}
 use Rattle.proc_run.specs.Runs.{IsSteady}
-use Rattle.proc_run.proofs.Attempts.{RoomOnly, room_kernel, room_steady, room_lends, room_regs, room_goes_on}
+use Rattle.proc_run.proofs.Attempts.{fell}
 use Rattle.proc_run.proofs.Made.{caller_of}
 use Rattle.proc_run.proofs.Marks.{can_steps, out_same}
 use Rattle.proc_run.proofs.SoFar.{steady_on}
@@ -148,9 +144,9 @@ module _ (m : Standing) (b : Begun) (holds : Option (List NamedFile)) (i : Optio
       ])
 
     -- A process that fell below its stack ends.
-    module _ (address : ℕ) (fell : tried ≡ Err (Below address)) (new : Standing) (j : Option (List ℕ)) where
+    module _ (address : ℕ) (down : tried ≡ Err (Below address)) (new : Standing) (j : Option (List ℕ)) where
       never_replies : (r : ReplyRests A s m pid (carry_of b) (r0_of b)) → ⊥
-      never_replies r = let e : Ok r.effect ≡ Err (Below address) = sym (replies r) ∙ fell in absurd cc
+      never_replies r = let e : Ok r.effect ≡ Err (Below address) = sym (replies r) ∙ down in absurd cc
 
       end_leads : HasEnded m new pid 11 holds i j → StepLeads A s m.kernel image 1 new.kernel j
       end_leads e = elim (rests A s m b holds i image pid is h).1 [
@@ -192,71 +188,51 @@ module _ (m : Standing) (b : Begun) (holds : Option (List NamedFile)) (i : Optio
         falls address k (inr (inl z)) = let w : steps.Below address ≡ steps.Miss z.0 z.1 = sym k ∙ z.2 in absurd cc
         falls address k (inr (inr z)) = let w : steps.Below address ≡ steps.Signal z.0 = sym k ∙ z.1 in absurd cc
 
--- The machine that it left is as it was, but for the room for one more entry.
+-- The attempt left the machine as it was.
 
-begun_again : (A : Inputs) (s : State) (old new : Standing) (b : Begun) (holds : Option (List NamedFile)) (i : Option (List ℕ))
-    (image : List ℕ) → RoomOnly old new
-    → BegunAt A s old b holds i image → BegunAt A s new b holds i image
-begun_again A s old new b holds i image o h =
-    room_kernel (λ m. BegunAt A s m b holds i image) old new o
-    (record { machine = record { at = h.machine.at; images = h.machine.images; blocks = h.machine.blocks }; told = h.told; begun = h.begun })
-
-module _ (old mid new : Standing) (b : Begun) (holds : Option (List NamedFile)) (i : Option (List ℕ)) (pid : ℕ) (is : pid ≡ pid_of b) (before : Regs) (o : RoomOnly old mid)
+module _ (old mid new : Standing) (f : mid ≡ old) (b : Begun) (holds : Option (List NamedFile)) (i : Option (List ℕ)) (pid : ℕ) (is : pid ≡ pid_of b) (before : Regs)
     (same : before ≡ regs_of old.kernel pid) where
-  kernel : mid.kernel ≡ old.kernel
-  kernel = ap (λ (m : Standing). m.kernel) o.only
-
-  regs : before ≡ regs_of mid.kernel pid
-  regs = room_regs old mid pid before o same
-
-  module _ (number : ℤ) (after : Regs) (call : SystemCall) (made : MadeCall mid pid before number after) (names : call_of number ≡ Some call) where
+  module _ (number : ℤ) (after : Regs) (call : SystemCall) (made : MadeCall old pid before number after) (names : call_of number ≡ Some call) where
     pub answer_finishes : Answered mid new pid call (replied after (carry_of b) (r0_of b)) Keep → FinishesStep old new b holds i i
     answer_finishes a A s image h =
-        subst (λ (k : Kernel). StepLeads A s k image 1 new.kernel i) kernel
-        (answer_leads mid b holds i pid is before regs A s image (begun_again A s old mid b holds i image o h) number after call made names new a)
+        answer_leads old b holds i pid is before same A s image h number after call made names new
+        (subst (λ (m : Standing). Answered m new pid call (replied after (carry_of b) (r0_of b)) Keep) f a)
 
     pub answer_stops : (stop : Stop) → StopsBefore mid new stop → StopsStep old new b holds i i stop
     answer_stops stop a A s image h =
-        subst (λ (k : Kernel). StopLeads A s k image stop new i) kernel
-        (answer_halts mid b holds i pid is before regs A s image (begun_again A s old mid b holds i image o h) number after call made names new stop a)
+        answer_halts old b holds i pid is before same A s image h number after call made names new stop (subst (λ (m : Standing). StopsBefore m new stop) f a)
 
-  module _ (address : ℕ) (fell : run (own_answers mid pid) (instruction before) ≡ Err (Below address)) (j : Option (List ℕ)) where
+  module _ (address : ℕ) (down : answer_of (run (own_answers old pid) (instruction before)) ≡ steps.Below address) (j : Option (List ℕ)) where
     pub end_finishes : (r : Result (Unit {0}) Stop) → OnOk r (HasEnded mid new pid 11 holds i j) → OnOk r (FinishesStep old new b holds i j)
     end_finishes (Err stop) e = tt
     end_finishes (Ok x) e = λ A s image h.
-        subst (λ (k : Kernel). StepLeads A s k image 1 new.kernel j) kernel
-        (end_leads mid b holds i pid is before regs A s image (begun_again A s old mid b holds i image o h) address fell new j e)
+        end_leads old b holds i pid is before same A s image h address (fell (run (own_answers old pid) (instruction before)) address down) new j
+        (subst (λ (m : Standing). HasEnded m new pid 11 holds i j) f e)
 
     pub end_stopped : (r : Result (Unit {0}) Stop) → IfErr r (StopsAlive mid new pid holds i j) → IfErr r (StopsStep old new b holds i j)
     end_stopped (Ok x) e = tt
     end_stopped (Err stop) e = λ A s image h.
-        subst (λ (k : Kernel). StopLeads A s k image stop new j) kernel
-        (end_halts mid b holds i pid is before regs A s image (begun_again A s old mid b holds i image o h) address fell new j stop e)
+        end_halts old b holds i pid is before same A s image h address (fell (run (own_answers old pid) (instruction before)) address down) new j stop
+        (subst (λ (m : Standing). StopsAlive m new pid holds i j stop) f e)
 
 -- The machine goes on.
 
-counts_on : (old mid new : Standing) → RoomOnly old mid → IsSteady old → Continues mid new 1 → HoldersStand new.kernel
+counts_on : (old new : Standing) → IsSteady old → Continues old new 1 → CanGoOn new
     → CountsTo old new (instructions_of old.kernel.journal) (instructions_of old.kernel.journal + 1)
-counts_on old mid new o steady on holders =
-    let c : Continues old new 1 = room_goes_on old mid new 1 o steady on in
-    record { steady = steady_on old new 1 steady c holders; params = c.params; images = c.images; counts = c.counted; more = omega arith }
+counts_on old new steady c ready =
+    record { steady = steady_on old new 1 steady c ready; params = c.params; images = c.images; counts = c.counted; more = omega arith }
 
-module _ (old mid new : Standing) (pid : ℕ) (o : RoomOnly old mid) (steady : IsSteady old) (lends : CanLend old.kernel pid) (n : Numbered old.kernel) where
-  caller : IsCaller mid pid
-  caller = caller_of mid pid (room_steady old mid o steady) (room_lends old mid pid o lends)
-
-  numbered : Numbered mid.kernel
-  numbered = room_kernel (λ m. Numbered m.kernel) old mid o n
-
-  pub answer_counts : (call : SystemCall) (regs : Regs) → Answered mid new pid call regs Keep
+module _ (old mid new : Standing) (f : mid ≡ old) (pid : ℕ) (steady : IsSteady old) (lends : CanLend old.kernel pid) where
+  pub answer_counts : (call : SystemCall) (regs : Regs) → Answered mid new pid call regs Keep → CanGoOn new
       → CountsTo old new (instructions_of old.kernel.journal) (instructions_of old.kernel.journal + 1)
   answer_counts call regs a =
-      counts_on old mid new o steady (reply_continues mid new pid call regs (Does regs Keep) calls.Ready caller tt (refl, a))
-      (replied_keeps mid new pid call regs (Does regs Keep) calls.Ready (caller_holds mid pid caller) tt (refl, a) numbered (room_steady old mid o steady).holders)
+      counts_on old new steady
+      (reply_continues old new pid call regs (Does regs Keep) calls.Ready (caller_of old pid steady lends) tt
+      (refl, subst (λ (m : Standing). Answered m new pid call regs Keep) f a))
 
-  pub end_counts : (holds : Option (List NamedFile)) (i j : Option (List ℕ)) (r : Result (Unit {0}) Stop) → OnOk r (HasEnded mid new pid 11 holds i j)
+  pub end_counts : (holds : Option (List NamedFile)) (i j : Option (List ℕ)) (r : Result (Unit {0}) Stop) → OnOk r (HasEnded mid new pid 11 holds i j) → OnOk r (CanGoOn new)
       → OnOk r (CountsTo old new (instructions_of old.kernel.journal) (instructions_of old.kernel.journal + 1))
-  end_counts holds i j (Err stop) e = tt
-  end_counts holds i j (Ok x) e =
-      counts_on old mid new o steady (end_continues mid new pid 11 holds i j caller e)
-      (ended_keeps mid new pid 11 holds i j (caller_holds mid pid caller) e numbered (room_steady old mid o steady).holders)
+  end_counts holds i j (Err stop) e ready = tt
+  end_counts holds i j (Ok x) e ready =
+      counts_on old new steady
+      (end_continues old new pid 11 holds i j (caller_of old pid steady lends) (subst (λ (m : Standing). HasEnded m new pid 11 holds i j) f e)) ready

@@ -1,14 +1,14 @@
 -- What the call of an instruction comes to, and what follows where a byte that it reads misses.
-use Rattle.std.proofs.Common.{◌≡◌, ◌⊎◌, inl, inr, ℕ, ℤ, Bool, false, List, Option, Some, Result, Ok, Err, refl, sym, subst}
+use Rattle.std.proofs.Common.{◌≡◌, ◌⊎◌, inl, inr, ℕ, ℤ, Bool, false, List, Option, Some, Result, Ok, Err, refl, sym, ap, ◌∙◌, subst}
 use Rattle.std.specs.Prelude.{IfOk, IfErr}
 use Rattle.io_edge.specs.FileHolding.{NamedFile}
 use Rattle.vm_facts.specs.declared.regs.Regs.{Regs}
 use Rattle.vm_facts.specs.declared.stop.Stop.{Stop}
+use Rattle.user_vax.specs.Instruction.{writes_of}
 use Rattle.flat_state.specs.Space.{Space}
 use Rattle.flat_state.specs.Flat.{Process, Inputs}
 use Rattle.flat_model.specs.Calls.{call_of}
 use Rattle.flat_model.specs.declared.calls.SystemCall.{SystemCall}
-use Rattle.kernel_model.specs.Numbers.{Numbered}
 use Rattle.machine_state.specs.Machine.{Standing}
 use Rattle.machine_state.specs.UserMemory.{CanLend}
 use Rattle.steady_laws.specs.Called.{Called}
@@ -16,30 +16,37 @@ use Rattle.steady_laws.specs.Called.TheVariants as calls
 use Rattle.steady_laws.specs.Callers.{IsCaller, regs_of}
 use Rattle.run_model.specs.State.{State}
 use Rattle.step_units.specs.Stepped.{StepLeads, MarkEnds, CallLeads}
-use Rattle.steady_laws.specs.Holders.{HoldersStand}
 use Rattle.steady_laws.specs.Ready.{Continues}
 use Rattle.steady_laws.specs.Calls.{called_count}
 use Rattle.touched_pages.specs.Missed.{WritesNothing}
+use Rattle.touched_pages.proofs.RunUnitsCalling.{calls_write_none}
 use Rattle.proc_run.specs.declared.advancing.Advance.{Advance}
-use Rattle.proc_run.specs.Calls.{CallComes, CallStops, MadeCall}
-use Rattle.proc_run.specs.Runs.{IsSteady, RunsAt, Advances, StopsAdvancing, AdvancesWaiting, StopsWaiting, counts}
-use Rattle.proc_run.proofs.Attempts.{made_quiet}
+use Rattle.proc_run.specs.Calls.{own_answers, CallComes, CallStops, MadeCall}
+use Rattle.proc_run.specs.Runs.{IsSteady, RunsAt, Advances, StopsAdvancing, AdvancesWaiting, StopsWaiting}
 use Rattle.proc_run.proofs.Known.{known, are_known}
 use Rattle.proc_run.proofs.CallSteps.{call_leads, call_stops}
-use Rattle.proc_run.proofs.CallsGoOn.{calls_go_on, calls_keep}
+use Rattle.proc_run.proofs.CallsGoOn.{calls_go_on}
 use Rattle.proc_run.proofs.CallsMissed.{call_missed}
 use Rattle.proc_run.proofs.Steps.{makes_call}
 
 pub caller_of : (m : Standing) (pid : ℕ) → IsSteady m → CanLend m.kernel pid → IsCaller m pid
-caller_of m pid h l = record { running = h.running; whole = h.whole; clear = h.clear; lends = l }
+caller_of m pid h l = record { ready = h.ready; clear = h.clear; lends = l }
+
+-- a call that a byte misses changed nothing
+pub unchanged : (call : SystemCall) (old new : Standing) (pid : ℕ) (after : Regs) (holds : Option (List NamedFile)) (i j : Option (List ℕ)) (called : Called)
+    (address : ℕ) → called ≡ calls.Miss address → CallComes call old new pid after holds i j called → new ≡ old
+unchanged call old new pid after holds i j called address is given =
+    call_missed old new pid after address holds i j (known old.images) (are_known old.images) call
+    (subst (λ (d : Called). CallComes call old new pid after holds i j d) is given)
+
+-- and its instruction wrote nothing
+pub made_quiet : (m : Standing) (pid : ℕ) (before : Regs) (number : ℤ) (after : Regs) → MadeCall m pid before number after → WritesNothing m.kernel pid before
+made_quiet m pid before number after c = ap writes_of c.made ∙ calls_write_none (own_answers m pid) before c.effect number c.made c.number_is
 
 module _ (old new : Standing) (pid : ℕ) (before : Regs) (number : ℤ) (after : Regs) (call : SystemCall) (holds : Option (List NamedFile)) (i j : Option (List ℕ)) (now : Bool)
     (steady : IsSteady old) (lends : CanLend old.kernel pid) (same : before ≡ regs_of old.kernel pid) (made : MadeCall old pid before number after) (names : call_of number ≡ Some call) where
   pub goes_on : (called : Called) → CallComes call old new pid after holds i j called → Continues old new (called_count called)
   goes_on called h = calls_go_on old new pid after holds i j (caller_of old pid steady lends) (known old.images) (are_known old.images) call called h
-
-  pub keeps : (called : Called) → CallComes call old new pid after holds i j called → Numbered old.kernel → HoldersStand new.kernel
-  keeps called h n = calls_keep old new pid after holds i j (caller_of old pid steady lends) (known old.images) (are_known old.images) call called h n steady.holders
 
   pub leads : (called : Called) → CallComes call old new pid after holds i j called
       → (A : Inputs) (s : State) (image : List ℕ) (p : Process) (x : Space) → RunsAt A s old holds i image pid now p x → CallLeads A s old.kernel image x called new.kernel j
@@ -81,28 +88,13 @@ module _ (old new : Standing) (pid : ℕ) (before : Regs) (number : ℤ) (after 
     comes : CallComes call old new pid after holds i j (calls.Miss address)
     comes = subst (λ (d : Called). CallComes call old new pid after holds i j d) is given
 
-    pub unchanged : new ≡ old
-    unchanged = call_missed old new pid after address holds i j (known old.images) (are_known old.images) call comes
-
-    pub steady_again : IsSteady new
-    steady_again = subst IsSteady (sym unchanged) steady
-
-    pub lends_again : CanLend new.kernel pid
-    lends_again = subst (λ (m : Standing). CanLend m.kernel pid) (sym unchanged) lends
-
-    pub regs_again : before ≡ regs_of new.kernel pid
-    regs_again = subst (λ (m : Standing). before ≡ regs_of m.kernel pid) (sym unchanged) same
-
-    pub quiet : WritesNothing new.kernel pid before
-    quiet = subst (λ (m : Standing). WritesNothing m.kernel pid before) (sym unchanged) (made_quiet old pid before number after made)
-
     module _ (last : Standing) (later : Option (List NamedFile)) (k : Option (List ℕ)) (files : later ≡ holds) where
       pub missed_advances : (o : Result Advance Stop) → IfOk o (AdvancesWaiting new last pid now address false later j k)
           → IfOk o (Advances old last pid now holds i k)
       missed_advances (Err stop) h = tt
       missed_advances (Ok advance) h = λ A s image p x r.
           let l = leads (calls.Miss address) comes A s image p x r in
-          let w = subst (λ (m : Standing). AdvancesWaiting m last pid now address false later j k advance) unchanged h in
+          let w = subst (λ (m : Standing). AdvancesWaiting m last pid now address false later j k advance) (unchanged call old new pid after holds i j called address is given) h in
           let w2 = subst (λ (o : Option (List NamedFile)). AdvancesWaiting old last pid now address false o j k advance) files w in
           w2 A s image p x l.2.before (record { on = r.on; named = r.named; told = l.1 }) (inl (l.2, refl))
 
@@ -111,11 +103,6 @@ module _ (old new : Standing) (pid : ℕ) (before : Regs) (number : ℤ) (after 
       missed_stops (Ok advance) h = tt
       missed_stops (Err stop) h = λ A s image p x r.
           let l = leads (calls.Miss address) comes A s image p x r in
-          let w = subst (λ (m : Standing). StopsWaiting m last pid now address false later j k stop) unchanged h in
+          let w = subst (λ (m : Standing). StopsWaiting m last pid now address false later j k stop) (unchanged call old new pid after holds i j called address is given) h in
           let w2 = subst (λ (o : Option (List NamedFile)). StopsWaiting old last pid now address false o j k stop) files w in
           w2 A s image p x l.2.before (record { on = r.on; named = r.named; told = l.1 }) (inl (l.2, refl))
-
-    pub missed_goes_on : (last : Standing) (o : Result Advance Stop) → IfOk o (λ advance. Continues new last (counts advance))
-        → IfOk o (λ advance. Continues old last (counts advance))
-    missed_goes_on last (Err stop) h = tt
-    missed_goes_on last (Ok advance) h = subst (λ (m : Standing). Continues m last (counts advance)) unchanged h

@@ -1,6 +1,6 @@
 -- An access that was served is next units of the run, and an end of the process after it.
 use Rattle.std.proofs.Common.{◌≡◌, inl, inr, ℕ, ◌-◌, Bool, true, false, List, [], ◌∷◌, Option, Some, Result, Ok, Err, refl, sym, ap, ◌∙◌, subst}
-use Rattle.std.specs.Prelude.{IfOk, IfErr, MatchResult}
+use Rattle.std.specs.Prelude.{IfOk, OnOk, IfErr, MatchResult}
 use Rattle.io_edge.specs.FileHolding.{NamedFile}
 use Rattle.vm_facts.specs.declared.page.Page.{Page}
 use Rattle.vm_facts.specs.declared.page.Page.TheVariants as page_names
@@ -9,6 +9,7 @@ use Rattle.vm_facts.specs.declared.params.Params.{Params}
 use Rattle.vm_facts.specs.declared.stop.Stop.{Stop}
 use Rattle.flat_state.specs.Space.{Space}
 use Rattle.flat_state.specs.Flat.{Process, Inputs}
+use Rattle.machine_state.specs.Going.{CanGoOn}
 use Rattle.machine_state.specs.Machine.{Standing}
 use Rattle.machine_state.specs.Files.{AreImages}
 use Rattle.machine_state.specs.UserMemory.{CanLend}
@@ -30,8 +31,6 @@ use Rattle.step_units.specs.Running.{Waits, EndsRefused, ServeLeads}
 use Rattle.step_units.proofs.Accessing.{serve_made, serve_now_made, access_stops}
 use Rattle.step_units.proofs.Entering.{leads_then, stopped_short, stops_then}
 use Rattle.step_units.proofs.Ending.{ended, end_stops}
-use Rattle.steady_laws.specs.Holders.{KeepsHolders}
-use Rattle.steady_laws.proofs.Pages.{served_keeps, served_now_keeps}
 use Rattle.steady_laws.specs.Ready.{Continues}
 use Rattle.steady_laws.proofs.PagesContinue.{access_continues, access_now_continues}
 use Rattle.proc_run.specs.declared.advancing.Advance.TheVariants as advances
@@ -40,17 +39,17 @@ use Rattle.proc_run.specs.Serving.{AreLocked, ServedBy, StopsServed}
 
 -- Whatever the devices tell.
 
-pub served_on : (now : Bool) (old new : Standing) (pid address : ℕ) (write : Bool) (holds : Option (List NamedFile)) (i j : Option (List ℕ)) (answer : Served)
-    → IsCaller old pid
-    → ServedBy now old new pid address write holds i j answer → Continues old new 0
-served_on true old new pid address write holds i j answer c h = access_now_continues old new pid (access_by old.kernel pid address write) answer h.pages holds i j c h.comes
-served_on false old new pid address write holds i j answer c h = access_continues old new pid (access_by old.kernel pid address write) answer holds i j c h
+pub served_on : (r : Result Served Stop) (old new : Standing) (pid address : ℕ) (write : Bool) (holds : Option (List NamedFile))
+    (i j : Option (List ℕ)) → IsCaller old pid
+    → MatchResult r (ServedBy false old new pid address write holds i j) (StopsServed false old new pid address write holds i j) → OnOk r (Continues old new 0)
+served_on (Err stop) old new pid address write holds i j c h = tt
+served_on (Ok answer) old new pid address write holds i j c h = access_continues old new pid (access_by old.kernel pid address write) answer holds i j c h
 
-pub served_holders : (now : Bool) (old new : Standing) (pid address : ℕ) (write : Bool) (holds : Option (List NamedFile))
-    (i j : Option (List ℕ)) (answer : Served)
-    → ServedBy now old new pid address write holds i j answer → KeepsHolders old new
-served_holders true old new pid address write holds i j answer h = served_now_keeps h.pages (access_by old.kernel pid address write) answer pid old new holds i j h.comes
-served_holders false old new pid address write holds i j answer h = served_keeps (access_by old.kernel pid address write) answer pid old new holds i j h
+pub brought_on : (r : Result Served Stop) (old new : Standing) (pid address : ℕ) (write : Bool) (holds : Option (List NamedFile))
+    (i j : Option (List ℕ)) → IsCaller old pid
+    → IfOk r (ServedBy true old new pid address write holds i j) → OnOk r (Continues old new 0)
+brought_on (Err stop) old new pid address write holds i j c h = tt
+brought_on (Ok answer) old new pid address write holds i j c h = access_now_continues old new pid (access_by old.kernel pid address write) answer h.pages holds i j c h.comes
 
 -- In a run.
 
@@ -136,7 +135,7 @@ access_ends Touched (accesses.Growth sid pages) served.NoSpace pid old new i j f
 access_ends Touched (accesses.Growth sid pages) (served.Signal number) pid old new i j f g e h c = absurd (f (page_names.Stack sid (pages - 1)) h.between number h.behind)
 access_ends Touched (accesses.Growth sid pages) _ pid old new i j f g e h c = absurd e
 
-pub ends_there : (now : Bool) (old new : Standing) (pid address : ℕ) (write : Bool) (holds : Option (List NamedFile)) (i j : Option (List ℕ)) (answer : Served)
+ends_there : (now : Bool) (old new : Standing) (pid address : ℕ) (write : Bool) (holds : Option (List NamedFile)) (i j : Option (List ℕ)) (answer : Served)
     → IsEnd answer
     → ServedBy now old new pid address write holds i j answer → CanLend old.kernel pid → CanLend new.kernel pid
 ends_there true old new pid address write holds i j answer e h c =
@@ -177,10 +176,18 @@ EndsBy served.NoSpace status = status ≡ 11
 EndsBy (served.Signal number) status = status ≡ number
 EndsBy _ status = ⊥
 
-pub is_end : (answer : Served) (status : ℕ) → EndsBy answer status → IsEnd answer
-is_end served.NoSpace status e = tt
-is_end (served.Signal number) status e = tt
-is_end _ status e = absurd e
+-- who ends may be killed
+pub ends_calls : (now : Bool) (old new : Standing) (pid address : ℕ) (write : Bool) (holds : Option (List NamedFile)) (i j : Option (List ℕ))
+    (answer : Served) (status : ℕ)
+    → EndsBy answer status → ServedBy now old new pid address write holds i j answer → CanLend old.kernel pid → CanGoOn new
+    → Continues old new 0 → IsCaller new pid
+ends_calls now old new pid address write holds i j answer status e h c ready on =
+    record { ready = ready; clear = on.clear; lends = ends_there now old new pid address write holds i j answer (is_end answer e) h c }
+  where
+    is_end : (answer : Served) → EndsBy answer status → IsEnd answer
+    is_end served.NoSpace e = tt
+    is_end (served.Signal number) e = tt
+    is_end _ e = absurd e
 
 pub advances_ended : (now : Bool) (A : Inputs) (s : State) (old mid new : Standing) (holds : Option (List NamedFile)) (i told j : Option (List ℕ))
     (image : List ℕ) (pid : ℕ) (p : Process) (x : Space)

@@ -13,6 +13,7 @@ use Rattle.kernel_model.specs.Unit.{proc_of}
 use Rattle.page_model.specs.Swapper.{is_out}
 use Rattle.machine_state.specs.Calls.{life_in}
 use Rattle.machine_state.specs.Files.{AreImages}
+use Rattle.machine_state.specs.Going.{CanGoOn}
 use Rattle.machine_state.specs.Machine.{Standing}
 use Rattle.machine_state.specs.UserMemory.{CanLend}
 use Rattle.steady_laws.specs.Reading.{AreNamed}
@@ -27,12 +28,11 @@ use Rattle.step_units.specs.Machines.{MachineAt}
 use Rattle.step_units.specs.Stepped.{StepLeads}
 use Rattle.step_units.proofs.Entering.{leads_both, stops_then}
 use Rattle.step_units.specs.Lines.{IsClear}
-use Rattle.steady_laws.specs.Holders.{HoldersStand}
 use Rattle.steady_laws.specs.Ready.{Continues}
+use Rattle.steady_laws.proofs.Running.{continues_self, continues_both}
 use Rattle.proc_run.specs.declared.advancing.Advance.TheVariants as advances
 use Rattle.proc_run.specs.Choosing.{holds_space, steps_by, may_run}
 use Rattle.proc_run.specs.Runs.{IsSteady, RunsAt, Advances, StopsAdvancing}
-use Rattle.flat_state.specs.Journal.{instructions_of}
 use Rattle.proc_run.specs.Stretch.{RanOne, RanOn}
 use Rattle.proc_run.specs.Running.{AsksRun, UnderMark, RunLeads, Runs, StopsRunning}
 use Rattle.proc_run.proofs.Marks.{runs, over_counted, over_idle}
@@ -201,12 +201,10 @@ module _ (old m : Standing) (pid : ℕ) (now : Bool) (counted until : ℕ) (hold
 
 -- Whatever the devices tell.
 
-pub steady_on : (m new : Standing) (n : ℕ) → IsSteady m → Continues m new n → HoldersStand new.kernel → IsSteady new
-steady_on m new n s c h = record {
-  running = c.running;
-  whole = c.whole;
+pub steady_on : (m new : Standing) (n : ℕ) → IsSteady m → Continues m new n → CanGoOn new → IsSteady new
+steady_on m new n s c r = record {
+  ready = r;
   clear = c.clear;
-  holders = h;
   frames = let f = s.frames in let e = c.frames in omega arith;
   low = let l = s.low in let k = c.low in omega arith;
 }
@@ -216,7 +214,7 @@ pub lends_there : (m : Standing) (pid : ℕ) → IsSteady m → may_run m.kernel
 lends_there m pid s r =
     let parts = and_parts (steps_by (proc_of m.kernel pid)) (not (is_out m.kernel.place pid)) r in
     let held = holds_by (proc_of m.kernel pid) refl parts.0 in
-    record { sid = held.0; holds = held.1; there = s.holders.spaces pid held.0 held.1; resident = in_by (is_out m.kernel.place pid) parts.1 }
+    record { sid = held.0; holds = held.1; there = s.ready.running.holders.spaces pid held.0 held.1; resident = in_by (is_out m.kernel.place pid) parts.1 }
   where
     in_by : (b : Bool) → not b ≡ true → b ≡ false
     in_by true e = absurd cc
@@ -251,25 +249,9 @@ ran_far (suc n) pid old m new now counted until holds i j count so_far h few =
     subst (λ (k : ℕ). LedSoFar old new pid now counted until holds i j k 0) more
     (counted_far old mid new pid now counted until holds i j j (count + n) 0 before (omega (arith, few)) one.can one.continues.params one.continues.images (one.advances now holds j))
 
-pub ran_steady : (n pid : ℕ) (old new : Standing) → IsSteady old → RanOn old pid n new → IsSteady new
-ran_steady zero pid old new s h = subst IsSteady (sym h) s
-ran_steady (suc n) pid old new s h = steady_on h.0 new 1 (ran_steady n pid old h.0 s h.1) h.2.continues h.2.holders
-
--- the sizes and the images are the same, and so many more instructions are counted
-pub record SameBeside (old new : Standing) (n : ℕ) : Type 0 where
-  pub params : new.params ≡ old.params
-  pub images : new.images ≡ old.images
-  pub counted : instructions_of new.kernel.journal ≡ instructions_of old.kernel.journal + n
-
-pub ran_beside : (n pid : ℕ) (old new : Standing) → RanOn old pid n new → SameBeside old new n
-ran_beside zero pid old new h =
-    let none : instructions_of old.kernel.journal ≡ instructions_of old.kernel.journal + 0 = omega arith in
-    subst (λ (x : Standing). SameBeside old x 0) (sym h) (record { params = refl; images = refl; counted = none })
-ran_beside (suc n) pid old new h =
-    let before : SameBeside old h.0 n = ran_beside n pid old h.0 h.1 in
-    let one : RanOne h.0 pid new = h.2 in
-    record {
-      params = one.continues.params ∙ before.params;
-      images = one.continues.images ∙ before.images;
-      counted = omega (arith, one.continues.counted, before.counted);
-    }
+-- so the machine goes on
+pub ran_all_continue : (n pid : ℕ) (old new : Standing) → old.kernel.place.due ≡ [] → RanOn old pid n new → Continues old new n
+ran_all_continue zero pid old new clear h = subst (λ (m : Standing). Continues old m 0) (sym h) (continues_self old clear)
+ran_all_continue (suc n) pid old new clear h =
+    let more : n + 1 ≡ suc n = omega arith in
+    subst (λ (k : ℕ). Continues old new k) more (continues_both old h.0 new n 1 (ran_all_continue n pid old h.0 clear h.1) h.2.continues)

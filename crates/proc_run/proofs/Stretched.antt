@@ -21,31 +21,24 @@ use Rattle.page_model.specs.Pages.{numbered}
 use Rattle.page_model.specs.Placement.{Residence, state_of}
 use Rattle.page_model.specs.Swapper.{residence_of, is_out}
 use Rattle.kernel_model.specs.Kernel.{Kernel, Proc, with_regs}
-use Rattle.kernel_model.specs.ChangeStep.{ran_by, space_of_life}
+use Rattle.kernel_model.specs.ChangeStep.{ran_by, life_of_proc, space_of_life}
 use Rattle.kernel_model.specs.Unit.{proc_of}
 use Rattle.kernel_laws.proofs.Flat.Numbered.{numbered_map, has_number}
 use Rattle.kernel_laws.proofs.PageLawsListsPages.{mapped}
 use Rattle.std.specs.Option.{is_some}
 use Rattle.machine_state.specs.Joined.{instructions_in, last_says}
 use Rattle.machine_state.specs.Machine.{Standing}
-use Rattle.machine_state.specs.UserMemory.{CanLend, Wrote, kernel_answers, spot_in, write_by_state, write_spot, write_in, writes_in, AreWritten}
+use Rattle.machine_state.specs.UserMemory.{Wrote, kernel_answers, spot_in, write_by_state, write_spot, write_in, writes_in, AreWritten}
 use Rattle.machine_state.specs.UserMemoryLaws.{writes_answer, writes_append}
 use Rattle.machine_state.proofs.Further.{more_at_last, some_last}
 use Rattle.machine_state.proofs.Joins.{last_is, runs_kind}
 use Rattle.steady_laws.specs.Callers.{space_held, regs_of, regs_by}
-use Rattle.steady_laws.proofs.Entries.{writes_continue}
-use Rattle.steady_laws.proofs.Standing.{life_at}
-use Rattle.steady_laws.proofs.Tables.{regs_lives}
-use Rattle.proc_run.specs.declared.advancing.Advance.TheVariants as advances
 use Rattle.proc_run.specs.Calls.{own_answers}
 use Rattle.proc_run.specs.Choosing.{can_step, steps_by, may_run}
-use Rattle.proc_run.specs.Runs.{IsSteady}
 use Rattle.proc_run.specs.Stretch.{GoesOn, Stretch, StretchOf, RanOne, RanOn}
-use Rattle.touched_pages.proofs.RunUnitsCalling.{calls_write_none}
-use Rattle.proc_run.proofs.Attempts.{no_room, ready_of, called}
-use Rattle.proc_run.proofs.SoFar.{steady_on}
-use Rattle.proc_run.proofs.Tried.{ran_advances, ran_goes_on, ran_holders}
-use Rattle.proc_run.proofs.Written.{writes_same, writes_lend}
+use Rattle.proc_run.proofs.Attempts.{no_room, writes_none}
+use Rattle.proc_run.proofs.Tried.{ran_advances, ran_goes_on}
+use Rattle.proc_run.proofs.Written.{writes_same}
 
 -- What an instruction writes may be written before or after it is counted.
 
@@ -113,20 +106,24 @@ counted_twice k pid r s front last n ends =
 
 -- The process runs on.
 
-steps_still : (pid : ℕ) (regs : Regs) (p : Proc) (b : Bool) → can_step (cond b (record p { regs = regs }) p) ≡ can_step p
-steps_still pid regs p true = refl
-steps_still pid regs p false = refl
+-- what doesn't look at its registers sees no difference
+still : {T : Type 0} (f : Proc → T) (pid : ℕ) (regs : Regs) → ((p : Proc) → f (record p { regs = regs }) ≡ f p) → (p : Proc) → f (with_regs pid regs p) ≡ f p
+still f pid regs h p = go (p.pid == pid)
+  where
+    go : (b : Bool) → f (cond b (record p { regs = regs }) p) ≡ f p
+    go true = h p
+    go false = refl
 
 steps_mapped : (pid : ℕ) (regs : Regs) (o : Option Proc) → steps_by (mapped (with_regs pid regs) o) ≡ steps_by o
 steps_mapped pid regs None = refl
-steps_mapped pid regs (Some p) = steps_still pid regs p (p.pid == pid)
+steps_mapped pid regs (Some p) = still can_step pid regs (λ q. refl) p
+
+life_mapped : (pid : ℕ) (regs : Regs) (o : Option Proc) → life_of_proc (mapped (with_regs pid regs) o) ≡ life_of_proc o
+life_mapped pid regs None = refl
+life_mapped pid regs (Some p) = still (λ q. q.life) pid regs (λ q. refl) p
 
 number_still : (pid : ℕ) (regs : Regs) (p : Proc) → (with_regs pid regs p).pid ≡ p.pid
-number_still pid regs p = go (p.pid == pid)
-  where
-    go : (b : Bool) → (cond b (record p { regs = regs }) p).pid ≡ p.pid
-    go true = refl
-    go false = refl
+number_still pid regs = still (λ q. q.pid) pid regs (λ q. refl)
 
 at_pid : List Proc → ℕ → Option Proc
 at_pid ps pid = numbered (λ (p : Proc). p.pid) pid ps
@@ -147,7 +144,7 @@ regs_put pid regs ps there = go (at_pid ps pid) refl there
     go None e t = absurd cc
     go (Some p) e t = one p (p.pid == pid) (eq-eqb p.pid pid (has_number (λ (q : Proc). q.pid) pid ps p e))
 
-module _ (old : Standing) (pid : ℕ) (regs : Regs) (steady : IsSteady old) (can : may_run old.kernel pid ≡ true) (has : regs ≡ regs_of old.kernel pid)
+module _ (old : Standing) (pid : ℕ) (regs : Regs) (clear : old.kernel.place.due ≡ []) (can : may_run old.kernel pid ≡ true) (has : regs ≡ regs_of old.kernel pid)
     (front : List Entry) (last : ℕ) (ends : old.kernel.journal ≡ front ++ Ran pid last ∷ []) where
   abbrev sid : ℕ
   sid = space_held old.kernel pid
@@ -198,11 +195,14 @@ module _ (old : Standing) (pid : ℕ) (regs : Regs) (steady : IsSteady old) (can
       regs_put pid mid (after_writes ws).processes (steps_written ws)
       ∙ sym (ap regs_by (numbered_map (λ (p : Proc). p.pid) (with_regs pid mid) (number_still pid mid) pid (after_writes ws).processes))
 
+  space_still : (ws : List ByteWrite) → space_held (after_writes ws) pid ≡ sid
+  space_still ws = ap (λ (ps : List Proc). space_of_life (life_of_proc (numbered (λ (p : Proc). p.pid) pid ps))) (same ws).processes
+
   space_at : (n : ℕ) (ws : List ByteWrite) (mid : Regs) → space_held (at n ws mid).kernel pid ≡ sid
-  space_at zero ws mid = ap (λ (ps : List Proc). space_of_life (life_at ps pid)) (same ws).processes
+  space_at zero ws mid = space_still ws
   space_at (suc n) ws mid =
-      ap space_of_life (regs_lives pid mid (after_writes ws).processes pid)
-      ∙ ap (λ (ps : List Proc). space_of_life (life_at ps pid)) (same ws).processes
+      ap (λ (o : Option Proc). space_of_life (life_of_proc o)) (numbered_map (λ (p : Proc). p.pid) (with_regs pid mid) (number_still pid mid) pid (after_writes ws).processes)
+      ∙ ap space_of_life (life_mapped pid mid (proc_of (after_writes ws) pid)) ∙ space_still ws
 
   answers_at : (n : ℕ) (ws : List ByteWrite) (mid : Regs) → AreWritten old.kernel sid ws
       → own_answers (at n ws mid) pid ≡ written (kernel_answers old.kernel sid) ws
@@ -233,7 +233,7 @@ module _ (old : Standing) (pid : ℕ) (regs : Regs) (steady : IsSteady old) (can
   rest_at (suc n) ws vs mid after = refl
 
   -- the machine after an instruction more
-  module _ (n : ℕ) (ws : List ByteWrite) (mid after : Regs) (is : IsAt n mid) (ready : IsSteady (at n ws mid)) (each : AreWritten old.kernel sid ws)
+  module _ (n : ℕ) (ws : List ByteWrite) (mid after : Regs) (is : IsAt n mid) (none_due : (at n ws mid).kernel.place.due ≡ []) (each : AreWritten old.kernel sid ws)
       (goes : GoesOn (written (kernel_answers old.kernel sid) ws) mid after)
       (more : AreWritten (after_writes ws) sid (writes_of (run (written (kernel_answers old.kernel sid) ws) (instruction mid)))) where
     abbrev outcome : Result Effect Refused
@@ -277,17 +277,13 @@ module _ (old : Standing) (pid : ℕ) (regs : Regs) (steady : IsSteady old) (can
     one_more : RanOne (at n ws mid) pid next
     one_more = record {
       can = can_at n ws mid;
-      advances = λ now holds i. ran_advances (at n ws mid) (at n ws mid) wrote_own pid mid (no_room (at n ws mid)) wrote ready done next after left step now holds i (has_at n ws mid is);
-      continues = ran_goes_on (at n ws mid) (at n ws mid) wrote_own pid mid (no_room (at n ws mid)) wrote ready done next after left step (rest_at n ws (writes_of outcome) mid after);
-      holders = ran_holders (at n ws mid) (at n ws mid) wrote_own pid mid (no_room (at n ws mid)) wrote ready done next after left step;
+      advances = λ now holds i. ran_advances (at n ws mid) (at n ws mid) wrote_own pid mid (no_room (at n ws mid)) wrote none_due done next after left step now holds i (has_at n ws mid is);
+      continues = ran_goes_on (at n ws mid) (at n ws mid) wrote_own pid mid (no_room (at n ws mid)) wrote none_due done next after left step (rest_at n ws (writes_of outcome) mid after);
     }
-
-    steady_next : IsSteady next
-    steady_next = steady_on (at n ws mid) next 1 ready one_more.continues one_more.holders
 
   -- what holds after so many
   record Reached (n : ℕ) (ws : List ByteWrite) (after : Regs) : Type 0 where
-    still : IsSteady (at n ws after)
+    still : (at n ws after).kernel.place.due ≡ []
     ran : RanOn old pid n (at n ws after)
     is : IsAt n after
 
@@ -295,7 +291,7 @@ module _ (old : Standing) (pid : ℕ) (regs : Regs) (steady : IsSteady old) (can
   reached zero ws after h each =
       let e : ws ≡ [] = h.0 in
       let back : at zero ws after ≡ old = ap (λ (vs : List ByteWrite). at zero vs after) e in
-      record { still = subst IsSteady (sym back) steady; ran = back; is = h.1 }
+      record { still = subst (λ (m : Standing). m.kernel.place.due ≡ []) (sym back) clear; ran = back; is = h.1 }
   reached (suc n) ws after h each =
       let earlier : List ByteWrite = h.0 in
       let mid : Regs = h.1 in
@@ -305,7 +301,7 @@ module _ (old : Standing) (pid : ℕ) (regs : Regs) (steady : IsSteady old) (can
       let one : RanOne (at n earlier mid) pid (at (suc n) (earlier ++ vs) after) = one_more n earlier mid after before.is before.still split.0 h.3 split.1 in
       subst (λ (us : List ByteWrite). Reached (suc n) us after) (sym h.4)
       (record {
-        still = steady_next n earlier mid after before.is before.still split.0 h.3 split.1;
+        still = one.continues.clear;
         ran = (at n earlier mid, before.ran, one);
         is = tt;
       })
@@ -325,12 +321,6 @@ none_ran old new sid memory regs after zero e h = h.2.machine ∙ ap (λ (ws : L
 none_ran old new sid memory regs after (suc n) e h = absurd (omega (arith, e))
 
 module _ (old new : Standing) (pid : ℕ) (ws : List ByteWrite) (w : Wrote old (space_held old.kernel pid) ws new) where
-  pub wrote_running : IsSteady old → new.kernel.stopped ≡ false
-  wrote_running s = (writes_continue old new (space_held old.kernel pid) ws (ready_of old s) w.machine).running
-
-  pub wrote_lends : CanLend old.kernel pid → CanLend new.kernel pid
-  wrote_lends c = subst (λ (m : Standing). CanLend m.kernel pid) (sym w.machine) (writes_lend old.kernel (space_held old.kernel pid) pid ws c)
-
   pub wrote_journal : new.kernel.journal ≡ old.kernel.journal
   wrote_journal = ap (λ (m : Standing). m.kernel.journal) w.machine ∙ (writes_same ws old.kernel (space_held old.kernel pid)).journal
 
@@ -355,5 +345,4 @@ at_once old mid new pid n ws after w step rest =
 pub call_unwritten : (memory : Answers) (before : Regs) (number : ℤ) → answer_of (run memory (instruction before)) ≡ steps.Call number
     → writes_of (run memory (instruction before)) ≡ []
 call_unwritten memory before number a =
-    let c = called (run memory (instruction before)) number a in
-    ap writes_of c.1 ∙ calls_write_none memory before c.0 number c.1 c.2
+    writes_none memory before (run memory (instruction before)) refl (λ d. let z : steps.Call number ≡ steps.Done = sym a ∙ d in absurd cc)

@@ -7,13 +7,16 @@ use Rattle.vm_facts.specs.declared.page.PageState.{PageState}
 use Rattle.vm_facts.specs.declared.page.PageState.TheVariants.{Unfilled, Valid, Invalid, Coming, Going, OnSwap}
 use Rattle.flat_state.specs.declared.spot.Spot.{Spot}
 use Rattle.flat_state.specs.declared.spot.Spot.TheVariants as spots
+use Rattle.page_model.specs.Pages.{numbered}
 use Rattle.page_model.specs.Moves.{touch_to}
 use Rattle.page_model.specs.Placement.{Placement, Residence, state_of}
-use Rattle.page_model.specs.Swapper.{residence_of}
-use Rattle.kernel_model.specs.Kernel.{Kernel, Proc}
+use Rattle.page_model.specs.Swapper.{residence_of, is_out}
+use Rattle.kernel_model.specs.ChangeStep.{life_of_proc}
+use Rattle.kernel_model.specs.Kernel.{Kernel, Proc, HoldsSpace}
+use Rattle.machine_state.specs.Calls.{life_in}
+use Rattle.machine_state.specs.Going.{CanGoOn}
+use Rattle.machine_state.specs.Machine.{Standing}
 use Rattle.machine_state.specs.UserMemory.{CanLend, spot_in, write_by_state, write_spot, write_in, writes_in}
-use Rattle.steady_laws.proofs.Spaces.{HasAll, touch_has}
-use Rattle.steady_laws.proofs.Standing.{life_at}
 
 touched_residents : (p : Placement) (q : Page) (s : PageState) → (touch_to p q s).residents ≡ p.residents
 touched_residents p (Data sid v) (Valid f) = refl
@@ -30,18 +33,17 @@ touched_residents p (Stack sid v) (Coming f) = refl
 touched_residents p (Stack sid v) (Going f) = refl
 touched_residents p (Stack sid v) OnSwap = refl
 
--- the journal, the processes, who is out, and the spaces that are there
+-- the journal, the processes, and who is out
 pub record SameTables (k l : Kernel) : Type 0 where
   pub journal : l.journal ≡ k.journal
   pub processes : l.processes ≡ k.processes
   pub residents : l.place.residents ≡ k.place.residents
-  pub has : HasAll k.place l.place
 
 same_self : (k : Kernel) → SameTables k k
-same_self k = record { journal = refl; processes = refl; residents = refl; has = λ sid h. h }
+same_self k = record { journal = refl; processes = refl; residents = refl }
 
 byte_same : (k : Kernel) (q : Page) (s : PageState) (at byte : ℕ) → SameTables k (write_by_state k q s at byte)
-byte_same k q (Valid f) at byte = record { journal = refl; processes = refl; residents = touched_residents k.place q (state_of k.place q); has = touch_has k.place q }
+byte_same k q (Valid f) at byte = record { journal = refl; processes = refl; residents = touched_residents k.place q (state_of k.place q) }
 byte_same k q Unfilled at byte = same_self k
 byte_same k q (Invalid f) at byte = same_self k
 byte_same k q (Coming f) at byte = same_self k
@@ -60,20 +62,22 @@ same_then k l m s t = record {
   journal = t.journal ∙ s.journal;
   processes = t.processes ∙ s.processes;
   residents = t.residents ∙ s.residents;
-  has = λ sid h. t.has sid (s.has sid h);
 }
 
 pub writes_same : (ws : List ByteWrite) (k : Kernel) (sid : ℕ) → SameTables k (writes_in k sid ws)
 writes_same [] k sid = same_self k
 writes_same (w ∷ ws) k sid = same_then k (write_in k sid w) (writes_in (write_in k sid w) sid ws) (spot_same k sid (spot_in k.place sid w.address) w.byte) (writes_same ws (write_in k sid w) sid)
 
--- so the process is there and in as before
-pub writes_lend : (k : Kernel) (sid pid : ℕ) (ws : List ByteWrite) → CanLend k pid → CanLend (writes_in k sid ws) pid
-writes_lend k sid pid ws c =
-    let s = writes_same ws k sid in
+-- so where the machine can go on the process is there and in as before
+pub wrote_lends : (old new : Standing) (pid sid : ℕ) (ws : List ByteWrite) → new ≡ record old { kernel = writes_in old.kernel sid ws } → CanGoOn new
+    → CanLend old.kernel pid → CanLend new.kernel pid
+wrote_lends old new pid sid ws e ready c =
+    let s = writes_same ws old.kernel sid in
+    let holds : life_in new.kernel pid ≡ HoldsSpace c.sid =
+    ap (λ (m : Standing). life_in m.kernel pid) e ∙ ap (λ (ps : List Proc). life_of_proc (numbered (λ (p : Proc). p.pid) pid ps)) s.processes ∙ c.holds in
     record {
       sid = c.sid;
-      holds = ap (λ (ps : List Proc). life_at ps pid) s.processes ∙ c.holds;
-      there = s.has c.sid c.there;
-      resident = ap (λ (rs : List Residence). (residence_of rs pid).out) s.residents ∙ c.resident;
+      holds = holds;
+      there = ready.running.holders.spaces pid c.sid holds;
+      resident = ap (λ (m : Standing). is_out m.kernel.place pid) e ∙ ap (λ (rs : List Residence). (residence_of rs pid).out) s.residents ∙ c.resident;
     }

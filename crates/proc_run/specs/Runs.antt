@@ -6,6 +6,7 @@ use Rattle.io_edge.specs.FileHolding.{NamedFile}
 use Rattle.flat_state.specs.Space.{Space}
 use Rattle.flat_state.specs.Flat.{Process, Inputs}
 use Rattle.kernel_model.specs.Kernel.{Kernel}
+use Rattle.machine_state.specs.Going.{CanGoOn}
 use Rattle.machine_state.specs.Machine.{Standing}
 use Rattle.steady_laws.specs.LastMoves.{last_moves}
 use Rattle.steady_laws.specs.Reading.{AreNamed}
@@ -14,20 +15,16 @@ use Rattle.run_model.specs.Wanted.{locked}
 use Rattle.step_units.specs.Machines.{RunsOn}
 use Rattle.step_units.specs.Stepped.{StepLeads, MarkEnds, StopLeads}
 use Rattle.step_units.specs.Running.{Waits}
-use Rattle.steady_laws.specs.Holders.{HoldersStand}
 use Rattle.proc_run.specs.declared.advancing.Patience.{Patience}
 use Rattle.proc_run.specs.declared.advancing.Patience.TheVariants as patience
 use Rattle.proc_run.specs.declared.advancing.Advance.{Advance}
 use Rattle.proc_run.specs.declared.advancing.Advance.TheVariants as advances
 
--- A machine that may be asked for one unit of a run after another, whatever the devices tell: it runs, no pieces wait for an entry,
--- nothing is due, who holds a space holds one that is there, and alone; it has 64 frames or more, and its last entry counts no more
--- than a million moves of the hands.
+-- A machine that may be asked for one unit of a run after another, whatever the devices tell: it can go on, nothing
+-- is due, it has 64 frames or more, and its last entry counts no more than a million moves of the hands.
 pub record IsSteady (m : Standing) : Type 0 where
-  pub running : m.kernel.stopped ≡ false
-  pub whole : m.before ≡ m.kernel.holdings
+  pub ready : CanGoOn m
   pub clear : m.kernel.place.due ≡ []
-  pub holders : HoldersStand m.kernel
   pub frames : 64 ≤ length m.kernel.place.holds
   pub low : last_moves m.kernel.journal ≤ 1000000
 

@@ -5,13 +5,18 @@ use Rattle.vm_facts.specs.declared.regs.Regs.{Regs}
 use Rattle.io_edge.specs.FileHolding.{NamedFile}
 use Rattle.user_vax.specs.Program.{run}
 use Rattle.user_vax.specs.Instruction.{instruction, answer_of, registers_after, writes_of}
+use Rattle.user_vax.specs.declared.stepping.Stepped.{Stepped}
 use Rattle.user_vax.specs.declared.stepping.Stepped.TheVariants as steps
 use Rattle.machine_state.specs.Machine.{Standing}
-use Rattle.steady_laws.specs.Holders.{HoldersStand}
 use Rattle.steady_laws.specs.Ready.{Continues}
 use Rattle.proc_run.specs.declared.advancing.Advance.TheVariants as advances
 use Rattle.proc_run.specs.Choosing.{may_run}
 use Rattle.proc_run.specs.Runs.{Advances}
+
+-- The machine after an instruction was tried: it is as it was, but where the instruction is carried out and makes no call.
+abbrev pub Leaves : Stepped → Standing → Standing → Type 0
+Leaves steps.Done old new = Unit {0}
+Leaves _ old new = new ≡ old
 
 -- Over a memory.
 
@@ -43,7 +48,6 @@ pub record RanOne (old : Standing) (pid : ℕ) (new : Standing) : Type 0 where
   pub can : may_run old.kernel pid ≡ true
   pub advances : (now : Bool) (holds : Option (List NamedFile)) (i : Option (List ℕ)) → Advances old new pid now holds i i advances.Counted
   pub continues : Continues old new 1
-  pub holders : HoldersStand new.kernel
 
 -- so many were, one after another
 abbrev pub RanOn : Standing → ℕ → ℕ → Standing → Type 0

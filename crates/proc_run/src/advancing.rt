@@ -1,15 +1,15 @@
 //! The next instruction of a process, or a page that it waits for.
-ghost use Rattle.std.specs.Prelude.{◌≡◌, ◌⊎◌, ◌+◌, ◌^◌, ◌<◌, ◌≤◌, false, length, Some, None, IfOk, OnOk, IfErr, OnErr, Err};
+ghost use Rattle.std.specs.Prelude.{◌≡◌, ◌⊎◌, ◌+◌, ◌^◌, ◌<◌, ◌≤◌, false, length, Some, IfOk, OnOk, IfErr, OnErr, Err};
 ghost use Rattle.vm_facts.specs.declared.entry.Entry.TheVariants.{Ran};
 ghost use Rattle.user_vax.specs.Program.{run};
 ghost use Rattle.user_vax.specs.Instruction.{instruction, answer_of};
 ghost use Rattle.flat_state.specs.Journal.{append, instructions_of};
+ghost use Rattle.machine_state.specs.Going.{CanGoOn};
 ghost use Rattle.machine_state.specs.Conditions.{HasStopped};
 ghost use Rattle.machine_state.specs.Files.{AreFiles};
 ghost use Rattle.machine_state.specs.UserMemory.{CanLend};
 ghost use Rattle.machine_state.specs.Outside.{stop_of, TransfersPages};
 ghost use Rattle.steady_laws.specs.Callers.{regs_of};
-ghost use Rattle.steady_laws.specs.Holders.{HoldersStand};
 ghost use Rattle.steady_laws.specs.Ready.{Continues};
 ghost use Rattle.steady_laws.specs.Sizes.{KeptAtStop};
 ghost use Rattle.proc_run.specs.Calls.{own_answers};
@@ -49,7 +49,7 @@ pub enum Advance {
 // a memory that keeps what is written to itself: one that has to wait for a page needs no entry, and where it is carried out the
 // run stops before anything is written.
 fn make_room(alloc: Global, m: &mut Machine, pid: u32, before: &Regs) -> Result<(), Stop>
-    requires running { m.old.kernel.stopped ≡ false }
+    requires ready { CanGoOn m.old }
     requires lends { CanLend m.old.kernel pid }
     ensures only { OnOk result (m.new ≡ record m.old { room = m.new.room }) }
     ensures room { OnOk result (answer_of (run (own_answers m.old pid) (instruction before.now)) ≡ Stepped.Done → m.new.room ≡ Some pid) }
@@ -58,6 +58,7 @@ fn make_room(alloc: Global, m: &mut Machine, pid: u32, before: &Regs) -> Result<
     ensures full { result ≡ Err Stop.JournalFull → (m.old.params.journal ≤ length m.old.kernel.journal)
         × (length m.old.kernel.journal < length (append m.old.kernel.journal (Ran pid 1))) }
     ensures done { result ≡ Err Stop.JournalFull → answer_of (run (own_answers m.old pid) (instruction before.now)) ≡ Stepped.Done }
+    ensures goes_on { OnOk result (CanGoOn m.new) }
 {
     if !has_room(m, pid) {
         let completes = completes(alloc, m, pid, before);
@@ -89,7 +90,7 @@ pub fn next_step<F: Files, D: SwapDev>(
     ensures advances { IfOk result (Advances m.old m.new pid (is_now patience) (F.holds files.old) (D.image swap.old) (D.image swap.new)) }
     ensures stops { IfErr result (StopsAdvancing m.old m.new pid (is_now patience) (F.holds files.old) (D.image swap.old) (D.image swap.new)) }
     ensures continues { IfOk result (λ advance. Continues m.old m.new (counts advance)) }
-    ensures holders { OnOk result (HoldersStand m.new.kernel) }
+    ensures goes_on { OnOk result (CanGoOn m.new) }
     ensures kept { IfErr result (KeptAtStop m.old m.new) }
     ensures outside { TransfersPages F.Files D.SwapDev (stop_of result) files.old files.new swap.old swap.new }
 {
@@ -108,7 +109,6 @@ pub fn next_step<F: Files, D: SwapDev>(
             serve_access(alloc, m, files, swap, pid, before, address, false, patience)
         }
         Stepped::Signal(signal) => {
-            m.sound();
             kill(m, files, swap, pid, signal)?;
             Ok(Advance::Counted)
         }

@@ -5,9 +5,11 @@ ghost use Rattle.vm_facts.specs.declared.entry.Entry.TheVariants.{Ran};
 ghost use Rattle.user_vax.specs.Program.{run};
 ghost use Rattle.user_vax.specs.Instruction.{instruction, answer_of, registers_after, writes_of};
 ghost use Rattle.flat_state.specs.Journal.{append};
+ghost use Rattle.machine_state.specs.Going.{CanGoOn};
 ghost use Rattle.machine_state.specs.Joined.{instructions_in, last_says};
 ghost use Rattle.machine_state.specs.UserMemory.{CanLend, Wrote, kernel_answers};
 ghost use Rattle.steady_laws.specs.Callers.{space_held};
+ghost use Rattle.proc_run.specs.Stretch.{Leaves};
 
 use machine_state::Machine;
 use std::alloc::Global;
@@ -45,7 +47,7 @@ pub fn has_room(m: &Machine, pid: u32) -> bool
 
 /// Whether the next instruction of a process is carried out, and makes no call. Nothing changes.
 pub fn completes(alloc: Global, m: &mut Machine, pid: u32, regs: &Regs) -> Result<bool, NoMemory>
-    requires running { m.old.kernel.stopped ≡ false }
+    requires ready { CanGoOn m.old }
     requires lends { CanLend m.old.kernel pid }
     ensures value { IfOk result
         (λ done. (done ≡ true) ↔ (answer_of (run (kernel_answers m.old.kernel (space_held m.old.kernel pid)) (instruction regs.now)) ≡ Stepped.Done)) }
@@ -54,14 +56,16 @@ pub fn completes(alloc: Global, m: &mut Machine, pid: u32, regs: &Regs) -> Resul
     dry_run::completes(alloc, &m.memory(pid), regs)
 }
 
-/// Carries the next instruction of a process out, or changes nothing.
+/// Carries the next instruction of a process out. Where it isn't carried out, or makes a call, the machine stays as it was.
 pub fn attempt(m: &mut Machine, pid: u32, regs: &mut Regs) -> Stepped
-    requires running { m.old.kernel.stopped ≡ false }
+    requires ready { CanGoOn m.old }
     requires lends { CanLend m.old.kernel pid }
     ensures answer { result ≡ answer_of (run (kernel_answers m.old.kernel (space_held m.old.kernel pid)) (instruction regs.old)) }
     ensures registers { regs.new ≡ registers_after regs.old (run (kernel_answers m.old.kernel (space_held m.old.kernel pid)) (instruction regs.old)) }
     ensures wrote { Wrote m.old (space_held m.old.kernel pid)
         (writes_of (run (kernel_answers m.old.kernel (space_held m.old.kernel pid)) (instruction regs.old))) m.new }
+    ensures only { Leaves result m.old m.new }
+    ensures goes_on { CanGoOn m.new }
 {
     step(regs, &mut m.memory(pid))
 }

@@ -1,16 +1,13 @@
 //! A call that an instruction makes.
 ghost use Rattle.std.specs.Prelude.{◌≡◌, ◌≤◌, Some, Ok, IfOk, OnOk, IfErr};
-ghost use Rattle.user_vax.specs.Program.{run};
-ghost use Rattle.user_vax.specs.Effects.{Effect};
-ghost use Rattle.user_vax.specs.Instruction.{instruction};
+ghost use Rattle.machine_state.specs.Going.{CanGoOn};
 ghost use Rattle.machine_state.specs.Files.{AreFiles};
 ghost use Rattle.machine_state.specs.UserMemory.{CanLend};
 ghost use Rattle.machine_state.specs.Outside.{stop_of, TransfersPages};
 ghost use Rattle.steady_laws.specs.Callers.{regs_of};
-ghost use Rattle.steady_laws.specs.Holders.{HoldersStand};
 ghost use Rattle.steady_laws.specs.Ready.{Continues};
 ghost use Rattle.steady_laws.specs.Sizes.{KeptAtStop};
-ghost use Rattle.proc_run.specs.Calls.{own_answers, CallComes, CallStops, MadeCall};
+ghost use Rattle.proc_run.specs.Calls.{CallComes, CallStops, MadeCall};
 ghost use Rattle.proc_run.specs.Runs.{IsSteady, is_now, Advances, StopsAdvancing, counts};
 
 use crate::advancing::{Advance, Patience};
@@ -41,6 +38,7 @@ fn make<F: Files, D: SwapDev>(
     requires files { AreFiles m.old.images (F.holds files.old) }
     ensures comes { IfOk result (CallComes call m.old m.new pid regs.now (F.holds files.old) (D.image swap.old) (D.image swap.new)) }
     ensures stops { IfErr result (CallStops call m.old m.new pid regs.now (F.holds files.old) (D.image swap.old) (D.image swap.new)) }
+    ensures goes_on { OnOk result (CanGoOn m.new) }
     ensures outside { TransfersPages F.Files D.SwapDev (stop_of result) files.old files.new swap.old swap.new }
 {
     match call {
@@ -77,11 +75,10 @@ pub fn call<F: Files, D: SwapDev>(
     ensures advances { IfOk result (Advances m.old m.new pid (is_now patience) (F.holds files.old) (D.image swap.old) (D.image swap.new)) }
     ensures stops { IfErr result (StopsAdvancing m.old m.new pid (is_now patience) (F.holds files.old) (D.image swap.old) (D.image swap.new)) }
     ensures continues { IfOk result (λ advance. Continues m.old m.new (counts advance)) }
-    ensures holders { OnOk result (HoldersStand m.new.kernel) }
+    ensures goes_on { OnOk result (CanGoOn m.new) }
     ensures kept { IfErr result (KeptAtStop m.old m.new) }
     ensures outside { TransfersPages F.Files D.SwapDev (stop_of result) files.old files.new swap.old swap.new }
 {
-    m.sound();
     let Some(call) = SystemCall::numbered(number) else {
         kill(m, files, swap, pid, SIGSYS)?;
         return Ok(Advance::Counted);

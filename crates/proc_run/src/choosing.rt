@@ -1,5 +1,6 @@
 //! The process that has the next turn.
 ghost use Rattle.std.specs.Prelude.{◌≡◌, true, false, Some, None, IfSome};
+ghost use Rattle.machine_state.specs.Going.{IsRunning};
 ghost use Rattle.machine_state.specs.Machine.{proc_shown};
 ghost use Rattle.steady_laws.specs.Callers.{regs_of};
 ghost use Rattle.proc_run.specs.Choosing.{can_step, may_run, next_turned, next_ready, FoundReady};
@@ -32,7 +33,7 @@ fn ready_above(processes: &ProcTable, above: u32) -> Option<u32>
 
 // The lowest process of a machine above this one that can step.
 fn next_ready(m: &Machine, above: u32) -> Option<u32>
-    requires { m.now.kernel.stopped ≡ false }
+    requires { IsRunning m.now }
     ensures { result ≡ next_ready m.now.kernel above }
 {
     ready_above(m.processes(), above)
@@ -40,7 +41,7 @@ fn next_ready(m: &Machine, above: u32) -> Option<u32>
 
 /// The process of the next turn, after a turn of this one; 0 stands for none. None comes where no process can step.
 pub fn next_turned(m: &Machine, last: u32) -> Option<u32>
-    requires { m.now.kernel.stopped ≡ false }
+    requires { IsRunning m.now }
     ensures { result ≡ next_turned m.now.kernel last }
 {
     match next_ready(m, last) {
@@ -51,7 +52,7 @@ pub fn next_turned(m: &Machine, last: u32) -> Option<u32>
 
 /// The registers of a process that is in and can step; None where it isn't in, can't, or isn't there.
 pub fn ready_regs(m: &Machine, pid: u32) -> Option<Regs>
-    requires { m.now.kernel.stopped ≡ false }
+    requires { IsRunning m.now }
     ensures ready { IfSome result (λ regs. may_run m.now.kernel pid ≡ true) }
     ensures registers { IfSome result (λ regs. regs ≡ regs_of m.now.kernel pid) }
     ensures none { result ≡ None → may_run m.now.kernel pid ≡ false }

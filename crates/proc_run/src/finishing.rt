@@ -3,6 +3,7 @@ ghost use Rattle.std.specs.Prelude.{◌≡◌, ◌+◌, ◌≤◌, Some, OnOk, I
 ghost use Rattle.flat_state.specs.Journal.{instructions_of};
 ghost use Rattle.flat_state.specs.declared.change.Change.TheVariants.{Keep};
 ghost use Rattle.flat_model.specs.Calls.{replied};
+ghost use Rattle.machine_state.specs.Going.{CanGoOn};
 ghost use Rattle.machine_state.specs.Files.{AreFiles};
 ghost use Rattle.machine_state.specs.Outside.{stop_of, TransfersPages};
 ghost use Rattle.machine_state.specs.UserMemory.{CanLend};
@@ -94,6 +95,7 @@ fn answer(
     requires short { SentFew begun }
     ensures answered { OnOk result (Answered m.old m.new pid call (replied regs.now (carry_of begun) (r0_of begun)) Keep) }
     ensures stops { IfErr result (StopsBefore m.old m.new) }
+    ensures goes_on { OnOk result (CanGoOn m.new) }
 {
     match begun {
         Begun::Sent { count, .. } => answer_sent(m, pid, call, regs, count as u32),
@@ -118,7 +120,6 @@ pub fn finish_step<F: Files, D: SwapDev>(
     ensures kept { IfErr result (KeptAtStop m.old m.new) }
     ensures outside { TransfersPages F.Files D.SwapDev (stop_of result) files.old files.new swap.old swap.new }
 {
-    m.sound();
     let pid = pid_of(begun);
     let Some(before) = ready_regs(m, pid) else {
         unreachable!()

@@ -1,11 +1,11 @@
 //! A page that an instruction or its call waits for.
-ghost use Rattle.std.specs.Prelude.{◌≡◌, ◌≤◌, true, false, length, IfOk, OnOk, IfErr};
+ghost use Rattle.std.specs.Prelude.{◌≡◌, ◌≤◌, true, IfOk, OnOk, IfErr};
+ghost use Rattle.machine_state.specs.Going.{CanGoOn};
 ghost use Rattle.machine_state.specs.Files.{AreFiles};
 ghost use Rattle.machine_state.specs.UserMemory.{CanLend};
 ghost use Rattle.machine_state.specs.Outside.{stop_of, TransfersPages};
 ghost use Rattle.steady_laws.specs.Callers.{regs_of};
 ghost use Rattle.touched_pages.specs.Missed.{WritesNothing};
-ghost use Rattle.steady_laws.specs.Holders.{HoldersStand};
 ghost use Rattle.steady_laws.specs.Ready.{Continues};
 ghost use Rattle.steady_laws.specs.Sizes.{KeptAtStop};
 ghost use Rattle.proc_run.specs.Serving.{ServedBy, StopsServed};
@@ -40,6 +40,7 @@ fn bring_in<F: Files, D: SwapDev>(
     requires registers { regs.now ≡ regs_of m.old.kernel pid }
     ensures served { IfOk result (ServedBy true m.old m.new pid address write (F.holds files.old) (D.image swap.old) (D.image swap.new)) }
     ensures stops { IfErr result (StopsServed true m.old m.new pid address write (F.holds files.old) (D.image swap.old) (D.image swap.new)) }
+    ensures goes_on { OnOk result (CanGoOn m.new) }
     ensures outside { TransfersPages F.Files D.SwapDev (stop_of result) files.old files.new swap.old swap.new }
 {
     let touched = touched_before(alloc, m, pid, regs);
@@ -67,6 +68,8 @@ fn serve_by<F: Files, D: SwapDev>(
     requires registers { regs.now ≡ regs_of m.old.kernel pid }
     ensures served { IfOk result (ServedBy (is_now patience) m.old m.new pid address write (F.holds files.old) (D.image swap.old) (D.image swap.new)) }
     ensures stops { IfErr result (StopsServed (is_now patience) m.old m.new pid address write (F.holds files.old) (D.image swap.old) (D.image swap.new)) }
+    ensures continues { OnOk result (Continues m.old m.new 0) }
+    ensures goes_on { OnOk result (CanGoOn m.new) }
     ensures outside { TransfersPages F.Files D.SwapDev (stop_of result) files.old files.new swap.old swap.new }
 {
     match patience {
@@ -97,13 +100,11 @@ pub fn serve_access<F: Files, D: SwapDev>(
     ensures advances { IfOk result (AdvancesWaiting m.old m.new pid (is_now patience) address write (F.holds files.old) (D.image swap.old) (D.image swap.new)) }
     ensures stops { IfErr result (StopsWaiting m.old m.new pid (is_now patience) address write (F.holds files.old) (D.image swap.old) (D.image swap.new)) }
     ensures continues { IfOk result (λ advance. Continues m.old m.new (counts advance)) }
-    ensures holders { OnOk result (HoldersStand m.new.kernel) }
+    ensures goes_on { OnOk result (CanGoOn m.new) }
     ensures kept { IfErr result (KeptAtStop m.old m.new) }
     ensures outside { TransfersPages F.Files D.SwapDev (stop_of result) files.old files.new swap.old swap.new }
 {
-    m.sound();
     let served = serve_by(alloc, m, files, swap, pid, regs, address, write, patience)?;
-    m.sound();
     let signal = match served {
         Served::Valid => return Ok(Advance::Served),
         Served::Asleep(_) | Served::NoFrame => return Ok(Advance::Stuck),

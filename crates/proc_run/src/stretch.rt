@@ -1,6 +1,7 @@
 //! Further instructions of a process, within one loan of its memory.
-ghost use Rattle.std.specs.Prelude.{◌≡◌, ◌+◌, ◌<◌, ◌≤◌, ◌^◌, false};
+ghost use Rattle.std.specs.Prelude.{◌+◌, ◌<◌, ◌≤◌, ◌^◌, false};
 ghost use Rattle.flat_state.specs.Journal.{instructions_of};
+ghost use Rattle.machine_state.specs.Going.{CanGoOn};
 ghost use Rattle.machine_state.specs.UserMemory.{CanLend, Wrote, kernel_answers};
 ghost use Rattle.steady_laws.specs.Callers.{space_held};
 ghost use Rattle.proc_run.specs.Runs.{IsSteady};
@@ -42,11 +43,12 @@ fn stretch<M: Memory>(memory: &mut M, regs: &mut Regs, most: u32) -> u32
 
 // The same over the frames of the machine.
 fn carry_on(m: &mut Machine, pid: u32, regs: &mut Regs, most: u32) -> u32
-    requires running { m.old.kernel.stopped ≡ false }
+    requires ready { CanGoOn m.old }
     requires lends { CanLend m.old.kernel pid }
     ensures few { result ≤ most }
     ensures carried { StretchOf (kernel_answers m.old.kernel (space_held m.old.kernel pid)) regs.old result regs.new
         (λ ws. Wrote m.old (space_held m.old.kernel pid) ws m.new) }
+    ensures goes_on { CanGoOn m.new }
 {
     stretch(&mut m.memory(pid), regs, most)
 }
@@ -59,6 +61,7 @@ pub fn run_on(m: &mut Machine, pid: u32, most: u32) -> u32
     requires fits { instructions_of m.old.kernel.journal + most < 2 ^ 32 }
     ensures few { result ≤ most }
     ensures ran { RanOn m.old pid result m.new }
+    ensures goes_on { CanGoOn m.new }
 {
     let Some(mut regs) = ready_regs(m, pid) else {
         return 0;

@@ -1,13 +1,12 @@
 use Rattle.std.proofs.Common.{w32, sym, ap, ◌∙◌, subst}
-use Rattle.std.specs.Prelude.{IfErr}
+use Rattle.std.specs.Prelude.{IfOk, IfErr}
 use Rattle.std.proofs.lemmas.Int.{to_z-of_z}
 use Rattle.std.proofs.lemmas.Result.{err_from_is_err_and}
 use Rattle.flat_model.specs.Calls.{call_of}
-use Rattle.steady_laws.proofs.Calls.{caller_holds}
-use Rattle.steady_laws.proofs.Leaving.{ended_keeps}
 use Rattle.steady_laws.proofs.CallsContinue.{end_continues}
-use Rattle.proc_run.specs.Runs.{is_now}
-use Rattle.proc_run.proofs.Made.{caller_of, ready_advances, ready_goes_on, asleep_advances, asleep_goes_on, keeps, stopped, unchanged, steady_again, lends_again, regs_again, quiet, missed_advances, missed_stops, missed_goes_on}
+use Rattle.steady_laws.specs.Ready.{Continues}
+use Rattle.proc_run.specs.Runs.{IsSteady, is_now, counts}
+use Rattle.proc_run.proofs.Made.{caller_of, ready_advances, ready_goes_on, asleep_advances, asleep_goes_on, stopped, unchanged, made_quiet, missed_advances, missed_stops}
 use Rattle.proc_run.proofs.Steps.{no_call_led, no_call_stops}
 use Rattle.machine_state.specs.Machine.{Standing}
 use Rattle.steady_laws.specs.Sizes.{KeptAtStop}
@@ -36,11 +35,6 @@ returns-in_default-clause-continues g c =
     end_continues c.args.m.now c.kill.new.m c.args.pid 12 (g.F.Files.holds c.args.files.now) (g.D.SwapDev.image c.args.swap.now) (g.D.SwapDev.image c.kill.new.swap)
     (caller_of c.args.m.now c.args.pid c.requires.steady c.requires.lends) c.in_ok-kill.ensures.ended
 
-pub returns-in_default-clause-holders : goal.returns-in_default-clause-holders
-returns-in_default-clause-holders g c =
-    ended_keeps c.args.m.now c.kill.new.m c.args.pid 12 (g.F.Files.holds c.args.files.now) (g.D.SwapDev.image c.args.swap.now) (g.D.SwapDev.image c.kill.new.swap)
-    (caller_holds c.args.m.now c.args.pid (caller_of c.args.m.now c.args.pid c.requires.steady c.requires.lends)) c.in_ok-kill.ensures.ended c.sound.ensures.numbered c.requires.steady.holders
-
 -- One of the eight.
 
 pub returns-in_err-make-clause-stops : goal.returns-in_err-make-clause-stops
@@ -54,49 +48,45 @@ returns-in_err-make-clause-stops g c =
 
 pub serve_access-requires-clause-steady : goal.serve_access-requires-clause-steady
 serve_access-requires-clause-steady g c =
-    steady_again c.args.m.now c.make.new.m c.args.pid c.args.before.now c.args.number c.args.regs.now c.in-Some.call (g.F.Files.holds c.args.files.now) (g.D.SwapDev.image c.args.swap.now)
-    (g.D.SwapDev.image c.make.new.swap) (is_now c.args.patience) c.requires.steady c.requires.lends c.requires.registers c.requires.made
-    (ap call_of (sym (to_z-of_z w32 c.args.number c.ranges.number)) ∙ sym c.numbered.ensures ∙ c.in-Some.is)
-    c.in-Miss.address c.in_ok-make.field-0 c.in-Miss.is c.in_ok-make.ensures.comes
+    let same =
+    unchanged c.in-Some.call c.args.m.now c.make.new.m c.args.pid c.args.regs.now (g.F.Files.holds c.args.files.now) (g.D.SwapDev.image c.args.swap.now) (g.D.SwapDev.image c.make.new.swap)
+    c.in_ok-make.field-0 c.in-Miss.address c.in-Miss.is c.in_ok-make.ensures.comes in
+    subst IsSteady (sym same) c.requires.steady
 
 pub serve_access-requires-clause-lends : goal.serve_access-requires-clause-lends
 serve_access-requires-clause-lends g c =
-    lends_again c.args.m.now c.make.new.m c.args.pid c.args.before.now c.args.number c.args.regs.now c.in-Some.call (g.F.Files.holds c.args.files.now) (g.D.SwapDev.image c.args.swap.now)
-    (g.D.SwapDev.image c.make.new.swap) (is_now c.args.patience) c.requires.steady c.requires.lends c.requires.registers c.requires.made
-    (ap call_of (sym (to_z-of_z w32 c.args.number c.ranges.number)) ∙ sym c.numbered.ensures ∙ c.in-Some.is)
-    c.in-Miss.address c.in_ok-make.field-0 c.in-Miss.is c.in_ok-make.ensures.comes
+    let same =
+    unchanged c.in-Some.call c.args.m.now c.make.new.m c.args.pid c.args.regs.now (g.F.Files.holds c.args.files.now) (g.D.SwapDev.image c.args.swap.now) (g.D.SwapDev.image c.make.new.swap)
+    c.in_ok-make.field-0 c.in-Miss.address c.in-Miss.is c.in_ok-make.ensures.comes in
+    rw same c.requires.lends
 
 pub serve_access-requires-clause-area : goal.serve_access-requires-clause-area
 serve_access-requires-clause-area g c =
     let same =
-    unchanged c.args.m.now c.make.new.m c.args.pid c.args.before.now c.args.number c.args.regs.now c.in-Some.call (g.F.Files.holds c.args.files.now) (g.D.SwapDev.image c.args.swap.now)
-    (g.D.SwapDev.image c.make.new.swap) (is_now c.args.patience) c.requires.steady c.requires.lends c.requires.registers c.requires.made
-    (ap call_of (sym (to_z-of_z w32 c.args.number c.ranges.number)) ∙ sym c.numbered.ensures ∙ c.in-Some.is)
-    c.in-Miss.address c.in_ok-make.field-0 c.in-Miss.is c.in_ok-make.ensures.comes in
+    unchanged c.in-Some.call c.args.m.now c.make.new.m c.args.pid c.args.regs.now (g.F.Files.holds c.args.files.now) (g.D.SwapDev.image c.args.swap.now) (g.D.SwapDev.image c.make.new.swap)
+    c.in_ok-make.field-0 c.in-Miss.address c.in-Miss.is c.in_ok-make.ensures.comes in
     rw (same, c.make.ensures.outside.swap.blocks) c.requires.area
 
 pub serve_access-requires-clause-files : goal.serve_access-requires-clause-files
 serve_access-requires-clause-files g c =
     let same =
-    unchanged c.args.m.now c.make.new.m c.args.pid c.args.before.now c.args.number c.args.regs.now c.in-Some.call (g.F.Files.holds c.args.files.now) (g.D.SwapDev.image c.args.swap.now)
-    (g.D.SwapDev.image c.make.new.swap) (is_now c.args.patience) c.requires.steady c.requires.lends c.requires.registers c.requires.made
-    (ap call_of (sym (to_z-of_z w32 c.args.number c.ranges.number)) ∙ sym c.numbered.ensures ∙ c.in-Some.is)
-    c.in-Miss.address c.in_ok-make.field-0 c.in-Miss.is c.in_ok-make.ensures.comes in
+    unchanged c.in-Some.call c.args.m.now c.make.new.m c.args.pid c.args.regs.now (g.F.Files.holds c.args.files.now) (g.D.SwapDev.image c.args.swap.now) (g.D.SwapDev.image c.make.new.swap)
+    c.in_ok-make.field-0 c.in-Miss.address c.in-Miss.is c.in_ok-make.ensures.comes in
     rw (same, c.make.ensures.outside.files.holds) c.requires.files
 
 pub serve_access-requires-clause-quiet : goal.serve_access-requires-clause-quiet
 serve_access-requires-clause-quiet g c =
-    quiet c.args.m.now c.make.new.m c.args.pid c.args.before.now c.args.number c.args.regs.now c.in-Some.call (g.F.Files.holds c.args.files.now) (g.D.SwapDev.image c.args.swap.now)
-    (g.D.SwapDev.image c.make.new.swap) (is_now c.args.patience) c.requires.steady c.requires.lends c.requires.registers c.requires.made
-    (ap call_of (sym (to_z-of_z w32 c.args.number c.ranges.number)) ∙ sym c.numbered.ensures ∙ c.in-Some.is)
-    c.in-Miss.address c.in_ok-make.field-0 c.in-Miss.is c.in_ok-make.ensures.comes
+    let same =
+    unchanged c.in-Some.call c.args.m.now c.make.new.m c.args.pid c.args.regs.now (g.F.Files.holds c.args.files.now) (g.D.SwapDev.image c.args.swap.now) (g.D.SwapDev.image c.make.new.swap)
+    c.in_ok-make.field-0 c.in-Miss.address c.in-Miss.is c.in_ok-make.ensures.comes in
+    rw same (made_quiet c.args.m.now c.args.pid c.args.before.now c.args.number c.args.regs.now c.requires.made)
 
 pub serve_access-requires-clause-registers : goal.serve_access-requires-clause-registers
 serve_access-requires-clause-registers g c =
-    regs_again c.args.m.now c.make.new.m c.args.pid c.args.before.now c.args.number c.args.regs.now c.in-Some.call (g.F.Files.holds c.args.files.now) (g.D.SwapDev.image c.args.swap.now)
-    (g.D.SwapDev.image c.make.new.swap) (is_now c.args.patience) c.requires.steady c.requires.lends c.requires.registers c.requires.made
-    (ap call_of (sym (to_z-of_z w32 c.args.number c.ranges.number)) ∙ sym c.numbered.ensures ∙ c.in-Some.is)
-    c.in-Miss.address c.in_ok-make.field-0 c.in-Miss.is c.in_ok-make.ensures.comes
+    let same =
+    unchanged c.in-Some.call c.args.m.now c.make.new.m c.args.pid c.args.regs.now (g.F.Files.holds c.args.files.now) (g.D.SwapDev.image c.args.swap.now) (g.D.SwapDev.image c.make.new.swap)
+    c.in_ok-make.field-0 c.in-Miss.address c.in-Miss.is c.in_ok-make.ensures.comes in
+    rw same c.requires.registers
 
 pub returns-in-Ready-clause-advances : goal.returns-in-Ready-clause-advances
 returns-in-Ready-clause-advances g c =
@@ -112,13 +102,6 @@ returns-in-Ready-clause-continues g c =
     (ap call_of (sym (to_z-of_z w32 c.args.number c.ranges.number)) ∙ sym c.numbered.ensures ∙ c.in-Some.is)
     c.in_ok-make.field-0 c.in-Ready.is c.in_ok-make.ensures.comes
 
-pub returns-in-Ready-clause-holders : goal.returns-in-Ready-clause-holders
-returns-in-Ready-clause-holders g c =
-    keeps c.args.m.now c.make.new.m c.args.pid c.args.before.now c.args.number c.args.regs.now c.in-Some.call (g.F.Files.holds c.args.files.now) (g.D.SwapDev.image c.args.swap.now)
-    (g.D.SwapDev.image c.make.new.swap) (is_now c.args.patience) c.requires.steady c.requires.lends c.requires.registers c.requires.made
-    (ap call_of (sym (to_z-of_z w32 c.args.number c.ranges.number)) ∙ sym c.numbered.ensures ∙ c.in-Some.is)
-    c.in_ok-make.field-0 c.in_ok-make.ensures.comes c.sound.ensures.numbered
-
 pub returns-in-Asleep-clause-advances : goal.returns-in-Asleep-clause-advances
 returns-in-Asleep-clause-advances g c =
     asleep_advances c.args.m.now c.make.new.m c.args.pid c.args.before.now c.args.number c.args.regs.now c.in-Some.call (g.F.Files.holds c.args.files.now) (g.D.SwapDev.image c.args.swap.now)
@@ -132,13 +115,6 @@ returns-in-Asleep-clause-continues g c =
     (g.D.SwapDev.image c.make.new.swap) (is_now c.args.patience) c.requires.steady c.requires.lends c.requires.registers c.requires.made
     (ap call_of (sym (to_z-of_z w32 c.args.number c.ranges.number)) ∙ sym c.numbered.ensures ∙ c.in-Some.is)
     c.in_ok-make.field-0 c.in-Asleep.is c.in_ok-make.ensures.comes
-
-pub returns-in-Asleep-clause-holders : goal.returns-in-Asleep-clause-holders
-returns-in-Asleep-clause-holders g c =
-    keeps c.args.m.now c.make.new.m c.args.pid c.args.before.now c.args.number c.args.regs.now c.in-Some.call (g.F.Files.holds c.args.files.now) (g.D.SwapDev.image c.args.swap.now)
-    (g.D.SwapDev.image c.make.new.swap) (is_now c.args.patience) c.requires.steady c.requires.lends c.requires.registers c.requires.made
-    (ap call_of (sym (to_z-of_z w32 c.args.number c.ranges.number)) ∙ sym c.numbered.ensures ∙ c.in-Some.is)
-    c.in_ok-make.field-0 c.in_ok-make.ensures.comes c.sound.ensures.numbered
 
 pub returns-in-Miss-clause-advances : goal.returns-in-Miss-clause-advances
 returns-in-Miss-clause-advances g c =
@@ -160,10 +136,10 @@ returns-in-Miss-clause-stops g c =
 
 pub returns-in-Miss-clause-continues : goal.returns-in-Miss-clause-continues
 returns-in-Miss-clause-continues g c =
-    missed_goes_on c.args.m.now c.make.new.m c.args.pid c.args.before.now c.args.number c.args.regs.now c.in-Some.call (g.F.Files.holds c.args.files.now) (g.D.SwapDev.image c.args.swap.now)
-    (g.D.SwapDev.image c.make.new.swap) (is_now c.args.patience) c.requires.steady c.requires.lends c.requires.registers c.requires.made
-    (ap call_of (sym (to_z-of_z w32 c.args.number c.ranges.number)) ∙ sym c.numbered.ensures ∙ c.in-Some.is)
-    c.in-Miss.address c.in_ok-make.field-0 c.in-Miss.is c.in_ok-make.ensures.comes c.serve_access.new.m c.serve_access.result c.serve_access.ensures.continues
+    let same =
+    unchanged c.in-Some.call c.args.m.now c.make.new.m c.args.pid c.args.regs.now (g.F.Files.holds c.args.files.now) (g.D.SwapDev.image c.args.swap.now) (g.D.SwapDev.image c.make.new.swap)
+    c.in_ok-make.field-0 c.in-Miss.address c.in-Miss.is c.in_ok-make.ensures.comes in
+    subst (λ (m : Standing). IfOk c.serve_access.result (λ advance. Continues m c.serve_access.new.m (counts advance))) same c.serve_access.ensures.continues
 
 -- Where the run stops, the sizes and images stay, and a journal is full only at its bound.
 
@@ -182,8 +158,6 @@ returns-in_err-make-clause-kept g c =
 pub returns-in-Miss-clause-kept : goal.returns-in-Miss-clause-kept
 returns-in-Miss-clause-kept g c =
     let same =
-    unchanged c.args.m.now c.make.new.m c.args.pid c.args.before.now c.args.number c.args.regs.now c.in-Some.call (g.F.Files.holds c.args.files.now) (g.D.SwapDev.image c.args.swap.now)
-    (g.D.SwapDev.image c.make.new.swap) (is_now c.args.patience) c.requires.steady c.requires.lends c.requires.registers c.requires.made
-    (ap call_of (sym (to_z-of_z w32 c.args.number c.ranges.number)) ∙ sym c.numbered.ensures ∙ c.in-Some.is)
-    c.in-Miss.address c.in_ok-make.field-0 c.in-Miss.is c.in_ok-make.ensures.comes in
+    unchanged c.in-Some.call c.args.m.now c.make.new.m c.args.pid c.args.regs.now (g.F.Files.holds c.args.files.now) (g.D.SwapDev.image c.args.swap.now) (g.D.SwapDev.image c.make.new.swap)
+    c.in_ok-make.field-0 c.in-Miss.address c.in-Miss.is c.in_ok-make.ensures.comes in
     subst (λ (m : Standing). IfErr c.serve_access.result (KeptAtStop m c.serve_access.new.m)) same c.serve_access.ensures.kept

@@ -3,7 +3,7 @@ use Rattle.std.proofs.lemmas.Result.{err_from_is_err_and}
 use Rattle.steady_laws.specs.Ready.{Continues}
 use Rattle.proc_run.specs.declared.advancing.Advance.TheVariants as advances
 use Rattle.proc_run.specs.Runs.{is_now, Advances, StopsAdvancing, counts}
-use Rattle.proc_run.proofs.SoFar.{ran_far, ran_steady, ran_beside, none_so_far, counted_far, served_far, stuck_runs, stops_far, idle_runs, done_runs, waited_runs, steady_on, lends_there}
+use Rattle.proc_run.proofs.SoFar.{ran_far, ran_all_continue, none_so_far, counted_far, served_far, stuck_runs, stops_far, idle_runs, done_runs, waited_runs, steady_on, lends_there}
 use Rattle.machine_state.proofs.Transfers.{transfers_none, transfers_then}
 use Rattle.steady_laws.proofs.StopsKeep.{kept_through}
 use Rattle.proc_run.proofs.running.run.Goals as goal
@@ -44,7 +44,7 @@ pub run_on-count-requires-clause-steady : goal.run_on-count-requires-clause-stea
 run_on-count-requires-clause-steady g c =
     let on : Continues c.loop-count.m c.next_step.new.m (counts advances.Counted) =
     subst (λ a. Continues c.loop-count.m c.next_step.new.m (counts a)) c.in-Counted.is c.in_ok-next_step.ensures.continues in
-    steady_on c.loop-count.m c.next_step.new.m 1 c.loop-count.invariant.steady on (c.in_ok-next_step.ensures.holders)
+    steady_on c.loop-count.m c.next_step.new.m 1 c.loop-count.invariant.steady on c.in_ok-next_step.ensures.goes_on
 
 pub run_on-count-requires-clause-fits : goal.run_on-count-requires-clause-fits
 run_on-count-requires-clause-fits g c =
@@ -70,16 +70,16 @@ loop-count-preserved-in-Counted g c =
     let one = counted_far c.args.m.now c.loop-count.m c.next_step.new.m c.args.pid (is_now c.args.patience) c.args.counted c.args.until (g.F.Files.holds c.args.files.now)
     (g.D.SwapDev.image c.args.swap.now) (g.D.SwapDev.image c.loop-count.swap) (g.D.SwapDev.image c.next_step.new.swap) c.loop-count.count c.loop-count.waits so.so_far c.loop-count-test.true
     c.in-Some.ensures.ready on.params on.images led in
-    let same = ran_beside c.run_on-count.result c.args.pid c.next_step.new.m c.run_on-count.new.m c.run_on-count.ensures.ran in
+    let steady = steady_on c.loop-count.m c.next_step.new.m 1 so.steady on c.in_ok-next_step.ensures.goes_on in
+    let further = ran_all_continue c.run_on-count.result c.args.pid c.next_step.new.m c.run_on-count.new.m on.clear c.run_on-count.ensures.ran in
     let most : c.run_on-count.result ≤ c.args.until - (c.loop-count.count + 1) = c.run_on-count.ensures.few in
     let room : c.loop-count.count < c.args.until = c.loop-count-test.true in
     let few : c.loop-count.count + 1 + c.run_on-count.result ≤ c.args.until = omega arith in
     record {
-      steady = ran_steady c.run_on-count.result c.args.pid c.next_step.new.m c.run_on-count.new.m (steady_on c.loop-count.m c.next_step.new.m 1 so.steady on (c.in_ok-next_step.ensures.holders))
-          c.run_on-count.ensures.ran;
-      params = same.params ∙ on.params ∙ so.params;
-      images = same.images ∙ on.images ∙ so.images;
-      counts = let a = on.counted in let b = so.counts in let d = same.counted in omega arith;
+      steady = steady_on c.next_step.new.m c.run_on-count.new.m c.run_on-count.result steady further c.run_on-count.ensures.goes_on;
+      params = further.params ∙ on.params ∙ so.params;
+      images = further.images ∙ on.images ∙ so.images;
+      counts = let a = on.counted in let b = so.counts in let d = further.counted in omega arith;
       more = let a = so.more in omega arith;
       few = omega arith;
       so_far = ran_far c.run_on-count.result c.args.pid c.args.m.now c.next_step.new.m c.run_on-count.new.m (is_now c.args.patience) c.args.counted c.args.until (g.F.Files.holds c.args.files.now)
@@ -99,7 +99,7 @@ loop-count-preserved g c =
     (subst (λ a. Advances c.loop-count.m c.next_step.new.m c.args.pid (is_now c.args.patience) (g.F.Files.holds c.loop-count.files) (g.D.SwapDev.image c.loop-count.swap)
     (g.D.SwapDev.image c.next_step.new.swap) a) c.in-Served.is c.in_ok-next_step.ensures.advances) in
     record {
-      steady = steady_on c.loop-count.m c.next_step.new.m 0 so.steady on (c.in_ok-next_step.ensures.holders);
+      steady = steady_on c.loop-count.m c.next_step.new.m 0 so.steady on c.in_ok-next_step.ensures.goes_on;
       params = on.params ∙ so.params;
       images = on.images ∙ so.images;
       counts = let a = on.counted in let b = so.counts in omega arith;

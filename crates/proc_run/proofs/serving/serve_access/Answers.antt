@@ -3,13 +3,10 @@ use Rattle.std.proofs.lemmas.Result.{err_from_is_err_and}
 use Rattle.steady_laws.specs.FaultFillTouchServed.{Served}
 use Rattle.steady_laws.specs.Callers.{IsCaller}
 use Rattle.steady_laws.specs.Leaving.{HasEnded, StopsAlive}
-use Rattle.steady_laws.proofs.Calls.{caller_holds}
-use Rattle.steady_laws.proofs.Leaving.{ended_keeps}
-use Rattle.steady_laws.specs.Ready.{Continues}
 use Rattle.steady_laws.proofs.Running.{continues_both}
 use Rattle.steady_laws.proofs.CallsContinue.{end_continues}
 use Rattle.proc_run.specs.Runs.{is_now}
-use Rattle.proc_run.proofs.Served.{IsStuck, EndsBy, is_end, ends_there, served_on, served_holders, served_stops, advances_valid, advances_stuck, advances_ended, stops_ended}
+use Rattle.proc_run.proofs.Served.{IsStuck, EndsBy, ends_calls, served_stops, advances_valid, advances_stuck, advances_ended, stops_ended}
 use Rattle.steady_laws.proofs.StopsKeep.{alive_same}
 use Rattle.proc_run.proofs.StopsSame.{served_same, continued_same}
 use Rattle.proc_run.proofs.serving.serve_access.Goals as goal
@@ -22,27 +19,10 @@ returns-in_err-served-clause-stops g c =
     served_stops (is_now c.args.patience) A s c.args.m.now c.serve_by.new.m (g.F.Files.holds c.args.files.now) (g.D.SwapDev.image c.args.swap.now) (g.D.SwapDev.image c.serve_by.new.swap)
     image c.args.pid p x c.args.address c.args.write before c.in_err-served.field-0.0 r w c.in_err-served.ensures.stops)
 
-pub sound-requires-2 : goal.sound-requires-2
-sound-requires-2 g c =
-    let caller : IsCaller c.args.m.now c.args.pid = record { running = c.requires.steady.running; whole = c.requires.steady.whole; clear = c.requires.steady.clear; lends = c.requires.lends } in
-    (served_on (is_now c.args.patience) c.args.m.now c.serve_by.new.m c.args.pid c.args.address c.args.write (g.F.Files.holds c.args.files.now) (g.D.SwapDev.image c.args.swap.now)
-    (g.D.SwapDev.image c.serve_by.new.swap) c.in_ok-served.served caller c.in_ok-served.ensures.served).running
-
 pub returns-in-Valid-clause-advances : goal.returns-in-Valid-clause-advances
 returns-in-Valid-clause-advances g c = λ A s image p x before r w.
     advances_valid (is_now c.args.patience) A s c.args.m.now c.serve_by.new.m (g.F.Files.holds c.args.files.now) (g.D.SwapDev.image c.args.swap.now) (g.D.SwapDev.image c.serve_by.new.swap)
     image c.args.pid p x c.args.address c.args.write before c.in_ok-served.served c.in-Valid.is r w c.in_ok-served.ensures.served
-
-pub returns-in-Valid-clause-continues : goal.returns-in-Valid-clause-continues
-returns-in-Valid-clause-continues g c =
-    let caller : IsCaller c.args.m.now c.args.pid = record { running = c.requires.steady.running; whole = c.requires.steady.whole; clear = c.requires.steady.clear; lends = c.requires.lends } in
-    served_on (is_now c.args.patience) c.args.m.now c.serve_by.new.m c.args.pid c.args.address c.args.write (g.F.Files.holds c.args.files.now) (g.D.SwapDev.image c.args.swap.now)
-    (g.D.SwapDev.image c.serve_by.new.swap) c.in_ok-served.served caller c.in_ok-served.ensures.served
-
-pub returns-in-Valid-clause-holders : goal.returns-in-Valid-clause-holders
-returns-in-Valid-clause-holders g c =
-    served_holders (is_now c.args.patience) c.args.m.now c.serve_by.new.m c.args.pid c.args.address c.args.write (g.F.Files.holds c.args.files.now) (g.D.SwapDev.image c.args.swap.now)
-    (g.D.SwapDev.image c.serve_by.new.swap) c.in_ok-served.served c.in_ok-served.ensures.served c.sound.ensures.numbered c.requires.steady.holders
 
 pub returns-in-Asleep-clause-advances : goal.returns-in-Asleep-clause-advances
 returns-in-Asleep-clause-advances g c = λ A s image p x before r w.
@@ -50,41 +30,18 @@ returns-in-Asleep-clause-advances g c = λ A s image p x before r w.
     image c.args.pid p x c.args.address c.args.write before c.in_ok-served.served
     (elim c.in-Asleep.is [ inl y ↦ subst IsStuck (sym y.1) tt | inr y ↦ subst IsStuck (sym y) tt ]) r w c.in_ok-served.ensures.served
 
-pub returns-in-Asleep-clause-continues : goal.returns-in-Asleep-clause-continues
-returns-in-Asleep-clause-continues g c =
-    let caller : IsCaller c.args.m.now c.args.pid = record { running = c.requires.steady.running; whole = c.requires.steady.whole; clear = c.requires.steady.clear; lends = c.requires.lends } in
-    served_on (is_now c.args.patience) c.args.m.now c.serve_by.new.m c.args.pid c.args.address c.args.write (g.F.Files.holds c.args.files.now) (g.D.SwapDev.image c.args.swap.now)
-    (g.D.SwapDev.image c.serve_by.new.swap) c.in_ok-served.served caller c.in_ok-served.ensures.served
-
-pub returns-in-Asleep-clause-holders : goal.returns-in-Asleep-clause-holders
-returns-in-Asleep-clause-holders g c =
-    served_holders (is_now c.args.patience) c.args.m.now c.serve_by.new.m c.args.pid c.args.address c.args.write (g.F.Files.holds c.args.files.now) (g.D.SwapDev.image c.args.swap.now)
-    (g.D.SwapDev.image c.serve_by.new.swap) c.in_ok-served.served c.in_ok-served.ensures.served c.sound.ensures.numbered c.requires.steady.holders
-
 pub kill-requires-clause-calls : goal.kill-requires-clause-calls
 kill-requires-clause-calls g c =
-    let caller : IsCaller c.args.m.now c.args.pid = record { running = c.requires.steady.running; whole = c.requires.steady.whole; clear = c.requires.steady.clear; lends = c.requires.lends } in
-    let on : Continues c.args.m.now c.serve_by.new.m 0 =
-    served_on (is_now c.args.patience) c.args.m.now c.serve_by.new.m c.args.pid c.args.address c.args.write (g.F.Files.holds c.args.files.now) (g.D.SwapDev.image c.args.swap.now)
-    (g.D.SwapDev.image c.serve_by.new.swap) c.in_ok-served.served caller c.in_ok-served.ensures.served in
     let ends : EndsBy c.in_ok-served.served c.match-served.signal = elim c.match-served.branch [
       | in-NoSpace w ↦ subst (λ (y : Served). EndsBy y c.match-served.signal) (sym w.in-NoSpace.is) w.signal-is
       | in-Signal w ↦ subst (λ (y : Served). EndsBy y c.match-served.signal) (sym w.in-Signal.is) w.signal-is
     ] in
-    record {
-      running = on.running;
-      whole = on.whole;
-      clear = on.clear;
-      lends = ends_there (is_now c.args.patience) c.args.m.now c.serve_by.new.m c.args.pid c.args.address c.args.write (g.F.Files.holds c.args.files.now) (g.D.SwapDev.image c.args.swap.now)
-          (g.D.SwapDev.image c.serve_by.new.swap) c.in_ok-served.served (is_end c.in_ok-served.served c.match-served.signal ends) c.in_ok-served.ensures.served c.requires.lends;
-    }
+    ends_calls (is_now c.args.patience) c.args.m.now c.serve_by.new.m c.args.pid c.args.address c.args.write (g.F.Files.holds c.args.files.now) (g.D.SwapDev.image c.args.swap.now)
+    (g.D.SwapDev.image c.serve_by.new.swap)
+    c.in_ok-served.served c.match-served.signal ends c.in_ok-served.ensures.served c.requires.lends c.in_ok-served.ensures.goes_on c.in_ok-served.ensures.continues
 
 pub returns-in_err-kill-clause-stops : goal.returns-in_err-kill-clause-stops
 returns-in_err-kill-clause-stops g c =
-    let caller : IsCaller c.args.m.now c.args.pid = record { running = c.requires.steady.running; whole = c.requires.steady.whole; clear = c.requires.steady.clear; lends = c.requires.lends } in
-    let on : Continues c.args.m.now c.serve_by.new.m 0 =
-    served_on (is_now c.args.patience) c.args.m.now c.serve_by.new.m c.args.pid c.args.address c.args.write (g.F.Files.holds c.args.files.now) (g.D.SwapDev.image c.args.swap.now)
-    (g.D.SwapDev.image c.serve_by.new.swap) c.in_ok-served.served caller c.in_ok-served.ensures.served in
     let ends : EndsBy c.in_ok-served.served c.match-served.signal = elim c.match-served.branch [
       | in-NoSpace w ↦ subst (λ (y : Served). EndsBy y c.match-served.signal) (sym w.in-NoSpace.is) w.signal-is
       | in-Signal w ↦ subst (λ (y : Served). EndsBy y c.match-served.signal) (sym w.in-Signal.is) w.signal-is
@@ -93,16 +50,12 @@ returns-in_err-kill-clause-stops g c =
     rw (e.1, e.2) (λ A s image p x before r w.
     stops_ended (is_now c.args.patience) A s c.args.m.now c.serve_by.new.m c.kill.new.m (g.F.Files.holds c.args.files.now) (g.D.SwapDev.image c.args.swap.now)
     (g.D.SwapDev.image c.serve_by.new.swap) (g.D.SwapDev.image c.kill.new.swap) image c.args.pid p x c.args.address c.args.write before c.in_ok-served.served c.match-served.signal
-    c.in_err-kill.field-0.0 ends on r w c.in_ok-served.ensures.served
+    c.in_err-kill.field-0.0 ends c.in_ok-served.ensures.continues r w c.in_ok-served.ensures.served
     (subst (λ h. StopsAlive c.serve_by.new.m c.kill.new.m c.args.pid h (g.D.SwapDev.image c.serve_by.new.swap) (g.D.SwapDev.image c.kill.new.swap) c.in_err-kill.field-0.0)
     c.serve_by.ensures.outside.files.holds c.in_err-kill.ensures.stops))
 
 pub returns-clause-advances : goal.returns-clause-advances
 returns-clause-advances g c =
-    let caller : IsCaller c.args.m.now c.args.pid = record { running = c.requires.steady.running; whole = c.requires.steady.whole; clear = c.requires.steady.clear; lends = c.requires.lends } in
-    let on : Continues c.args.m.now c.serve_by.new.m 0 =
-    served_on (is_now c.args.patience) c.args.m.now c.serve_by.new.m c.args.pid c.args.address c.args.write (g.F.Files.holds c.args.files.now) (g.D.SwapDev.image c.args.swap.now)
-    (g.D.SwapDev.image c.serve_by.new.swap) c.in_ok-served.served caller c.in_ok-served.ensures.served in
     let ends : EndsBy c.in_ok-served.served c.match-served.signal = elim c.match-served.branch [
       | in-NoSpace w ↦ subst (λ (y : Served). EndsBy y c.match-served.signal) (sym w.in-NoSpace.is) w.signal-is
       | in-Signal w ↦ subst (λ (y : Served). EndsBy y c.match-served.signal) (sym w.in-Signal.is) w.signal-is
@@ -110,52 +63,23 @@ returns-clause-advances g c =
     λ A s image p x before r w.
     advances_ended (is_now c.args.patience) A s c.args.m.now c.serve_by.new.m c.kill.new.m (g.F.Files.holds c.args.files.now) (g.D.SwapDev.image c.args.swap.now)
     (g.D.SwapDev.image c.serve_by.new.swap) (g.D.SwapDev.image c.kill.new.swap) image c.args.pid p x c.args.address c.args.write before c.in_ok-served.served c.match-served.signal
-    ends on r w c.in_ok-served.ensures.served
+    ends c.in_ok-served.ensures.continues r w c.in_ok-served.ensures.served
     (subst (λ h. HasEnded c.serve_by.new.m c.kill.new.m c.args.pid c.match-served.signal h (g.D.SwapDev.image c.serve_by.new.swap) (g.D.SwapDev.image c.kill.new.swap))
     c.serve_by.ensures.outside.files.holds c.in_ok-kill.ensures.ended)
 
 pub returns-clause-continues : goal.returns-clause-continues
 returns-clause-continues g c =
-    let caller : IsCaller c.args.m.now c.args.pid = record { running = c.requires.steady.running; whole = c.requires.steady.whole; clear = c.requires.steady.clear; lends = c.requires.lends } in
-    let on : Continues c.args.m.now c.serve_by.new.m 0 =
-    served_on (is_now c.args.patience) c.args.m.now c.serve_by.new.m c.args.pid c.args.address c.args.write (g.F.Files.holds c.args.files.now) (g.D.SwapDev.image c.args.swap.now)
-    (g.D.SwapDev.image c.serve_by.new.swap) c.in_ok-served.served caller c.in_ok-served.ensures.served in
     let ends : EndsBy c.in_ok-served.served c.match-served.signal = elim c.match-served.branch [
       | in-NoSpace w ↦ subst (λ (y : Served). EndsBy y c.match-served.signal) (sym w.in-NoSpace.is) w.signal-is
       | in-Signal w ↦ subst (λ (y : Served). EndsBy y c.match-served.signal) (sym w.in-Signal.is) w.signal-is
     ] in
-    let after : IsCaller c.serve_by.new.m c.args.pid = record {
-      running = on.running;
-      whole = on.whole;
-      clear = on.clear;
-      lends = ends_there (is_now c.args.patience) c.args.m.now c.serve_by.new.m c.args.pid c.args.address c.args.write (g.F.Files.holds c.args.files.now) (g.D.SwapDev.image c.args.swap.now)
-          (g.D.SwapDev.image c.serve_by.new.swap) c.in_ok-served.served (is_end c.in_ok-served.served c.match-served.signal ends) c.in_ok-served.ensures.served c.requires.lends;
-    } in
-    continues_both c.args.m.now c.serve_by.new.m c.kill.new.m 0 1 on
+    let after : IsCaller c.serve_by.new.m c.args.pid =
+    ends_calls (is_now c.args.patience) c.args.m.now c.serve_by.new.m c.args.pid c.args.address c.args.write (g.F.Files.holds c.args.files.now) (g.D.SwapDev.image c.args.swap.now)
+    (g.D.SwapDev.image c.serve_by.new.swap)
+    c.in_ok-served.served c.match-served.signal ends c.in_ok-served.ensures.served c.requires.lends c.in_ok-served.ensures.goes_on c.in_ok-served.ensures.continues in
+    continues_both c.args.m.now c.serve_by.new.m c.kill.new.m 0 1 c.in_ok-served.ensures.continues
     (end_continues c.serve_by.new.m c.kill.new.m c.args.pid c.match-served.signal (g.F.Files.holds c.serve_by.new.files) (g.D.SwapDev.image c.serve_by.new.swap) (g.D.SwapDev.image c.kill.new.swap)
     after c.in_ok-kill.ensures.ended)
-
-pub returns-clause-holders : goal.returns-clause-holders
-returns-clause-holders g c =
-    let caller : IsCaller c.args.m.now c.args.pid = record { running = c.requires.steady.running; whole = c.requires.steady.whole; clear = c.requires.steady.clear; lends = c.requires.lends } in
-    let on : Continues c.args.m.now c.serve_by.new.m 0 =
-    served_on (is_now c.args.patience) c.args.m.now c.serve_by.new.m c.args.pid c.args.address c.args.write (g.F.Files.holds c.args.files.now) (g.D.SwapDev.image c.args.swap.now)
-    (g.D.SwapDev.image c.serve_by.new.swap) c.in_ok-served.served caller c.in_ok-served.ensures.served in
-    let ends : EndsBy c.in_ok-served.served c.match-served.signal = elim c.match-served.branch [
-      | in-NoSpace w ↦ subst (λ (y : Served). EndsBy y c.match-served.signal) (sym w.in-NoSpace.is) w.signal-is
-      | in-Signal w ↦ subst (λ (y : Served). EndsBy y c.match-served.signal) (sym w.in-Signal.is) w.signal-is
-    ] in
-    let after : IsCaller c.serve_by.new.m c.args.pid = record {
-      running = on.running;
-      whole = on.whole;
-      clear = on.clear;
-      lends = ends_there (is_now c.args.patience) c.args.m.now c.serve_by.new.m c.args.pid c.args.address c.args.write (g.F.Files.holds c.args.files.now) (g.D.SwapDev.image c.args.swap.now)
-          (g.D.SwapDev.image c.serve_by.new.swap) c.in_ok-served.served (is_end c.in_ok-served.served c.match-served.signal ends) c.in_ok-served.ensures.served c.requires.lends;
-    } in
-    ended_keeps c.serve_by.new.m c.kill.new.m c.args.pid c.match-served.signal (g.F.Files.holds c.serve_by.new.files) (g.D.SwapDev.image c.serve_by.new.swap) (g.D.SwapDev.image c.kill.new.swap)
-    (caller_holds c.serve_by.new.m c.args.pid after) c.in_ok-kill.ensures.ended c.sound-2.ensures.numbered
-    (served_holders (is_now c.args.patience) c.args.m.now c.serve_by.new.m c.args.pid c.args.address c.args.write (g.F.Files.holds c.args.files.now) (g.D.SwapDev.image c.args.swap.now)
-    (g.D.SwapDev.image c.serve_by.new.swap) c.in_ok-served.served c.in_ok-served.ensures.served c.sound.ensures.numbered c.requires.steady.holders)
 
 pub returns-in_err-served-clause-kept : goal.returns-in_err-served-clause-kept
 returns-in_err-served-clause-kept g c =
@@ -166,11 +90,7 @@ returns-in_err-served-clause-kept g c =
 
 pub returns-in_err-kill-clause-kept : goal.returns-in_err-kill-clause-kept
 returns-in_err-kill-clause-kept g c =
-    let caller : IsCaller c.args.m.now c.args.pid = record { running = c.requires.steady.running; whole = c.requires.steady.whole; clear = c.requires.steady.clear; lends = c.requires.lends } in
-    let on : Continues c.args.m.now c.serve_by.new.m 0 =
-    served_on (is_now c.args.patience) c.args.m.now c.serve_by.new.m c.args.pid c.args.address c.args.write (g.F.Files.holds c.args.files.now) (g.D.SwapDev.image c.args.swap.now)
-    (g.D.SwapDev.image c.serve_by.new.swap) c.in_ok-served.served caller c.in_ok-served.ensures.served in
     let e = err_from_is_err_and c.from_residual-in_err-kill.result c.from_residual-in_err-kill.ensures.1 in
-    rw (e.1, e.2) (continued_same c.args.m.now c.serve_by.new.m c.kill.new.m 0 c.in_err-kill.field-0.0 on
+    rw (e.1, e.2) (continued_same c.args.m.now c.serve_by.new.m c.kill.new.m 0 c.in_err-kill.field-0.0 c.in_ok-served.ensures.continues
     (alive_same c.serve_by.new.m c.kill.new.m c.args.pid (g.F.Files.holds c.serve_by.new.files) (g.D.SwapDev.image c.serve_by.new.swap)
     (g.D.SwapDev.image c.kill.new.swap) c.in_err-kill.field-0.0 c.in_err-kill.ensures.stops))

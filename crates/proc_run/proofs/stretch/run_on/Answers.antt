@@ -5,18 +5,17 @@ use Rattle.machine_state.specs.Joined.{instructions_in, last_says}
 use Rattle.steady_laws.proofs.Journals.{last_counts_few}
 use Rattle.steady_laws.specs.Callers.{space_held}
 use Rattle.proc_run.proofs.SoFar.{lends_there}
-use Rattle.proc_run.proofs.Stretched.{none_ran, wrote_running, wrote_lends, wrote_journal, ends_counted, ran_all, at_once}
+use Rattle.proc_run.proofs.Stretched.{none_ran, wrote_journal, ends_counted, ran_all, at_once}
+use Rattle.proc_run.proofs.Written.{wrote_lends}
 use Rattle.proc_run.proofs.stretch.run_on.Goals as goal
 
 pub carry_on-count-requires-clause-lends : goal.carry_on-count-requires-clause-lends
 carry_on-count-requires-clause-lends c = lends_there c.args.m.now c.args.pid c.requires.steady c.in-Some.ensures.ready
 
-pub ran_on-requires-clause-running : goal.ran_on-requires-clause-running
-ran_on-requires-clause-running c = wrote_running c.args.m.now c.carry_on-count.new.m c.args.pid c.carry_on-count.ensures.carried.0 c.carry_on-count.ensures.carried.2 c.requires.steady
-
 pub ran_on-requires-clause-can : goal.ran_on-requires-clause-can
 ran_on-requires-clause-can c =
-    wrote_lends c.args.m.now c.carry_on-count.new.m c.args.pid c.carry_on-count.ensures.carried.0 c.carry_on-count.ensures.carried.2
+    let did = c.carry_on-count.ensures.carried in
+    wrote_lends c.args.m.now c.carry_on-count.new.m c.args.pid (space_held c.args.m.now.kernel c.args.pid) did.0 did.2.machine c.carry_on-count.ensures.goes_on
     (lends_there c.args.m.now c.args.pid c.requires.steady c.in-Some.ensures.ready)
 
 pub ran_on-requires-clause-counts : goal.ran_on-requires-clause-counts
@@ -43,6 +42,6 @@ returns-clause-ran c =
     ap (λ (es : List Entry). is_some (last_says (instructions_in c.args.pid) es)) (sym c.journal.ensures) ∙ sym c.last_counts.ensures ∙ c.if-not-last_counts.false in
     let ends = ends_counted c.args.m.now.kernel.journal c.args.pid counted in
     let did = c.carry_on-count.ensures.carried in
-    ran_all c.args.m.now c.args.pid c.in-Some.regs c.requires.steady c.in-Some.ensures.ready c.in-Some.ensures.registers ends.0 ends.1 ends.2
+    ran_all c.args.m.now c.args.pid c.in-Some.regs c.requires.steady.clear c.in-Some.ensures.ready c.in-Some.ensures.registers ends.0 ends.1 ends.2
     c.carry_on-count.result did.0 c.carry_on-count.new.regs c.ran_on.new.self c.if-count-eq0.false did.1 did.2.each
     (at_once c.args.m.now c.carry_on-count.new.m c.ran_on.new.self c.args.pid c.carry_on-count.result did.0 c.carry_on-count.new.regs did.2 c.ran_on.ensures.step c.ran_on.ensures.rest)
