@@ -1,12 +1,10 @@
 -- A film begins: it stands before the first entry.
-use Rattle.std.proofs.Common.{◌≡◌, inl, inr, ◌↔◌, ℕ, ◌+◌, ◌<◌, ◌≤◌, true, false, List, [], ◌∷◌, length, slice_get, Option, Some, None, Result, Ok, Err, refl, sym, ap, ◌∙◌, subst, arith}
-use Rattle.std.specs.Prelude.{IfOk}
+use Rattle.std.proofs.Common.{◌≡◌, inl, inr, ◌↔◌, ℕ, ◌+◌, ◌<◌, ◌≤◌, true, false, List, [], ◌∷◌, length, slice_get, Option, Some, None, refl, sym, ap, ◌∙◌, subst, arith}
 use Rattle.std.proofs.lemmas.Option.{same_Some}
 use Rattle.vm_facts.specs.declared.entry.Entry.{Entry}
 use Rattle.vm_facts.specs.declared.entry.Entry.TheVariants as entries
 use Rattle.vm_facts.specs.declared.event.Event.{Event}
 use Rattle.vm_facts.specs.declared.params.Params.{Params}
-use Rattle.vm_facts.specs.declared.stop.Stop.{Stop}
 use Rattle.vm_facts.specs.declared.stop.Stop.TheVariants as stops
 use Rattle.io_edge.specs.FileHolding.{NamedFile}
 use Rattle.swap_book.specs.Holdings.{Holdings}
@@ -14,6 +12,7 @@ use Rattle.flat_state.specs.Flat.{Inputs}
 use Rattle.flat_state.specs.Journal.{append, appended}
 use Rattle.kernel_model.specs.Kernel.{Kernel}
 use Rattle.machine_state.specs.Files.{AreImages}
+use Rattle.machine_state.specs.Going.{CanGoOn, IsRunning}
 use Rattle.machine_state.specs.Sourced.{ImageNamed}
 use Rattle.run_model.specs.State.{State, start}
 use Rattle.run_model.specs.Next.{next_unit, next_turned, under, last_turned}
@@ -32,11 +31,8 @@ use Rattle.journal_laws.proofs.Journals.{few_started, leads_follow}
 use Rattle.journal_laws.proofs.Units.{leads_at}
 use Rattle.run_start.specs.Leading.{IsTold, machine_at_start, StartLeads, StartStops}
 use Rattle.run_start.specs.Lines.{IsOver}
-use Rattle.run_start.specs.Starting.{started_by}
 use Rattle.run_start.specs.Stepped.{StopsNext}
 use Rattle.journal_laws.specs.Stops.{StaysPut}
-use Rattle.run_start.specs.declared.starting.Started.{Started}
-use Rattle.run_start.specs.declared.starting.Started.TheVariants as starteds
 use Rattle.run_start.proofs.Led.{stands_at_start}
 use Rattle.proc_run.specs.Choosing.{next_turned as chosen_next}
 use Rattle.proc_run.proofs.Ready.{turned_same}
@@ -51,14 +47,6 @@ use Rattle.film_core.proofs.Longer.{goes_behind, behind_longer}
 use Rattle.film_core.proofs.Passing.{over_none}
 
 -- A process whose pieces find no place.
-
-pub none_found : (r : Result Holdings ℕ) (pid : ℕ) → starteds.NoSpace pid ≡ started_by r → r ≡ Err pid
-none_found (Ok hs) pid e = absurd cc
-none_found (Err n) pid e = let same : pid ≡ n = cc in ap (λ (k : ℕ). let r : Result Holdings ℕ = Err k in r) (sym same)
-
-pub no_space : (result : Result Started Stop) (r : Result Holdings ℕ) (pid : ℕ) → IfOk result (λ started. started ≡ started_by r)
-    → result ≡ Ok (starteds.NoSpace pid) → r ≡ Err pid
-no_space result r pid h e = none_found r pid (subst (λ (x : Result Started Stop). IfOk x (λ started. started ≡ started_by r)) e h)
 
 -- No unit makes no entry.
 
@@ -148,14 +136,13 @@ module _ (A : Inputs) (old new : Filming) (numbers : List ℕ) (lines : List Eve
     reached : IsReached A t
     reached = record { holdings = hs; can = can; units = us; follows = follows }
 
-    begun_at : new.machine.before ≡ new.machine.kernel.holdings → (new.over ≡ true) ↔ (next_unit A t ≡ None) → FilmBegun A new holds j image
-    begun_at whole over = subst (FilmBegun A new holds j) same_image (record {
+    begun_at : CanGoOn new.machine → (new.over ≡ true) ↔ (next_unit A t ≡ None) → FilmBegun A new holds j image
+    begun_at ready over = subst (FilmBegun A new holds j) same_image (record {
       state = t;
       at = record {
         stands = stands;
         made = journal_of_reached A t new.machine.kernel behind few_first reached there.stands;
-        running = leads_run A (start A hs) t (machine_at_start A hs) new.machine.kernel image us (Some behind) l refl;
-        whole = whole;
+        ready = ready;
         complete = λ u e. subst (λ (es : List Entry). length es < length (append es u)) (sym no_entry) (some_appended u);
         bound = no_room ∙ sym (ap (λ (es : List Entry). length es) no_entry);
         lines = ap (λ (x : State). x.lines) (sym is_start) ∙ sym unbegun.lines ∙ sym none_taken;
@@ -219,21 +206,23 @@ module _ (A : Inputs) (old new : Filming) (numbers : List ℕ) (lines : List Eve
       )
 
   -- It was started.
-  pub started : new.machine.before ≡ new.machine.kernel.holdings → (l : StartLeads A new.machine holds image j) → 0 < old.machine.params.limit
+  pub started : CanGoOn new.machine → (l : StartLeads A new.machine holds image j) → 0 < old.machine.params.limit
       → (new.over ≡ true) ↔ ((lines ≡ []) × (chosen_next new.machine.kernel 0 ≡ None)) → FilmBegun A new holds j image
-  started whole l some e =
+  started ready l some e =
       let led : Leads A (start A l.holdings) (machine_at_start A l.holdings) image l.units l.state new.machine.kernel (Some l.leads.behind) =
       subst (λ (o : Option (List ℕ)). Leads A (start A l.holdings) (machine_at_start A l.holdings) image l.units l.state new.machine.kernel o) l.leads.told l.leads in
-      begun_at l.holdings l.can l.units l.state l.leads.behind led l.leads.told whole
+      begun_at l.holdings l.can l.units l.state l.leads.behind led l.leads.told ready
       (over_so l.holdings l.can l.units l.state l.leads.behind led l.leads.told l.clear some e)
 
   -- or the journal has no room for what is due first
-  pub stopped : StartStops A new.machine image stops.JournalFull j → new.over ≡ false → FilmBegun A new holds j image
-  stopped (inl b) o = absurd (let z : stops.JournalFull ≡ stops.NoMemory = b.cause in cc)
-  stopped (inr (hs, can, x)) o =
+  pub stopped : StartStops A new.machine image stops.JournalFull j → new.over ≡ false → (new.machine.kernel.stopped ≡ false → IsRunning new.machine)
+      → FilmBegun A new holds j image
+  stopped (inl b) o runs = absurd (let z : stops.JournalFull ≡ stops.NoMemory = b.cause in cc)
+  stopped (inr (hs, can, x)) o runs =
       let put : StaysPut x.kernel new.machine = x.held in
       let led : Leads A (start A hs) (machine_at_start A hs) image x.units x.state new.machine.kernel (Some x.behind) =
       subst (λ (k : Kernel). Leads A (start A hs) (machine_at_start A hs) image x.units x.state k (Some x.behind)) (sym put.kernel) x.leads in
       let next : StopsNext A x.state x.kernel x.behind stops.JournalFull new.machine j = x.by in
-      begun_at hs can x.units x.state x.behind led (same_left next.entry stops.JournalFull x.kernel (Some x.behind) j tt next.spoils) put.whole
+      begun_at hs can x.units x.state x.behind led (same_left next.entry stops.JournalFull x.kernel (Some x.behind) j tt next.spoils)
+      (record { running = runs (leads_run A (start A hs) x.state (machine_at_start A hs) new.machine.kernel image x.units (Some x.behind) led refl); whole = put.whole })
       (λ e. let z : false ≡ true = sym o ∙ e in absurd cc, λ n. let z : Some next.entry ≡ None = sym next.next ∙ n in absurd cc)

@@ -1,5 +1,5 @@
 -- A film stands at its next entry.
-use Rattle.std.proofs.Common.{◌≡◌, inl, ℕ, suc, ◌+◌, ◌<◌, ◌≤◌, ◌^◌, Bool, true, false, List, [], ◌∷◌, ◌++◌, length, slice_get, Option, Some, refl, sym, ap, ◌∙◌, subst, arith}
+use Rattle.std.proofs.Common.{◌≡◌, inl, ℕ, suc, ◌+◌, ◌<◌, ◌^◌, Bool, true, false, List, [], ◌∷◌, ◌++◌, length, slice_get, Option, Some, refl, sym, ap, ◌∙◌, subst, arith}
 use Rattle.std.proofs.lemmas.Option.{same_Some}
 use Rattle.vm_facts.specs.declared.entry.Entry.{Entry}
 use Rattle.vm_facts.specs.declared.event.Event.{Event}
@@ -9,7 +9,7 @@ use Rattle.io_edge.specs.FileHolding.{NamedFile}
 use Rattle.flat_state.specs.Flat.{Inputs}
 use Rattle.flat_state.specs.Journal.{append, appended, units_with, counted, instructions_of}
 use Rattle.flat_state.proofs.Joins.{count-append}
-use Rattle.page_model.specs.Placement.{Placement}
+use Rattle.machine_state.specs.Going.{CanGoOn}
 use Rattle.machine_state.specs.Machine.{Standing}
 use Rattle.run_model.specs.declared.mark.Mark.{Mark}
 use Rattle.run_model.specs.State.{State}
@@ -24,7 +24,7 @@ use Rattle.vm_core.specs.Schedules.{HaveFewMoves}
 use Rattle.film_core.specs.Films.{Filming, FilmAt, IsFilming, OneMore, FilmGoes, FilmStops, IsInOrder}
 use Rattle.film_core.specs.Marks.{mark_behind, lines_behind, last_entry}
 use Rattle.film_core.specs.Ways.{IsReached}
-use Rattle.film_core.specs.Entries.{FullAt, IsFull, EntryMade, MakesEntry, StopsEntry, caught_up}
+use Rattle.film_core.specs.Entries.{FullAt, EntryMade, MakesEntry, StopsEntry, caught_up}
 use Rattle.film_core.proofs.Composing.{journal_of_reached, reached_of_journal, leads_reached, reached_below}
 use Rattle.film_core.proofs.Longer.{Behind, goes_behind, one_behind, last_behind}
 use Rattle.film_core.proofs.Marking.{one_follows, mark_follows, lines_follow, order_follows}
@@ -50,10 +50,6 @@ film_full A s f lines holds i image are on at = record {
   bound = at.bound;
   more = λ none. not_true f.over on (at.over.1 none);
 }
-
-pub filming_full : (f : Filming) (lines : List Event) (holds : Option (List NamedFile)) (i : Option (List ℕ)) → f.over ≡ false → IsFilming f lines holds i
-    → IsFull f.machine f.mark lines f.lines f.counted holds i
-filming_full f lines holds i on x = (x.inputs, x.state, x.image, film_full x.inputs x.state f lines holds i x.image x.are on x.at)
 
 -- The entry that was made.
 
@@ -105,7 +101,7 @@ module _ (A : Inputs) (s : State) (old : Filming) (m : Standing) (ended : Bool) 
   pub made_fits : old.counted + counted entry.0 < 2 ^ 32
   made_fits = let c = counts in let below = reached_below A x.state reached in let few = at.stands.inputs.few in omega (arith, c, below, few)
 
-  module _ (lines : List Event) (are : A.lines ≡ lines) (few : HaveFewMoves lines) where
+  module _ (ready : CanGoOn m) (lines : List Event) (are : A.lines ≡ lines) (few : HaveFewMoves lines) where
     mark_is : x.state.mark ≡ mark_behind m.kernel (old.counted + counted entry.0) (slice_get lines old.lines) old.mark entry.0
     mark_is =
         mark_follows A s x.state m.kernel x.behind x.stands.machine.at entry.0 own
@@ -131,8 +127,7 @@ module _ (A : Inputs) (s : State) (old : Filming) (m : Standing) (ended : Bool) 
     film_at = record {
       stands = subst (λ (n : ℕ). StandsIn A x.state m holds j x.behind n) counts x.stands;
       made = journal_of_reached A x.state m.kernel x.behind at.few reached x.stands.machine.at.stands;
-      running = x.running;
-      whole = x.whole;
+      ready = ready;
       complete = x.complete;
       bound = x.bound;
       lines = lines_are;
@@ -159,12 +154,12 @@ abbrev pub CaughtUp : Filming → Filming → List Event → Type 0
 CaughtUp mid new lines = (e : Entry) → last_entry mid.machine.kernel.journal ≡ Some e → new ≡ caught_up mid lines e
 
 pub film_goes : (old new : Filming) (m : Standing) (ended : Bool) (lines : List Event) (holds : Option (List NamedFile)) (i j : Option (List ℕ))
-    → old.over ≡ false → HaveFewMoves lines
+    → old.over ≡ false → HaveFewMoves lines → CanGoOn m
     → MakesEntry old.machine m old.mark lines old.lines old.counted ended holds i j → CaughtUp (record old { machine = m; over = ended }) new lines
     → FilmGoes old new lines holds i j
-film_goes old new m ended lines holds i j on few f c A s image are at =
+film_goes old new m ended lines holds i j on few ready f c A s image are at =
     let x = f A s image (film_full A s old lines holds i image are on at) in
-    one_more A s old m ended holds i j image at x lines are few new (c (entry A s old m ended holds i j image at x).0 (last_made A s old m ended holds i j image at x))
+    one_more A s old m ended holds i j image at x ready lines are few new (c (entry A s old m ended holds i j image at x).0 (last_made A s old m ended holds i j image at x))
 
 pub film_stops : (old : Filming) (new : Filming) (lines : List Event) (holds : Option (List NamedFile)) (i j : Option (List ℕ)) (stop : Stop) → old.over ≡ false
     → StopsEntry old.machine new.machine old.mark lines old.lines old.counted holds i j stop → FilmStops old new lines holds i j stop
@@ -193,22 +188,10 @@ starved_film old lines holds i A s image are at = (
     behind = image;
     leads = none_leads A s old.machine.kernel image;
     journal = refl;
-    held = λ r. inl (ap (λ hs. record old.machine.kernel { holdings = hs }) at.whole);
+    held = λ r. inl (ap (λ hs. record old.machine.kernel { holdings = hs }) at.ready.whole);
     by = at.stands.told;
   },
 )
-
-pub film_counted : (old : Filming) (lines : List Event) (holds : Option (List NamedFile)) (i : Option (List ℕ)) → IsFilming old lines holds i
-    → instructions_of old.machine.kernel.journal ≡ old.counted
-film_counted old lines holds i x = x.at.made.lawful.count ∙ x.at.stands.count
-
-pub film_frames : (old : Filming) (lines : List Event) (holds : Option (List NamedFile)) (i : Option (List ℕ)) → IsFilming old lines holds i
-    → 64 ≤ length old.machine.kernel.place.holds
-film_frames old lines holds i x =
-    let many = x.at.stands.machine.at.run.placed.frames in
-    let same = ap (λ (p : Placement). length p.holds) x.at.stands.machine.at.stands.place in
-    let frames = x.frames in
-    omega (arith, many, same, frames)
 
 -- it has the machine with the entry
 pub film_machine : (old new : Filming) (m : Standing) (ended : Bool) (lines : List Event) (holds : Option (List NamedFile)) (i j : Option (List ℕ))

@@ -9,17 +9,11 @@ use Rattle.machine_state.specs.Machine.{Standing}
 use Rattle.run_model.specs.declared.mark.Mark.{Mark}
 use Rattle.run_model.specs.State.{State}
 use Rattle.run_model.specs.Next.{last_turned}
-use Rattle.run_start.specs.Holders.{HoldersStand}
 use Rattle.run_start.specs.Stepped.{StepLeads}
 use Rattle.proc_run.specs.Running.{CountsTo}
 use Rattle.film_core.specs.Films.{IsInOrder}
 use Rattle.film_core.specs.Ways.{WayAt, Settles, RestAt, IsUnder, Rests, StopsResting, StaysOn, OverAt, IsPast, PassesOver, StopsPassing, GoesAt, IsGoing, GetsOver, GoesOver, StopsGoing}
 use Rattle.film_core.proofs.Composing.{then_lead, then_stop, then_out, leads_reached, reached_below, stands_then, leads_longer}
-use Rattle.film_core.proofs.Holding.{holders_there}
-
-pub going_holders : (m : Standing) (last : Mark) (schedule : List Event) (taken counted : ℕ) (holds : Option (List NamedFile)) (i : Option (List ℕ))
-    → IsGoing m last schedule taken counted holds i → HoldersStand m.kernel
-going_holders m last schedule taken counted holds i (A, s, image, at) = holders_there A s m.kernel image at.stands.machine.at
 
 pub going_fits : (m : Standing) (last : Mark) (schedule : List Event) (taken counted : ℕ) (holds : Option (List NamedFile)) (i : Option (List ℕ))
     → IsGoing m last schedule taken counted holds i → counted + 1 < 2 ^ 32

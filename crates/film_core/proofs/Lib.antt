@@ -3,7 +3,6 @@ pub mod Catching
 pub mod Composing
 pub mod Entered
 pub mod Getting
-pub mod Holding
 pub mod Longer
 pub mod Making
 pub mod Marking

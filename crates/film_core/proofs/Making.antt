@@ -11,6 +11,7 @@ use Rattle.io_edge.specs.FileHolding.{NamedFile}
 use Rattle.flat_state.specs.Flat.{Inputs}
 use Rattle.flat_state.specs.Journal.{append, appended}
 use Rattle.kernel_model.specs.Kernel.{Kernel}
+use Rattle.machine_state.specs.Going.{CanGoOn, IsRunning}
 use Rattle.machine_state.specs.Machine.{Standing}
 use Rattle.run_model.specs.declared.mark.Mark.{Mark}
 use Rattle.run_model.specs.State.{State}
@@ -25,7 +26,7 @@ use Rattle.journal_laws.proofs.Journals.{leads_follow}
 use Rattle.run_start.specs.Sizes.{KeptAtStop}
 use Rattle.run_start.specs.Stepped.{StopsNext, StopLeads}
 use Rattle.vm_core.specs.Cores.{StandsIn}
-use Rattle.film_core.specs.Entries.{FullAt, MakesEntry, StopsEntry}
+use Rattle.film_core.specs.Entries.{IsFull, MakesEntry, StopsEntry}
 use Rattle.film_core.specs.Ways.{GoesAt, RunsOut, GoesOver, StopsGoing, EndsRunning}
 use Rattle.film_core.proofs.Composing.{stands_then, leads_run}
 use Rattle.film_core.proofs.Longer.{Behind, goes_behind, behind_longer}
@@ -62,12 +63,6 @@ wide_goes A s old mid mark lines taken counted holds i image e at = subst (λ (m
   mark = at.mark;
   order = at.order;
 })
-
-pub wide_going : (old mid : Standing) (mark : Mark) (lines : List Event) (taken counted : ℕ) (holds : Option (List NamedFile)) (i : Option (List ℕ))
-    → mid ≡ widened old
-    → ((A : Inputs) × (s : State) × (image : List ℕ) × FullAt A s old mark lines taken counted holds i image)
-    → (A : Inputs) × (s : State) × (image : List ℕ) × GoesAt A s mid mark lines taken counted holds i image
-wide_going old mid mark lines taken counted holds i e (A, s, image, full) = (A, s, image, wide_goes A s old mid mark lines taken counted holds i image e full.going)
 
 -- Units that lead to where none comes make a journal longer.
 
@@ -118,17 +113,15 @@ module _ (old mid new : Standing) (mark : Mark) (lines : List Event) (taken coun
         behind = o.leads.behind;
         leads = subst (λ (k : Kernel). Leads A s k image o.units o.state new.kernel j) same_kernel o.leads;
         stands = st;
-        running = ends.running;
-        whole = ends.whole;
         complete = λ u e. absurd (let z : None ≡ Some u = sym o.none ∙ e in cc);
         bound = omega (arith, longer, size, room, within);
         longer = omega (arith, longer, size, room, within);
         over = (λ e. o.none, λ e. refl);
       }
 
-  pub full_made : StopsGoing mid new mark lines taken counted holds i j stops.JournalFull → KeptAtStop mid new stops.JournalFull → old.kernel.stopped ≡ false
+  pub full_made : StopsGoing mid new mark lines taken counted holds i j stops.JournalFull → KeptAtStop mid new stops.JournalFull
       → MakesEntry old new mark lines taken counted false holds i j
-  full_made f kept running A s image full =
+  full_made f kept A s image full =
       let goes : GoesAt A s mid mark lines taken counted holds i image = wide_goes A s old mid mark lines taken counted holds i image wide full.going in
       let x : StopLeads A s mid.kernel image stops.JournalFull new j = f A s image goes in
       let n : StopsNext A x.state x.kernel x.behind stops.JournalFull new j = x.by in
@@ -145,8 +138,6 @@ module _ (old mid new : Standing) (mark : Mark) (lines : List Event) (taken coun
         behind = there.behind;
         leads = subst (λ (k : Kernel). Leads A s k image x.units x.state new.kernel j) same_kernel there;
         stands = stands_then A s x.state mid new holds i j image x.units counted x.state.count goes.reached goes.stands there kept.sizes.params kept.sizes.images refl;
-        running = leads_run A s x.state mid.kernel new.kernel image x.units j there (ap (λ (k : Kernel). k.stopped) same_kernel ∙ running);
-        whole = x.held.whole;
         complete = λ u e.
             subst (λ (v : Entry). length new.kernel.journal < length (append new.kernel.journal v)) (same_Some n.entry u (sym n.next ∙ e))
             (subst (λ (k : Kernel). length k.journal < length (append k.journal n.entry)) (sym still) (n.full refl).1);
@@ -155,9 +146,14 @@ module _ (old mid new : Standing) (mark : Mark) (lines : List Event) (taken coun
         over = (λ e. absurd (let z : false ≡ true = e in cc), λ e. absurd (let z : None ≡ Some n.entry = sym e ∙ n.next in cc));
       }
 
-  pub full_runs : StopsGoing mid new mark lines taken counted holds i j stops.JournalFull → KeptAtStop mid new stops.JournalFull → old.kernel.stopped ≡ false
-      → ((A : Inputs) × (s : State) × (image : List ℕ) × FullAt A s old mark lines taken counted holds i image) → new.kernel.stopped ≡ false
-  full_runs f kept running (A, s, image, full) = let made = full_made f kept running A s image full in made.running
+  pub full_ready : StopsGoing mid new mark lines taken counted holds i j stops.JournalFull → IsFull old mark lines taken counted holds i → CanGoOn mid
+      → (new.kernel.stopped ≡ false → IsRunning new) → CanGoOn new
+  full_ready f (A, s, image, full) ready runs =
+      let x : StopLeads A s mid.kernel image stops.JournalFull new j = f A s image (wide_goes A s old mid mark lines taken counted holds i image wide full.going) in
+      record {
+        running = runs (ap (λ (k : Kernel). k.stopped) x.held.kernel ∙ leads_run A s x.state mid.kernel x.kernel image x.units (Some x.behind) x.leads ready.running.runs);
+        whole = x.held.whole;
+      }
 
   pub other_stops : (stop : Stop) → (stop ≡ stops.JournalFull → ⊥) → StopsGoing mid new mark lines taken counted holds i j stop → StopsEntry old new mark lines taken counted holds i j stop
   other_stops stop other f A s image full = (

@@ -9,9 +9,8 @@ use Rattle.vm_facts.specs.declared.stop.Stop.{Stop}
 use Rattle.vm_facts.specs.declared.stop.Stop.TheVariants as stops
 use Rattle.io_edge.specs.FileHolding.{NamedFile}
 use Rattle.flat_state.specs.Flat.{Inputs}
-use Rattle.flat_state.specs.Journal.{instructions_of, counted, IsPlain}
 use Rattle.page_model.specs.Placement.{Due}
-use Rattle.kernel_model.specs.Kernel.{Kernel, note_step}
+use Rattle.kernel_model.specs.Kernel.{note_step}
 use Rattle.machine_state.specs.Machine.{Standing}
 use Rattle.run_model.specs.declared.mark.Mark.{Mark}
 use Rattle.run_model.specs.declared.mark.Mark.TheVariants as marks
@@ -19,25 +18,20 @@ use Rattle.run_model.specs.State.{State, start}
 use Rattle.run_model.specs.Next.{or_else, when, due_unit, under, turn_of, line_or_turn, next_mark, next_unit, next_turned, last_turned}
 use Rattle.journal_laws.specs.Leads.{Leads}
 use Rattle.journal_laws.proofs.Journals.{leads_follow}
-use Rattle.run_start.specs.Holders.{HoldersStand}
-use Rattle.run_start.specs.Ready.{Continues}
 use Rattle.run_start.specs.Sizes.{KeptAtStop}
 use Rattle.run_start.specs.Stepped.{StopLeads}
 use Rattle.run_start.specs.Lines.{IsOver, LineBegun, TurnBegun, TurnDue, StopsNoting}
-use Rattle.run_start.proofs.Entries.{note_continues}
-use Rattle.run_start.proofs.SteadyLawsKernels.{note_keeps}
 use Rattle.run_start.proofs.StepUnitsBeginning.{line_begins, line_stops, turn_stops}
 use Rattle.run_start.proofs.Turning.{turn_begins}
 use Rattle.proc_run.specs.Choosing.{next_turned as chosen_next}
 use Rattle.proc_run.proofs.Ready.{turned_same}
-use Rattle.proc_run.specs.Runs.{IsSteady}
 use Rattle.vm_core.specs.Cores.{StandsIn}
 use Rattle.vm_core.specs.Schedules.{HaveFewMoves}
+use Rattle.vm_core.specs.Steady.{StaysSteady}
 use Rattle.vm_core.proofs.Going.{few_at}
-use Rattle.vm_core.proofs.Steadying.{noted_first}
 use Rattle.film_core.specs.Films.{IsInOrder}
 use Rattle.film_core.specs.Marks.{marked_by, marked_if}
-use Rattle.film_core.specs.Ways.{RestDone, Rests, StopsResting, MayNote, StaysOn, OverAt, IsPast, RunsOut, PassesOver, StopsPassing, RoundAt, IsRound, RoundsOff, StopsRound}
+use Rattle.film_core.specs.Ways.{RestDone, Rests, MayNote, StaysOn, OverAt, IsPast, RunsOut, PassesOver, StopsPassing, RoundAt, IsRound, RoundsOff, StopsRound}
 use Rattle.film_core.proofs.Composing.{then_stop, then_out, here_leads, leads_reached, stands_then, leads_longer}
 use Rattle.film_core.proofs.Marking.{asked_order, few_lines, mark_follows}
 
@@ -107,37 +101,6 @@ module _ (A : Inputs) (s : State) (m : Standing) (schedule : List Event) (taken 
     turned = turned ∙ x;
   }
 
--- An entry that goes into the journal alone.
-
-as_noted : (old new : Standing) (e : Entry) → new.kernel ≡ note_step old.kernel e → new ≡ record old { kernel = new.kernel; room = None }
-    → new ≡ record old { kernel = note_step old.kernel e; room = None }
-as_noted old new e k r = r ∙ ap (λ (x : Kernel). let m : Standing = record old { kernel = x; room = None } in m) k
-
-record Noted (old new : Standing) (n : ℕ) : Type 0 where
-  pub steady : IsSteady new
-  pub params : new.params ≡ old.params
-  pub images : new.images ≡ old.images
-  pub counted : instructions_of new.kernel.journal ≡ n
-
-noted : (old new : Standing) (e : Entry) (n : ℕ) → MayNote old → IsPlain e → counted e ≡ 0 → instructions_of old.kernel.journal ≡ n
-    → new.kernel ≡ note_step old.kernel e
-    → new ≡ record old { kernel = new.kernel; room = None } → Noted old new n
-noted old new e n may plain none is k r =
-    let c : Continues old new (counted e) = note_continues old new e (record { running = may.running; whole = may.whole; clear = may.clear }) plain (as_noted old new e k r) in
-    record {
-      steady = record {
-        running = c.running;
-        whole = c.whole;
-        clear = c.clear;
-        holders = subst HoldersStand (sym k) (note_keeps old.kernel e may.holders);
-        frames = let f = c.frames in let many = may.frames in omega (arith, f, many);
-        low = let first = noted_first old new e plain k in omega (arith, first);
-      };
-      params = c.params;
-      images = c.images;
-      counted = let a = c.counted in omega (arith, a, is, none);
-    }
-
 -- A mark is over.
 
 pub over_at : (A : Inputs) (s : State) (old new : Standing) (last : Mark) (schedule : List Event) (taken counted count turn : ℕ)
@@ -172,7 +135,7 @@ over_rounds old new last schedule taken counted count turn holds i j f on e why 
 stops_full : (m : Standing) → MayNote m → m.params.journal ≤ length m.kernel.journal → StopsNoting m m stops.JournalFull
 stops_full m may full = record {
   stopped = record { journal = refl; params = refl; images = refl; full = λ f. refl; held = λ r. refl };
-  whole = may.whole;
+  whole = may.ready.whole;
   cause = inl refl;
   full = λ e. full;
 }
@@ -230,11 +193,6 @@ module _ (old new : Standing) (last : Mark) (schedule : List Event) (taken count
   pub full_kept : IsRound old last schedule taken counted holds i → KeptAtStop old new stops.JournalFull
   full_kept (A, s, image, at) = record { sizes = record { params = on.params; images = on.images }; full = λ x. round_full A s image at }
 
-pub rest_round : (old new : Standing) (last : Mark) (schedule : List Event) (taken counted : ℕ) (holds : Option (List NamedFile)) (i j : Option (List ℕ))
-    (stop : Stop) → StopsResting old new last counted holds i j stop
-    → StopsRound old new last schedule taken counted holds i j stop
-rest_round old new last schedule taken counted holds i j stop f A s image at = f A s image at.rest
-
 -- The next line, or a turn, begins.
 
 pub record NextBegun (A : Inputs) (s : State) (old new : Standing) (mark : Mark) (schedule : List Event) (taken counted : ℕ) (holds : Option (List NamedFile))
@@ -247,12 +205,10 @@ pub record NextBegun (A : Inputs) (s : State) (old new : Standing) (mark : Mark)
 pub line_begun : (A : Inputs) (s : State) (old new : Standing) (mark : Mark) (schedule : List Event) (taken counted turn : ℕ) (holds : Option (List NamedFile))
     (i : Option (List ℕ)) (image : List ℕ) (e : Event)
     → OverAt A s old schedule taken counted turn holds i image → counted < old.params.limit → slice_get schedule taken ≡ Some e → HaveFewMoves schedule
-    → MayNote old → instructions_of old.kernel.journal ≡ counted → new.kernel ≡ note_step old.kernel (entries.Event (taken + 1))
-    → new ≡ record old { kernel = new.kernel; room = None }
+    → StaysSteady old new 0 → new.kernel ≡ note_step old.kernel (entries.Event (taken + 1))
     → mark ≡ marked_by new.kernel counted e → NextBegun A s old new mark schedule (taken + 1) counted holds i image
-line_begun A s old new mark schedule taken counted turn holds i image e at l x few may is k r m =
+line_begun A s old new mark schedule taken counted turn holds i image e at l x few n k m =
     let number : taken + 1 ≡ s.lines + 1 = ap (λ (n : ℕ). n + 1) (sym at.lines) in
-    let n = noted old new (entries.Event (taken + 1)) counted may tt refl is k r in
     let b : LineBegun A s old.kernel image e new.kernel = line_begins A s old new.kernel holds image e at.stands.machine at.over (below A s old schedule taken counted turn holds i image at l)
     (due_line A s old schedule taken counted turn holds i image at e x) (k ∙ ap (λ (n : ℕ). note_step old.kernel (entries.Event n)) number) in
     let a : Leads A s old.kernel image (entries.Event (s.lines + 1) ∷ []) b.state new.kernel i =
@@ -283,11 +239,9 @@ pub turn_begun : (A : Inputs) (s : State) (old new : Standing) (schedule : List 
     (i : Option (List ℕ)) (image : List ℕ) (pid : ℕ)
     → OverAt A s old schedule taken counted turn holds i image → counted < old.params.limit → slice_get schedule taken ≡ None
     → chosen_next old.kernel turn ≡ Some pid
-    → MayNote old → instructions_of old.kernel.journal ≡ counted → new.kernel ≡ note_step old.kernel (entries.Turn pid)
-    → new ≡ record old { kernel = new.kernel; room = None }
+    → StaysSteady old new 0 → new.kernel ≡ note_step old.kernel (entries.Turn pid)
     → NextBegun A s old new (marks.Turn pid counted) schedule taken counted holds i image
-turn_begun A s old new schedule taken counted turn holds i image pid at l x y may is k r =
-    let n = noted old new (entries.Turn pid) counted may tt refl is k r in
+turn_begun A s old new schedule taken counted turn holds i image pid at l x y n k =
     let due = due_turn A s old schedule taken counted turn holds i image at pid l x y in
     let b : TurnBegun A s old.kernel image pid new.kernel = turn_begins A s old new.kernel holds image pid at.stands.machine due k in
     let a : Leads A s old.kernel image (entries.Turn pid ∷ []) b.state new.kernel i =
@@ -328,10 +282,10 @@ begun_stops A s old mid new mark schedule taken counted holds i j image stop b f
 -- A line.
 
 module _ (old mid new : Standing) (mark : Mark) (schedule : List Event) (taken counted turn : ℕ) (holds : Option (List NamedFile)) (i j : Option (List ℕ)) (e : Event)
-    (l : counted < old.params.limit) (x : slice_get schedule taken ≡ Some e) (few : HaveFewMoves schedule) (may : MayNote old) (is : instructions_of old.kernel.journal ≡ counted)
-    (k : mid.kernel ≡ note_step old.kernel (entries.Event (taken + 1))) (r : mid ≡ record old { kernel = mid.kernel; room = None }) (m : mark ≡ marked_by mid.kernel counted e) where
+    (l : counted < old.params.limit) (x : slice_get schedule taken ≡ Some e) (few : HaveFewMoves schedule) (n : StaysSteady old mid 0)
+    (k : mid.kernel ≡ note_step old.kernel (entries.Event (taken + 1))) (m : mark ≡ marked_by mid.kernel counted e) where
   line_there : (A : Inputs) (s : State) (image : List ℕ) → OverAt A s old schedule taken counted turn holds i image → NextBegun A s old mid mark schedule (taken + 1) counted holds i image
-  line_there A s image at = line_begun A s old mid mark schedule taken counted turn holds i image e at l x few may is k r m
+  line_there A s image at = line_begun A s old mid mark schedule taken counted turn holds i image e at l x few n k m
 
   pub line_round : IsPast old schedule taken counted turn holds i → IsRound mid mark schedule (taken + 1) counted holds i
   line_round (A, s, image, at) = let b = line_there A s image at in (A, b.state, b.leads.behind, b.at)
@@ -345,11 +299,11 @@ module _ (old mid new : Standing) (mark : Mark) (schedule : List Event) (taken c
 -- A turn.
 
 module _ (old mid new : Standing) (schedule : List Event) (taken counted turn : ℕ) (holds : Option (List NamedFile)) (i j : Option (List ℕ)) (pid : ℕ)
-    (l : counted < old.params.limit) (x : slice_get schedule taken ≡ None) (y : chosen_next old.kernel turn ≡ Some pid) (may : MayNote old) (is : instructions_of old.kernel.journal ≡ counted)
-    (k : mid.kernel ≡ note_step old.kernel (entries.Turn pid)) (r : mid ≡ record old { kernel = mid.kernel; room = None }) where
+    (l : counted < old.params.limit) (x : slice_get schedule taken ≡ None) (y : chosen_next old.kernel turn ≡ Some pid) (n : StaysSteady old mid 0)
+    (k : mid.kernel ≡ note_step old.kernel (entries.Turn pid)) where
   turn_there : (A : Inputs) (s : State) (image : List ℕ) → OverAt A s old schedule taken counted turn holds i image
       → NextBegun A s old mid (marks.Turn pid counted) schedule taken counted holds i image
-  turn_there A s image at = turn_begun A s old mid schedule taken counted turn holds i image pid at l x y may is k r
+  turn_there A s image at = turn_begun A s old mid schedule taken counted turn holds i image pid at l x y n k
 
   pub turn_round : IsPast old schedule taken counted turn holds i → IsRound mid (marks.Turn pid counted) schedule taken counted holds i
   turn_round (A, s, image, at) = let b = turn_there A s image at in (A, b.state, b.leads.behind, b.at)
@@ -359,11 +313,6 @@ module _ (old mid new : Standing) (schedule : List Event) (taken counted turn : 
 
   pub turn_stops_passing : (stop : Stop) → StopsRound mid new (marks.Turn pid counted) schedule taken counted holds i j stop → StopsPassing old new schedule taken counted turn holds i j stop
   turn_stops_passing stop f A s image at = begun_stops A s old mid new (marks.Turn pid counted) schedule taken counted holds i j image stop (turn_there A s image at) f
-
-pub noted_so : (old new : Standing) (e : Entry) (n : ℕ) → MayNote old → IsPlain e → counted e ≡ 0 → instructions_of old.kernel.journal ≡ n
-    → new.kernel ≡ note_step old.kernel e
-    → new ≡ record old { kernel = new.kernel; room = None } → IsSteady new × (instructions_of new.kernel.journal ≡ n)
-noted_so old new e n may plain none is k r = let x = noted old new e n may plain none is k r in (x.steady, x.counted)
 
 pub line_noting : (old new : Standing) (schedule : List Event) (taken counted turn : ℕ) (holds : Option (List NamedFile)) (i : Option (List ℕ)) (e : Event)
     (stop : Stop) → counted < old.params.limit

@@ -9,6 +9,7 @@ use Rattle.io_edge.specs.FileHolding.{NamedFile}
 use Rattle.flat_state.specs.Flat.{Inputs}
 use Rattle.flat_state.specs.Journal.{instructions_of}
 use Rattle.kernel_model.specs.Unit.{proc_of}
+use Rattle.machine_state.specs.Going.{CanGoOn}
 use Rattle.machine_state.specs.Machine.{Standing}
 use Rattle.machine_state.specs.Swapping.{IsIn}
 use Rattle.run_model.specs.declared.mark.Mark.{Mark}
@@ -22,7 +23,6 @@ use Rattle.run_units.proofs.Swapping.{line_asks}
 use Rattle.run_start.specs.Stepped.{StopLeads}
 use Rattle.run_start.specs.Lines.{LineLeads}
 use Rattle.run_start.proofs.Lines.{moves_continue}
-use Rattle.run_start.proofs.Pages.{moved_keeps}
 use Rattle.swapper.specs.Putting.{HoldsThere, PutOut, StopsPutting}
 use Rattle.step_units.proofs.Asking.{hands_made, hands_stop}
 use Rattle.step_units.proofs.Finding.{interrupt_waits}
@@ -35,14 +35,13 @@ use Rattle.proc_run.proofs.Marks.{steps_same, goes_true, goes_false, idle}
 use Rattle.vm_core.specs.Closing.{TurnAt, ComesIn, StopsComingIn, FinishesTurn, StopsFinishing}
 use Rattle.vm_core.specs.Lines.{LineAt, MakesLine, StopsLine}
 use Rattle.vm_core.specs.Steady.{StaysSteady}
-use Rattle.vm_core.proofs.Steadying.{steady_ready}
 use Rattle.film_core.specs.Ways.{RestAt, RestDone, Rests, StopsResting, MayNote, StaysOn}
 use Rattle.film_core.proofs.Composing.{then_lead, then_stop, here_leads}
 
 -- What stays of the machine.
 
 steady_may : (m : Standing) → IsSteady m → MayNote m
-steady_may m s = record { running = s.running; whole = s.whole; clear = s.clear; holders = s.holders; frames = s.frames }
+steady_may m s = record { ready = s.ready; clear = s.clear; frames = s.frames }
 
 pub counts_stay : (old new : Standing) (counted count : ℕ) → CountsTo old new counted count → StaysOn old new count
 counts_stay old new counted count c = record { may = steady_may new c.steady; params = c.params; images = c.images; counts = c.counts }
@@ -54,9 +53,6 @@ steady_stays old new counted is s = record {
   images = s.images;
   counts = let c = s.counted in omega (arith, c, is);
 }
-
-pub same_stays : (m : Standing) (counted : ℕ) → IsSteady m → instructions_of m.kernel.journal ≡ counted → StaysOn m m counted
-same_stays m counted s is = record { may = steady_may m s; params = refl; images = refl; counts = is }
 
 -- A mark that is over.
 
@@ -252,15 +248,13 @@ hands_stops old new left counted holds i j stop x A s image at =
 
 pub hands_stay : (old new : Standing) (left made counted : ℕ) (holds : Option (List NamedFile)) (i j : Option (List ℕ)) → IsSteady old
     → instructions_of old.kernel.journal ≡ counted
-    → Moved left old new made holds i j → StaysOn old new counted
-hands_stay old new left made counted holds i j s is m =
-    let r = moves_continue old new left made holds i j (steady_ready old s) m in
+    → Moved left old new made holds i j → CanGoOn new → StaysOn old new counted
+hands_stay old new left made counted holds i j s is m ready =
+    let r = moves_continue old new left made holds i j s.clear m in
     record {
       may = record {
-        running = r.on.running;
-        whole = r.on.whole;
+        ready = ready;
         clear = r.clear;
-        holders = moved_keeps left old new made holds i j m s.holders;
         frames = let f = r.on.frames in let many = s.frames in omega (arith, f, many);
       };
       params = r.on.params;

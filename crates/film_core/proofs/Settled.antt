@@ -1,62 +1,19 @@
 -- What is due is filled and a step that is begun is completed, by what the machine's calls say.
-use Rattle.std.proofs.Common.{◌≡◌, ℕ, ◌+◌, ◌≤◌, List, ◌++◌, length, Option, Some, None, refl, sym, ap, ◌∙◌, arith}
+use Rattle.std.proofs.Common.{◌≡◌, ℕ, ◌+◌, List, ◌++◌, Option, Some, None, refl, sym, ap, ◌∙◌, arith}
 use Rattle.vm_facts.specs.declared.entry.Entry.{Entry}
 use Rattle.vm_facts.specs.declared.stop.Stop.{Stop}
 use Rattle.io_edge.specs.FileHolding.{NamedFile}
 use Rattle.flat_state.specs.Flat.{Inputs}
-use Rattle.flat_state.specs.Journal.{instructions_of}
 use Rattle.machine_state.specs.Machine.{Standing}
 use Rattle.run_model.specs.State.{State}
-use Rattle.run_start.specs.Holders.{HoldersStand}
-use Rattle.run_start.specs.Ready.{Continues}
-use Rattle.run_start.specs.Leading.{FillsRest, FillsLead, StopsRest}
+use Rattle.run_start.specs.Leading.{FillsRest, FillsLead}
 use Rattle.run_start.specs.Stepped.{StepLeads}
 use Rattle.step_units.specs.Rests.{before_done}
 use Rattle.proc_run.specs.Rests.{begun_by, BegunAt, IsBegun, FinishesStep, StopsStep}
 use Rattle.proc_run.specs.declared.finishing.Begun.{Begun}
-use Rattle.proc_run.specs.Runs.{IsSteady}
-use Rattle.proc_run.specs.Running.{CountsTo}
 use Rattle.proc_run.proofs.BegunTold.{begun_told, none_between}
-use Rattle.journal_laws.specs.LastMoves.{last_moves}
 use Rattle.film_core.specs.Ways.{WayAt, IsOnWay, Settles, StopsSettling}
 use Rattle.film_core.proofs.Composing.{then_lead, then_stop, leads_reached}
-
--- A machine whose due fills are made may be asked for a unit.
-pub filled_steady : (old new : Standing) → Continues old new 0 → HoldersStand new.kernel → 64 ≤ length old.kernel.place.holds
-    → last_moves old.kernel.journal ≤ 1000000 → IsSteady new
-filled_steady old new c h frames low = record {
-  running = c.running;
-  whole = c.whole;
-  clear = c.clear;
-  holders = h;
-  frames = let f = c.frames in omega (arith, f, frames);
-  low = let l = c.low in omega (arith, l, low);
-}
-
-filled_counts : (old new : Standing) (counted : ℕ) → Continues old new 0 → IsSteady new → instructions_of old.kernel.journal ≡ counted
-    → CountsTo old new counted counted
-filled_counts old new counted c s is = record {
-  steady = s;
-  params = c.params;
-  images = c.images;
-  counts = let e = c.counted in omega (arith, e, is);
-  more = omega arith;
-}
-
-pub fills_count : (old new : Standing) (counted : ℕ) → Continues old new 0 → HoldersStand new.kernel → 64 ≤ length old.kernel.place.holds
-    → last_moves old.kernel.journal ≤ 1000000
-    → instructions_of old.kernel.journal ≡ counted → CountsTo old new counted counted
-fills_count old new counted c h frames low is = filled_counts old new counted c (filled_steady old new c h frames low) is
-
-pub both_count : (old mid new : Standing) (counted : ℕ) → Continues old mid 0 → instructions_of old.kernel.journal ≡ counted
-    → CountsTo mid new (instructions_of mid.kernel.journal) (instructions_of mid.kernel.journal + 1) → CountsTo old new counted (counted + 1)
-both_count old mid new counted c is t = record {
-  steady = t.steady;
-  params = t.params ∙ c.params;
-  images = t.images ∙ c.images;
-  counts = let a = t.counts in let b = c.counted in omega (arith, a, b, is);
-  more = omega arith;
-}
 
 module _ (A : Inputs) (s : State) (old mid : Standing) (holds : Option (List NamedFile)) (i h : Option (List ℕ)) (image : List ℕ) (at : WayAt A s old holds i image)
     (l : FillsLead A s old mid holds image h) where
@@ -113,10 +70,6 @@ pub finish_settles : (old mid new : Standing) (counted : ℕ) (holds : Option (L
     → begun_by (before_done mid.kernel.journal) ≡ Some b → FinishesStep mid new b holds h j → Settles old new counted (counted + 1) holds i j
 finish_settles old mid new counted holds i h j b f e g A s image at =
     (1, refl, finished A s old mid holds i h image at (f A s image at.machine at.told) new j b e g)
-
-pub fill_stops : (old new : Standing) (holds : Option (List NamedFile)) (i j : Option (List ℕ)) (stop : Stop) → StopsRest old new holds i j stop
-    → StopsSettling old new holds i j stop
-fill_stops old new holds i j stop f A s image at = f A s image at.machine at.told
 
 pub finish_stops : (old mid new : Standing) (holds : Option (List NamedFile)) (i h j : Option (List ℕ)) (b : Begun) (stop : Stop) → FillsRest old mid holds i h
     → begun_by (before_done mid.kernel.journal) ≡ Some b → StopsStep mid new b holds h j stop → StopsSettling old new holds i j stop

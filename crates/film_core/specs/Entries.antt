@@ -1,5 +1,5 @@
 -- One entry more.
-use Rattle.std.specs.Prelude.{◌≡◌, ◌↔◌, ◌+◌, ◌<◌, ℕ, suc, Bool, true, false, List, length, slice_get, Option, Some, None}
+use Rattle.std.specs.Prelude.{◌≡◌, ◌↔◌, ◌+◌, ◌<◌, ℕ, suc, Bool, true, List, length, slice_get, Option, Some, None}
 use Rattle.vm_facts.specs.declared.entry.Entry.{Entry}
 use Rattle.vm_facts.specs.declared.event.Event.{Event}
 use Rattle.vm_facts.specs.declared.stop.Stop.{Stop}
@@ -40,8 +40,6 @@ pub record EntryMade (A : Inputs) (s : State) (old new : Standing) (ended : Bool
   pub behind : List ℕ
   pub leads : Leads A s old.kernel image units state new.kernel j
   pub stands : StandsIn A state new holds j behind state.count
-  pub running : new.kernel.stopped ≡ false
-  pub whole : new.before ≡ new.kernel.holdings
   pub complete : (u : Entry) → next_unit A state ≡ Some u → length new.kernel.journal < length (append new.kernel.journal u)
   pub bound : new.params.journal ≡ length new.kernel.journal
   pub longer : length new.kernel.journal ≡ suc (length old.kernel.journal)

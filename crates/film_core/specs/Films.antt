@@ -8,6 +8,7 @@ use Rattle.vm_facts.specs.declared.stop.Stop.TheVariants as stops
 use Rattle.io_edge.specs.FileHolding.{NamedFile}
 use Rattle.flat_state.specs.Flat.{Inputs}
 use Rattle.flat_state.specs.Journal.{append}
+use Rattle.machine_state.specs.Going.{CanGoOn}
 use Rattle.machine_state.specs.Machine.{Standing}
 use Rattle.run_model.specs.declared.mark.Mark.{Mark}
 use Rattle.run_model.specs.declared.mark.Mark.TheVariants as marks
@@ -42,8 +43,7 @@ pub record FilmAt (A : Inputs) (s : State) (f : Filming) (holds : Option (List N
     : Type 0 where
   pub stands : StandsIn A s f.machine holds i image f.counted
   pub made : IsJournalOf A f.machine.kernel.journal s
-  pub running : f.machine.kernel.stopped ≡ false
-  pub whole : f.machine.before ≡ f.machine.kernel.holdings
+  pub ready : CanGoOn f.machine
   pub complete : (u : Entry) → next_unit A s ≡ Some u
       → length f.machine.kernel.journal < length (append f.machine.kernel.journal u)
   pub bound : f.machine.params.journal ≡ length f.machine.kernel.journal

@@ -1,5 +1,5 @@
 -- On the way from an entry to the next one.
-use Rattle.std.specs.Prelude.{◌≡◌, ℕ, ◌+◌, ◌≤◌, false, List, [], length, Option, Some, None}
+use Rattle.std.specs.Prelude.{◌≡◌, ℕ, ◌+◌, ◌≤◌, List, [], length, Option, Some, None}
 use Rattle.vm_facts.specs.declared.entry.Entry.{Entry}
 use Rattle.vm_facts.specs.declared.event.Event.{Event}
 use Rattle.vm_facts.specs.declared.stop.Stop.{Stop}
@@ -7,6 +7,7 @@ use Rattle.io_edge.specs.FileHolding.{NamedFile}
 use Rattle.swap_book.specs.Holdings.{Holdings}
 use Rattle.flat_state.specs.Flat.{Inputs}
 use Rattle.flat_state.specs.Journal.{instructions_of}
+use Rattle.machine_state.specs.Going.{CanGoOn}
 use Rattle.machine_state.specs.Machine.{Standing}
 use Rattle.run_model.specs.declared.mark.Mark.{Mark}
 use Rattle.run_model.specs.State.{State, start}
@@ -14,7 +15,6 @@ use Rattle.run_model.specs.Next.{next_unit, last_turned}
 use Rattle.run_model.specs.Lawful.{Follows}
 use Rattle.run_laws.specs.Running.{CanRun}
 use Rattle.journal_laws.specs.Leads.{Leads}
-use Rattle.run_start.specs.Holders.{HoldersStand}
 use Rattle.run_start.specs.Machines.{MachineAt}
 use Rattle.run_start.specs.Stepped.{StepLeads, StopLeads}
 use Rattle.run_start.specs.Lines.{IsOver, IsClear}
@@ -87,13 +87,11 @@ abbrev pub StopsResting : Standing → Standing → Mark → ℕ → Option (Lis
 StopsResting old new mark counted holds i j stop =
     (A : Inputs) (s : State) (image : List ℕ) → RestAt A s old mark counted holds i image → StopLeads A s old.kernel image stop new j
 
--- A machine that may be asked for an entry of its own, and then for a unit: it runs, no pieces wait, nothing is due, who holds a space
--- holds one that is there, and alone, and it has 64 frames or more. Its last entry may count any moves of the hands.
+-- A machine that may be asked for an entry of its own, and then for a unit: it can go on, nothing is due, and it has 64
+-- frames or more. Its last entry may count any moves of the hands.
 pub record MayNote (m : Standing) : Type 0 where
-  pub running : m.kernel.stopped ≡ false
-  pub whole : m.before ≡ m.kernel.holdings
+  pub ready : CanGoOn m
   pub clear : m.kernel.place.due ≡ []
-  pub holders : HoldersStand m.kernel
   pub frames : 64 ≤ length m.kernel.place.holds
 
 -- a call leaves one, with the sizes and images of before, and so many instructions are counted
@@ -139,10 +137,9 @@ abbrev pub StopsPassing : Standing → Standing → List Event → ℕ → ℕ �
 StopsPassing old new lines taken counted last holds i j stop =
     (A : Inputs) (s : State) (image : List ℕ) → OverAt A s old lines taken counted last holds i image → StopLeads A s old.kernel image stop new j
 
--- a machine that runs on, with the sizes and images of before
+-- a machine that can go on, with the sizes and images of before
 pub record EndsRunning (old new : Standing) : Type 0 where
-  pub running : new.kernel.stopped ≡ false
-  pub whole : new.before ≡ new.kernel.holdings
+  pub ready : CanGoOn new
   pub params : new.params ≡ old.params
   pub images : new.images ≡ old.images
 

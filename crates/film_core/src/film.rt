@@ -1,5 +1,6 @@
 //! A film and its machine.
 ghost use Rattle.std.specs.Prelude.{◌≡◌, ◌+◌, ◌<◌, ◌≤◌, false, [], length, map, None, IfOk};
+ghost use Rattle.machine_state.specs.Going.{CanGoOn};
 ghost use Rattle.machine_state.specs.Machine.{image_shown};
 ghost use Rattle.machine_state.specs.New.{fresh_kernel, AreSound};
 ghost use Rattle.machine_state.specs.Sourced.{AreNames};
@@ -53,6 +54,7 @@ impl Film {
           before = [];
           room = None;
         }) }
+        ensures goes_on { IfOk result (λ f. CanGoOn f.machine) }
         ensures lines { IfOk result (λ f. f.lines ≡ 0) }
         ensures mark { IfOk result (λ f. f.mark ≡ Mark.Over) }
         ensures counted { IfOk result (λ f. f.counted ≡ 0) }

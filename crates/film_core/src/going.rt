@@ -3,10 +3,10 @@ ghost use Rattle.std.specs.Prelude.{◌≡◌, ◌⊎◌, ◌+◌, ◌<◌, ◌�
 ghost use Rattle.vm_facts.specs.declared.entry.Entry.{Entry as AnyEntry};
 ghost use Rattle.vm_facts.specs.declared.event.Event.{Event as AnyEvent};
 ghost use Rattle.flat_state.specs.Journal.{instructions_of, counted as entry_counts};
+ghost use Rattle.machine_state.specs.Going.{CanGoOn, IsRunning};
 ghost use Rattle.machine_state.specs.Files.{AreFiles};
 ghost use Rattle.machine_state.specs.Outside.{stop_of, TransfersPages};
 ghost use Rattle.journal_laws.specs.LastMoves.{last_moves};
-ghost use Rattle.run_start.specs.Holders.{HoldersStand};
 ghost use Rattle.run_start.specs.Sizes.{KeptAtStop};
 ghost use Rattle.proc_run.specs.Choosing.{next_turned};
 ghost use Rattle.proc_run.specs.Runs.{IsSteady};
@@ -27,6 +27,7 @@ use machine_state::Machine;
 use proc_run::next_turned;
 use run_model::Mark;
 use std::alloc::Global;
+use vm_core::note;
 use vm_facts::{Entry, Event, Stop};
 
 /// What comes after a mark.
@@ -42,7 +43,7 @@ enum Next {
 
 // What comes after a mark, where so many lines are taken, so many instructions are counted, and this process had the last turn.
 fn next_of(m: &Machine, lines: &[Event], taken: u32, counted: u32, last: u32) -> Next
-    requires running { m.now.kernel.stopped ≡ false }
+    requires running { IsRunning m.now }
     ensures over { result ≡ Next.Over → (m.now.params.limit ≤ counted) ⊎ ((slice_get lines.now taken ≡ None) × (next_turned m.now.kernel last ≡ None)) }
     ensures line { (e : AnyEvent) → result ≡ Next.Line e → (counted < m.now.params.limit) × (slice_get lines.now taken ≡ Some e) }
     ensures turn { (pid : ℕ) → result ≡ Next.Turn pid → (counted < m.now.params.limit) × (slice_get lines.now taken ≡ None)
@@ -118,7 +119,7 @@ fn take_line<F: Files, D: SwapDev>(
     ensures kept { IfErr result (KeptAtStop m.old m.new) }
     ensures outside { TransfersPages F.Files D.SwapDev (stop_of result) files.old files.new swap.old swap.new }
 {
-    m.note(Entry::Event { line: taken + 1 })?;
+    note(m, Entry::Event { line: taken + 1 })?;
     let mark = mark_of_event(m, counted, e);
     round(alloc, m, files, swap, mark, lines, taken + 1, counted)
 }
@@ -151,7 +152,7 @@ fn take_turn<F: Files, D: SwapDev>(
     ensures kept { IfErr result (KeptAtStop m.old m.new) }
     ensures outside { TransfersPages F.Files D.SwapDev (stop_of result) files.old files.new swap.old swap.new }
 {
-    m.note(Entry::Turn { pid })?;
+    note(m, Entry::Turn { pid })?;
     let mark = Mark::Turn {
         pid,
         since: counted,
@@ -202,8 +203,7 @@ fn get_over<F: Files, D: SwapDev>(
     _taken: u32,
     counted: u32,
 ) -> Result<u32, Stop>
-    requires running { m.old.kernel.stopped ≡ false }
-    requires whole { m.old.before ≡ m.old.kernel.holdings }
+    requires ready { CanGoOn m.old }
     requires frames { 64 ≤ length m.old.kernel.place.holds }
     requires low { last_moves m.old.kernel.journal ≤ 1000000 }
     requires counted { instructions_of m.old.kernel.journal ≡ counted }
@@ -231,8 +231,7 @@ fn go_further<F: Files, D: SwapDev>(
     taken: u32,
     counted: u32,
 ) -> Result<(), Stop>
-    requires running { m.old.kernel.stopped ≡ false }
-    requires whole { m.old.before ≡ m.old.kernel.holdings }
+    requires ready { CanGoOn m.old }
     requires frames { 64 ≤ length m.old.kernel.place.holds }
     requires low { last_moves m.old.kernel.journal ≤ 1000000 }
     requires counted { instructions_of m.old.kernel.journal ≡ counted }
@@ -272,8 +271,7 @@ fn one_entry<F: Files, D: SwapDev>(
     taken: u32,
     counted: u32,
 ) -> Result<bool, Stop>
-    requires running { m.old.kernel.stopped ≡ false }
-    requires whole { m.old.before ≡ m.old.kernel.holdings }
+    requires ready { CanGoOn m.old }
     requires frames { 64 ≤ length m.old.kernel.place.holds }
     requires low { last_moves m.old.kernel.journal ≤ 1000000 }
     requires counted { instructions_of m.old.kernel.journal ≡ counted }
@@ -287,10 +285,9 @@ fn one_entry<F: Files, D: SwapDev>(
     ensures stops { IfErr result (StopsEntry m.old m.new mark lines.now taken counted (F.holds files.old) (D.image swap.old) (D.image swap.new)) }
     ensures params { OnOk result (m.new.params ≡ one_wider m.old.params) }
     ensures images { OnOk result (m.new.images ≡ m.old.images) }
-    ensures running { OnOk result (m.new.kernel.stopped ≡ false) }
     ensures outside { TransfersPages F.Files D.SwapDev (stop_of result) files.old files.new swap.old swap.new }
+    ensures goes_on { OnOk result (CanGoOn m.new) }
 {
-    m.always();
     let entries = m.params().journal + 1;
     m.widen(entries);
     let went = go_further(alloc, m, files, swap, mark, lines, taken, counted);
@@ -307,7 +304,7 @@ fn one_entry<F: Files, D: SwapDev>(
 impl Film {
     // What is known beside the machine behind the last entry.
     fn catch_up(&mut self, lines: &[Event])
-        requires running { self.old.machine.kernel.stopped ≡ false }
+        requires running { IsRunning self.old.machine }
         requires few { (e : AnyEntry) → last_entry self.old.machine.kernel.journal ≡ Some e → self.old.counted + entry_counts e < 2 ^ 32 }
         ensures { (e : AnyEntry) → last_entry self.old.machine.kernel.journal ≡ Some e → self.new ≡ caught_up self.old lines.now e }
     {

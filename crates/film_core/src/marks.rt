@@ -1,6 +1,7 @@
 //! What is known of a run beside its machine.
-ghost use Rattle.std.specs.Prelude.{◌≡◌, ◌≤◌, true, false};
+ghost use Rattle.std.specs.Prelude.{◌≡◌, ◌≤◌, true};
 ghost use Rattle.flat_state.specs.Journal.{counted};
+ghost use Rattle.machine_state.specs.Going.{IsRunning};
 ghost use Rattle.journal_laws.specs.LastMoves.{moves_counted, last_moves};
 ghost use Rattle.run_model.specs.Next.{last_turned};
 ghost use Rattle.run_start.specs.Runners.{choice_of};
@@ -25,7 +26,7 @@ fn swap_mark(chosen: Turned) -> Mark
 
 /// The mark of a line, where so many instructions are counted.
 pub(crate) fn mark_of_event(m: &Machine, count: u32, e: Event) -> Mark
-    requires running { m.now.kernel.stopped ≡ false }
+    requires running { IsRunning m.now }
     ensures { result ≡ marked_by m.now.kernel count e }
 {
     match e {
@@ -49,7 +50,7 @@ pub(crate) fn mark_of_event(m: &Machine, count: u32, e: Event) -> Mark
 
 // The same of a line that may not be there.
 fn mark_if(m: &Machine, count: u32, e: Option<Event>) -> Mark
-    requires running { m.now.kernel.stopped ≡ false }
+    requires running { IsRunning m.now }
     ensures { result ≡ marked_if m.now.kernel count e }
 {
     match e {
@@ -118,7 +119,7 @@ pub(crate) fn mark_after(
     mark: Mark,
     entry: &Entry,
 ) -> Mark
-    requires running { m.now.kernel.stopped ≡ false }
+    requires running { IsRunning m.now }
     ensures { result ≡ mark_behind m.now.kernel count e mark entry.now }
 {
     match entry {

@@ -2,6 +2,7 @@
 ghost use Rattle.std.specs.Prelude.{◌≡◌, ◌≤◌, false, IfOk, IfErr};
 ghost use Rattle.flat_state.specs.Journal.{instructions_of};
 ghost use Rattle.kernel_model.specs.Unit.{proc_of};
+ghost use Rattle.machine_state.specs.Going.{IsRunning};
 ghost use Rattle.machine_state.specs.Files.{AreFiles};
 ghost use Rattle.machine_state.specs.Outside.{stop_of, TransfersPages};
 ghost use Rattle.run_start.specs.Sizes.{KeptAtStop};
@@ -21,7 +22,7 @@ use vm_facts::Stop;
 
 // Whether a process holds a space and doesn't sleep.
 fn may_step(m: &Machine, pid: u32) -> bool
-    requires { m.now.kernel.stopped ≡ false }
+    requires { IsRunning m.now }
     ensures { result ≡ steps_by (proc_of m.now.kernel pid) }
 {
     match m.processes().get(pid) {

@@ -1,10 +1,10 @@
 //! What is due is filled, and a step that is begun is completed.
-ghost use Rattle.std.specs.Prelude.{◌≡◌, ◌+◌, ◌<◌, ◌≤◌, ◌^◌, length, false, IfOk, IfErr};
+ghost use Rattle.std.specs.Prelude.{◌≡◌, ◌+◌, ◌<◌, ◌≤◌, ◌^◌, length, IfOk, IfErr};
 ghost use Rattle.flat_state.specs.Journal.{instructions_of};
+ghost use Rattle.machine_state.specs.Going.{CanGoOn};
 ghost use Rattle.machine_state.specs.Files.{AreFiles};
 ghost use Rattle.machine_state.specs.Outside.{stop_of, TransfersPages};
 ghost use Rattle.journal_laws.specs.LastMoves.{last_moves};
-ghost use Rattle.run_start.specs.Holders.{HoldersStand};
 ghost use Rattle.run_start.specs.Sizes.{KeptAtStop};
 ghost use Rattle.proc_run.specs.Running.{CountsTo};
 ghost use Rattle.film_core.specs.Ways.{IsOnWay, Settles, StopsSettling};
@@ -22,9 +22,7 @@ pub(crate) fn settle<F: Files, D: SwapDev>(
     swap: &mut D,
     counted: u32,
 ) -> Result<u32, Stop>
-    requires running { m.old.kernel.stopped ≡ false }
-    requires whole { m.old.before ≡ m.old.kernel.holdings }
-    requires holders { HoldersStand m.old.kernel }
+    requires ready { CanGoOn m.old }
     requires frames { 64 ≤ length m.old.kernel.place.holds }
     requires low { last_moves m.old.kernel.journal ≤ 1000000 }
     requires counted { instructions_of m.old.kernel.journal ≡ counted }

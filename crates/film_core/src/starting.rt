@@ -1,7 +1,8 @@
 //! The start of a film.
-ghost use Rattle.std.specs.Prelude.{◌≡◌, ◌↔◌, ◌<◌, ◌≤◌, ◌^◌, ℕ, true, false, List, [], length, Some, None, IfErr, Ok, Err};
+ghost use Rattle.std.specs.Prelude.{◌≡◌, ◌↔◌, ◌<◌, ◌≤◌, ◌^◌, ℕ, true, List, [], length, Some, None, IfErr, Ok, Err};
 ghost use Rattle.flat_state.specs.Flat.{Inputs};
 ghost use Rattle.flat_model.specs.Asked.{start_held};
+ghost use Rattle.machine_state.specs.Going.{IsRunning};
 ghost use Rattle.machine_state.specs.Files.{AreFiles};
 ghost use Rattle.machine_state.specs.Outside.{stop_of, TransfersPages};
 ghost use Rattle.run_start.specs.Starting.{AreAmong, StartsFrom};
@@ -19,7 +20,7 @@ use vm_facts::{Event, Stop};
 
 // Whether no line of a schedule comes, and no turn of a process.
 fn none_comes(m: &Machine, lines: &[Event]) -> bool
-    requires running { m.now.kernel.stopped ≡ false }
+    requires running { IsRunning m.now }
     ensures { (result ≡ true) ↔ ((lines.now ≡ []) × (next_turned m.now.kernel 0 ≡ None)) }
 {
     lines.is_empty() && next_turned(m, 0).is_none()

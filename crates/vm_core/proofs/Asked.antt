@@ -9,6 +9,7 @@ use Rattle.flat_state.specs.Flat.{Inputs}
 use Rattle.page_model.specs.Placement.{Placement, Transfer}
 use Rattle.page_model.specs.Swapper.{swap_choice}
 use Rattle.kernel_model.specs.Kernel.{note_step, image_after_of}
+use Rattle.machine_state.specs.Going.{CanGoOn}
 use Rattle.machine_state.specs.Machine.{Standing}
 use Rattle.machine_state.specs.Conditions.{HasStopped}
 use Rattle.machine_state.specs.Failing.{LosesFor}
@@ -17,8 +18,6 @@ use Rattle.journal_laws.specs.Moved.{Moved, StopsMoving}
 use Rattle.run_start.specs.Turned.{Turned}
 use Rattle.run_start.specs.Runners.{runners_of, choice_of}
 use Rattle.run_start.specs.Turns.{Turns, StopsTurning}
-use Rattle.run_start.proofs.SteadyLawsKernels.{is_done_keeps}
-use Rattle.run_start.proofs.Pages.{moved_keeps, turn_keeps}
 use Rattle.run_start.proofs.Transfers.{done_continues}
 use Rattle.run_start.proofs.Lines.{moves_continue, turn_continues}
 use Rattle.journal_laws.specs.LastMoves.{last_moves}
@@ -35,7 +34,7 @@ use Rattle.proc_run.specs.Runs.{IsSteady}
 use Rattle.vm_core.specs.Steady.{StaysSteady}
 use Rattle.vm_core.specs.Lines.{LineAt, MakesLine, StopsLine}
 use Rattle.vm_core.proofs.Noting.{same_error}
-use Rattle.vm_core.proofs.Steadying.{steady_ready, steady_self, continues_steady, moved_steady}
+use Rattle.vm_core.proofs.Steadying.{steady_self, continues_steady, moved_steady}
 
 -- The end of a transfer.
 
@@ -77,11 +76,10 @@ interrupt_makes old new holds i j r true e idle still step after = done_makes ol
 pub interrupt_steady : (old new : Standing) (holds : Option (List NamedFile)) (i : Option (List ℕ)) (r : Result Bool Stop) (b : Bool) → IsSteady old → r ≡ Ok b
     → (r ≡ Ok false → new ≡ old)
     → (r ≡ Ok true → IsDone (sources old holds) i old.kernel new.kernel)
-    → (r ≡ Ok true → new ≡ record old { kernel = new.kernel; room = None }) → StaysSteady old new 0
-interrupt_steady old new holds i r false s e still step rest = subst (λ (m : Standing). StaysSteady old m 0) (sym (still e)) (steady_self old s)
-interrupt_steady old new holds i r true s e still step rest =
-    continues_steady old new 0 s (done_continues old new (sources old holds) i (steady_ready old s) (step e) (rest e))
-    (is_done_keeps (sources old holds) i old.kernel new.kernel (step e) s.holders)
+    → (r ≡ Ok true → new ≡ record old { kernel = new.kernel; room = None }) → CanGoOn new → StaysSteady old new 0
+interrupt_steady old new holds i r false s e still step rest ready = subst (λ (m : Standing). StaysSteady old m 0) (sym (still e)) (steady_self old s)
+interrupt_steady old new holds i r true s e still step rest ready =
+    continues_steady old new 0 s (done_continues old new (sources old holds) i s.clear (step e) (rest e)) ready
 
 some_flight : (stop : Stop) (ts : List Transfer) → (let r : Result Bool Stop = Err stop in StopsFor r ts) → 0 < length ts
 some_flight stop (t ∷ ts) h = omega arith
@@ -123,11 +121,10 @@ hands_make old new holds i j n made m A s image at =
     hands_made A s old new holds image j n made at.machine at.clear at.mark (subst (λ (o : Option (List ℕ)). Moved n old new made holds o j) at.told m)
 
 pub hands_steady : (old new : Standing) (holds : Option (List NamedFile)) (i j : Option (List ℕ)) (n made : ℕ) → IsSteady old
-    → last_moves old.kernel.journal ≡ 0 → n ≤ 1000000 → Moved n old new made holds i j
+    → last_moves old.kernel.journal ≡ 0 → n ≤ 1000000 → Moved n old new made holds i j → CanGoOn new
     → StaysSteady old new 0
-hands_steady old new holds i j n made s first few m =
-    moved_steady old new made s (moves_continue old new n made holds i j (steady_ready old s) m) first (let most = m.most in omega arith)
-    (moved_keeps n old new made holds i j m s.holders)
+hands_steady old new holds i j n made s first few m ready =
+    moved_steady old new made s (moves_continue old new n made holds i j s.clear m) first (let most = m.most in omega arith) ready
 
 pub hands_halt : (old new : Standing) (holds : Option (List NamedFile)) (i j : Option (List ℕ)) (n : ℕ) (stop : Stop) → StopsMoving n old stop new holds i j
     → StopsLine (events.Hands n) old new holds i j stop
@@ -143,9 +140,8 @@ swapper_makes old new holds i j t c x A s image at =
     swapper_made A s old new holds image j t at.machine at.clear at.fit at.mark c (subst (λ (o : Option (List ℕ)). Turns t old new holds o j) at.told x)
 
 pub swapper_steady : (old new : Standing) (holds : Option (List NamedFile)) (i j : Option (List ℕ)) (t : Turned) → IsSteady old
-    → Turns t old new holds i j → StaysSteady old new 0
-swapper_steady old new holds i j t s x =
-    continues_steady old new 0 s (turn_continues t old new holds i j (steady_ready old s) x) (turn_keeps t old new holds i j x s.holders)
+    → Turns t old new holds i j → CanGoOn new → StaysSteady old new 0
+swapper_steady old new holds i j t s x ready = continues_steady old new 0 s (turn_continues t old new holds i j s.clear x) ready
 
 pub swapper_halts : (old new : Standing) (holds : Option (List NamedFile)) (i j : Option (List ℕ)) (stop : Stop)
     → ((t : Turned) × (choice_of t ≡ swap_choice old.kernel.place (runners_of old.kernel)) × StopsTurning t old stop new holds i j)

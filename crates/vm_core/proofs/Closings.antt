@@ -25,7 +25,7 @@ use Rattle.run_start.specs.Lines.{IsOver, TurnDue}
 use Rattle.proc_run.specs.Choosing.{next_turned as chosen_next}
 use Rattle.proc_run.proofs.Ready.{turned_same}
 use Rattle.vm_core.specs.Cores.{Underway, StandsIn, CoreAt}
-use Rattle.vm_core.specs.Closing.{TurnHad, HasTurn, StopsTurn, IdleSince, LinesAre, ClosesTo, Closes, StopsClosing, ClosesRun, StopsClosingRun, CountsTurn, EndsPhase}
+use Rattle.vm_core.specs.Closing.{TurnHad, HasTurn, StopsTurn, IdleSince, LinesAre, ClosesTo, Closes, StopsClosing, StopsClosingRun, CountsTurn, EndsPhase}
 use Rattle.vm_core.proofs.Accounts.{leads_accounted, leads_economical, leads_swapped, stop_accounted}
 use Rattle.vm_core.proofs.Standing.{leads_to_stop}
 
@@ -220,10 +220,6 @@ lines_are : (A : Inputs) (s : State) (c : Underway) (holds : Option (List NamedF
     → length A.lines ≡ s.lines
     → LinesAre A s c.machine holds i image c.counted
 lines_are A s c holds i image at lines = record { stands = at.stands; over = at.over; lines = lines; unturned = at.unturned }
-
-pub run_closes : (old new : Underway) (holds : Option (List NamedFile)) (i j : Option (List ℕ))
-    → Closes old.machine new.machine old.counted new.counted holds i j → ClosesRun old new holds i j
-run_closes old new holds i j f A s image at lines = f A s image (lines_are A s old holds i image at lines)
 
 pub run_stops : (old new : Underway) (holds : Option (List NamedFile)) (i j : Option (List ℕ)) (stop : Stop)
     → StopsClosing old.machine new.machine old.counted holds i j stop → StopsClosingRun old new holds i j stop

@@ -12,7 +12,6 @@ use Rattle.vm_facts.specs.declared.stop.Stop.TheVariants as stops
 use Rattle.io_edge.specs.FileHolding.{NamedFile}
 use Rattle.swap_book.specs.Holdings.{Holdings}
 use Rattle.flat_state.specs.Flat.{Inputs}
-use Rattle.flat_model.specs.Asked.{start_held}
 use Rattle.machine_state.specs.Machine.{Standing}
 use Rattle.machine_state.specs.Sourced.{ImageNamed}
 use Rattle.run_model.specs.State.{start}
@@ -20,9 +19,8 @@ use Rattle.run_laws.specs.Running.{CanRun}
 use Rattle.journal_laws.specs.Leads.{Leads}
 use Rattle.journal_laws.proofs.Units.{both_lead}
 use Rattle.run_start.specs.Stepped.{StopLeads}
-use Rattle.run_start.specs.declared.starting.Started.TheVariants as starteds
 use Rattle.run_start.specs.Sizes.{KeptAtStop}
-use Rattle.run_start.specs.Starting.{AreAmong, StartsFrom, started_by}
+use Rattle.run_start.specs.Starting.{AreAmong, StartsFrom}
 use Rattle.run_start.specs.Leading.{IsTold, machine_at_start}
 use Rattle.vm_core.specs.Cores.{Underway, GoesOn, InputsOf}
 use Rattle.vm_core.specs.Starting.{CoreStarted, StartsRun, StopsStartingRun}
@@ -30,7 +28,7 @@ use Rattle.vm_core.specs.Schedules.{IsBeforeLines, StopsLines, FinishesLines}
 use Rattle.vm_core.specs.Full.{RunFull, RunOver, RunStopsAt}
 use Rattle.vm_core.specs.RunEnds.{IsAskedOf, NoneMade, RunStops, RunEnds}
 use Rattle.vm_core.specs.declared.schedule.Unfinished.{Unfinished}
-use Rattle.vm_core.specs.declared.schedule.Unfinished.TheVariants.{NoSpace, Stopped}
+use Rattle.vm_core.specs.declared.schedule.Unfinished.TheVariants.{Stopped}
 use Rattle.vm_core.proofs.Standing.{leads_to_stop}
 use Rattle.vm_core.proofs.Journals.{finished_run, over_run, halted_run, full_run, left_run, starved_run}
 
@@ -57,14 +55,6 @@ pub are_among : (images : List ImageNamed) (ns : List ℕ) → All (λ (n : ℕ)
 are_among images [] all = tt
 are_among images (n ∷ ns) all = let h = All-head (λ (k : ℕ). (1 ≤ k) × (k ≤ length images)) n ns all in (h.0, h.1, are_among images ns (All-tail (λ (k : ℕ). (1 ≤ k) × (k ≤ length images)) n ns all))
 
--- the process whose pieces find no place
-pub no_place : (A : Inputs) (pid : ℕ) → starteds.NoSpace pid ≡ started_by (start_held A) → start_held A ≡ Err pid
-no_place A pid is = go (start_held A) refl is
-  where
-    go : (r : Result Holdings ℕ) → start_held A ≡ r → starteds.NoSpace pid ≡ started_by r → start_held A ≡ Err pid
-    go (Ok hs) at e = absurd cc
-    go (Err n) at e = at ∙ (let same_pid : n ≡ pid = cc in ap (λ (p : ℕ). let r : Result Holdings ℕ = Err p in r) same_pid)
-
 module _ (A : Inputs) (old : Underway) (numbers : List ℕ) (lines : List Event) (holds : Option (List NamedFile)) (image : List ℕ) (few : length numbers ≤ 16)
     (is : IsAskedOf A old.machine numbers lines holds image) where
   starts_from : StartsFrom A old.machine numbers
@@ -80,11 +70,6 @@ module _ (A : Inputs) (old : Underway) (numbers : List ℕ) (lines : List Event)
   first_few = let n = ap length is.first in omega (arith, n, few)
 
   -- No place.
-
-  pub no_space : (new : Underway) (pid : ℕ) (i j : Option (List ℕ)) → ((B : Inputs) → StartsFrom B old.machine numbers → starteds.NoSpace pid ≡ started_by (start_held B))
-      → new.machine.kernel.journal ≡ [] → j ≡ i → i ≡ Some image
-      → RunEnds A new.machine.kernel.journal image (Err (NoSpace pid)) j
-  no_space new pid i j space journal same told = ((journal, same ∙ told), no_place A pid (space A starts_from))
 
   -- The run stopped.
 

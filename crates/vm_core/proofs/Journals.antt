@@ -103,8 +103,8 @@ over_run A hs can few image room new j us t a none on = record {
   made = made A hs can few image room us t new.machine.kernel j a;
   none = none;
   stands = record {
-    running = on.steady.running;
-    whole = on.steady.whole;
+    running = on.steady.ready.running.runs;
+    whole = on.steady.ready.whole;
     at = subst (StandsAt A t new.machine.kernel)
         (same_Some a.behind (swapped A new.machine.kernel.journal image) (sym a.told ∙ image_told A hs can few image room us t new.machine.kernel j a))
         (stands A hs can few image room us t new.machine.kernel j a);

@@ -35,19 +35,10 @@ pub stops_weaker : {T : Type 0} (r : Result T Stop) (P Q : Stop → Type 0) → 
 stops_weaker (Ok x) P Q f h = tt
 stops_weaker (Err stop) P Q f h = f stop h
 
--- what follows from a fact of a call that did not stop, and from two
+-- what follows from a fact of a call that did not stop
 pub ok_so : {T : Type 0} (r : Result T Stop) (P Q : Type 0) → (P → Q) → OnOk r P → OnOk r Q
 ok_so (Ok x) P Q f p = f p
 ok_so (Err stop) P Q f p = tt
-
-pub ok_both : {T : Type 0} (r : Result T Stop) (P Q R : Type 0) → (P → Q → R) → OnOk r P → OnOk r Q → OnOk r R
-ok_both (Ok x) P Q R f p q = f p q
-ok_both (Err stop) P Q R f p q = tt
-
-pub noted_stop : (stop : Stop) (old new : Standing) → old.before ≡ old.kernel.holdings → HasStopped old new
-    → (let r : Result (Unit {0}) Stop = Err stop in (r ≡ Err stops.JournalFull) ⊎ (r ≡ Err stops.NoMemory))
-    → (let r : Result (Unit {0}) Stop = Err stop in (r ≡ Err stops.JournalFull) ↔ (old.params.journal ≤ length old.kernel.journal)) → StopsNoting old new stop
-noted_stop stop old new w h c f = let r : Result (Unit {0}) Stop = Err stop in stops_noting r old new w h c f
 
 -- what follows of an answer from what is so of it
 pub ok_weaker : {T : Type 0} (r : Result T Stop) (P Q : T → Type 0) → ((x : T) → P x → Q x) → IfOk r P → IfOk r Q

@@ -18,7 +18,7 @@ use Rattle.run_start.specs.Leading.{IsTold, machine_at_start, StartLeads, StartS
 use Rattle.run_start.proofs.Led.{stands_at_start}
 use Rattle.run_start.specs.declared.starting.Started.{Started}
 use Rattle.journal_laws.proofs.Journals.{few_started}
-use Rattle.vm_core.specs.Cores.{Underway, GoesOn, InputsOf, StandsIn}
+use Rattle.vm_core.specs.Cores.{Underway, InputsOf, StandsIn}
 use Rattle.vm_core.specs.Starting.{CoreStarted, StartsRun, StopsStartingRun}
 use Rattle.vm_core.proofs.Accounts.{leads_accounted, leads_economical, leads_swapped, stop_accounted}
 use Rattle.vm_core.proofs.Noting.{stops_weaker}
@@ -102,16 +102,3 @@ pub stops_starting : (r : Result Started Stop) (old new : Standing) (numbers : L
     → Stopping r old numbers holds i (λ A image stop. StopsStartingRun A new image stop j)
 stops_starting r old new numbers holds i j few f A image told e =
     stops_weaker r (λ stop. StartStops A new image stop j) (λ stop. StopsStartingRun A new image stop j) (start_accounted A old new numbers holds image j few told) (f A image told e)
-
-pub started_goes_on : (old : Standing) (new : Underway) → 64 ≤ old.params.frames → new.counted ≡ 0 → HasStarted old new.machine → GoesOn new
-started_goes_on old new frames none on = record {
-  steady = record {
-    running = on.running;
-    whole = on.whole;
-    clear = on.due;
-    holders = on.holders;
-    frames = let e = on.frames in omega (arith, e, frames);
-    low = let e = on.moves in omega (arith, e);
-  };
-  counted = on.counted ∙ sym none;
-}

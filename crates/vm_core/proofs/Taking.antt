@@ -1,5 +1,5 @@
 -- Lines of the schedule, from their entries on.
-use Rattle.std.proofs.Common.{◌≡◌, ℕ, ◌+◌, ◌≤◌, List, [], ◌∷◌, ◌++◌, Option, Some, None, refl, sym, ap, ◌∙◌, subst, arith}
+use Rattle.std.proofs.Common.{◌≡◌, ℕ, ◌+◌, ◌≤◌, List, [], ◌∷◌, ◌++◌, Option, Some, refl, sym, ap, ◌∙◌, subst, arith}
 use Rattle.std.proofs.lemmas.Option.{same_Some}
 use Rattle.vm_facts.specs.declared.entry.Entry.{Entry}
 use Rattle.vm_facts.specs.declared.entry.Entry.TheVariants as entries
@@ -8,7 +8,6 @@ use Rattle.vm_facts.specs.declared.event.Event.TheVariants as events
 use Rattle.vm_facts.specs.declared.stop.Stop.{Stop}
 use Rattle.io_edge.specs.FileHolding.{NamedFile}
 use Rattle.flat_state.specs.Flat.{Inputs}
-use Rattle.flat_state.specs.Journal.{instructions_of}
 use Rattle.page_model.specs.Placement.{Placement}
 use Rattle.page_model.specs.Swapper.{swap_choice}
 use Rattle.kernel_model.specs.Kernel.{note_step}
@@ -27,10 +26,9 @@ use Rattle.run_start.proofs.StepUnitsBeginning.{line_begins, line_stops}
 use Rattle.proc_run.specs.Running.{CountsTo}
 use Rattle.vm_core.specs.Accounts.{StopsAccounted}
 use Rattle.vm_core.specs.Steady.{StaysSteady}
-use Rattle.vm_core.specs.Lines.{LineAt, MakesLine, StopsLine}
-use Rattle.vm_core.specs.Cores.{Underway, GoesOn, StandsIn, CoreAt, LineDue, LineTaken, TakesLine, StopsTaking, AskedAt, CarriesOut, StopsCarrying}
+use Rattle.vm_core.specs.Lines.{LineAt, MakesLine}
+use Rattle.vm_core.specs.Cores.{Underway, StandsIn, CoreAt, LineDue, LineTaken, TakesLine, StopsTaking, AskedAt, CarriesOut, StopsCarrying}
 use Rattle.vm_core.proofs.Accounts.{leads_accounted, leads_economical, leads_swapped, stop_accounted}
-use Rattle.vm_core.proofs.Steadying.{noted_steady}
 use Rattle.vm_core.proofs.Standing.{stands_on, leads_to_stop}
 
 -- What a line asks for.
@@ -51,20 +49,6 @@ pub makes_carries : (old new : Standing) (holds : Option (List NamedFile)) (i j 
 makes_carries old new holds i j counted e f A s image at =
     let l = f A s image (line_at A s old holds i image counted e at) in
     record { units = l.units; state = l.state; leads = l.leads; over = l.over; unturned = l.unturned; counts = l.count ∙ at.stands.count; lines = l.lines }
-
-pub halts_carrying : (old new : Standing) (holds : Option (List NamedFile)) (i j : Option (List ℕ)) (counted : ℕ) (e : Event) (stop : Stop)
-    → StopsLine e old new holds i j stop
-    → StopsCarrying old new counted e holds i j stop
-halts_carrying old new holds i j counted e stop f A s image at = f A s image (line_at A s old holds i image counted e at)
-
-pub counts_same : (old new : Standing) (counted : ℕ) → instructions_of old.kernel.journal ≡ counted → StaysSteady old new 0 → CountsTo old new counted counted
-counts_same old new counted is s = record {
-  steady = s.steady;
-  params = s.params;
-  images = s.images;
-  counts = let c = s.counted in omega arith;
-  more = omega arith;
-}
 
 -- After the entry of a line.
 
@@ -167,17 +151,3 @@ pub stops_noted : (old after : Underway) (holds : Option (List NamedFile)) (i : 
     → StopsNoting old.machine after.machine stop
     → StopsTaking old after line e holds i i stop
 stops_noted old after holds i line e stop x A s image at due = noting_stops A s old holds i image line e at due after.machine stop x
-
-pub goes_on_so : (mid new : Standing) (counted count : ℕ) → CountsTo mid new counted count
-    → GoesOn (let u : Underway = record { machine = new; counted = count } in u)
-goes_on_so mid new counted count to = record { steady = to.steady; counted = to.counts }
-
--- The entry of a line is noted.
-
-pub noted_line : (old : Underway) (mid : Standing) (line : ℕ) → GoesOn old → mid.kernel ≡ note_step old.machine.kernel (entries.Event line)
-    → mid ≡ record old.machine { kernel = mid.kernel; room = None }
-    → StaysSteady old.machine mid 0
-noted_line old mid line g k r = noted_steady old.machine mid (entries.Event line) g.steady tt k r
-
-pub noted_counts : (old : Underway) (mid : Standing) → GoesOn old → StaysSteady old.machine mid 0 → instructions_of mid.kernel.journal ≡ old.counted
-noted_counts old mid g s = let a = s.counted in let b = g.counted in omega arith

@@ -12,6 +12,5 @@ pub mod Starting
 pub mod Schedules
 pub mod Halting
 pub mod Lawful
-pub mod Sound
 pub mod Full
 pub mod RunEnds

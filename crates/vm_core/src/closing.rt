@@ -3,6 +3,7 @@ ghost use Rattle.std.specs.Prelude.{◌≡◌, ◌+◌, ◌<◌, ◌≤◌, ℕ,
 ghost use Rattle.flat_state.specs.Journal.{instructions_of};
 ghost use Rattle.page_model.specs.Swapper.{is_out};
 ghost use Rattle.kernel_model.specs.Kernel.{HoldsSpace};
+ghost use Rattle.machine_state.specs.Going.{IsRunning};
 ghost use Rattle.machine_state.specs.Calls.{life_in};
 ghost use Rattle.machine_state.specs.Files.{AreFiles};
 ghost use Rattle.machine_state.specs.Outside.{stop_of, TransfersPages};
@@ -14,6 +15,7 @@ ghost use Rattle.vm_core.specs.Steady.{StaysSteady};
 ghost use Rattle.vm_core.specs.Cores.{GoesOn};
 ghost use Rattle.vm_core.specs.Closing.{ComesIn, StopsComingIn, HasTurn, StopsTurn, Closes, StopsClosing, ClosesRun, StopsClosingRun, EndsPhase, CountsTurn};
 
+use crate::lines::note;
 use crate::run::Core;
 use crate::running::finish;
 use io_edge::{Files, SwapDev};
@@ -29,7 +31,7 @@ const MOST_IDLE: u32 = 64;
 
 // Whether a process that holds a space is out.
 fn is_out(m: &Machine, pid: u32) -> bool
-    requires { m.now.kernel.stopped ≡ false }
+    requires { IsRunning m.now }
     ensures out { result ≡ true → is_out m.now.kernel.place pid ≡ true }
     ensures resident { result ≡ false → (sid : ℕ) → life_in m.now.kernel pid ≡ HoldsSpace sid → is_out m.now.kernel.place pid ≡ false }
 {
@@ -62,7 +64,8 @@ pub fn come_in<F: Files, D: SwapDev>(
     if !is_out(m, pid) {
         return Ok(());
     }
-    swap_in(m, swap, pid)
+    swap_in(m, swap, pid)?;
+    Ok(())
 }
 
 // A turn of a process, which comes in first where it is out. The answer is how many instructions are counted then.
@@ -84,7 +87,7 @@ fn turn<F: Files, D: SwapDev>(
     ensures kept { IfErr result (KeptAtStop m.old m.new) }
     ensures outside { TransfersPages F.Files D.SwapDev (stop_of result) files.old files.new swap.old swap.new }
 {
-    m.note(Entry::Turn { pid })?;
+    note(m, Entry::Turn { pid })?;
     come_in(m, files, swap, pid)?;
     finish(alloc, m, files, swap, pid, counted, counted)
 }
@@ -92,7 +95,7 @@ fn turn<F: Files, D: SwapDev>(
 // The process of the next turn: none where as many instructions are counted as may, too many turns in a row counted none, or no
 // process can step.
 fn next_turn(m: &Machine, count: u32, last: u32, idle: u32) -> Option<u32>
-    requires { m.now.kernel.stopped ≡ false }
+    requires { IsRunning m.now }
     ensures some { IfSome result (λ pid. next_turned m.now.kernel last ≡ Some pid) }
     ensures below { IfSome result (λ pid. count < m.now.params.limit) }
     ensures few { IfSome result (λ pid. idle ≤ 64) }

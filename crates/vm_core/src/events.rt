@@ -10,7 +10,7 @@ ghost use Rattle.proc_run.specs.Running.{CountsTo};
 ghost use Rattle.vm_core.specs.Steady.{HasFewMoves};
 ghost use Rattle.vm_core.specs.Cores.{Underway, GoesOn, TakesLine, StopsTaking, CarriesOut, StopsCarrying};
 
-use crate::lines::{audit, hands, interrupt, swapper};
+use crate::lines::{audit, hands, interrupt, note, swapper};
 use crate::run::Core;
 use crate::running::dispatch;
 use io_edge::{Files, SwapDev};
@@ -91,7 +91,7 @@ impl Core {
         ensures kept { IfErr result (KeptAtStop self.old.machine self.new.machine) }
         ensures outside { TransfersPages F.Files D.SwapDev (stop_of result) files.old files.new swap.old swap.new }
     {
-        self.machine.note(Entry::Event { line })?;
+        note(&mut self.machine, Entry::Event { line })?;
         self.counted = carry_out(self.alloc, &mut self.machine, files, swap, self.counted, e)?;
         if self.is_over() {
             Ok(Went::LimitReached)

@@ -1,10 +1,14 @@
 //! What a line of the schedule asks for, but to run a process.
-ghost use Rattle.std.specs.Prelude.{◌≡◌, ◌⊎◌, ◌≤◌, ℕ, List, Option, Err, false, OnOk, OnErr, IfErr};
+ghost use Rattle.std.specs.Prelude.{◌≡◌, ◌⊎◌, ◌≤◌, ℕ, List, [], length, Option, Err, OnOk, OnErr, IfErr};
 ghost use Rattle.io_edge.specs.FileHolding.{NamedFile};
 ghost use Rattle.vm_facts.specs.declared.event.Event.{Event as AnyEvent};
+ghost use Rattle.kernel_model.specs.Kernel.{note_step};
+ghost use Rattle.machine_state.specs.Going.{CanGoOn};
+ghost use Rattle.machine_state.specs.Calls.{IsNote};
 ghost use Rattle.machine_state.specs.Files.{AreFiles};
 ghost use Rattle.machine_state.specs.Outside.{stop_of, TransfersPages};
 ghost use Rattle.journal_laws.specs.LastMoves.{last_moves};
+ghost use Rattle.run_start.specs.Lines.{StopsNoting};
 ghost use Rattle.run_start.specs.Sizes.{KeptAtStop};
 ghost use Rattle.proc_run.specs.Runs.{IsSteady};
 ghost use Rattle.vm_core.specs.Steady.{StaysSteady};
@@ -15,7 +19,23 @@ use io_edge::{Files, SwapDev};
 use journal_laws::clock_hands::move_hands;
 use machine_state::Machine;
 use run_start::swapper::turn;
-use vm_facts::{Event, Stop};
+use vm_facts::{Entry, Event, Stop};
+
+/// An entry is noted that changes nothing, by a machine whose last entry may count any moves of the hands.
+pub fn note(m: &mut Machine, e: Entry) -> Result<(), Stop>
+    requires ready { CanGoOn m.old }
+    requires clear { m.old.kernel.place.due ≡ [] }
+    requires frames { 64 ≤ length m.old.kernel.place.holds }
+    requires note { IsNote e }
+    ensures step { OnOk result (m.new.kernel ≡ note_step m.old.kernel e) }
+    ensures first { OnOk result (last_moves m.new.kernel.journal ≡ 0) }
+    ensures steady { OnOk result (StaysSteady m.old m.new 0) }
+    ensures cause { OnErr result ((result ≡ Err Stop.JournalFull) ⊎ (result ≡ Err Stop.NoMemory)) }
+    ensures stops { IfErr result (StopsNoting m.old m.new) }
+    ensures kept { IfErr result (KeptAtStop m.old m.new) }
+{
+    m.note(e)
+}
 
 /// The oldest transfer ends, where one is in flight.
 pub fn interrupt<F: Files, D: SwapDev>(
@@ -87,5 +107,5 @@ pub fn audit(m: &mut Machine) -> Result<(), Stop>
     ensures kept { IfErr result (KeptAtStop m.old m.new) }
 {
     let entry = owners(m);
-    m.note(entry)
+    note(m, entry)
 }

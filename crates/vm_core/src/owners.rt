@@ -1,5 +1,6 @@
 //! The numbers of frames and blocks by who has them.
-ghost use Rattle.std.specs.Prelude.{◌≡◌, ◌≤◌, false};
+ghost use Rattle.std.specs.Prelude.{◌≡◌, ◌≤◌};
+ghost use Rattle.machine_state.specs.Going.{CanGoOn};
 ghost use Rattle.run_model.specs.Next.{blocks_held, owners_of};
 
 use machine_state::Machine;
@@ -20,11 +21,9 @@ fn blocks_held(holdings: &[Held], _size: u32) -> u32
 
 /// The numbers of frames that are free, in use off the free list, and in transfers, and of blocks that are held.
 pub(crate) fn owners(m: &Machine) -> Entry
-    requires running { m.now.kernel.stopped ≡ false }
-    requires whole { m.now.before ≡ m.now.kernel.holdings }
+    requires ready { CanGoOn m.now }
     ensures { result ≡ owners_of m.now.kernel.place m.now.kernel.holdings }
 {
-    m.sound();
     let (free, moving) = (m.free_frames(), m.moving_frames());
     let frames = m.core().frames();
     Entry::Owners {

@@ -3,6 +3,7 @@ ghost use Rattle.std.specs.Prelude.{◌≡◌, ◌+◌, ◌<◌, ◌≤◌, true
 ghost use Rattle.machine_state.specs.Machine.{image_shown};
 ghost use Rattle.machine_state.specs.New.{fresh_kernel, AreSound};
 ghost use Rattle.machine_state.specs.Sourced.{AreNames};
+ghost use Rattle.vm_core.specs.Starting.{IsFresh};
 
 use machine_state::{Machine, Named};
 use std::alloc::Global;
@@ -43,7 +44,7 @@ impl Core {
           before = [];
           room = None;
         }) }
-        ensures counted { IfOk result (λ c. c.counted ≡ 0) }
+        ensures fresh { IfOk result IsFresh }
     {
         Ok(Core {
             alloc,

@@ -3,13 +3,13 @@ ghost use Rattle.std.specs.Prelude.{◌≡◌, ◌<◌, ◌≤◌, ◌^◌, ℕ,
 ghost use Rattle.flat_state.specs.Flat.{Inputs};
 ghost use Rattle.flat_model.specs.Asked.{start_held};
 ghost use Rattle.machine_state.specs.Files.{AreFiles};
+ghost use Rattle.machine_state.specs.Going.{IsRunning};
 ghost use Rattle.machine_state.specs.Outside.{stop_of, TransfersPages};
 ghost use Rattle.run_start.specs.Sizes.{KeptAtStop};
 ghost use Rattle.run_start.specs.Starting.{StartsFrom};
 ghost use Rattle.vm_core.specs.Cores.{GoesOn};
 ghost use Rattle.vm_core.specs.Starting.{IsFresh};
 ghost use Rattle.vm_core.specs.Schedules.{HaveFewMoves, TakesLines, StopsLines, FinishesLines};
-ghost use Rattle.vm_core.specs.Sound.{RunsSound};
 ghost use Rattle.vm_facts.specs.declared.stop.Stop.{Stop as Halt};
 ghost use Rattle.vm_core.specs.Full.{RunFull, RunOver, RunStopsAt};
 ghost use Rattle.vm_core.specs.RunEnds.{stopped_as, IsAskedOf, RunEnds};
@@ -124,8 +124,8 @@ fn run_through<F: Files, D: SwapDev>(
         ((A : Inputs) (image : List ℕ) → IsAskedOf A core.old.machine first.now lines.now (F.holds files.old) image → D.image swap.old ≡ Some image
         → RunOver A core.new.machine image) }
     ensures goes_on { OnOk result (GoesOn core.new) }
-    ensures sound { OnOk result (RunsSound core.new.machine) }
-    ensures unmade_sound { (pid : ℕ) → result ≡ Err (Unfinished.NoSpace pid) → RunsSound core.new.machine }
+    ensures running { OnOk result (IsRunning core.new.machine) }
+    ensures unmade_running { (pid : ℕ) → result ≡ Err (Unfinished.NoSpace pid) → IsRunning core.new.machine }
     ensures params { core.new.machine.params ≡ core.old.machine.params }
     ensures images { core.new.machine.images ≡ core.old.machine.images }
     ensures no_space { (A : Inputs) → StartsFrom A core.old.machine first.now → (pid : ℕ) → result ≡ Err (Unfinished.NoSpace pid) → start_held A ≡ Err pid }
@@ -135,13 +135,9 @@ fn run_through<F: Files, D: SwapDev>(
     ensures outside { TransfersPages F.Files D.SwapDev (stop_of (stopped_as result)) files.old files.new swap.old swap.new }
 {
     match core.start(files, swap, first)? {
-        Started::NoSpace(pid) => {
-            core.machine().sound();
-            Err(Unfinished::NoSpace(pid))
-        }
+        Started::NoSpace(pid) => { Err(Unfinished::NoSpace(pid)) }
         Started::Ok => {
             finish(core, files, swap, lines)?;
-            core.machine().sound();
             Ok(())
         }
     }
@@ -176,9 +172,9 @@ pub fn run_schedule<F: Files, D: SwapDev>(
         ((A : Inputs) (image : List ℕ) → IsAskedOf A core.old.machine first.now lines.now (F.holds files.old) image → D.image swap.old ≡ Some image
         → RunOver A core.new.machine image) }
     ensures goes_on { OnOk result (GoesOn core.new) }
-    ensures sound { OnOk result (RunsSound core.new.machine) }
-    ensures unmade_sound { (pid : ℕ) → result ≡ Err (Unfinished.NoSpace pid) → RunsSound core.new.machine }
-    ensures left_sound { core.new.machine.kernel.stopped ≡ false → RunsSound core.new.machine }
+    ensures running { OnOk result (IsRunning core.new.machine) }
+    ensures unmade_running { (pid : ℕ) → result ≡ Err (Unfinished.NoSpace pid) → IsRunning core.new.machine }
+    ensures left_running { core.new.machine.kernel.stopped ≡ false → IsRunning core.new.machine }
     ensures params { core.new.machine.params ≡ core.old.machine.params }
     ensures images { core.new.machine.images ≡ core.old.machine.images }
     ensures no_space { (A : Inputs) → StartsFrom A core.old.machine first.now → (pid : ℕ) → result ≡ Err (Unfinished.NoSpace pid) → start_held A ≡ Err pid }

@@ -1,8 +1,9 @@
 //! The start of a run.
-ghost use Rattle.std.specs.Prelude.{◌≡◌, ◌≤◌, ℕ, false, List, [], length, Some, IfOk, IfErr, Ok};
+ghost use Rattle.std.specs.Prelude.{◌≡◌, ◌≤◌, ℕ, List, [], length, Some, IfOk, IfErr, Ok};
 ghost use Rattle.flat_state.specs.Flat.{Inputs};
 ghost use Rattle.flat_model.specs.Asked.{start_held};
 ghost use Rattle.machine_state.specs.Files.{AreFiles};
+ghost use Rattle.machine_state.specs.Going.{CanGoOn};
 ghost use Rattle.machine_state.specs.Outside.{stop_of, TransfersPages};
 ghost use Rattle.run_start.specs.Sizes.{KeptAtStop};
 ghost use Rattle.run_start.specs.Starting.{AreAmong, StartsFrom, started_by};
@@ -32,7 +33,7 @@ impl Core {
         ensures space { (A : Inputs) → StartsFrom A self.old.machine first.now → IfOk result (λ started. started ≡ started_by (start_held A)) }
         ensures none_made { (pid : ℕ) → result ≡ Ok (Started.NoSpace pid) → self.new.machine.kernel.journal ≡ [] }
         ensures untouched { (pid : ℕ) → result ≡ Ok (Started.NoSpace pid) → swap.new ≡ swap.old }
-        ensures kept_running { (pid : ℕ) → result ≡ Ok (Started.NoSpace pid) → self.new.machine.kernel.stopped ≡ false }
+        ensures kept_ready { (pid : ℕ) → result ≡ Ok (Started.NoSpace pid) → CanGoOn self.new.machine }
         ensures kept_params { (pid : ℕ) → result ≡ Ok (Started.NoSpace pid) → self.new.machine.params ≡ self.old.machine.params }
         ensures kept_images { (pid : ℕ) → result ≡ Ok (Started.NoSpace pid) → self.new.machine.images ≡ self.old.machine.images }
         ensures starts { result ≡ Ok Started.Ok → StartsRun self.old self.new first.now (F.holds files.old) (D.image swap.old) (D.image swap.new) }

@@ -2,12 +2,8 @@ use Rattle.std.proofs.Common.{IfOk, IfErr, List, Option, sym, subst}
 use Rattle.io_edge.specs.FileHolding.{NamedFile}
 use Rattle.vm_core.proofs.Noting.{ok_weaker, stops_weaker}
 use Rattle.film_core.specs.Ways.{IsUnder, Rests, StopsResting, GetsOver, StopsGoing}
-use Rattle.film_core.proofs.Getting.{going_holders, going_fits, going_under, gets_over, rest_stops_going}
+use Rattle.film_core.proofs.Getting.{going_fits, going_under, gets_over, rest_stops_going}
 use Rattle.film_core.proofs.going.get_over.Goals as goal
-
-pub settle-requires-clause-holders : goal.settle-requires-clause-holders
-settle-requires-clause-holders g c =
-    going_holders c.args.m.now c.args.mark c.args._lines.now c.args._taken c.args.counted (g.F.Files.holds c.args.files.now) (g.D.SwapDev.image c.args.swap.now) c.requires.going
 
 pub settle-requires-clause-more : goal.settle-requires-clause-more
 settle-requires-clause-more g c =

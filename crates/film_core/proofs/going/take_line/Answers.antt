@@ -1,20 +1,18 @@
-use Rattle.std.proofs.Common.{◌+◌, arith, refl}
-use Rattle.vm_facts.specs.declared.entry.Entry.TheVariants as entries
-use Rattle.vm_core.proofs.Noting.{stops_on, noted_stop, ok_so, stops_weaker}
+use Rattle.std.proofs.Common.{◌+◌, arith}
+use Rattle.vm_core.proofs.Noting.{stops_on, ok_so, stops_weaker}
 use Rattle.film_core.specs.Ways.{RoundsOff, PassesOver, StopsRound, StopsPassing}
-use Rattle.film_core.proofs.Passing.{some_there, noted_so, line_round, line_passes, line_stops_passing, line_noting}
+use Rattle.film_core.proofs.Passing.{some_there, line_round, line_passes, line_stops_passing, line_noting}
 use Rattle.film_core.proofs.going.take_line.Goals as goal
 
 pub returns-in_err-note-clause-stops : goal.returns-in_err-note-clause-stops
 returns-in_err-note-clause-stops g c =
     let old = c.args.m.now in
-    let new = c.note.new.self in
+    let new = c.note.new.m in
     let holds = g.F.Files.holds c.args.files.now in
     let i = g.D.SwapDev.image c.args.swap.now in
     let stop = c.in_err-note.field-0.0 in
     stops_on c.from_residual.result stop (StopsPassing old new c.args.lines.now c.args.taken c.args.counted c.args._last holds i i) c.from_residual.ensures.1
-    (line_noting old new c.args.lines.now c.args.taken c.args.counted c.args._last holds i c.args.e stop c.requires.below c.requires.event
-    (noted_stop stop old new c.requires.may.whole c.in_err-note.ensures.stop c.in_err-note.ensures.cause c.in_err-note.ensures.full))
+    (line_noting old new c.args.lines.now c.args.taken c.args.counted c.args._last holds i c.args.e stop c.requires.below c.requires.event c.in_err-note.ensures.stops)
 
 pub overflow_add-taken-2 : goal.overflow_add-taken-2
 overflow_add-taken-2 g c =
@@ -22,24 +20,16 @@ overflow_add-taken-2 g c =
     let few = c.requires.count in
     omega (arith, there, few)
 
-pub round-requires-clause-steady : goal.round-requires-clause-steady
-round-requires-clause-steady g c =
-    (noted_so c.args.m.now c.note.new.self (entries.Event (c.args.taken + 1)) c.args.counted c.requires.may tt refl c.requires.counted c.in_ok-note.ensures.step c.in_ok-note.ensures.rest).0
-
-pub round-requires-clause-counted : goal.round-requires-clause-counted
-round-requires-clause-counted g c =
-    (noted_so c.args.m.now c.note.new.self (entries.Event (c.args.taken + 1)) c.args.counted c.requires.may tt refl c.requires.counted c.in_ok-note.ensures.step c.in_ok-note.ensures.rest).1
-
 pub round-requires-clause-round : goal.round-requires-clause-round
 round-requires-clause-round g c =
-    line_round c.args.m.now c.note.new.self c.note.new.self c.mark_of_event-mark.result c.args.lines.now c.args.taken c.args.counted c.args._last (g.F.Files.holds c.args.files.now)
+    line_round c.args.m.now c.note.new.m c.note.new.m c.mark_of_event-mark.result c.args.lines.now c.args.taken c.args.counted c.args._last (g.F.Files.holds c.args.files.now)
     (g.D.SwapDev.image c.args.swap.now) (g.D.SwapDev.image c.args.swap.now)
-    c.args.e c.requires.below c.requires.event c.requires.few c.requires.may c.requires.counted c.in_ok-note.ensures.step c.in_ok-note.ensures.rest c.mark_of_event-mark.ensures c.requires.past
+    c.args.e c.requires.below c.requires.event c.requires.few c.in_ok-note.ensures.steady c.in_ok-note.ensures.step c.mark_of_event-mark.ensures c.requires.past
 
 pub returns-clause-over : goal.returns-clause-over
 returns-clause-over g c =
     let old = c.args.m.now in
-    let mid = c.note.new.self in
+    let mid = c.note.new.m in
     let new = c.round.new.m in
     let holds = g.F.Files.holds c.args.files.now in
     let i = g.D.SwapDev.image c.args.swap.now in
@@ -47,13 +37,12 @@ returns-clause-over g c =
     ok_so c.round.result (RoundsOff mid new c.mark_of_event-mark.result c.args.lines.now (c.args.taken + 1) c.args.counted holds i j)
     (PassesOver old new c.args.lines.now c.args.taken c.args.counted c.args._last holds i j)
     (line_passes old mid new c.mark_of_event-mark.result c.args.lines.now c.args.taken c.args.counted c.args._last holds i j c.args.e c.requires.below c.requires.event c.requires.few
-    c.requires.may c.requires.counted
-    c.in_ok-note.ensures.step c.in_ok-note.ensures.rest c.mark_of_event-mark.ensures) c.round.ensures.rounds
+    c.in_ok-note.ensures.steady c.in_ok-note.ensures.step c.mark_of_event-mark.ensures) c.round.ensures.rounds
 
 pub returns-clause-stops : goal.returns-clause-stops
 returns-clause-stops g c =
     let old = c.args.m.now in
-    let mid = c.note.new.self in
+    let mid = c.note.new.m in
     let new = c.round.new.m in
     let holds = g.F.Files.holds c.args.files.now in
     let i = g.D.SwapDev.image c.args.swap.now in
@@ -61,5 +50,4 @@ returns-clause-stops g c =
     stops_weaker c.round.result (λ stop. StopsRound mid new c.mark_of_event-mark.result c.args.lines.now (c.args.taken + 1) c.args.counted holds i j stop)
     (λ stop. StopsPassing old new c.args.lines.now c.args.taken c.args.counted c.args._last holds i j stop)
     (line_stops_passing old mid new c.mark_of_event-mark.result c.args.lines.now c.args.taken c.args.counted c.args._last holds i j c.args.e c.requires.below c.requires.event c.requires.few
-    c.requires.may c.requires.counted
-    c.in_ok-note.ensures.step c.in_ok-note.ensures.rest c.mark_of_event-mark.ensures) c.round.ensures.stops
+    c.in_ok-note.ensures.steady c.in_ok-note.ensures.step c.mark_of_event-mark.ensures) c.round.ensures.stops

@@ -1,53 +1,42 @@
-use Rattle.std.proofs.Common.{refl}
-use Rattle.vm_facts.specs.declared.entry.Entry.TheVariants as entries
-use Rattle.vm_core.proofs.Noting.{stops_on, noted_stop, ok_so, stops_weaker}
+use Rattle.vm_core.proofs.Noting.{stops_on, ok_so, stops_weaker}
 use Rattle.run_model.specs.declared.mark.Mark.TheVariants as marks
 use Rattle.film_core.specs.Ways.{RoundsOff, PassesOver, StopsRound, StopsPassing}
-use Rattle.film_core.proofs.Passing.{noted_so, turn_round, turn_passes, turn_stops_passing, turn_noting}
+use Rattle.film_core.proofs.Passing.{turn_round, turn_passes, turn_stops_passing, turn_noting}
 use Rattle.film_core.proofs.going.take_turn.Goals as goal
 
 pub returns-in_err-note-clause-stops : goal.returns-in_err-note-clause-stops
 returns-in_err-note-clause-stops g c =
     let old = c.args.m.now in
-    let new = c.note.new.self in
+    let new = c.note.new.m in
     let holds = g.F.Files.holds c.args.files.now in
     let i = g.D.SwapDev.image c.args.swap.now in
     let stop = c.in_err-note.field-0.0 in
     stops_on c.from_residual.result stop (StopsPassing old new c.args.lines.now c.args.taken c.args.counted c.args._last holds i i) c.from_residual.ensures.1
-    (turn_noting old new c.args.lines.now c.args.taken c.args.counted c.args._last holds i c.args.pid stop c.requires.below c.requires.behind c.requires.turned
-    (noted_stop stop old new c.requires.may.whole c.in_err-note.ensures.stop c.in_err-note.ensures.cause c.in_err-note.ensures.full))
-
-pub round-requires-clause-steady : goal.round-requires-clause-steady
-round-requires-clause-steady g c =
-    (noted_so c.args.m.now c.note.new.self (entries.Turn c.args.pid) c.args.counted c.requires.may tt refl c.requires.counted c.in_ok-note.ensures.step c.in_ok-note.ensures.rest).0
-
-pub round-requires-clause-counted : goal.round-requires-clause-counted
-round-requires-clause-counted g c =
-    (noted_so c.args.m.now c.note.new.self (entries.Turn c.args.pid) c.args.counted c.requires.may tt refl c.requires.counted c.in_ok-note.ensures.step c.in_ok-note.ensures.rest).1
+    (turn_noting old new c.args.lines.now c.args.taken c.args.counted c.args._last holds i c.args.pid stop c.requires.below c.requires.behind c.requires.turned c.in_err-note.ensures.stops)
 
 pub round-requires-clause-round : goal.round-requires-clause-round
 round-requires-clause-round g c =
-    turn_round c.args.m.now c.note.new.self c.note.new.self c.args.lines.now c.args.taken c.args.counted c.args._last (g.F.Files.holds c.args.files.now) (g.D.SwapDev.image c.args.swap.now)
+    turn_round c.args.m.now c.note.new.m c.note.new.m c.args.lines.now c.args.taken c.args.counted c.args._last (g.F.Files.holds c.args.files.now) (g.D.SwapDev.image c.args.swap.now)
     (g.D.SwapDev.image c.args.swap.now)
-    c.args.pid c.requires.below c.requires.behind c.requires.turned c.requires.may c.requires.counted c.in_ok-note.ensures.step c.in_ok-note.ensures.rest c.requires.past
+    c.args.pid c.requires.below c.requires.behind c.requires.turned c.in_ok-note.ensures.steady c.in_ok-note.ensures.step c.requires.past
 
 pub returns-clause-over : goal.returns-clause-over
 returns-clause-over g c =
     let old = c.args.m.now in
-    let mid = c.note.new.self in
+    let mid = c.note.new.m in
     let new = c.round.new.m in
     let holds = g.F.Files.holds c.args.files.now in
     let i = g.D.SwapDev.image c.args.swap.now in
     let j = g.D.SwapDev.image c.round.new.swap in
     ok_so c.round.result (RoundsOff mid new (marks.Turn c.args.pid c.args.counted) c.args.lines.now c.args.taken c.args.counted holds i j)
     (PassesOver old new c.args.lines.now c.args.taken c.args.counted c.args._last holds i j)
-    (turn_passes old mid new c.args.lines.now c.args.taken c.args.counted c.args._last holds i j c.args.pid c.requires.below c.requires.behind c.requires.turned c.requires.may c.requires.counted
-    c.in_ok-note.ensures.step c.in_ok-note.ensures.rest) c.round.ensures.rounds
+    (turn_passes old mid new c.args.lines.now c.args.taken c.args.counted c.args._last holds i j c.args.pid c.requires.below c.requires.behind c.requires.turned c.in_ok-note.ensures.steady
+    c.in_ok-note.ensures.step) c.round.ensures.rounds
 
 pub returns-clause-stops : goal.returns-clause-stops
 returns-clause-stops g c =
     let old = c.args.m.now in
-    let mid = c.note.new.self in
+    let mid = c.note.new.m in
     let new = c.round.new.m in
     let holds = g.F.Files.holds c.args.files.now in
     let i = g.D.SwapDev.image c.args.swap.now in
@@ -55,5 +44,4 @@ returns-clause-stops g c =
     stops_weaker c.round.result (λ stop. StopsRound mid new (marks.Turn c.args.pid c.args.counted) c.args.lines.now c.args.taken c.args.counted holds i j stop)
     (λ stop. StopsPassing old new c.args.lines.now c.args.taken c.args.counted c.args._last holds i j stop)
     (turn_stops_passing old mid new c.args.lines.now c.args.taken c.args.counted c.args._last holds i j c.args.pid c.requires.below c.requires.behind c.requires.turned
-    c.requires.may c.requires.counted
-    c.in_ok-note.ensures.step c.in_ok-note.ensures.rest) c.round.ensures.stops
+    c.in_ok-note.ensures.steady c.in_ok-note.ensures.step) c.round.ensures.stops

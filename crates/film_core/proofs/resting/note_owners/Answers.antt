@@ -1,5 +1,4 @@
 use Rattle.run_model.specs.declared.mark.Mark.TheVariants as marks
-use Rattle.run_start.specs.Sizes.{KeptAtStop}
 use Rattle.vm_core.proofs.Noting.{stops_on}
 use Rattle.film_core.specs.Ways.{StopsResting}
 use Rattle.film_core.proofs.RestsMade.{audit_rests, audit_stops, steady_stays}
@@ -23,7 +22,3 @@ returns-in_err-audit-clause-stops g c =
     let stop = c.in_err-audit.field-0.0 in
     stops_on c.from_residual.result stop (StopsResting old new marks.Audit c.args.counted holds i i) c.from_residual.ensures.1
     (audit_stops old new c.args.counted holds i i stop (c.in_err-audit.ensures.stops holds i))
-
-pub returns-in_err-audit-clause-kept : goal.returns-in_err-audit-clause-kept
-returns-in_err-audit-clause-kept g c =
-    stops_on c.from_residual.result c.in_err-audit.field-0.0 (KeptAtStop c.args.m.now c.audit.new.m) c.from_residual.ensures.1 c.in_err-audit.ensures.kept

@@ -28,8 +28,7 @@ pub returns-clause-on : goal.returns-clause-on
 returns-clause-on g c =
     steady_stays c.args.m.now c.swap_out.new.m c.args.counted c.requires.counted
     (swapper_steady c.args.m.now c.swap_out.new.m (g.F.Files.holds c.args.files.now) (g.D.SwapDev.image c.args.swap.now) (g.D.SwapDev.image c.swap_out.new.swap)
-    (turns.Out c.args.pid) c.requires.steady
-    c.in_ok-swap_out.ensures.put)
+    (turns.Out c.args.pid) c.requires.steady c.in_ok-swap_out.ensures.put c.in_ok-swap_out.ensures.goes_on)
 
 pub returns-in_err-swap_out-clause-stops : goal.returns-in_err-swap_out-clause-stops
 returns-in_err-swap_out-clause-stops g c =

@@ -1,5 +1,4 @@
 use Rattle.run_model.specs.declared.mark.Mark.TheVariants as marks
-use Rattle.run_start.specs.Sizes.{KeptAtStop}
 use Rattle.vm_core.proofs.Noting.{stops_on}
 use Rattle.film_core.specs.Ways.{StopsResting}
 use Rattle.film_core.proofs.RestsMade.{wait_rests, wait_stops, steady_stays}
@@ -23,7 +22,3 @@ returns-in_err-interrupt-clause-stops g c =
     let stop = c.in_err-interrupt.field-0.0 in
     stops_on c.from_residual.result stop (StopsResting old new marks.Interrupt c.args.counted holds i j) c.from_residual.ensures.1
     (wait_stops old new c.args.counted holds i j stop c.in_err-interrupt.ensures.stops)
-
-pub returns-in_err-interrupt-clause-kept : goal.returns-in_err-interrupt-clause-kept
-returns-in_err-interrupt-clause-kept g c =
-    stops_on c.from_residual.result c.in_err-interrupt.field-0.0 (KeptAtStop c.args.m.now c.interrupt.new.m) c.from_residual.ensures.1 c.in_err-interrupt.ensures.kept

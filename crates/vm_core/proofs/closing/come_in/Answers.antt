@@ -1,12 +1,7 @@
 use Rattle.std.proofs.Common.{ℕ}
 use Rattle.vm_facts.specs.declared.entry.Entry.TheVariants as entries
-use Rattle.machine_state.specs.Machine.{Standing}
-use Rattle.machine_state.specs.Settled.{IsSameBeside}
-use Rattle.machine_state.specs.Swapping.{IsIn}
-use Rattle.journal_laws.specs.Stops.{StopsAt}
-use Rattle.vm_core.specs.Steady.{StaysSteady}
-use Rattle.vm_core.specs.Closing.{ComesIn, StopsComingIn}
-use Rattle.vm_core.proofs.Noting.{ok_both, stops_weaker}
+use Rattle.vm_core.specs.Closing.{StopsComingIn}
+use Rattle.vm_core.proofs.Noting.{stops_on}
 use Rattle.vm_core.proofs.Steadying.{in_steady}
 use Rattle.vm_core.proofs.Outs.{held_in}
 use Rattle.vm_core.proofs.Turns.{in_already, in_comes, in_stops}
@@ -22,40 +17,29 @@ returns-then-not-is_out-clause-comes g c =
     λ (counted since : ℕ). in_already old c.args.pid counted since holds i (held_in old c.args.pid counted since holds i (c.is_out.ensures.resident c.if-not-is_out.true))
 
 pub returns-clause-comes : goal.returns-clause-comes
-returns-clause-comes g c =
-    let old = c.args.m.now in
-    let holds = g.F.Files.holds c.args.files.now in
-    let i = g.D.SwapDev.image c.args.swap.now in
-    let new : Standing = c.swap_in.new.m in
-    let j = g.D.SwapDev.image c.swap_in.new.swap in
-    ok_both c.swap_in.result (IsIn old.kernel new.kernel c.args.pid i) (IsSameBeside old new) ((counted since : ℕ) → ComesIn old new c.args.pid counted since holds i j)
-    (λ h b counted since. in_comes old new c.args.pid counted since holds i j (c.is_out.ensures.out c.if-not-is_out.false) h b.params b.images c.swap_in.ensures.image) c.swap_in.ensures.step
-    c.swap_in.ensures.beside
-
-pub returns-clause-stops : goal.returns-clause-stops
-returns-clause-stops g c =
-    let old = c.args.m.now in
-    let holds = g.F.Files.holds c.args.files.now in
-    let i = g.D.SwapDev.image c.args.swap.now in
-    let new : Standing = c.swap_in.new.m in
-    let j = g.D.SwapDev.image c.swap_in.new.swap in
-    stops_weaker c.swap_in.result (λ stop. StopsAt (entries.SwapIn c.args.pid) old.kernel i stop new j) (λ stop. (counted since : ℕ) → StopsComingIn old new c.args.pid counted since holds i j stop)
-    (λ stop h counted since. in_stops old new c.args.pid counted since holds i j stop (c.is_out.ensures.out c.if-not-is_out.false) h) c.swap_in.ensures.stopped
+returns-clause-comes g c = λ (counted since : ℕ).
+    in_comes c.args.m.now c.swap_in.new.m c.args.pid counted since (g.F.Files.holds c.args.files.now) (g.D.SwapDev.image c.args.swap.now) (g.D.SwapDev.image c.swap_in.new.swap)
+    (c.is_out.ensures.out c.if-not-is_out.false) c.in_ok-swap_in.ensures.step c.swap_in.ensures.params c.swap_in.ensures.images c.swap_in.ensures.image
 
 pub returns-clause-steady : goal.returns-clause-steady
 returns-clause-steady g c =
+    in_steady c.args.m.now c.swap_in.new.m c.args.pid (g.D.SwapDev.image c.args.swap.now) c.requires.steady c.in_ok-swap_in.ensures.step c.in_ok-swap_in.ensures.beside
+    c.in_ok-swap_in.ensures.goes_on
+
+pub returns-in_err-swap_in-clause-stops : goal.returns-in_err-swap_in-clause-stops
+returns-in_err-swap_in-clause-stops g c =
     let old = c.args.m.now in
+    let new = c.swap_in.new.m in
     let holds = g.F.Files.holds c.args.files.now in
     let i = g.D.SwapDev.image c.args.swap.now in
-    let new : Standing = c.swap_in.new.m in
-    ok_both c.swap_in.result (IsIn old.kernel new.kernel c.args.pid i) (IsSameBeside old new) (StaysSteady old new 0)
-    (λ h b. in_steady old new c.args.pid i c.requires.steady h b) c.swap_in.ensures.step c.swap_in.ensures.beside
-
-pub returns-clause-kept : goal.returns-clause-kept
-returns-clause-kept g c =
-    let old = c.args.m.now in
-    let i = g.D.SwapDev.image c.args.swap.now in
-    let new : Standing = c.swap_in.new.m in
     let j = g.D.SwapDev.image c.swap_in.new.swap in
-    stops_weaker c.swap_in.result (λ stop. StopsAt (entries.SwapIn c.args.pid) old.kernel i stop new j) (KeptAtStop old new)
-    (λ stop h. kept_at (entries.SwapIn c.args.pid) old.kernel i j old new stop c.swap_in.ensures.params c.swap_in.ensures.images h) c.swap_in.ensures.stopped
+    stops_on c.from_residual.result c.in_err-swap_in.field-0.0 (λ stop. (counted since : ℕ) → StopsComingIn old new c.args.pid counted since holds i j stop) c.from_residual.ensures.1
+    (λ counted since. in_stops old new c.args.pid counted since holds i j c.in_err-swap_in.field-0.0 (c.is_out.ensures.out c.if-not-is_out.false) c.in_err-swap_in.ensures.stopped)
+
+pub returns-in_err-swap_in-clause-kept : goal.returns-in_err-swap_in-clause-kept
+returns-in_err-swap_in-clause-kept g c =
+    let old = c.args.m.now in
+    let new = c.swap_in.new.m in
+    stops_on c.from_residual.result c.in_err-swap_in.field-0.0 (KeptAtStop old new) c.from_residual.ensures.1
+    (kept_at (entries.SwapIn c.args.pid) old.kernel (g.D.SwapDev.image c.args.swap.now) (g.D.SwapDev.image c.swap_in.new.swap) old new c.in_err-swap_in.field-0.0
+    c.swap_in.ensures.params c.swap_in.ensures.images c.in_err-swap_in.ensures.stopped)

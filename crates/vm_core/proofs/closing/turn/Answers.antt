@@ -1,14 +1,10 @@
 use Rattle.std.proofs.Common.{IfOk, IfErr, ◌∙◌, subst, arith}
-use Rattle.vm_facts.specs.declared.entry.Entry.TheVariants as entries
 use Rattle.proc_run.specs.Running.{CountsTo}
 use Rattle.vm_core.specs.Closing.{HasTurn, StopsTurn, FinishesTurn, StopsFinishing}
-use Rattle.vm_core.proofs.Noting.{stops_on, stops_weaker, noted_stop, ok_two}
-use Rattle.vm_core.proofs.Steadying.{noted_steady}
+use Rattle.vm_core.proofs.Noting.{stops_on, stops_weaker, ok_two}
 use Rattle.vm_core.proofs.Turns.{has_turn, turn_noting_stops, turn_coming_stops, turn_finish_stops}
 use Rattle.run_start.specs.Sizes.{KeptAtStop}
 use Rattle.run_start.proofs.StopsKeep.{kept_through}
-use Rattle.vm_core.proofs.Kept.{kept_noting}
-use Rattle.vm_core.specs.Steady.{StaysSteady}
 use Rattle.vm_core.proofs.closing.turn.Goals as goal
 
 pub returns-in_err-note-clause-stops : goal.returns-in_err-note-clause-stops
@@ -16,14 +12,8 @@ returns-in_err-note-clause-stops g c =
     let old = c.args.m.now in
     let holds = g.F.Files.holds c.args.files.now in
     let i = g.D.SwapDev.image c.args.swap.now in
-    stops_on c.from_residual.result c.in_err-note.field-0.0 (StopsTurn old c.note.new.self c.args.pid c.args.counted holds i i) c.from_residual.ensures.1
-    (turn_noting_stops old c.note.new.self c.args.pid c.args.counted holds i c.in_err-note.field-0.0
-    (noted_stop c.in_err-note.field-0.0 old c.note.new.self c.requires.steady.whole c.in_err-note.ensures.stop c.in_err-note.ensures.cause c.in_err-note.ensures.full))
-
-pub come_in-requires-clause-steady : goal.come_in-requires-clause-steady
-come_in-requires-clause-steady g c =
-    let old = c.args.m.now in
-    (noted_steady old c.note.new.self (entries.Turn c.args.pid) c.requires.steady tt c.in_ok-note.ensures.step c.in_ok-note.ensures.rest).steady
+    stops_on c.from_residual.result c.in_err-note.field-0.0 (StopsTurn old c.note.new.m c.args.pid c.args.counted holds i i) c.from_residual.ensures.1
+    (turn_noting_stops old c.note.new.m c.args.pid c.args.counted holds i c.in_err-note.field-0.0 c.in_err-note.ensures.stops)
 
 pub returns-in_err-come_in-clause-stops : goal.returns-in_err-come_in-clause-stops
 returns-in_err-come_in-clause-stops g c =
@@ -32,14 +22,12 @@ returns-in_err-come_in-clause-stops g c =
     let i = g.D.SwapDev.image c.args.swap.now in
     let j = g.D.SwapDev.image c.come_in.new.swap in
     stops_on c.from_residual-in_err-come_in.result c.in_err-come_in.field-0.0 (StopsTurn old c.come_in.new.m c.args.pid c.args.counted holds i j) c.from_residual-in_err-come_in.ensures.1
-    (turn_coming_stops old c.note.new.self c.come_in.new.m c.args.pid c.args.counted holds i j c.in_err-come_in.field-0.0
-    (noted_steady old c.note.new.self (entries.Turn c.args.pid) c.requires.steady tt c.in_ok-note.ensures.step c.in_ok-note.ensures.rest) c.in_ok-note.ensures.step
+    (turn_coming_stops old c.note.new.m c.come_in.new.m c.args.pid c.args.counted holds i j c.in_err-come_in.field-0.0 c.in_ok-note.ensures.steady c.in_ok-note.ensures.step
     (c.in_err-come_in.ensures.stops c.args.counted c.args.counted))
 
 pub finish-requires-clause-counted : goal.finish-requires-clause-counted
 finish-requires-clause-counted g c =
-    let old = c.args.m.now in
-    let a = (noted_steady old c.note.new.self (entries.Turn c.args.pid) c.requires.steady tt c.in_ok-note.ensures.step c.in_ok-note.ensures.rest).counted in
+    let a = c.in_ok-note.ensures.steady.counted in
     let b = c.in_ok-come_in.ensures.steady.counted in
     let e = c.requires.counted in
     omega arith
@@ -55,8 +43,8 @@ returns-clause-had g c =
     let j = g.D.SwapDev.image c.finish.new.swap in
     ok_two c.finish.result (λ count. FinishesTurn in_ new c.args.pid c.args.counted c.args.counted count holds h j) (λ count. CountsTo in_ new c.args.counted count)
     (λ count. HasTurn old new c.args.pid c.args.counted count holds i j)
-    (λ count f to. has_turn old c.note.new.self in_ new c.args.pid c.args.counted count holds i h j (noted_steady old c.note.new.self
-    (entries.Turn c.args.pid) c.requires.steady tt c.in_ok-note.ensures.step c.in_ok-note.ensures.rest) c.in_ok-note.ensures.step (c.in_ok-come_in.ensures.comes c.args.counted c.args.counted) f to)
+    (λ count f to. has_turn old c.note.new.m in_ new c.args.pid c.args.counted count holds i h j c.in_ok-note.ensures.steady c.in_ok-note.ensures.step
+    (c.in_ok-come_in.ensures.comes c.args.counted c.args.counted) f to)
     (subst (λ hs. IfOk c.finish.result (λ count. FinishesTurn in_ new c.args.pid c.args.counted c.args.counted count hs h j))
     c.in_ok-come_in.ensures.outside.files.holds c.finish.ensures.done) c.finish.ensures.counts
 
@@ -70,29 +58,24 @@ returns-clause-stops g c =
     let h = g.D.SwapDev.image c.come_in.new.swap in
     let j = g.D.SwapDev.image c.finish.new.swap in
     stops_weaker c.finish.result (λ stop. StopsFinishing in_ new c.args.pid c.args.counted c.args.counted holds h j stop) (λ stop. StopsTurn old new c.args.pid c.args.counted holds i j stop)
-    (λ stop f. turn_finish_stops old c.note.new.self in_ new c.args.pid c.args.counted holds i h j stop (noted_steady old c.note.new.self
-    (entries.Turn c.args.pid) c.requires.steady tt c.in_ok-note.ensures.step c.in_ok-note.ensures.rest) c.in_ok-note.ensures.step (c.in_ok-come_in.ensures.comes c.args.counted c.args.counted) f)
+    (λ stop f. turn_finish_stops old c.note.new.m in_ new c.args.pid c.args.counted holds i h j stop c.in_ok-note.ensures.steady c.in_ok-note.ensures.step
+    (c.in_ok-come_in.ensures.comes c.args.counted c.args.counted) f)
     (subst (λ hs. IfErr c.finish.result (λ stop. StopsFinishing in_ new c.args.pid c.args.counted c.args.counted hs h j stop))
     c.in_ok-come_in.ensures.outside.files.holds c.finish.ensures.stops)
 
 pub returns-in_err-note-clause-kept : goal.returns-in_err-note-clause-kept
 returns-in_err-note-clause-kept g c =
-    let stop = c.in_err-note.field-0.0 in
-    stops_on c.from_residual.result stop (KeptAtStop c.args.m.now c.note.new.self) c.from_residual.ensures.1
-    (kept_noting c.args.m.now c.note.new.self stop
-    (noted_stop stop c.args.m.now c.note.new.self c.requires.steady.whole c.in_err-note.ensures.stop c.in_err-note.ensures.cause c.in_err-note.ensures.full))
+    stops_on c.from_residual.result c.in_err-note.field-0.0 (KeptAtStop c.args.m.now c.note.new.m) c.from_residual.ensures.1 c.in_err-note.ensures.kept
 
 pub returns-in_err-come_in-clause-kept : goal.returns-in_err-come_in-clause-kept
 returns-in_err-come_in-clause-kept g c =
-    let old = c.args.m.now in
-    let noted : StaysSteady old c.note.new.self 0 = noted_steady old c.note.new.self (entries.Turn c.args.pid) c.requires.steady tt c.in_ok-note.ensures.step c.in_ok-note.ensures.rest in
-    stops_on c.from_residual-in_err-come_in.result c.in_err-come_in.field-0.0 (KeptAtStop old c.come_in.new.m) c.from_residual-in_err-come_in.ensures.1
-    (kept_through old c.note.new.self c.come_in.new.m c.in_err-come_in.field-0.0 (record { params = noted.params; images = noted.images }) c.in_err-come_in.ensures.kept)
+    let noted = c.in_ok-note.ensures.steady in
+    stops_on c.from_residual-in_err-come_in.result c.in_err-come_in.field-0.0 (KeptAtStop c.args.m.now c.come_in.new.m) c.from_residual-in_err-come_in.ensures.1
+    (kept_through c.args.m.now c.note.new.m c.come_in.new.m c.in_err-come_in.field-0.0 (record { params = noted.params; images = noted.images }) c.in_err-come_in.ensures.kept)
 
 pub returns-clause-kept : goal.returns-clause-kept
 returns-clause-kept g c =
-    let old = c.args.m.now in
-    let noted : StaysSteady old c.note.new.self 0 = noted_steady old c.note.new.self (entries.Turn c.args.pid) c.requires.steady tt c.in_ok-note.ensures.step c.in_ok-note.ensures.rest in
+    let noted = c.in_ok-note.ensures.steady in
     let come = c.in_ok-come_in.ensures.steady in
-    stops_weaker c.finish.result (KeptAtStop c.come_in.new.m c.finish.new.m) (KeptAtStop old c.finish.new.m)
-    (λ stop k. kept_through old c.come_in.new.m c.finish.new.m stop (record { params = come.params ∙ noted.params; images = come.images ∙ noted.images }) k) c.finish.ensures.kept
+    stops_weaker c.finish.result (KeptAtStop c.come_in.new.m c.finish.new.m) (KeptAtStop c.args.m.now c.finish.new.m)
+    (λ stop k. kept_through c.args.m.now c.come_in.new.m c.finish.new.m stop (record { params = come.params ∙ noted.params; images = come.images ∙ noted.images }) k) c.finish.ensures.kept

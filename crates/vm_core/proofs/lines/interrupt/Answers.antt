@@ -14,7 +14,7 @@ returns-clause-made g c =
 pub returns-clause-steady : goal.returns-clause-steady
 returns-clause-steady g c =
     interrupt_steady c.args.m.now c.done.new.self (g.F.Files.holds c.args.files.now) (g.D.SwapDev.image c.args.swap.now) c.done.result c.in_ok-done.field-0 c.requires.steady
-    c.in_ok-done.was c.done.ensures.still c.done.ensures.step c.done.ensures.rest
+    c.in_ok-done.was c.done.ensures.still c.done.ensures.step c.done.ensures.rest c.in_ok-done.ensures.goes_on
 
 pub returns-in_err-done-clause-stops : goal.returns-in_err-done-clause-stops
 returns-in_err-done-clause-stops g c =
@@ -22,7 +22,7 @@ returns-in_err-done-clause-stops g c =
     let i = g.D.SwapDev.image c.args.swap.now in
     let j = g.D.SwapDev.image c.done.new.swap in
     stops_on c.from_residual.result c.in_err-done.field-0.0 (StopsLine events.Interrupt c.args.m.now c.done.new.self holds i j) c.from_residual.ensures.1
-    (interrupt_halts c.args.m.now c.done.new.self holds i j c.in_err-done.field-0.0 c.requires.steady.whole c.in_err-done.ensures.stop c.in_err-done.ensures.cause c.in_err-done.ensures.full
+    (interrupt_halts c.args.m.now c.done.new.self holds i j c.in_err-done.field-0.0 c.requires.steady.ready.whole c.in_err-done.ensures.stop c.in_err-done.ensures.cause c.in_err-done.ensures.full
     c.in_err-done.ensures.lost c.in_err-done.ensures.spoiled)
 
 pub returns-in_err-done-clause-kept : goal.returns-in_err-done-clause-kept

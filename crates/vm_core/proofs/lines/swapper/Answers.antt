@@ -14,7 +14,7 @@ returns-clause-made g c =
 pub returns-clause-steady : goal.returns-clause-steady
 returns-clause-steady g c =
     swapper_steady c.args.m.now c.turn.new.m (g.F.Files.holds c.args.files.now) (g.D.SwapDev.image c.args.swap.now) (g.D.SwapDev.image c.turn.new.swap)
-    c.in_ok-turn.field-0 c.requires.steady c.in_ok-turn.ensures.did
+    c.in_ok-turn.field-0 c.requires.steady c.in_ok-turn.ensures.did c.in_ok-turn.ensures.goes_on
 
 pub returns-in_err-turn-clause-stops : goal.returns-in_err-turn-clause-stops
 returns-in_err-turn-clause-stops g c =

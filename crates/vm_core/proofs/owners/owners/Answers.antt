@@ -8,6 +8,6 @@ use Rattle.vm_core.proofs.owners.owners.Goals as goal
 pub blocks_held-requires : goal.blocks_held-requires
 blocks_held-requires c =
     let m = c.args.m.now in
-    let few = few_held m.params.swap_blocks m.before c.sound.ensures.sound.owner.blocks.book in
+    let few = few_held m.params.swap_blocks m.before c.requires.ready.running.sound.owner.blocks.book in
     subst (λ (p : Params). blocks_held c.holdings.result.now ≤ p.swap_blocks) (sym c.params.ensures)
-    (subst (λ (hs : Holdings). blocks_held hs ≤ m.params.swap_blocks) (c.requires.whole ∙ sym c.holdings.ensures) few)
+    (subst (λ (hs : Holdings). blocks_held hs ≤ m.params.swap_blocks) (c.requires.ready.whole ∙ sym c.holdings.ensures) few)

@@ -38,7 +38,8 @@ returns-clause-goes g c =
     let j = g.D.SwapDev.image c.one_entry.new.swap in
     let on : f.over ≡ false = ap (λ (x : Filming). x.over) c.self.view_is ∙ c.requires.more in
     subst (λ (x : Filming). FilmGoes x c.catch_up.new.self c.args.lines.now holds i j) c.self.view_is
-    (film_goes f c.catch_up.new.self c.one_entry.new.m c.in_ok-self-inside.field-0 c.args.lines.now holds i j on c.requires.moves c.in_ok-self-inside.ensures.made c.catch_up.ensures)
+    (film_goes f c.catch_up.new.self c.one_entry.new.m c.in_ok-self-inside.field-0 c.args.lines.now holds i j on c.requires.moves c.in_ok-self-inside.ensures.goes_on
+    c.in_ok-self-inside.ensures.made c.catch_up.ensures)
 
 pub returns-clause-params : goal.returns-clause-params
 returns-clause-params g c =

@@ -29,7 +29,7 @@ returns-in-Ok-begun-clause-begins g c = λ done A image asked told.
     started A now new c.args.first.now c.args.lines.now holds image (g.D.SwapDev.image c.start-started.new.swap) asked c.requires.few c.requires.unbegun
     (on.params ∙ ap (λ (f : Filming). f.machine.params) c.self.view_is) (on.images ∙ ap (λ (f : Filming). f.machine.images) c.self.view_is) c.always.ensures.within
     (ap (λ (f : Filming). f.lines) c.self.view_is) (ap (λ (f : Filming). f.mark) c.self.view_is) (ap (λ (f : Filming). f.counted) c.self.view_is)
-    on.whole (c.start-started.ensures.leads A image files told ok) c.requires.some c.none_comes-self-inside.ensures
+    on.ready (c.start-started.ensures.leads A image files told ok) c.requires.some c.none_comes-self-inside.ensures
 
 pub returns-after-stop-clause-begins : goal.returns-after-stop-clause-begins
 returns-after-stop-clause-begins g c = λ done A image asked told. elim c.match-stop.branch [
@@ -47,7 +47,7 @@ returns-after-stop-clause-begins g c = λ done A image asked told. elim c.match-
       (kept.sizes.params ∙ ap (λ (f : Filming). f.machine.params) c.self.view_is) (kept.sizes.images ∙ ap (λ (f : Filming). f.machine.images) c.self.view_is) c.always.ensures.within
       (ap (λ (f : Filming). f.lines) c.self.view_is) (ap (λ (f : Filming). f.mark) c.self.view_is) (ap (λ (f : Filming). f.counted) c.self.view_is)
       (subst (λ (stop : Stop). StartStops A c.start-started.new.m image stop j) full (c.in-Err.ensures.stops A image files told))
-      (ap (λ (f : Filming). f.over) c.self.view_is ∙ c.requires.unbegun.over)
+      (ap (λ (f : Filming). f.over) c.self.view_is ∙ c.requires.unbegun.over) c.always.ensures.running
   | in_default w ↦ let e : Err c.in-Err.stop ≡ Ok starteds.Ok = sym w.result-is ∙ done in absurd cc
 ]
 
