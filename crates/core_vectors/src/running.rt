@@ -1,9 +1,5 @@
 // One case, run.
-ghost use Rattle.std.specs.Prelude.{◌≡◌, ◌≤◌, true, map, length, IfOk, OnOk, Ok, All};
-ghost use Rattle.machine_state.specs.Machine.{image_shown};
-ghost use Rattle.machine_state.specs.New.{AreSound};
-ghost use Rattle.machine_state.specs.Sourced.{AreNames};
-ghost use Rattle.vm_core.specs.Starting.{IsFresh};
+ghost use Rattle.std.specs.Prelude.{◌≡◌, ◌≤◌, true, length, OnOk, Ok, All};
 ghost use Rattle.vm_core.specs.Steady.{HasFewMoves};
 ghost use Rattle.core_vectors.specs.Ready.{AreFit, MayStart, MayGoOn};
 ghost use Rattle.core_vectors.specs.declared.running.Unfit.TheVariants.{NoMemory};
@@ -151,20 +147,6 @@ fn may_start(setup: &Setup, images: &[Named], blocks: u32) -> bool
         && are_among(images, first)
 }
 
-// A core of these images, which had no call yet.
-fn new_core(alloc: Global, params: Params, images: Vec<Named>) -> Result<Core, NoMemory>
-    requires some { 64 ≤ params.frames }
-    requires most { params.frames ≤ 4096 }
-    requires few { length images.items ≤ 16 }
-    requires sound { AreSound (map (λ image. image.facts) images.items) }
-    requires names { AreNames (map image_shown images.items) }
-    ensures fresh { IfOk result IsFresh }
-    ensures params { IfOk result (λ c. c.machine.params ≡ params) }
-    ensures images { IfOk result (λ c. c.machine.images ≡ map image_shown images.items) }
-{
-    Core::new(alloc, params, images)
-}
-
 /// Why a case isn't run.
 #[derive(Clone, Copy, Debug, PartialEq, Eq, Drop)]
 pub enum Unfit {
@@ -211,7 +193,7 @@ pub fn run_over<F: Files, D: SwapDev>(
         return Err(Unfit::Ranges);
     }
     let mut journal = MemSink::new(alloc, room, Vec::new(alloc))?;
-    let mut core = new_core(alloc, setup.params, images)?;
+    let mut core = Core::new(alloc, setup.params, images)?;
     let outcome = match run_through(&mut core, files, swap, setup) {
         Ok(outcome) => outcome,
         Err(stop) => Outcome::Stopped(stop),

@@ -1,12 +1,13 @@
 // The lines of the frames.
 #![tactic(auto, using(run_text::proofs::Putting::text_none))]
 
-ghost use Rattle.std.specs.Prelude.{◌≡◌, ◌+◌, ◌<◌, ◌^◌, map, slice_get, false};
+ghost use Rattle.std.specs.Prelude.{◌≡◌, ◌+◌, ◌<◌, ◌^◌, map, slice_get};
 ghost use Rattle.core_map.specs.Slots.{owner_of, slot_at, is_dirty};
 ghost use Rattle.core_map.specs.declared.slot.Whose.TheVariants.{Resident as ResidentOwner};
 ghost use Rattle.page_model.specs.Pages.{is_valid};
 ghost use Rattle.page_model.specs.Placement.{state_of, IsFrame};
 ghost use Rattle.page_model.specs.Ownership.{is_marked_dirty};
+ghost use Rattle.machine_state.specs.Going.{IsRunning};
 ghost use Rattle.machine_state.specs.Showing.{ShowsCore};
 ghost use Rattle.machine_state.specs.View.{in_part, out_part, transfer_shown};
 ghost use Rattle.run_text.specs.Text.{parts};
@@ -121,7 +122,7 @@ fn find_carrier(machine: &Machine, frame: u32) -> Option<Carried>
 
 // Whether a page may be used.
 fn is_valid(machine: &Machine, page: Page) -> bool
-    requires { machine.now.kernel.stopped ≡ false }
+    requires { IsRunning machine.now }
     ensures { result ≡ is_valid (state_of machine.now.kernel.place page) }
 {
     match machine.state_of(page) {
@@ -184,13 +185,12 @@ fn put_used<S: Sink>(
     frame: u32,
     page: Page,
 ) -> Result<(), Failed>
-    requires running { machine.now.kernel.stopped ≡ false }
+    requires running { IsRunning machine.now }
     requires shows { ShowsCore machine.now.kernel.place core.now }
     requires frame { IsFrame machine.now.kernel.place frame }
     requires owner { owner_of (slot_at core.now.slots frame) ≡ ResidentOwner page }
     ensures { PutsText S.Sink result (used_by machine.now.kernel.place page (state_of machine.now.kernel.place page)) out.old out.new }
 {
-    machine.sound();
     let dirty = is_unsaved(core, frame, page);
     if is_valid(machine, page) {
         put_kept(out, b" valid", &page, dirty)
@@ -222,12 +222,11 @@ fn put_owner<S: Sink>(
     core: &CoreMap,
     frame: u32,
 ) -> Result<(), Failed>
-    requires running { machine.now.kernel.stopped ≡ false }
+    requires running { IsRunning machine.now }
     requires shows { ShowsCore machine.now.kernel.place core.now }
     requires frame { IsFrame machine.now.kernel.place frame }
     ensures { PutsText S.Sink result (owner_text machine.now.kernel.place frame (free_place machine.now.kernel.place frame)) out.old out.new }
 {
-    machine.sound();
     match core.owner(frame) {
         Whose::Free(page) => put_free(out, core.free_place(frame), page),
         Whose::Resident(page) => put_used(out, machine, core, frame, page),
@@ -242,7 +241,7 @@ fn put_frame<S: Sink>(
     core: &CoreMap,
     frame: u32,
 ) -> Result<(), Failed>
-    requires running { machine.now.kernel.stopped ≡ false }
+    requires running { IsRunning machine.now }
     requires shows { ShowsCore machine.now.kernel.place core.now }
     requires frame { IsFrame machine.now.kernel.place frame }
     ensures { PutsText S.Sink result (frame_line machine.now.kernel.place frame) out.old out.new }
@@ -254,7 +253,7 @@ fn put_frame<S: Sink>(
 
 /// Puts the lines of all frames, from 1 on.
 pub(crate) fn put_frames<S: Sink>(out: &mut Writer<'_, S>, machine: &Machine) -> Result<(), Failed>
-    requires { machine.now.kernel.stopped ≡ false }
+    requires { IsRunning machine.now }
     ensures { PutsText S.Sink result (frame_lines machine.now.kernel.place) out.old out.new }
 {
     let core = machine.core();

@@ -1,9 +1,10 @@
 // The lines of the processes.
 #![tactic(auto, using(run_text::proofs::Putting::text_none))]
 
-ghost use Rattle.std.specs.Prelude.{◌≡◌, [], ◌∷◌, ◌++◌, false};
+ghost use Rattle.std.specs.Prelude.{[], ◌∷◌, ◌++◌};
 ghost use Rattle.std.specs.List.{flat_map};
 ghost use Rattle.proc_table.specs.Records.{find};
+ghost use Rattle.machine_state.specs.Going.{IsRunning};
 ghost use Rattle.machine_state.specs.Machine.{life_shown};
 ghost use Rattle.run_text.specs.Text.{parts};
 ghost use Rattle.run_text.specs.Writing.{PutsText};
@@ -137,7 +138,7 @@ pub(crate) fn put_processes<S: Sink>(
     out: &mut Writer<'_, S>,
     machine: &Machine,
 ) -> Result<(), Failed>
-    requires { machine.now.kernel.stopped ≡ false }
+    requires { IsRunning machine.now }
     ensures { PutsText S.Sink result (flat_map (process_lines machine.now.kernel.place) machine.now.kernel.processes) out.old out.new }
 {
     let processes = machine.processes();

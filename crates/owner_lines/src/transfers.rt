@@ -1,8 +1,9 @@
 // The lines of the transfers in flight.
 #![tactic(auto, using(run_text::proofs::Putting::text_none))]
 
-ghost use Rattle.std.specs.Prelude.{◌≡◌, ◌+◌, ◌<◌, ◌^◌, [], ◌∷◌, ◌++◌, false, slice_get, codes};
+ghost use Rattle.std.specs.Prelude.{◌≡◌, ◌+◌, ◌<◌, ◌^◌, [], ◌∷◌, ◌++◌, slice_get, codes};
 ghost use Rattle.std.specs.List.{flat_map};
+ghost use Rattle.machine_state.specs.Going.{IsRunning};
 ghost use Rattle.machine_state.specs.View.{source_shown};
 ghost use Rattle.run_text.specs.Text.{parts, page_text};
 ghost use Rattle.run_text.specs.Writing.{PutsText};
@@ -154,7 +155,7 @@ fn put_transfer_at<S: Sink>(
     machine: &Machine,
     place: u32,
 ) -> Result<(), Failed>
-    requires running { machine.now.kernel.stopped ≡ false }
+    requires running { IsRunning machine.now }
     requires few { place + 1 < 2 ^ 32 }
     ensures { PutsText S.Sink result (transfer_if machine.now.before (place + 1) (slice_get machine.now.kernel.place.transfers place)) out.old out.new }
 {
@@ -169,7 +170,7 @@ pub(crate) fn put_transfers<S: Sink>(
     out: &mut Writer<'_, S>,
     machine: &Machine,
 ) -> Result<(), Failed>
-    requires { machine.now.kernel.stopped ≡ false }
+    requires { IsRunning machine.now }
     ensures { PutsText S.Sink result (transfers_from machine.now.before 1 machine.now.kernel.place.transfers) out.old out.new }
 {
     for place in 0..machine.in_flight() {

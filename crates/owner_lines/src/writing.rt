@@ -1,7 +1,8 @@
 // The lines of a machine.
 
-ghost use Rattle.std.specs.Prelude.{◌≡◌, false, length};
+ghost use Rattle.std.specs.Prelude.{length};
 ghost use Rattle.io_edge.specs.Calls.{PutsBytes};
+ghost use Rattle.machine_state.specs.Going.{IsRunning};
 ghost use Rattle.run_text.specs.Writing.{PutsText, WritesText};
 ghost use Rattle.owner_lines.specs.Owners.{entries_line, hands_line, swap_lines, owners_of};
 
@@ -35,26 +36,24 @@ fn put_hands<S: Sink>(out: &mut Writer<'_, S>, machine: &Machine) -> Result<(), 
 
 // Puts the lines of the swap area.
 fn put_swap<S: Sink>(out: &mut Writer<'_, S>, machine: &Machine) -> Result<(), Failed>
-    requires { machine.now.kernel.stopped ≡ false }
+    requires { IsRunning machine.now }
     ensures { PutsText S.Sink result (swap_lines machine.now.params.swap_blocks machine.now.before) out.old out.new }
 {
-    machine.sound();
     put_blocks(out, machine.holdings_before(), machine.params().swap_blocks)
 }
 
 // Puts the line of a machine's journal.
 fn put_head<S: Sink>(out: &mut Writer<'_, S>, machine: &Machine, over: bool) -> Result<(), Failed>
-    requires { machine.now.kernel.stopped ≡ false }
+    requires { IsRunning machine.now }
     ensures { PutsText S.Sink result (entries_line (length machine.now.kernel.journal) over) out.old out.new }
 {
-    machine.sound();
     let _limit = machine.params().journal;
     put_entries(out, machine.journal().len() as u32, over)
 }
 
 // Puts all lines.
 fn put_lines<S: Sink>(out: &mut Writer<'_, S>, machine: &Machine, over: bool) -> Result<(), Failed>
-    requires { machine.now.kernel.stopped ≡ false }
+    requires { IsRunning machine.now }
     ensures { PutsText S.Sink result (owners_of machine.now over) out.old out.new }
 {
     put_head(out, machine, over)?;
@@ -68,7 +67,7 @@ fn put_lines<S: Sink>(out: &mut Writer<'_, S>, machine: &Machine, over: bool) ->
 
 // Writes all lines through a buffer of its own.
 fn write_lines<S: Sink>(sink: &mut S, machine: &Machine, over: bool) -> Result<(), Failed>
-    requires { machine.now.kernel.stopped ≡ false }
+    requires { IsRunning machine.now }
     ensures { WritesText S.Sink result (owners_of machine.now over) sink.old sink.new }
 {
     let mut out = Writer::new(sink);
@@ -81,7 +80,7 @@ fn write_lines<S: Sink>(sink: &mut S, machine: &Machine, over: bool) -> Result<(
 /// the pieces of swap, with what is free between them. It takes no memory. Where the sink failed, which its count of faults
 /// tells, a prefix of all this is written.
 pub fn write_owners<S: Sink>(sink: &mut S, machine: &Machine, over: bool) -> Moved
-    requires { machine.now.kernel.stopped ≡ false }
+    requires { IsRunning machine.now }
     ensures { PutsBytes S.Sink (owners_of machine.now over) result sink.old sink.new }
 {
     match write_lines(sink, machine, over) {

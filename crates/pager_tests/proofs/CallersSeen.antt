@@ -16,6 +16,7 @@ use Rattle.page_model.specs.Rank.{HasRoom}
 use Rattle.page_laws.proofs.Lists.Local.{none_some}
 use Rattle.kernel_model.specs.ChangeStep.{life_of_proc}
 use Rattle.kernel_model.specs.Asks.{HasSpace}
+use Rattle.machine_state.specs.Going.{CanGoOn}
 use Rattle.machine_state.specs.Machine.{Standing, life_shown, processes_of, proc_of, residence_by, residence_of, residents_of}
 use Rattle.machine_state.specs.Alike.{AreRecords}
 use Rattle.machine_state.proofs.Records.{keeps_none, keeps_some}
@@ -56,13 +57,11 @@ is_in (n ∷ ns) ps pid p f o = go (residence_of (find n ps)) refl (is_in ns ps 
       | inr d ↦ ap (λ (y : Residence). y.out) (first_miss pid r rs d) ∙ more
     ]
 
-pub is_caller : (m : Standing) (ps : List Record) (p : Record) (pid sid : ℕ) → m.kernel.stopped ≡ false → m.before ≡ m.kernel.holdings
-    → m.kernel.place.due ≡ [] → HasSpace m.kernel.place sid
+pub is_caller : (m : Standing) (ps : List Record) (p : Record) (pid sid : ℕ) → CanGoOn m → m.kernel.place.due ≡ [] → HasSpace m.kernel.place sid
     → m.kernel.processes ≡ processes_of ps m.kernel.next_pid → m.kernel.place.residents ≡ residents_of ps m.kernel.next_pid → AreRecords ps m.kernel.next_pid
     → find pid ps ≡ Some p → p.state ≡ lives.Holds sid → p.out ≡ false → IsCaller m pid
-is_caller m ps p pid sid running whole clear there procs residents records f s o = record {
-  running = running;
-  whole = whole;
+is_caller m ps p pid sid ready clear there procs residents records f s o = record {
+  ready = ready;
   clear = clear;
   lends = record {
     sid = sid;

@@ -1,6 +1,5 @@
 -- What the calls above the machine ask, from what the calls before it say.
-use Rattle.std.proofs.Common.{◌≡◌, ℕ, suc, ◌+◌, ◌-◌, ◌/◌, ◌<◌, ◌≤◌, ◌==◌, Bool, true, false, cond, List, [], ◌∷◌, length, map, Option, Some, None, Result, Ok, Err, OnOk, is_some, slice_get, refl, sym, ap, ◌∙◌, subst, arith, lit<}
-use Rattle.std.specs.Prelude.{MatchResult, IfOk}
+use Rattle.std.proofs.Common.{◌≡◌, ℕ, suc, ◌+◌, ◌-◌, ◌/◌, ◌<◌, ◌≤◌, ◌==◌, Bool, true, false, cond, List, [], ◌∷◌, length, map, Option, Some, None, is_some, slice_get, refl, sym, ap, ◌∙◌, subst, arith, lit<}
 use Rattle.std.proofs.lemmas.Bool.Decides.{nat_tests}
 use Rattle.std.proofs.lemmas.Option.{same_Some}
 use Rattle.vm_facts.specs.declared.page.Page.{Page}
@@ -8,9 +7,6 @@ use Rattle.vm_facts.specs.declared.page.Page.TheVariants.{Stack, Text}
 use Rattle.vm_facts.specs.declared.page.PageState.{PageState}
 use Rattle.vm_facts.specs.declared.page.PageState.TheVariants.{Unfilled, Valid, Invalid, Coming, Going, OnSwap}
 use Rattle.vm_facts.specs.declared.entry.Entry.{Entry}
-use Rattle.vm_facts.specs.declared.entry.Entry.TheVariants as entries
-use Rattle.vm_facts.specs.declared.params.Params.{Params}
-use Rattle.vm_facts.specs.declared.stop.Stop.{Stop}
 use Rattle.aout_image.specs.declared.Image.{Image}
 use Rattle.aout_image.specs.Image.{file_length_of}
 use Rattle.io_edge.specs.FileHolding.{NamedFile, bytes_at}
@@ -20,7 +16,7 @@ use Rattle.page_model.specs.Placement.{Placement, Due, Start, IsThere, state_of,
 use Rattle.page_model.specs.Conditions.{IsShared}
 use Rattle.page_model.specs.Dues.{NotDue}
 use Rattle.page_model.specs.Rank.{HasRoom}
-use Rattle.kernel_model.specs.Kernel.{zero_step}
+use Rattle.machine_state.specs.Going.{CanGoOn}
 use Rattle.machine_state.specs.Named.{Named}
 use Rattle.machine_state.specs.Sourced.{ImageNamed}
 use Rattle.machine_state.specs.Machine.{Standing, image_shown}
@@ -30,52 +26,13 @@ use Rattle.machine_state.specs.Conditions.{CanZero}
 use Rattle.machine_state.specs.Due.{IsFirstStart}
 use Rattle.machine_state.specs.PlaceOf.{is_blank}
 use Rattle.machine_state.specs.Files.{AreFiles, HaveFiles}
-use Rattle.machine_state.specs.Settled.{IsSameBeside}
-use Rattle.machine_state.specs.Done.{sources, IsDone, ImageAfter}
 use Rattle.machine_state.specs.Sharing.{IsSharer}
 use Rattle.machine_state.specs.Beginning.{StartedFirst}
 use Rattle.machine_state.proofs.FirstBegins.{shown_facts}
-use Rattle.paging_units.specs.Made.{Ground, ground, MakesUnit, Makes, SameBeside}
 use Rattle.paging_units.specs.LastMoves.{last_moves, moves_counted}
-use Rattle.paging_units.proofs.Units.{made_same, makes_whole, made_one}
-use Rattle.proc_calls.specs.Forced.{Forced}
-use Rattle.proc_calls.specs.Moved.{Moved}
 use Rattle.proc_calls.specs.Serving.{CanServe}
-use Rattle.proc_calls.specs.Answers.{ServedAs, ServedNow}
-use Rattle.proc_calls.specs.FaultFillPagesServed.{Served}
 use Rattle.pager_tests.specs.Ready.{IsReady, HasStarted}
-use Rattle.pager_tests.proofs.SmallMachine.{shown_files}
-
--- After units of paging.
-
-pub makes_ready : (g : Ground) (us : List Entry) (old new : Standing) (i j : Option (List ℕ)) (holds later : Option (List NamedFile)) (blocks more : ℕ)
-    → Makes g us old new i j
-    → later ≡ holds → more ≡ blocks → IsReady old holds blocks → IsReady new later more
-makes_ready g us old new i j holds later blocks more m e f r = record {
-  running = (let a : SameBeside old.kernel new.kernel = made_same g us old.kernel new.kernel i j m.made in a.stopped) ∙ r.running;
-  whole = makes_whole g us old new i j m r.whole;
-  area = let x = r.area in let size = ap (λ (p : Params). p.swap_blocks) m.beside.params in omega arith;
-  files = subst (λ (ns : List ImageNamed). AreFiles ns later) (sym m.beside.images) (subst (λ (x : Option (List NamedFile)). AreFiles old.images x) (sym e) r.files);
-}
-
-pub beside_of : (old new : Standing) → new ≡ record old { kernel = new.kernel; room = None } → IsSameBeside old new
-beside_of old new e = record {
-  params = ap (λ (s : Standing). s.params) e;
-  images = ap (λ (s : Standing). s.images) e;
-  before = ap (λ (s : Standing). s.before) e;
-}
-
-pub unit_ready : (g : Ground) (e : Entry) (old new : Standing) (i j : Option (List ℕ)) (holds later : Option (List NamedFile)) (blocks more : ℕ)
-    → MakesUnit g e old new i j
-    → later ≡ holds → more ≡ blocks → IsReady old holds blocks → IsReady new later more
-unit_ready g e old new i j holds later blocks more m = makes_ready g (e ∷ []) old new i j holds later blocks more
-    (record { made = made_one g e old.kernel new.kernel i j m.made m.told; beside = m.beside })
-
-pub filled_ready : (q : Page) (old new : Standing) (holds : Option (List NamedFile)) (blocks : ℕ) → new.kernel ≡ zero_step old.kernel q
-    → new ≡ record old { kernel = new.kernel; room = None }
-    → IsReady old holds blocks → IsReady new holds blocks
-filled_ready q old new holds blocks s b = unit_ready (ground old holds []) (entries.Zero q) old new None None holds holds blocks blocks
-    (record { made = s; told = refl; beside = beside_of old new b }) refl refl
+use Rattle.pager_tests.proofs.SmallMachine.{has_file, shown_files}
 
 -- What a page asks that is to be served.
 
@@ -124,29 +81,6 @@ last_none (x ∷ f ∷ journal) h = last_none (f ∷ journal) (sym (ap (slice_ge
 
 -- The first process began.
 
-abbrev head_or : ℕ → List ℕ → ℕ
-head_or n [] = n
-head_or n (x ∷ xs) = x
-
-abbrev head_image : Image → List Image → Image
-head_image f [] = f
-head_image f (x ∷ xs) = x
-
-has_file : (images : List ImageNamed) (i : Image) → map (λ (n : ImageNamed). n.facts) images ≡ i ∷ [] → map (λ (n : ImageNamed). n.file) images ≡ 0 ∷ []
-    → (files : List NamedFile) → 0 < length files → file_length_of i ≤ length (bytes_at files 0) → HaveFiles images files
-has_file [] i facts at files some long = absurd (let k = ap length facts in cc)
-has_file (x ∷ []) i facts at files some long =
-    let file : x.file ≡ 0 = ap (head_or 0) at in
-    let image : x.facts ≡ i = ap (head_image i) facts in (
-      record {
-        there = subst (λ (n : ℕ). n < length files) (sym file) some;
-        whole = subst (λ (f : Image). file_length_of f ≤ length (bytes_at files x.file)) (sym image)
-            (subst (λ (n : ℕ). file_length_of i ≤ length (bytes_at files n)) (sym file) long);
-      },
-      tt,
-    )
-has_file (x ∷ y ∷ more) i facts at files some long = absurd (let k = ap length facts in omega (arith, k))
-
 abbrev pub fresh : List Named → Standing
 fresh images = record {
   kernel = fresh_kernel (map (λ (x : Named). x.facts) images) 64;
@@ -157,10 +91,9 @@ fresh images = record {
 }
 
 from_fresh : (new : Standing) (images : List Named) (facts : Image) → map (λ (x : Named). x.facts) images ≡ facts ∷ []
-    → map (λ (x : Named). x.file) images ≡ 0 ∷ [] → StartedFirst (fresh images) new 1 → HasStarted new facts
-from_fresh new images facts is at s = record {
-  running = ap (λ (m : Standing). m.kernel.stopped) s.step;
-  whole = ap (λ (m : Standing). m.before) s.step ∙ sym (ap (λ (m : Standing). m.kernel.holdings) s.step);
+    → map (λ (x : Named). x.file) images ≡ 0 ∷ [] → CanGoOn new → StartedFirst (fresh images) new 1 → HasStarted new facts
+from_fresh new images facts is at on s = record {
+  ready = on;
   blocks = ap (λ (m : Standing). m.params.swap_blocks) s.step;
   files = subst (λ (ns : List ImageNamed). (files : List NamedFile) → 0 < length files → file_length_of facts ≤ length (bytes_at files 0) → HaveFiles ns files)
       (sym (ap (λ (m : Standing). m.images) s.step))
@@ -169,9 +102,9 @@ from_fresh new images facts is at s = record {
 }
 
 pub has_started : (old new : Standing) (images : List Named) (facts : Image) → old ≡ fresh images → map (λ (x : Named). x.facts) images ≡ facts ∷ []
-    → map (λ (x : Named). x.file) images ≡ 0 ∷ [] → StartedFirst old new 1 → HasStarted new facts
-has_started old new images facts e is at s =
-    from_fresh new images facts is at (subst (λ (m : Standing). StartedFirst m new 1) e s)
+    → map (λ (x : Named). x.file) images ≡ 0 ∷ [] → CanGoOn new → StartedFirst old new 1 → HasStarted new facts
+has_started old new images facts e is at on s =
+    from_fresh new images facts is at on (subst (λ (m : Standing). StartedFirst m new 1) e s)
 
 -- Its first stack page may be filled.
 
@@ -196,47 +129,12 @@ can_zero p t b d f = record {
   frame = f;
 }
 
--- After each call.
-
-pub served_ready : (r : Result (Unit {0}) Stop) (S : Stop → Type 0) (q : Page) (old new : Standing) (i j : Option (List ℕ))
-    (holds later : Option (List NamedFile)) (blocks more : ℕ)
-    → MatchResult r (λ u. ServedNow [] q old new holds i j) S → later ≡ holds → more ≡ blocks → IsReady old holds blocks → OnOk r (IsReady new later more)
-served_ready (Ok u) S q old new i j holds later blocks more s e f r =
-    makes_ready (ground old holds []) s.0.serves.units old new i j holds later blocks more s.0.serves.makes e f r
-served_ready (Err stop) S q old new i j holds later blocks more s e f r = tt
-
-pub came_ready : (r : Result Served Stop) (S : Stop → Type 0) (q : Page) (old new : Standing) (i j : Option (List ℕ))
-    (holds later : Option (List NamedFile)) (blocks more : ℕ)
-    → MatchResult r (λ answer. ServedAs answer q old new holds i j) S → later ≡ holds → more ≡ blocks → IsReady old holds blocks
-    → OnOk r (IsReady new later more)
-came_ready (Ok u) S q old new i j holds later blocks more s e f r =
-    makes_ready (ground old holds []) s.0.serves.units old new i j holds later blocks more s.0.serves.makes e f r
-came_ready (Err stop) S q old new i j holds later blocks more s e f r = tt
-
-pub moved_ready : (r : Result ℕ Stop) (n : ℕ) (old new : Standing) (i j : Option (List ℕ)) (holds later : Option (List NamedFile)) (blocks more : ℕ)
-    → IfOk r (λ made. Moved n old new made holds i j) → later ≡ holds → more ≡ blocks → IsReady old holds blocks → OnOk r (IsReady new later more)
-moved_ready (Ok made) n old new i j holds later blocks more s e f r = makes_ready (ground old holds []) s.units old new i j holds later blocks more s.makes e f r
-moved_ready (Err stop) n old new i j holds later blocks more s e f r = tt
-
-pub forced_ready : (r : Result (Unit {0}) Stop) (old new : Standing) (i j : Option (List ℕ)) (holds later : Option (List NamedFile)) (blocks more : ℕ)
-    → OnOk r (Forced [] old new holds i j) → later ≡ holds → more ≡ blocks → IsReady old holds blocks → OnOk r (IsReady new later more)
-forced_ready (Ok u) old new i j holds later blocks more s e f r = makes_ready (ground old holds []) s.units old new i j holds later blocks more s.makes e f r
-forced_ready (Err stop) old new i j holds later blocks more s e f r = tt
-
-pub landed_ready : (old new : Standing) (i j : Option (List ℕ)) (holds later : Option (List NamedFile)) (blocks more : ℕ)
-    → IsDone (sources old holds) i old.kernel new.kernel
-    → new ≡ record old { kernel = new.kernel; room = None } → ImageAfter old.kernel i j → later ≡ holds → more ≡ blocks → IsReady old holds blocks
-    → IsReady new later more
-landed_ready old new i j holds later blocks more d b a = unit_ready (ground old holds []) entries.Done old new i j holds later blocks more
-    (record { made = d; told = a; beside = beside_of old new b })
-
 pub started_ready : (m : Standing) (facts : Image) (holds : Option (List NamedFile)) (blocks : ℕ) → HasStarted m facts → file_length_of facts ≤ 32768
     → blocks ≡ 260
     → ((images : List ImageNamed) → ((files : List NamedFile) → 0 < length files → 32768 ≤ length (bytes_at files 0) → HaveFiles images files)
     → AreFiles images holds) → IsReady m holds blocks
 started_ready m facts holds blocks s l b f = record {
-  running = s.running;
-  whole = s.whole;
+  ready = s.ready;
   area = let size = s.blocks in omega arith;
   files = f m.images (λ files some long. s.files files some (omega arith));
 }

@@ -1,5 +1,5 @@
 -- A small machine, in which the first process began.
-use Rattle.std.proofs.Common.{◌≡◌, ℕ, ◌<◌, ◌≤◌, false, List, [], ◌∷◌, length, map, None, inl, refl, sym, ap, ◌∙◌, subst, arith, lit≤, lit<}
+use Rattle.std.proofs.Common.{◌≡◌, ℕ, ◌<◌, ◌≤◌, List, [], ◌∷◌, length, map, None, inl, refl, sym, ap, ◌∙◌, subst, arith, lit≤, lit<}
 use Rattle.vm_facts.specs.declared.page.Page.TheVariants.{Stack, Text}
 use Rattle.vm_facts.specs.declared.params.Params.{Params}
 use Rattle.aout_image.specs.declared.Image.{Image}
@@ -63,27 +63,25 @@ abbrev head_or : ℕ → List ℕ → ℕ
 head_or n [] = n
 head_or n (x ∷ xs) = x
 
-abbrev first_image : List Image → Image
-first_image [] = small
-first_image (x ∷ xs) = x
+abbrev head_image : Image → List Image → Image
+head_image f [] = f
+head_image f (x ∷ xs) = x
 
 -- its image's file is the first, and has enough bytes
-pub have_files : (images : List ImageNamed) → map (λ (n : ImageNamed). n.facts) images ≡ small ∷ [] → map (λ (n : ImageNamed). n.file) images ≡ 0 ∷ []
-    → (files : List NamedFile) → 0 < length files → 4096 ≤ length (bytes_at files 0) → HaveFiles images files
-have_files [] facts at files some long = absurd (let k = ap length facts in cc)
-have_files (x ∷ []) facts at files some long =
+pub has_file : (images : List ImageNamed) (i : Image) → map (λ (n : ImageNamed). n.facts) images ≡ i ∷ [] → map (λ (n : ImageNamed). n.file) images ≡ 0 ∷ []
+    → (files : List NamedFile) → 0 < length files → file_length_of i ≤ length (bytes_at files 0) → HaveFiles images files
+has_file [] i facts at files some long = absurd (let k = ap length facts in cc)
+has_file (x ∷ []) i facts at files some long =
     let file : x.file ≡ 0 = ap (head_or 0) at in
-    let image : x.facts ≡ small = ap first_image facts in
-    let there : x.file < length files = subst (λ (n : ℕ). n < length files) (sym file) some in
-    let whole : file_length_of small ≤ length (bytes_at files 0) = omega (arith, long) in (
+    let image : x.facts ≡ i = ap (head_image i) facts in (
       record {
-        there = there;
-        whole = subst (λ (i : Image). file_length_of i ≤ length (bytes_at files x.file)) (sym image)
-            (subst (λ (n : ℕ). file_length_of small ≤ length (bytes_at files n)) (sym file) whole);
+        there = subst (λ (n : ℕ). n < length files) (sym file) some;
+        whole = subst (λ (f : Image). file_length_of f ≤ length (bytes_at files x.file)) (sym image)
+            (subst (λ (n : ℕ). file_length_of i ≤ length (bytes_at files n)) (sym file) long);
       },
       tt,
     )
-have_files (x ∷ y ∷ more) facts at files some long = absurd (let k = ap length facts in omega (arith, k))
+has_file (x ∷ y ∷ more) i facts at files some long = absurd (let k = ap length facts in omega (arith, k))
 
 pub shown_files : (images : List Named) → map (λ (n : ImageNamed). n.file) (map image_shown images) ≡ map (λ (n : Named). n.file) images
 shown_files [] = refl
@@ -91,8 +89,6 @@ shown_files (x ∷ xs) = ap (λ (ys : List ℕ). x.file ∷ ys) (shown_files xs)
 
 -- what is known of it
 pub record HasBegun (m : Standing) : Type 0 where
-  pub running : m.kernel.stopped ≡ false
-  pub whole : m.before ≡ m.kernel.holdings
   pub blocks : m.params.swap_blocks ≡ 128
   pub files : (files : List NamedFile) → 0 < length files → 4096 ≤ length (bytes_at files 0) → HaveFiles m.images files
   pub place : m.kernel.place ≡ first_place
@@ -111,12 +107,10 @@ from_fresh : (new : Standing) (images : List Named) → map (λ (x : Named). x.f
 from_fresh new images facts at s =
     let same : s.named.facts ≡ small = same_named images 1 s.named small s.is (ap (λ (fs : List Image). facts_numbered fs 1) facts) in
     record {
-      running = ap (λ (m : Standing). m.kernel.stopped) s.step;
-      whole = ap (λ (m : Standing). m.before) s.step ∙ sym (ap (λ (m : Standing). m.kernel.holdings) s.step);
       blocks = ap (λ (m : Standing). m.params.swap_blocks) s.step;
       files = subst (λ (ns : List ImageNamed). (files : List NamedFile) → 0 < length files → 4096 ≤ length (bytes_at files 0) → HaveFiles ns files)
           (sym (ap (λ (m : Standing). m.images) s.step))
-          (have_files (map image_shown images) (shown_facts images ∙ facts) (shown_files images ∙ at));
+          (λ files some long. has_file (map image_shown images) small (shown_facts images ∙ facts) (shown_files images ∙ at) files some (omega (arith, long)));
       place = ap (λ (m : Standing). m.kernel.place) s.step
           ∙ ap (λ (fs : List Image). begin_place (start_placement fs [] 8) 1 1 s.named.facts) facts
           ∙ ap (λ (f : Image). begin_place (start_placement (small ∷ []) [] 8) 1 1 f) same;

@@ -1,7 +1,8 @@
 // System calls over the pager: whole journals, each after one call, by devices in memory.
-ghost use Rattle.std.specs.Prelude.{◌≡◌, ◌∷◌, [], false};
+ghost use Rattle.std.specs.Prelude.{◌∷◌, []};
 ghost use Rattle.vm_facts.specs.declared.page.Page.{Page};
 ghost use Rattle.page_model.specs.Rank.{HasRoom};
+ghost use Rattle.machine_state.specs.Going.{CanGoOn, IsRunning};
 ghost use Rattle.proc_calls.specs.Callers.{IsCaller};
 
 use crate::paging::{
@@ -33,8 +34,7 @@ const ARGUMENTS: u32 = 0x7fff_ec00 - 28;
 
 // That the first process may make a call.
 fn see_caller(rt: &impl Abort, m: &Machine)
-    requires running { m.now.kernel.stopped ≡ false }
-    requires whole { m.now.before ≡ m.now.kernel.holdings }
+    requires ready { CanGoOn m.now }
     ensures { IsCaller m.now 1 }
 {
     assert!(rt; m.due().is_none());
@@ -46,7 +46,7 @@ fn see_caller(rt: &impl Abort, m: &Machine)
 
 // That there are 64 frames.
 fn see_more_frames(rt: &impl Abort, m: &Machine)
-    requires { m.now.kernel.stopped ≡ false }
+    requires { IsRunning m.now }
     ensures { (page : Page) → HasRoom m.now.kernel.place (page ∷ []) }
 {
     assert!(rt; m.core().frames() == 64);

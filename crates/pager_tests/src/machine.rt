@@ -1,10 +1,11 @@
 // That the calls that take memory succeed, what a machine with no process answers, and what devices that fail leave.
-ghost use Rattle.std.specs.Prelude.{◌≡◌, ◌<◌, ◌≤◌, ◌∷◌, [], List, false, map, length, IfOk};
+ghost use Rattle.std.specs.Prelude.{◌≡◌, ◌<◌, ◌≤◌, ◌∷◌, [], List, map, length, IfOk};
 ghost use Rattle.io_edge.specs.FileHolding.{NamedFile, bytes_at};
 ghost use Rattle.page_model.specs.Place.{filled};
 ghost use Rattle.machine_state.specs.Calls.{CanPush};
 ghost use Rattle.machine_state.specs.Conditions.{CanZero, CanBringIn};
 ghost use Rattle.machine_state.specs.Files.{AreFiles, HaveFiles};
+ghost use Rattle.machine_state.specs.Going.{CanGoOn};
 ghost use Rattle.machine_state.specs.New.{AreSound};
 ghost use Rattle.machine_state.specs.Sourced.{ImageNamed, AreNames};
 ghost use Rattle.machine_state.specs.Machine.{image_shown};
@@ -64,8 +65,7 @@ fn two_text_pages(alloc: Global) -> Result<Vec<Named>, AllocError>
 
 // A machine of 8 frames and that image, in which the first process began.
 fn begun(rt: &impl Abort, alloc: Global) -> Machine
-    ensures running { result.kernel.stopped ≡ false }
-    ensures whole { result.before ≡ result.kernel.holdings }
+    ensures ready { CanGoOn result }
     ensures blocks { result.params.swap_blocks ≡ 128 }
     ensures files { (files : List NamedFile) → 0 < length files → 4096 ≤ length (bytes_at files 0) → HaveFiles result.images files }
     ensures zero { CanZero result.kernel.place (Page.Stack 1 0) }
@@ -87,8 +87,7 @@ fn begun(rt: &impl Abort, alloc: Global) -> Machine
 
 // Such a machine, in which the first stack page took a frame, and the write of it began.
 fn writing(rt: &impl Abort, alloc: Global) -> Machine
-    ensures running { result.kernel.stopped ≡ false }
-    ensures whole { result.before ≡ result.kernel.holdings }
+    ensures ready { CanGoOn result }
     ensures blocks { result.params.swap_blocks ≡ 128 }
     ensures files { (files : List NamedFile) → 0 < length files → 4096 ≤ length (bytes_at files 0) → HaveFiles result.images files }
 {
@@ -104,8 +103,7 @@ fn writing(rt: &impl Abort, alloc: Global) -> Machine
 
 // Such a machine, in which the read of two pages of text began.
 fn reading(rt: &impl Abort, alloc: Global) -> Machine
-    ensures running { result.kernel.stopped ≡ false }
-    ensures whole { result.before ≡ result.kernel.holdings }
+    ensures ready { CanGoOn result }
     ensures blocks { result.params.swap_blocks ≡ 128 }
     ensures files { (files : List NamedFile) → 0 < length files → 4096 ≤ length (bytes_at files 0) → HaveFiles result.images files }
 {

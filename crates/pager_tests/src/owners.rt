@@ -1,5 +1,6 @@
 // The text of a machine in which one process began: its lines against what the sizes of the pieces say.
-ghost use Rattle.std.specs.Prelude.{◌≡◌, false, map, length, IfOk};
+ghost use Rattle.std.specs.Prelude.{◌≡◌, map, length, IfOk};
+ghost use Rattle.machine_state.specs.Going.{IsRunning};
 ghost use Rattle.machine_state.specs.Machine.{image_shown};
 ghost use Rattle.machine_state.specs.New.{AreSound};
 ghost use Rattle.machine_state.specs.Sourced.{AreNames};
@@ -36,7 +37,7 @@ fn one_image(alloc: Global) -> Result<Vec<Named>, AllocError>
 
 // A machine of 4 frames and 70 blocks, in which a process of that image began.
 fn begun(rt: &impl Abort, alloc: Global) -> Machine
-    ensures { result.kernel.stopped ≡ false }
+    ensures { IsRunning result }
 {
     let params = Params {
         frames: 4,

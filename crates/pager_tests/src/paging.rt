@@ -1,10 +1,11 @@
 // Pages that come in and leave their frames: whole journals of calls one after another, by devices in memory.
-ghost use Rattle.std.specs.Prelude.{◌≡◌, ◌<◌, ◌≤◌, ◌∷◌, [], ℕ, List, Option, false, map, length, IfOk, OnOk};
+ghost use Rattle.std.specs.Prelude.{◌≡◌, ◌<◌, ◌≤◌, ◌∷◌, [], ℕ, List, Option, map, length, IfOk, OnOk};
 ghost use Rattle.aout_image.specs.Image.{IsSound, file_length_of};
 ghost use Rattle.io_edge.specs.FileHolding.{NamedFile, bytes_at};
 ghost use Rattle.page_model.specs.Placement.{Start};
 ghost use Rattle.page_model.specs.Conditions.{IsShared};
 ghost use Rattle.page_model.specs.Rank.{HasRoom};
+ghost use Rattle.machine_state.specs.Going.{CanGoOn, IsRunning};
 ghost use Rattle.machine_state.specs.Files.{AreFiles, HaveFiles};
 ghost use Rattle.machine_state.specs.New.{AreSound};
 ghost use Rattle.machine_state.specs.Sourced.{ImageNamed, AreNames};
@@ -111,8 +112,7 @@ fn begun(rt: &impl Abort, alloc: Global, facts: Image) -> Machine
 
 // The first stack page takes a frame.
 fn fill_stack(rt: &impl Abort, m: &mut Machine)
-    requires running { m.old.kernel.stopped ≡ false }
-    requires whole { m.old.before ≡ m.old.kernel.holdings }
+    requires ready { CanGoOn m.old }
     requires due { m.old.kernel.place.due ≡ Start (Page.Stack 1 0) ∷ [] }
     ensures { (holds : Option (List NamedFile)) (blocks : ℕ) → IsReady m.old holds blocks → IsReady m.new holds blocks }
 {
@@ -154,7 +154,7 @@ fn see_shared(rt: &impl Abort, m: &Machine, page: Page)
 
 // That the page may be served.
 fn see_served(rt: &impl Abort, m: &Machine, page: Page)
-    requires { m.now.kernel.stopped ≡ false }
+    requires { IsRunning m.now }
     ensures { CanServe m.now.kernel.place page }
 {
     see_shared(rt, m, page);
@@ -164,7 +164,7 @@ fn see_served(rt: &impl Abort, m: &Machine, page: Page)
 
 // That there are 64 frames.
 pub(crate) fn see_frames(rt: &impl Abort, m: &Machine)
-    requires { m.now.kernel.stopped ≡ false }
+    requires { IsRunning m.now }
     ensures { HasRoom m.now.kernel.place [] }
 {
     assert!(rt; m.core().frames() == 64);

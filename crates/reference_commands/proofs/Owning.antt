@@ -1,18 +1,14 @@
 -- Who owns what where a run in memory stands.
-use Rattle.std.proofs.Common.{◌≡◌, ℕ, ◌≤◌, Bool, true, false, List, length, map, Result, Ok, Err, refl, ◌∙◌, arith}
+use Rattle.std.proofs.Common.{◌≡◌, ℕ, ◌≤◌, Bool, true, false, List, length, map, ◌∙◌, arith}
 use Rattle.flat_state.specs.Flat.{Inputs}
 use Rattle.kernel_model.specs.Start.{kept_of}
 use Rattle.machine_state.specs.Machine.{Standing}
-use Rattle.vm_facts.specs.declared.stop.Stop.TheVariants as stops
 use Rattle.run_model.specs.State.{State}
 use Rattle.run_laws.specs.Machine.{StandsAt}
-use Rattle.run_command.specs.Unfinished.{Unfinished}
-use Rattle.run_command.specs.Unfinished.TheVariants.{NoSpace, Stopped}
 use Rattle.run_command.specs.Full.{RunFull, RunOver}
 use Rattle.owner_lines.specs.Owners.{owners_text, owners_of}
 use Rattle.owner_laws.proofs.Registers.{machine_told}
 use Rattle.reference_commands.specs.Answering.{blank_swap, SaysOwners}
-use Rattle.reference_commands.specs.InMemory.{HasRun, RunsOn}
 
 -- the lines of a machine that stands at a state, for which no pieces wait
 pub lines_there : (A : Inputs) (s : State) (m : Standing) (over : Bool) (image : List ℕ) → StandsAt A s m.kernel image → m.before ≡ m.kernel.holdings
@@ -41,10 +37,3 @@ owned_full A entries m text bound size within full told = record {
   ends = (let reached = full.bound in omega (arith, bound, within, reached), (full.unit, full.next, full.longer));
   told = told ∙ lines_there A full.state m false _ full.stands.at full.stands.whole size;
 }
-
--- where a run ended that is over or has a full journal, the machine runs on
-pub runs_on : (A : Inputs) (entries : ℕ) (m : Standing) (ran : Result (Unit {0}) Unfinished) → HasRun A entries m ran → RunsOn m ran
-runs_on A entries m (Ok done) run = run.over.stands.running
-runs_on A entries m (Err (Stopped stops.JournalFull)) run = (run.full refl).stands.running
-runs_on A entries m (Err (Stopped _)) run = tt
-runs_on A entries m (Err (NoSpace pid)) run = tt

@@ -11,6 +11,7 @@ use Rattle.aout_image.specs.Image.{IsSound, file_length_of}
 use Rattle.flat_state.specs.Flat.{NamedImage, Inputs}
 use Rattle.flat_state.specs.Journal.{instructions_of}
 use Rattle.machine_state.specs.Files.{AreFiles}
+use Rattle.machine_state.specs.Machine.{Standing}
 use Rattle.run_model.specs.State.{start}
 use Rattle.run_command.specs.Files.{AreInputs}
 use Rattle.run_command.proofs.Filing.{images_fit}
@@ -130,16 +131,19 @@ module _ (entries : ℕ) (numbers : Numbers) (images : List FlatFile) (opened : 
     room = room;
   }
 
-  pub asked : (holds : Option (List NamedFile)) → holds ≡ Some (map file_of images)
-      → IsAskedOf (inputs_with numbers images first lines) (machine_up_to entries numbers (map shown_as opened)) first lines holds (blank_swap numbers.swap)
-  asked holds held =
-      subst (λ (h : Option (List NamedFile)). IsAskedOf (over (images_of images)) (machine_up_to entries numbers (map shown_as opened)) first lines h (blank_swap numbers.swap)) (sym held)
-      (subst (λ (xs : List NamedImage). IsAskedOf (over xs) (machine_up_to entries numbers (map shown_as opened)) first lines (Some files) (blank_swap numbers.swap)) o.are
-      (asked_in (blank_swap numbers.swap) (let e = length-replicate {A = ℕ} (512 * numbers.swap) 0 in omega arith)))
+  -- of a machine that was made so
+  module _ (m : Standing) (made : m ≡ machine_up_to entries numbers (map shown_as opened)) (holds : Option (List NamedFile)) (held : holds ≡ Some (map file_of images)) where
+    pub asked : IsAskedOf (inputs_with numbers images first lines) m first lines holds (blank_swap numbers.swap)
+    asked =
+        subst (λ (n : Standing). IsAskedOf (over (images_of images)) n first lines holds (blank_swap numbers.swap)) (sym made)
+        (subst (λ (h : Option (List NamedFile)). IsAskedOf (over (images_of images)) (machine_up_to entries numbers (map shown_as opened)) first lines h (blank_swap numbers.swap)) (sym held)
+        (subst (λ (xs : List NamedImage). IsAskedOf (over xs) (machine_up_to entries numbers (map shown_as opened)) first lines (Some files) (blank_swap numbers.swap)) o.are
+        (asked_in (blank_swap numbers.swap) (let e = length-replicate {A = ℕ} (512 * numbers.swap) 0 in omega arith))))
 
-  pub opened_files : (holds : Option (List NamedFile)) → holds ≡ Some (map file_of images) → AreFiles (map shown_as opened) holds
-  opened_files holds held =
-      subst (λ (h : Option (List NamedFile)). AreFiles (map shown_as opened) h) (sym held) (are_files (Some files) opened o.ranges)
+    pub opened_files : AreFiles m.images holds
+    opened_files =
+        subst (λ (n : Standing). AreFiles n.images holds) (sym made)
+        (subst (λ (h : Option (List NamedFile)). AreFiles (map shown_as opened) h) (sym held) (are_files (Some files) opened o.ranges))
 
 pub on_ok_so : {T E : Type 0} (r : Result T E) (P Q : Type 0) → (P → Q) → OnOk r P → OnOk r Q
 on_ok_so (Ok x) P Q f h = f h

@@ -47,7 +47,7 @@ step_told A s f holds i image at = record {
     made = at.made;
     over = f.over;
     ends = end_there A s f holds i image (length f.machine.kernel.journal) at (omega arith) (λ going. refl);
-    told = lines_there A s f.machine f.over image at.stands.machine.at.stands at.whole at.stands.machine.blocks;
+    told = lines_there A s f.machine f.over image at.stands.machine.at.stands at.ready.whole at.stands.machine.blocks;
   };
   reached = refl;
   told = refl;

@@ -8,6 +8,7 @@ use Rattle.vm_facts.specs.declared.stop.Stop.TheVariants as stops
 use Rattle.io_edge.specs.FileHolding.{NamedFile, HasRange}
 use Rattle.flat_state.specs.Flat.{Inputs}
 use Rattle.flat_model.specs.Asked.{start_held}
+use Rattle.machine_state.specs.Going.{IsRunning}
 use Rattle.machine_state.specs.Machine.{Standing}
 use Rattle.run_command.specs.Unfinished.{Unfinished}
 use Rattle.run_command.specs.Unfinished.TheVariants.{Stopped}
@@ -64,7 +65,7 @@ pub record IsRunnable (numbers : Numbers) (images : ℕ) (first : List ℕ) (lin
   pub few_lines : length lines ≤ 65536
 
 -- The run ended so, with a machine whose journal has at most so many entries, and whose swap area is that of the inputs; where the run is
--- over, or halted since its journal is full, the machine stands where the journal leads to.
+-- over, or halted since its journal is full, the machine stands where the journal leads to. Where it has not stopped it runs.
 pub record HasRun (A : Inputs) (entries : ℕ) (m : Standing) (ran : Result (Unit {0}) Unfinished) : Type 0 where
   pub journal : m.params.journal ≡ entries
   pub blocks : m.params.swap_blocks ≡ A.swap_blocks
@@ -72,11 +73,12 @@ pub record HasRun (A : Inputs) (entries : ℕ) (m : Standing) (ran : Result (Uni
   pub ends : RunEnds A m.kernel.journal (blank_swap A.swap_blocks) ran left
   pub full : ran ≡ Err (Stopped stops.JournalFull) → RunFull A m (blank_swap A.swap_blocks)
   pub over : OnOk ran (RunOver A m (blank_swap A.swap_blocks))
+  pub runs : m.kernel.stopped ≡ false → IsRunning m
 
 -- there the machine runs on
 abbrev pub RunsOn : Standing → Result (Unit {0}) Unfinished → Type 0
-RunsOn m (Ok done) = m.kernel.stopped ≡ false
-RunsOn m (Err (Stopped stops.JournalFull)) = m.kernel.stopped ≡ false
+RunsOn m (Ok done) = IsRunning m
+RunsOn m (Err (Stopped stops.JournalFull)) = IsRunning m
 RunsOn m (Err _) = Unit {0}
 
 -- the run is finished, and these are its references, which are few enough to be asked about

@@ -7,6 +7,7 @@ ghost use Rattle.run_stats.specs.declared.look.Look.{Look as Looked};
 ghost use Rattle.run_stats.specs.Notes.{note_by};
 ghost use Rattle.flat_state.specs.Flat.{Inputs};
 ghost use Rattle.io_edge.specs.Octets.{AreOctetFiles};
+ghost use Rattle.machine_state.specs.Going.{IsRunning};
 ghost use Rattle.machine_state.specs.Files.{AreFiles};
 ghost use Rattle.run_files.specs.ImageWords.{IsShortName};
 ghost use Rattle.replay_check.specs.Images.{AreImageFiles};
@@ -34,7 +35,7 @@ use vm_facts::{Event, NoMemory};
 
 // What is looked at of a film.
 fn look_at_film(film: &Film) -> Look
-    requires running { film.now.machine.kernel.stopped ≡ false }
+    requires running { IsRunning film.now.machine }
     ensures { result ≡ look_at_film film.now }
 {
     look_over(film.machine(), film.mark())
@@ -72,7 +73,7 @@ fn count_entry<F: Files, D: SwapDev>(
 
 // Notes the last entry of a film, before which this was looked at.
 fn note_last(film: &Film, before: Look, notes: &mut Vec<Note>) -> Result<(), NoMemory>
-    requires running { film.now.machine.kernel.stopped ≡ false }
+    requires running { IsRunning film.now.machine }
     ensures { OnOk result ((so_far : List Entry) (entry : Entry) → film.now.machine.kernel.journal ≡ so_far ++ entry ∷ []
         → notes.new.items ≡ notes.old.items ++ note_by before entry (look_at_film film.now) ∷ []) }
 {
@@ -167,7 +168,6 @@ fn count_begun<'a, F: Files, D: SwapDev>(
     images: u32,
 ) -> Result<Vec<u8>, Fault<'a>>
     requires filming { IsFilming film.old lines.now (F.holds files.old) (D.image swap.old) }
-    requires running { film.old.machine.kernel.stopped ≡ false }
     requires first { film.old.machine.kernel.journal ≡ [] }
     requires moves { HaveFewMoves lines.now }
     requires count { length lines.now < 2 ^ 32 }

@@ -2,6 +2,7 @@
 ghost use Rattle.std.specs.Prelude.{◌≡◌, ◌+◌, ◌-◌, ◌<◌, ◌≤◌, ◌^◌, ◌&&◌, not, nat_lt, ℕ, false, [], ◌++◌, List, length, slice_get, map, All, Some, IfOk, OnOk};
 ghost use Rattle.flat_state.specs.Flat.{Inputs};
 ghost use Rattle.io_edge.specs.Octets.{AreOctetFiles};
+ghost use Rattle.machine_state.specs.Going.{IsRunning};
 ghost use Rattle.machine_state.specs.New.{AreSound};
 ghost use Rattle.machine_state.specs.Sourced.{AreNames};
 ghost use Rattle.machine_state.specs.Applying.{facts_named};
@@ -12,7 +13,6 @@ ghost use Rattle.owner_lines.specs.Owners.{word_if};
 ghost use Rattle.replay_check.specs.Images.{AreImageFiles};
 ghost use Rattle.command_ending.specs.Ending.{ending_of};
 ghost use Rattle.command_words.specs.Command.{AreSteps};
-ghost use Rattle.run_model.specs.declared.mark.Mark.TheVariants as marks;
 ghost use Rattle.vm_core.specs.Schedules.{HaveFewMoves};
 ghost use Rattle.vm_core.specs.RunEnds.{IsAskedOf};
 ghost use Rattle.film_core.specs.Films.{IsFilming, IsUnbegun, FilmBegun};
@@ -93,18 +93,17 @@ fn put_step_line(
 
 // How many entries the journal of a film has.
 fn entries_of(film: &Film) -> u32
-    requires { film.now.machine.kernel.stopped ≡ false }
+    requires { IsRunning film.now.machine }
     ensures { result ≡ length film.now.machine.kernel.journal }
 {
     let machine = film.machine();
-    machine.sound();
     let _most = machine.params().journal;
     machine.journal().len() as u32
 }
 
 // Puts the step of a film after so many entries.
 fn put_step(alloc: Global, text: &mut Vec<u8>, film: &Film, entries: u32) -> Result<(), NoMemory>
-    requires running { film.now.machine.kernel.stopped ≡ false }
+    requires running { IsRunning film.now.machine }
     requires entries { length film.now.machine.kernel.journal ≡ entries }
     ensures { OnOk result (text.new.items ≡ text.old.items ++ step_text film.now) }
 {
@@ -121,7 +120,7 @@ fn put_step_if(
     film: &Film,
     steps: FilmSteps,
 ) -> Result<(), NoMemory>
-    requires running { film.now.machine.kernel.stopped ≡ false }
+    requires running { IsRunning film.now.machine }
     requires every { 1 ≤ steps.every }
     ensures { OnOk result (text.new.items ≡ text.old.items ++ word_if (has_step steps (length film.now.machine.kernel.journal)) (step_text film.now)) }
 {
@@ -137,7 +136,7 @@ fn put_step_if(
 
 /// Whether it goes on: the run isn't over, and there are fewer entries than these.
 pub(crate) fn goes_on(film: &Film, to: u32) -> bool
-    requires { film.now.machine.kernel.stopped ≡ false }
+    requires { IsRunning film.now.machine }
     ensures { result ≡ not film.now.over && nat_lt (length film.now.machine.kernel.journal) to }
 {
     if film.is_over() {
@@ -251,10 +250,7 @@ pub(crate) fn film_of(
     requires sound { AreSound (facts_named (map shown_as images.now)) }
     requires names { AreNames (map shown_as images.now) }
     ensures machine { IfOk result (λ film. film.machine ≡ machine_up_to 0 numbers (map shown_as images.now)) }
-    ensures lines { IfOk result (λ film. film.lines ≡ 0) }
-    ensures mark { IfOk result (λ film. film.mark ≡ marks.Over) }
-    ensures counted { IfOk result (λ film. film.counted ≡ 0) }
-    ensures over { IfOk result (λ film. film.over ≡ false) }
+    ensures unbegun { IfOk result IsUnbegun }
 {
     let Ok(named) = name_images(alloc, images) else {
         return Err(NoMemory);
@@ -265,7 +261,8 @@ pub(crate) fn film_of(
         limit: numbers.limit,
         journal: 0,
     };
-    Film::new(alloc, params, named)
+    let film = Film::new(alloc, params, named)?;
+    Ok(film)
 }
 
 // Films a run of images that were opened from these files in memory, over a blank swap.

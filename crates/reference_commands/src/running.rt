@@ -1,6 +1,7 @@
 // A run in memory, its references, and who owns what where it ends.
-ghost use Rattle.std.specs.Prelude.{◌≡◌, ◌≤◌, ℕ, false, List, Option, Some, Err, map, length, All, IfOk};
+ghost use Rattle.std.specs.Prelude.{◌≡◌, ◌≤◌, ℕ, List, Option, Some, Err, map, length, All, IfOk};
 ghost use Rattle.flat_state.specs.Flat.{Inputs};
+ghost use Rattle.machine_state.specs.Going.{IsRunning};
 ghost use Rattle.run_files.specs.ImageWords.{IsShortName};
 ghost use Rattle.replay_check.specs.Images.{AreImageFiles, AreNumbers, images_of};
 ghost use Rattle.run_command.specs.Full.{RunFull, RunOver};
@@ -55,7 +56,7 @@ fn references_at_end<'a>(
 
 // The lines of a machine that runs.
 pub(crate) fn lines_of(alloc: Global, machine: &Machine, over: bool) -> Result<Vec<u8>, NoMemory>
-    requires running { machine.now.kernel.stopped ≡ false }
+    requires running { IsRunning machine.now }
     ensures { IfOk result (λ text. text.items ≡ owners_of machine.now over) }
 {
     let mut text = GrowingText::new(alloc);
@@ -67,11 +68,10 @@ pub(crate) fn lines_of(alloc: Global, machine: &Machine, over: bool) -> Result<V
 
 // The lines of a machine with these sizes, whose run is over.
 fn lines_over<'a>(alloc: Global, machine: &Machine) -> Result<Vec<u8>, Fault<'a>>
-    requires running { machine.now.kernel.stopped ≡ false }
+    requires running { IsRunning machine.now }
     ensures { (A : Inputs) (entries : ℕ) → machine.now.params.journal ≡ entries → machine.now.params.swap_blocks ≡ A.swap_blocks
         → RunOver A machine.now (blank_swap A.swap_blocks) → EndsAnswer (questions.Owners entries) A (ending_of result) }
 {
-    machine.sound();
     match lines_of(alloc, machine, true) {
         Ok(text) => Ok(text),
         Err(_) => Err(Fault::NoMemory),
@@ -80,11 +80,10 @@ fn lines_over<'a>(alloc: Global, machine: &Machine) -> Result<Vec<u8>, Fault<'a>
 
 // The lines of a machine with these sizes, whose journal is full.
 fn lines_full<'a>(alloc: Global, machine: &Machine) -> Result<Vec<u8>, Fault<'a>>
-    requires running { machine.now.kernel.stopped ≡ false }
+    requires running { IsRunning machine.now }
     ensures { (A : Inputs) (entries : ℕ) → machine.now.params.journal ≡ entries → machine.now.params.swap_blocks ≡ A.swap_blocks
         → RunFull A machine.now (blank_swap A.swap_blocks) → EndsAnswer (questions.Owners entries) A (ending_of result) }
 {
-    machine.sound();
     match lines_of(alloc, machine, false) {
         Ok(text) => Ok(text),
         Err(_) => Err(Fault::NoMemory),

@@ -1,6 +1,6 @@
 -- How a load ends, by how its run does.
-use Rattle.std.proofs.Common.{◌≡◌, inl, inr, ℕ, ◌≤◌, Bool, true, false, if◌then◌else◌, nat_lt, List, [], length, Option, Some, None, Result, Ok, Err, refl, sym, ap, ◌∙◌, subst, arith}
-use Rattle.std.specs.Prelude.{IfErr, OnOk}
+use Rattle.std.proofs.Common.{◌≡◌, inl, inr, ℕ, ◌≤◌, Bool, true, false, if◌then◌else◌, nat_lt, List, [], length, Option, Some, None, Result, Ok, Err, refl, ◌∙◌, subst, arith}
+use Rattle.std.specs.Prelude.{IfErr}
 use Rattle.std.proofs.lemmas.Bool.{ltb-false}
 use Rattle.vm_facts.specs.declared.entry.Entry.{Entry}
 use Rattle.io_edge.specs.Count.{Rose}
@@ -8,35 +8,23 @@ use Rattle.io_edge.specs.Striping.{zero_needs, one_needs, MeetsNeeds}
 use Rattle.flat_state.specs.Flat.{NamedImage, Inputs}
 use Rattle.flat_model.specs.Asked.{start_held}
 use Rattle.machine_state.specs.Outside.{stop_of, CountsFileFaults}
-use Rattle.machine_state.specs.Machine.{Standing}
-use Rattle.machine_state.specs.Sourced.{ImageNamed}
-use Rattle.vm_core.specs.Cores.{Underway}
-use Rattle.vm_core.specs.Starting.{IsFresh}
 use Rattle.vm_core.specs.RunEnds.{stopped_as, RunEnds}
 use Rattle.command_ending.specs.declared.fault.Fault.{Fault}
 use Rattle.command_ending.specs.declared.fault.Fault.TheVariants as faults
 use Rattle.command_ending.specs.Command.{NoFaults, Writes, WritesSome}
 use Rattle.command_ending.specs.Named.{Why, AnswersNamed}
-use Rattle.command_words.specs.declared.command.Numbers.{Numbers}
 use Rattle.run_opening.specs.Images.{IsImageFault}
 use Rattle.run_opening.specs.Devices.{device_fault}
 use Rattle.run_opening.specs.Opening.{CountsAt}
 use Rattle.run_command.specs.Seen.{Seen}
 use Rattle.run_command.specs.Paired.{unfinished_of, IsRunFault, ReadsFail, WritesFail}
-use Rattle.run_command.specs.Machines.{journal_entries, machine_of}
+use Rattle.run_command.specs.Machines.{journal_entries}
 use Rattle.run_command.specs.Ends.{Ending, NothingDone, Unbegun, NoneFaulted, RunCaused, DevicesSuffice, RunEnded}
 use Rattle.run_command.specs.Loads.{load_inputs, load_numbers, load_written, CountsBeLost, WritesCounts, IsLoadCaused, LoadEnded, IsRunEnding, Loads, LoadRuns}
 use Rattle.run_command.proofs.LoadSpace.{all_start}
 use Rattle.run_command.proofs.Counted.{counted_by}
 use Rattle.run_command.proofs.LoadLength.{load_fits}
 use Rattle.run_command.proofs.Endings.{StopCaused, caused_as, lost_caused, run_ended, lost_ended}
-
--- The core of a run, with no process yet.
-pub fresh_core : (c : Underway) (numbers : Numbers) (images : List ImageNamed) → c.machine ≡ machine_of numbers images → c.counted ≡ 0 → IsFresh c
-fresh_core c numbers images is none =
-    let core_with : Standing → ℕ → Underway = λ m n. record { machine = m; counted = n } in
-    let fresh : IsFresh (core_with (machine_of numbers images) 0) = record { machine = record { kernel = refl; before = refl; room = refl }; counted = refl } in
-    subst IsFresh (ap (λ (m : Standing). core_with m 0) (sym is) ∙ ap (core_with c.machine) (sym none)) fresh
 
 -- Writing.
 

@@ -5,6 +5,7 @@ ghost use Rattle.machine_state.specs.New.{AreSound};
 ghost use Rattle.machine_state.specs.Sourced.{AreNames};
 ghost use Rattle.machine_state.specs.Applying.{facts_named};
 ghost use Rattle.command_words.specs.Command.{word_list, AreAllowed, AreImageWords, IsFittingRun};
+ghost use Rattle.vm_core.specs.Starting.{IsFresh};
 ghost use Rattle.run_command.specs.Naming.{shown_as};
 ghost use Rattle.run_command.specs.Machines.{machine_up_to, machine_of, SuitsMachine, IsOfOpening};
 ghost use Rattle.run_command.specs.Outside.{KeepsOutside};
@@ -35,7 +36,7 @@ pub fn core_up_to(
     requires sound { AreSound (facts_named (map shown_as images.now)) }
     requires names { AreNames (map shown_as images.now) }
     ensures machine { IfOk result (λ core. core.machine ≡ machine_up_to entries numbers (map shown_as images.now)) }
-    ensures counted { IfOk result (λ core. core.counted ≡ 0) }
+    ensures fresh { IfOk result IsFresh }
 {
     let Ok(named) = name_images(alloc, images) else {
         return Err(NoMemory);
@@ -61,7 +62,7 @@ pub fn core_of(
     requires sound { AreSound (facts_named (map shown_as images.now)) }
     requires names { AreNames (map shown_as images.now) }
     ensures machine { IfOk result (λ core. core.machine ≡ machine_of numbers (map shown_as images.now)) }
-    ensures counted { IfOk result (λ core. core.counted ≡ 0) }
+    ensures fresh { IfOk result IsFresh }
 {
     core_up_to(alloc, numbers, JOURNAL_ENTRIES, images)
 }

@@ -1,7 +1,8 @@
 // What is looked at of a run.
 ghost use Rattle.vm_facts.specs.declared.page.Page.{Page};
-ghost use Rattle.std.specs.Prelude.{◌≡◌, ◌-◌, Some, false, length, map, slice_get};
+ghost use Rattle.std.specs.Prelude.{◌≡◌, ◌-◌, Some, length, map, slice_get};
 ghost use Rattle.page_model.specs.Placement.{Reads, Writes};
+ghost use Rattle.machine_state.specs.Going.{IsRunning};
 ghost use Rattle.machine_state.specs.View.{in_part, out_part, source_shown, transfer_shown};
 ghost use Rattle.run_model.specs.Next.{blocks_held};
 ghost use Rattle.run_counts.specs.Counts.{owner_of};
@@ -116,7 +117,7 @@ fn held(holdings: &[Held]) -> u128
 
 /// What is looked at of a machine that runs, under a mark.
 pub fn look_over(machine: &Machine, mark: Mark) -> Look
-    requires running { machine.now.kernel.stopped ≡ false }
+    requires running { IsRunning machine.now }
     ensures { result ≡ look_of mark machine.now.kernel.place machine.now.kernel.holdings }
 {
     Look {

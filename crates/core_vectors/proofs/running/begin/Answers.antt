@@ -1,4 +1,4 @@
-use Rattle.core_vectors.proofs.Starting.{are_among}
+use Rattle.vm_core.proofs.Ending.{are_among}
 use Rattle.core_vectors.proofs.running.begin.Goals as goal
 
 pub start-requires-clause-numbers : goal.start-requires-clause-numbers

@@ -13,18 +13,18 @@ pub returns-in-Free : goal.returns-in-Free
 returns-in-Free g c =
     text_is
     (ap (λ (n : ℕ). free_text n c.in-Free.page) c.free_place.ensures
-    ∙ sym (free_owner c.args.machine.now.kernel.place c.args.core.now c.sound.ensures.sound.owner.frames c.requires.shows c.args.frame c.in-Free.page (sym c.in-Free.ensures.owner)))
+    ∙ sym (free_owner c.args.machine.now.kernel.place c.args.core.now c.requires.running.sound.owner.frames c.requires.shows c.args.frame c.in-Free.page (sym c.in-Free.ensures.owner)))
     c.put_free.ensures
 
 pub returns-in-Resident : goal.returns-in-Resident
 returns-in-Resident g c =
     text_is
-    (sym (used_owner c.args.machine.now.kernel.place c.args.core.now c.sound.ensures.sound.owner.frames c.requires.shows c.args.frame c.in-Resident.page (sym c.in-Resident.ensures.owner)))
+    (sym (used_owner c.args.machine.now.kernel.place c.args.core.now c.requires.running.sound.owner.frames c.requires.shows c.args.frame c.in-Resident.page (sym c.in-Resident.ensures.owner)))
     c.put_used.ensures
 
 pub returns-in-Away : goal.returns-in-Away
 returns-in-Away g c =
     text_is
     (ap carried_text c.find_carrier.ensures
-    ∙ sym (away_owner c.args.machine.now.kernel.place c.args.core.now c.sound.ensures.sound.owner.frames c.requires.shows c.args.frame c.requires.frame (sym c.in-Away.ensures.owner)))
+    ∙ sym (away_owner c.args.machine.now.kernel.place c.args.core.now c.requires.running.sound.owner.frames c.requires.shows c.args.frame c.requires.frame (sym c.in-Away.ensures.owner)))
     c.put_carried.ensures

@@ -11,7 +11,7 @@ pub returns-then-is_valid : goal.returns-then-is_valid
 returns-then-is_valid g c =
     text_is
     (ap (kept_text (codes " valid") c.args.page) {y = is_marked_dirty c.args.page (is_dirty (slot_at c.args.core.now.slots c.args.frame))} c.is_unsaved-dirty.ensures
-    ∙ sym (kept_owner c.args.machine.now.kernel.place c.args.core.now c.sound.ensures.sound.owner.frames c.requires.shows c.args.frame c.args.page true c.requires.frame c.requires.owner
+    ∙ sym (kept_owner c.args.machine.now.kernel.place c.args.core.now c.requires.running.sound.owner.frames c.requires.shows c.args.frame c.args.page true c.requires.frame c.requires.owner
     (sym c.is_valid.ensures ∙ c.if-is_valid.true)))
     c.put_kept.ensures
 
@@ -19,6 +19,6 @@ pub returns-else-is_valid : goal.returns-else-is_valid
 returns-else-is_valid g c =
     text_is
     (ap (kept_text (codes " invalid") c.args.page) {y = is_marked_dirty c.args.page (is_dirty (slot_at c.args.core.now.slots c.args.frame))} c.is_unsaved-dirty.ensures
-    ∙ sym (kept_owner c.args.machine.now.kernel.place c.args.core.now c.sound.ensures.sound.owner.frames c.requires.shows c.args.frame c.args.page false c.requires.frame c.requires.owner
+    ∙ sym (kept_owner c.args.machine.now.kernel.place c.args.core.now c.requires.running.sound.owner.frames c.requires.shows c.args.frame c.args.page false c.requires.frame c.requires.owner
     (sym c.is_valid.ensures ∙ c.if-is_valid.false)))
     c.put_kept-else-is_valid.ensures

@@ -11,7 +11,7 @@ returns-in-Some g c =
     let m = c.args.machine.now in
     let n = c.args.place + 1 in
     text_is
-    (flight_lines m.images (image_of m.kernel.place) m.before m.params.swap_blocks n c.in-Some.transfer.now (c.in-Some.ensures.sources c.requires.running)
+    (flight_lines m.images (image_of m.kernel.place) m.before m.params.swap_blocks n c.in-Some.transfer.now (c.in-Some.ensures.sources c.requires.running.runs)
     ∙ ap (transfer_if m.before n) c.in-Some.ensures.transfer)
     c.put_transfer.ensures
 

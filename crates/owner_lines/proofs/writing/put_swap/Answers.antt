@@ -10,7 +10,7 @@ use Rattle.owner_lines.proofs.writing.put_swap.Goals as goal
 pub put_blocks-requires : goal.put_blocks-requires
 put_blocks-requires g c =
     subst (IsBook c.params.result.now.swap_blocks) (sym c.holdings_before.ensures)
-    (subst (λ (q : Params). IsBook q.swap_blocks c.args.machine.now.before) (sym c.params.ensures) c.sound.ensures.sound.owner.blocks.book)
+    (subst (λ (q : Params). IsBook q.swap_blocks c.args.machine.now.before) (sym c.params.ensures) c.requires.sound.owner.blocks.book)
 
 pub returns : goal.returns
 returns g c = text_is (ap₂ (λ (q : Params) (hs : Holdings). swap_lines q.swap_blocks hs) c.params.ensures c.holdings_before.ensures) c.put_blocks.ensures

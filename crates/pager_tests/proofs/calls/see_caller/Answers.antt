@@ -6,7 +6,7 @@ use Rattle.pager_tests.proofs.calls.see_caller.Goals as goal
 
 pub returns : goal.returns
 returns g c =
-    is_caller c.args.m.now c.processes.result.now c.expect-process.result.now 1 1 c.requires.running c.requires.whole (none_due c.args.m.now.kernel.place.due (search rules))
+    is_caller c.args.m.now c.processes.result.now c.expect-process.result.now 1 1 c.requires.ready (none_due c.args.m.now.kernel.place.due (search rules))
     (c.space.ensures.there.0 (search rules))
-    c.processes.ensures.processes c.processes.ensures.residents (c.processes.ensures.records c.requires.running) (sym c.get.ensures.value ∙ ap option_copied c.expect-process.ensures)
+    c.processes.ensures.processes c.processes.ensures.residents (c.processes.ensures.records c.requires.ready.running.runs) (sym c.get.ensures.value ∙ ap option_copied c.expect-process.ensures)
     (search rules) (search rules)

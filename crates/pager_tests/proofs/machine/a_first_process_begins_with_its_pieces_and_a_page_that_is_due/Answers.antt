@@ -1,20 +1,7 @@
-use Rattle.std.proofs.Common.{◌≡◌, List, [], map, length, None, subst}
-use Rattle.std.specs.Prelude.{IfOk}
-use Rattle.machine_state.specs.Named.{Named}
-use Rattle.machine_state.specs.New.{fresh_kernel}
-use Rattle.machine_state.specs.Machine.{image_shown}
+use Rattle.std.proofs.Common.{rules}
 use Rattle.machine_state.proofs.FirstBegins.{may_first}
 use Rattle.pager_tests.proofs.machine.a_first_process_begins_with_its_pieces_and_a_page_that_is_due.Goals as goal
 
 pub begin-requires-clause-may : goal.begin-requires-clause-may
 begin-requires-clause-may g c =
-    let images : List Named = c.expect-images.result.items in
-    may_first c.expect-machine.result images 64 (record { frames = 64; swap_blocks = 68; limit = 1; journal = 1 })
-    (subst (λ r. IfOk r (λ m. m ≡ record {
-      kernel = fresh_kernel (map (λ (x : Named). x.facts) images) 64;
-      params = record { frames = 64; swap_blocks = 68; limit = 1; journal = 1 };
-      images = map image_shown images;
-      before = [];
-      room = None;
-    })) c.expect-machine.ensures c.new.ensures)
-    (subst (λ r. IfOk r (λ x. length x.items ≡ 1)) c.expect-images.ensures c.one_image.ensures.one)
+    may_first c.expect-machine.result c.expect-images.result.items 64 (record { frames = 64; swap_blocks = 68; limit = 1; journal = 1 }) (search rules) (search rules)

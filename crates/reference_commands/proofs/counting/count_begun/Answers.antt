@@ -1,11 +1,11 @@
-use Rattle.std.proofs.Common.{◌≡◌, List, sym, ap, ◌∙◌, subst}
+use Rattle.std.proofs.Common.{List, sym, subst}
 use Rattle.run_stats.specs.declared.look.Look.{Look}
 use Rattle.run_stats.specs.declared.noting.Note.{Note}
 use Rattle.reference_commands.specs.Counted.{Counted}
 use Rattle.reference_commands.proofs.counting.count_begun.Goals as goal
 
 pub look_at_film-first-requires : goal.look_at_film-first-requires
-look_at_film-first-requires g c = record { running = c.requires.running }
+look_at_film-first-requires g c = record { running = c.requires.filming.at.ready.running }
 
 pub returns-in-Ok : goal.returns-in-Ok
 returns-in-Ok g c = λ A image are many begun.

@@ -1,4 +1,4 @@
-use Rattle.std.proofs.Common.{◌≡◌, ◌≤◌, ℕ, List, Option, length, sym, ap, subst, arith}
+use Rattle.std.proofs.Common.{List, Option, sym, ap, subst, arith}
 use Rattle.vm_facts.specs.declared.params.Params.{Params}
 use Rattle.io_edge.specs.FileHolding.{NamedFile}
 use Rattle.machine_state.specs.Files.{AreFiles}
@@ -8,12 +8,12 @@ use Rattle.reference_commands.proofs.Runs.{on_ok_always, on_ok_so}
 use Rattle.reference_commands.proofs.counting.count_entry.Goals as goal
 
 pub look_at_film-before-requires : goal.look_at_film-before-requires
-look_at_film-before-requires g c = record { running = c.requires.filming.at.running }
+look_at_film-before-requires g c = record { running = c.requires.filming.at.ready.running }
 
 pub note_last-requires : goal.note_last-requires
 note_last-requires g c =
     let was = c.requires.filming in
-    record { running = (c.in-Ok.ensures.goes was.inputs was.state was.image was.are was.at).at.running }
+    record { running = (c.in-Ok.ensures.goes was.inputs was.state was.image was.are was.at).at.ready.running }
 
 pub returns-in-Ok-clause-filming : goal.returns-in-Ok-clause-filming
 returns-in-Ok-clause-filming g c =

@@ -1,4 +1,4 @@
-use Rattle.std.proofs.Common.{◌≡◌, ◌+◌, ◌-◌, ◌≤◌, ◌<◌, ℕ, List, length, sym, ap, ◌∙◌, subst, arith}
+use Rattle.std.proofs.Common.{List, length, sym, ap, ◌∙◌, subst, arith}
 use Rattle.run_stats.specs.declared.noting.Note.{Note}
 use Rattle.reference_commands.specs.Counted.{look_at_film, Counted}
 use Rattle.run_command.specs.Machines.{journal_entries}
@@ -18,7 +18,7 @@ loop-film-init g c = record {
 }
 
 pub goes_on-requires : goal.goes_on-requires
-goes_on-requires g c = c.loop-film.invariant.filming.at.running
+goes_on-requires g c = c.loop-film.invariant.filming.at.ready.running
 
 pub count_entry-requires-clause-more : goal.count_entry-requires-clause-more
 count_entry-requires-clause-more g c =

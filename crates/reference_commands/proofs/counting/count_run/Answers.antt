@@ -1,4 +1,4 @@
-use Rattle.std.proofs.Common.{rules, ◌≡◌, ◌≤◌, ℕ, List, Option, Ok, sym, ap, subst, arith}
+use Rattle.std.proofs.Common.{rules, ◌≡◌, List, Option, Ok, sym, ap, subst, arith}
 use Rattle.vm_facts.specs.declared.params.Params.{Params}
 use Rattle.io_edge.specs.FileHolding.{NamedFile}
 use Rattle.machine_state.specs.Files.{AreFiles}
@@ -33,13 +33,6 @@ count_begun-requires-clause-files g c =
     let begun : c.start.result ≡ Ok starteds.Ok = search rules in
     subst (λ (h : Option (List NamedFile)). AreFiles c.start.new.self.machine.images h) (sym c.start.ensures.outside.files.holds)
     (subst (λ images. AreFiles images (g.F.Files.holds c.args.files.now)) (sym (c.start.ensures.images begun)) c.requires.files)
-
-pub count_begun-requires-clause-running : goal.count_begun-requires-clause-running
-count_begun-requires-clause-running g c =
-    let begun : c.start.result ≡ Ok starteds.Ok = search rules in
-    (filming_begun c.args.film.now c.start.new.self c.args.first.now c.args.lines.now (g.F.Files.holds c.args.files.now) (g.F.Files.holds c.start.new.files) (g.D.SwapDev.image c.args.swap.now)
-    (g.D.SwapDev.image c.start.new.swap)
-    c.start.ensures.outside.files.holds c.requires.frames c.requires.asked (c.start.ensures.begins begun)).at.running
 
 pub returns-in-Ok-Ok : goal.returns-in-Ok-Ok
 returns-in-Ok-Ok g c = λ A image asked told many.

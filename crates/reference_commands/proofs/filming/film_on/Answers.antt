@@ -1,9 +1,9 @@
-use Rattle.std.proofs.Common.{rules, ◌≡◌, ◌+◌, ◌-◌, ◌≤◌, ◌<◌, ℕ, length, sym, ap, ◌∙◌, arith}
+use Rattle.std.proofs.Common.{rules, length, sym, ap, ◌∙◌, arith}
 use Rattle.reference_commands.proofs.Steps.{filmed_first, film_said, goes_further, goes_no_further}
 use Rattle.reference_commands.proofs.filming.film_on.Goals as goal
 
 pub put_step_if-requires-clause-running : goal.put_step_if-requires-clause-running
-put_step_if-requires-clause-running g c = c.requires.filming.at.running
+put_step_if-requires-clause-running g c = c.requires.filming.at.ready.running
 
 pub loop-alloc-init : goal.loop-alloc-init
 loop-alloc-init g c = record {
@@ -18,7 +18,7 @@ loop-alloc-init g c = record {
 }
 
 pub goes_on-requires : goal.goes_on-requires
-goes_on-requires g c = c.loop-alloc.invariant.filming.at.running
+goes_on-requires g c = c.loop-alloc.invariant.filming.at.ready.running
 
 pub go_on_and_put-requires-clause-more : goal.go_on_and_put-requires-clause-more
 go_on_and_put-requires-clause-more g c =

@@ -1,10 +1,3 @@
-use Rattle.std.proofs.Common.{◌≡◌, ◌*◌, ℕ, List, Some, map, sym, ap, ◌∙◌, subst}
-use Rattle.io_edge.specs.FileHolding.{named_file}
-use Rattle.machine_state.specs.Machine.{Standing}
-use Rattle.machine_state.specs.Files.{AreFiles}
-use Rattle.run_start.specs.Starting.{IsNew}
-use Rattle.flat_state.specs.Flat.{Inputs}
-use Rattle.run_command.specs.RunEnds.{IsAskedOf}
 use Rattle.run_command.proofs.Openings.{are_sound, are_names}
 use Rattle.run_command.proofs.Inputs.{have_few_moves}
 use Rattle.reference_commands.specs.Answering.{blank_swap}
@@ -22,30 +15,21 @@ pub film_run-text-requires-clause-moves : goal.film_run-text-requires-clause-mov
 film_run-text-requires-clause-moves c = have_few_moves c.args.lines.now c.requires.runnable.ranges
 
 pub film_run-text-requires-clause-files : goal.film_run-text-requires-clause-files
-film_run-text-requires-clause-files c =
-    subst (λ (m : Standing). AreFiles m.images (Some (map named_file c.args.files.now.files.items))) (sym c.in-Ok-film_of.ensures.machine)
-    (opened_files 0 c.args.numbers c.args.images.now c.args.opened.now c.args.first.now c.args.lines.now c.requires.opened c.requires.runnable c.requires.octets
-    (Some (map named_file c.args.files.now.files.items)) c.requires.held)
+film_run-text-requires-clause-files c = opened_files 0 c.args.numbers c.args.images.now c.args.opened.now c.args.first.now c.args.lines.now c.requires.opened c.requires.runnable c.requires.octets _
+    c.in-Ok-film_of.ensures.machine _ c.requires.held
 
 pub film_run-text-requires-clause-asked : goal.film_run-text-requires-clause-asked
-film_run-text-requires-clause-asked c =
-    let A : Inputs = inputs_with c.args.numbers c.args.images.now c.args.first.now c.args.lines.now in
-    record {
-      inputs = A;
-      image = blank_swap c.args.numbers.swap;
-      asked = subst (λ (m : Standing). IsAskedOf A m c.args.first.now c.args.lines.now (Some (map named_file c.args.files.now.files.items)) (blank_swap c.args.numbers.swap))
-          (sym c.in-Ok-film_of.ensures.machine)
-          (asked 0 c.args.numbers c.args.images.now c.args.opened.now c.args.first.now c.args.lines.now c.requires.opened c.requires.runnable c.requires.octets
-          (Some (map named_file c.args.files.now.files.items)) c.requires.held);
-      told = c.in-Ok.ensures.zeros;
-    }
+film_run-text-requires-clause-asked c = record {
+  inputs = inputs_with c.args.numbers c.args.images.now c.args.first.now c.args.lines.now;
+  image = blank_swap c.args.numbers.swap;
+  asked = asked 0 c.args.numbers c.args.images.now c.args.opened.now c.args.first.now c.args.lines.now c.requires.opened c.requires.runnable c.requires.octets _
+      c.in-Ok-film_of.ensures.machine _ c.requires.held;
+  told = c.in-Ok.ensures.zeros;
+}
 
 pub returns : goal.returns
 returns c =
-    let A : Inputs = inputs_with c.args.numbers c.args.images.now c.args.first.now c.args.lines.now in
-    c.film_run-text.ensures A (blank_swap c.args.numbers.swap)
-    (subst (λ (m : Standing). IsAskedOf A m c.args.first.now c.args.lines.now (Some (map named_file c.args.files.now.files.items)) (blank_swap c.args.numbers.swap))
-    (sym c.in-Ok-film_of.ensures.machine)
-    (asked 0 c.args.numbers c.args.images.now c.args.opened.now c.args.first.now c.args.lines.now c.requires.opened c.requires.runnable c.requires.octets
-    (Some (map named_file c.args.files.now.files.items)) c.requires.held))
+    c.film_run-text.ensures (inputs_with c.args.numbers c.args.images.now c.args.first.now c.args.lines.now) (blank_swap c.args.numbers.swap)
+    (asked 0 c.args.numbers c.args.images.now c.args.opened.now c.args.first.now c.args.lines.now c.requires.opened c.requires.runnable c.requires.octets _
+    c.in-Ok-film_of.ensures.machine _ c.requires.held)
     c.in-Ok.ensures.zeros

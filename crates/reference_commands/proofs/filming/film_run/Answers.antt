@@ -1,4 +1,4 @@
-use Rattle.std.proofs.Common.{rules, ◌≡◌, ◌≤◌, ℕ, List, Option, Ok, sym, ap, subst, arith}
+use Rattle.std.proofs.Common.{rules, ◌≡◌, List, Option, Ok, sym, ap, subst, arith}
 use Rattle.vm_facts.specs.declared.params.Params.{Params}
 use Rattle.io_edge.specs.FileHolding.{NamedFile}
 use Rattle.machine_state.specs.Files.{AreFiles}

@@ -1,9 +1,7 @@
-use Rattle.std.proofs.Common.{◌≡◌, ◌≤◌, ℕ, List, Option, length, sym, ap, subst, arith}
+use Rattle.std.proofs.Common.{List, Option, sym, ap, subst, arith}
 use Rattle.vm_facts.specs.declared.params.Params.{Params}
 use Rattle.io_edge.specs.FileHolding.{NamedFile}
 use Rattle.machine_state.specs.Files.{AreFiles}
-use Rattle.film_core.specs.Films.{OneMore, IsFilming}
-use Rattle.reference_commands.specs.Filmed.{Filmed, step_text}
 use Rattle.reference_commands.proofs.Steps.{filming_on, filmed_on, longer_by_one}
 use Rattle.reference_commands.proofs.Runs.{on_ok_always, on_ok_so}
 use Rattle.reference_commands.proofs.filming.go_on_and_put.Goals as goal
@@ -11,7 +9,7 @@ use Rattle.reference_commands.proofs.filming.go_on_and_put.Goals as goal
 pub put_step_if-requires-clause-running : goal.put_step_if-requires-clause-running
 put_step_if-requires-clause-running g c =
     let was = c.requires.filming in
-    (c.in-Ok.ensures.goes was.inputs was.state was.image was.are was.at).at.running
+    (c.in-Ok.ensures.goes was.inputs was.state was.image was.are was.at).at.ready.running
 
 pub returns-in-Ok-clause-filming : goal.returns-in-Ok-clause-filming
 returns-in-Ok-clause-filming g c =

@@ -1,11 +1,10 @@
-use Rattle.std.proofs.Common.{◌≡◌, ℕ, List, Some, map, sym, ap, ◌∙◌, subst}
+use Rattle.std.proofs.Common.{◌≡◌, ℕ, List, Some, map, ap, ◌∙◌}
 use Rattle.vm_facts.specs.declared.params.Params.{Params}
 use Rattle.flat_state.specs.Flat.{Inputs}
 use Rattle.std.specs.Prelude.{◌*◌}
 use Rattle.io_edge.specs.FileHolding.{named_file}
 use Rattle.io_edge.specs.Zeros.{with_zeros}
 use Rattle.machine_state.specs.Machine.{Standing}
-use Rattle.machine_state.specs.Files.{AreFiles}
 use Rattle.run_command.specs.Full.{RunOver}
 use Rattle.run_command.specs.RunEnds.{IsAskedOf}
 use Rattle.run_command.proofs.Openings.{are_sound, are_names}
@@ -25,18 +24,15 @@ pub run_schedule-end-requires-clause-moves : goal.run_schedule-end-requires-clau
 run_schedule-end-requires-clause-moves c = have_few_moves c.args.lines.now c.requires.runnable.ranges
 
 pub run_schedule-end-requires-clause-files : goal.run_schedule-end-requires-clause-files
-run_schedule-end-requires-clause-files c =
-    subst (λ (m : Standing). AreFiles m.images (Some (map named_file c.args.files.now.files.items))) (sym c.in_ok-core.ensures.machine)
-    (opened_files c.args.entries c.args.numbers c.args.images.now c.args.opened.now c.args.first.now c.args.lines.now c.requires.opened c.requires.runnable c.requires.octets
-    (Some (map named_file c.args.files.now.files.items)) c.requires.held)
+run_schedule-end-requires-clause-files c = opened_files c.args.entries c.args.numbers c.args.images.now c.args.opened.now c.args.first.now c.args.lines.now c.requires.opened c.requires.runnable
+    c.requires.octets _ c.in_ok-core.ensures.machine _ c.requires.held
 
 pub returns : goal.returns
 returns c =
     let A = inputs_with c.args.numbers c.args.images.now c.args.first.now c.args.lines.now in
     let is_asked : IsAskedOf A c.in_ok-core.core.machine c.args.first.now c.args.lines.now (Some (map named_file c.args.files.now.files.items)) (blank_swap c.args.numbers.swap)
-    = subst (λ (m : Standing). IsAskedOf A m c.args.first.now c.args.lines.now (Some (map named_file c.args.files.now.files.items)) (blank_swap c.args.numbers.swap)) (sym c.in_ok-core.ensures.machine)
-    (asked c.args.entries c.args.numbers c.args.images.now c.args.opened.now c.args.first.now c.args.lines.now c.requires.opened c.requires.runnable c.requires.octets
-    (Some (map named_file c.args.files.now.files.items)) c.requires.held) in
+    = asked c.args.entries c.args.numbers c.args.images.now c.args.opened.now c.args.first.now c.args.lines.now c.requires.opened c.requires.runnable c.requires.octets _
+    c.in_ok-core.ensures.machine _ c.requires.held in
     record {
       journal = ap (λ (p : Params). p.journal) c.run_schedule-end.ensures.params ∙ ap (λ (m : Standing). m.params.journal) c.in_ok-core.ensures.machine;
       blocks = ap (λ (p : Params). p.swap_blocks) c.run_schedule-end.ensures.params ∙ ap (λ (m : Standing). m.params.swap_blocks) c.in_ok-core.ensures.machine;
@@ -49,4 +45,5 @@ returns c =
           → RunOver B c.run_schedule-end.new.core.machine image)
           (RunOver A c.run_schedule-end.new.core.machine (blank_swap c.args.numbers.swap))
           (λ told. told A (blank_swap c.args.numbers.swap) is_asked c.in_ok-swap.ensures.zeros) c.run_schedule-end.ensures.over;
+      runs = c.run_schedule-end.ensures.left_running;
     }
